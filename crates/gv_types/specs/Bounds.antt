@@ -1,0 +1,62 @@
+-- Which operations an address space allows.
+use Rattle.std.specs.Prelude.{◌≡◌, ℕ, ◌%◌, ◌≤◌, Bool, true, false, not, ◌&&◌, ◌==◌, nat_lt, if◌then◌else◌, Option, Some, None, Result, Ok, Err}
+use Rattle.gv_types.specs.Page.{PAGES, bytes_per_page, pages_per_operation}
+use Rattle.gv_types.specs.Span.{Span, span, meets, lies_in, is_in_space}
+use Rattle.gv_types.specs.Operation.{addr_of, len_of, offset_of, in_pages, range_of}
+use Rattle.gv_types.specs.declared.fault.Fault.{Fault}
+use Rattle.gv_types.specs.declared.fault.Fault.TheVariants.{Unaligned, Empty, OutOfSpace, Reserved, TooLong}
+use Rattle.gv_types.specs.declared.operation.Op.{Op}
+use Rattle.gv_types.specs.declared.operation.PageOp.{PageOp}
+
+-- the pages of an address space, and a region of them that is reserved
+pub record Area : Type 0 where
+  pub space : Span
+  pub reserved : Option Span
+
+-- all pages, and none of them reserved
+abbrev pub whole_area : Area
+whole_area = record { space = span 0 PAGES; reserved = None }
+
+-- the space of `count` pages from `first` on with a region reserved, where both are ranges of pages and the region is
+-- empty or lies in the space
+abbrev pub area : ℕ → ℕ → ℕ → ℕ → Option Area
+area first count reserved_first reserved_count =
+    if not (is_in_space (span first count)) then None
+    else if reserved_count == 0 then Some (record { space = span first count; reserved = None })
+    else if is_in_space (span reserved_first reserved_count) && lies_in (span reserved_first reserved_count) (span first count)
+    then Some (record { space = span first count; reserved = Some (span reserved_first reserved_count) })
+    else None
+
+-- some page of the range is reserved
+abbrev pub meets_region : Option Span → Span → Bool
+meets_region None s = false
+meets_region (Some region) s = meets s region
+
+-- a number of bytes that is a number of pages
+abbrev pub is_aligned : ℕ → Bool
+is_aligned bytes = bytes % bytes_per_page == 0
+
+-- the first fault of an operation, in their order
+abbrev pub first_fault : Area → Op → Option Fault
+first_fault a op =
+    let range = range_of (in_pages op) in
+    if not (is_aligned (addr_of op) && is_aligned (len_of op) && is_aligned (offset_of op)) then Some Unaligned
+    else if len_of op == 0 then Some Empty
+    else if not (lies_in range a.space) then Some OutOfSpace
+    else if meets_region a.reserved range then Some Reserved
+    else if nat_lt pages_per_operation range.count then Some TooLong
+    else None
+
+abbrev pub unless_fault : Option Fault → PageOp → Result PageOp Fault
+unless_fault None op = Ok op
+unless_fault (Some fault) op = Err fault
+
+-- the operation in pages, or its first fault
+abbrev pub checked : Area → Op → Result PageOp Fault
+checked a op = unless_fault (first_fault a op) (in_pages op)
+
+-- an operation lies in the space and off the reserved region, and is no longer than one may be
+pub record IsAllowed (a : Area) (op : PageOp) : Type 0 where
+  pub in_space : lies_in (range_of op) a.space ≡ true
+  pub off_region : meets_region a.reserved (range_of op) ≡ false
+  pub short : (range_of op).count ≤ pages_per_operation

@@ -1,0 +1,21 @@
+-- A number of 64 bits in two halves.
+use Rattle.std.specs.Prelude.{◌≡◌, ℕ, ◌+◌, ◌*◌, ◌/◌, ◌%◌, ◌^◌, ◌<◌}
+use Rattle.std.proofs.Common.{arith, refl}
+use Rattle.gv_types.specs.declared.generation.Generation.TheInside.{Inside}
+
+-- the number of two halves
+abbrev pub whole : Inside → ℕ
+whole halves = halves.high * 2 ^ 32 + halves.low
+
+abbrev pub AreHalves : Inside → Type 0
+AreHalves halves = (halves.high < 2 ^ 32) × (halves.low < 2 ^ 32)
+
+-- the halves of a number
+abbrev pub halves_of : ℕ → Inside
+halves_of number = record { high = number / 2 ^ 32; low = number % 2 ^ 32 }
+
+pub halves_of-whole : (halves : Inside) → AreHalves halves → halves_of (whole halves) ≡ halves
+halves_of-whole halves small =
+    let high : whole halves / 2 ^ 32 ≡ halves.high = omega arith in
+    let low : whole halves % 2 ^ 32 ≡ halves.low = omega arith in
+    rw (high, low) refl

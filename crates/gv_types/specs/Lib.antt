@@ -1,0 +1,9 @@
+pub mod Page
+pub mod Span
+pub mod Generation
+pub mod Mapping
+pub mod Operation
+pub mod Fault
+pub mod Bounds
+pub mod Limits
+pub mod Request

@@ -1,0 +1,8 @@
+-- Which requests speak of timelines that there are.
+use Rattle.std.specs.Prelude.{ℕ, ◌<◌}
+use Rattle.std.specs.List.{All}
+use Rattle.gv_types.specs.declared.request.Request.{Request}
+
+abbrev pub Fits : ℕ → Request → Type 0
+Fits timelines request =
+    All (λ p. p.timeline < timelines) request.waits.items × All (λ p. p.timeline < timelines) request.signals.items

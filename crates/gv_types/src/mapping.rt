@@ -1,0 +1,116 @@
+//! What stands behind a run of pages.
+ghost use Rattle.std.specs.Prelude.{◌≡◌, IsTrue};
+
+use crate::generation::Generation;
+use crate::page_range::PageRange;
+
+/// The greatest number of pages of a buffer.
+pub const BUFFER_PAGES: u64 = 1 << 36;
+
+/// A buffer: its place in the table of buffers, which a later buffer may take again, and how many buffers were
+/// made before it, which no other buffer has.
+#[derive(Clone, Copy, Debug, PartialEq, Eq)]
+pub struct BufferId {
+    pub index: u32,
+    pub generation: Generation,
+}
+
+/// What stands behind pages: a buffer's pages from `page` on, or nothing but zeros. DRM GPUVM calls the first a
+/// backing buffer object with its offset, and the second sparse.
+#[derive(Clone, Copy, Debug, PartialEq, Eq)]
+pub enum Backing {
+    Buffer { id: BufferId, page: u64 },
+    Zero,
+}
+
+/// How pages may be accessed.
+#[derive(Clone, Copy, Debug, PartialEq, Eq)]
+pub struct Flags {
+    pub read_only: bool,
+}
+
+/// What one page of the address space holds.
+#[derive(Clone, Copy, Debug, PartialEq, Eq)]
+pub struct Entry {
+    pub backing: Backing,
+    pub flags: Flags,
+}
+
+/// A run of pages with what stands behind them, `drm_gpuva` in DRM GPUVM.
+#[derive(Clone, Copy, Debug, PartialEq, Eq)]
+pub struct Mapping {
+    pub range: PageRange,
+    pub backing: Backing,
+    pub flags: Flags,
+}
+
+// Long lists are moved in blocks, so a mapping is kept small.
+const _: () = prove!(size_of::<Mapping>() == 48);
+
+impl BufferId {
+    ghost use Rattle.gv_types.specs.Mapping.{buffer_id};
+
+    /// The buffer at a place of the table that was made after `generation` others.
+    pub fn new(index: u32, generation: u64) -> BufferId
+        ensures { result ≡ buffer_id index generation }
+    {
+        BufferId {
+            index,
+            generation: Generation::new(generation),
+        }
+    }
+}
+
+impl Backing {
+    ghost use Rattle.gv_types.specs.Mapping.{advanced, HasSmallPages};
+
+    /// The same backing, `pages` further on.
+    pub fn advanced(self, pages: u64) -> Backing
+        requires { HasSmallPages self pages }
+        ensures { result ≡ advanced self pages }
+    {
+        match self {
+            Backing::Buffer { id, page } => Backing::Buffer {
+                id,
+                page: page + pages,
+            },
+            Backing::Zero => Backing::Zero,
+        }
+    }
+}
+
+impl Mapping {
+    ghost use Rattle.gv_types.specs.Span.{covers};
+    ghost use Rattle.gv_types.specs.Mapping.{part, clip, IsMapping};
+
+    /// What the mapping holds at a page of its range.
+    pub fn part(&self, page: u64) -> Entry
+        requires mapping { IsMapping self.now }
+        requires covered { IsTrue (covers self.now.range page) }
+        ensures { result ≡ part self.now page }
+    {
+        Entry {
+            backing: self.backing.advanced(page - self.range.first()),
+            flags: self.flags,
+        }
+    }
+
+    /// What of the mapping lies at the page `low` or above and below the page `high`, if anything does. Its first
+    /// page stands before the same page of the buffer as in the whole mapping.
+    pub fn clip(&self, low: u64, high: u64) -> Option<Mapping>
+        requires { IsMapping self.now }
+        ensures { result ≡ clip low high self.now }
+    {
+        let first = low.max(self.range.first());
+        let end = high.min(self.range.end());
+        if first >= end {
+            return None;
+        }
+        let range = PageRange::between(first, end);
+        Some(Mapping {
+            range,
+            backing: self.backing.advanced(first - self.range.first()),
+            flags: self.flags,
+        })
+    }
+}
