@@ -1,0 +1,10 @@
+pub mod Parts
+pub mod Splices
+pub mod Lookup
+pub mod Clip
+pub mod Kept
+pub mod Replaced
+pub mod Order
+pub mod Changes
+pub mod Meeting
+pub mod Rests

@@ -1,0 +1,4 @@
+pub mod List
+pub mod Edit
+pub mod Laws
+pub mod Examples

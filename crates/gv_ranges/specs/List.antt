@@ -1,0 +1,46 @@
+-- A list of mappings: what it says of a page, when it is in order, and where a range meets it.
+use Rattle.std.specs.Prelude.{ℕ, ◌≡◌, ◌+◌, ◌≤◌, IsTrue, if◌then◌else◌, Option, Some, None, List, [], ◌∷◌, take, drop, length}
+use Rattle.std.specs.List.{All}
+use Rattle.gv_types.specs.Span.{Span, end_of, covers, meets}
+use Rattle.gv_types.specs.Mapping.{part, IsMapping}
+use Rattle.gv_types.specs.declared.mapping.Entry.{Entry}
+use Rattle.gv_types.specs.declared.mapping.Mapping.{Mapping}
+
+-- what a list holds at a page
+abbrev pub at : List Mapping → ℕ → Option Entry
+at [] page = None
+at (m ∷ ms) page = if covers m.range page then Some (part m page) else at ms page
+
+-- from the page `low` on, each mapping begins where the one before it ends, or later
+abbrev pub IsLaidOutFrom : ℕ → List Mapping → Type 0
+IsLaidOutFrom low [] = Unit {0}
+IsLaidOutFrom low (m ∷ ms) = (low ≤ m.range.first) × IsMapping m × IsLaidOutFrom (end_of m.range) ms
+
+-- sorted, and no two mappings share a page
+abbrev pub IsLaidOut : List Mapping → Type 0
+IsLaidOut ms = IsLaidOutFrom 0 ms
+
+-- what contracts see of a `RangeList`: its mappings, and for how many it has room
+pub record Ranges : Type 0 where
+  pub mappings : List Mapping
+  pub room : ℕ
+
+-- what contracts see of `Pieces`
+pub record Items : Type 0 where
+  pub items : List Mapping
+
+-- the same mappings, and no less room
+pub record IsUnchanged (old new : Ranges) : Type 0 where
+  pub mappings : new.mappings ≡ old.mappings
+  pub room : old.room ≤ new.room
+
+-- the run of a list from `place` on
+abbrev pub run : List Mapping → ℕ → ℕ → List Mapping
+run ms place count = take count (drop place ms)
+
+-- the mappings that meet a range are the `count` from `place` on
+pub record IsMeetingRun (ms : List Mapping) (range : Span) (place count : ℕ) : Type 0 where
+  pub within : place + count ≤ length ms
+  pub before : All (λ m. end_of m.range ≤ range.first) (take place ms)
+  pub meeting : All (λ m. IsTrue (meets m.range range)) (run ms place count)
+  pub behind : All (λ m. end_of range ≤ m.range.first) (drop (place + count) ms)

@@ -1,0 +1,91 @@
+//! The list of mappings of an address space, sorted and disjoint.
+ghost use Rattle.std.specs.Prelude.{◌≡◌, ◌+◌, ◌<◌, ◌≤◌, [], length, OnOk, OnErr};
+
+use crate::replace::replace_run;
+use crate::search::{entry_at, meeting_run};
+use gv_types::{Entry, Mapping, OutOfMemory, PageRange};
+use std::alloc::Global;
+use std::marker::Model;
+
+/// Mappings in ascending order, no two of which share a page: what a `drm_gpuvm` of DRM GPUVM keeps
+/// in a tree. Room that it has is never given up.
+#[derive(Debug, Drop)]
+pub struct RangeList {
+    mappings: Vec<Mapping>,
+}
+
+impl Model for RangeList {
+    ghost use Rattle.std.specs.Prelude.{vec_capacity};
+    ghost use Rattle.gv_ranges.specs.List.{Ranges, IsLaidOut};
+
+    ghost Value = { Ranges };
+
+    ghost view = { λ l. record { mappings = l.mappings.items; room = vec_capacity l.mappings } };
+
+    ghost invariant = { λ l. IsLaidOut l.mappings.items };
+}
+
+impl RangeList {
+    ghost use Rattle.std.specs.List.{splice};
+    ghost use Rattle.gv_ranges.specs.List.{at, IsLaidOut, IsMeetingRun, IsUnchanged};
+
+    /// A list of no mapping, which takes no memory.
+    pub fn new(alloc: Global) -> RangeList
+        ensures mappings { result.mappings ≡ [] }
+        ensures room { result.room ≡ 0 }
+    {
+        RangeList {
+            mappings: Vec::new(alloc),
+        }
+    }
+
+    /// The mappings, in ascending order.
+    pub fn mappings(&self) -> &[Mapping]
+        ensures value { result.now ≡ self.now.mappings }
+        ensures laid_out { IsLaidOut self.now.mappings }
+    {
+        self.mappings.as_slice()
+    }
+
+    /// Makes room for `more` mappings beside those in the list. Where the room has to grow it at
+    /// least doubles, so a list of n mappings that was built by edits was moved for growth about
+    /// log n times. `OutOfMemory` where the system refuses the memory, and only where that room was
+    /// missing.
+    pub fn reserve(&mut self, more: usize) -> Result<(), OutOfMemory>
+        ensures unchanged { IsUnchanged self.old self.new }
+        ensures ok { OnOk result (length self.new.mappings + more ≤ self.new.room) }
+        ensures err { OnErr result (self.old.room < length self.old.mappings + more) }
+    {
+        Ok(self.mappings.reserve(more)?)
+    }
+
+    /// What the page holds, if anything. One binary search.
+    pub fn at(&self, page: u64) -> Option<Entry>
+        ensures { result ≡ at self.now.mappings page }
+    {
+        entry_at(&self.mappings, page)
+    }
+
+    /// The place of the first mapping that meets the range, and how many mappings do. Where none
+    /// does, the place is the number of mappings that end before the range. Two binary searches.
+    pub fn overlapping(&self, range: PageRange) -> (usize, usize)
+        ensures { IsMeetingRun self.now.mappings range result.0 result.1 }
+    {
+        meeting_run(&self.mappings, range)
+    }
+
+    /// Replaces `out_count` mappings from `place` on by `pieces`. It takes no memory: the room has
+    /// to be there, and stays as it is. The mappings behind are moved in one block, and only if
+    /// their place changes.
+    pub fn splice(&mut self, place: usize, out_count: usize, pieces: &[Mapping])
+        requires within { place + out_count ≤ length self.old.mappings }
+        requires room { length self.old.mappings + length pieces.now ≤ self.old.room + out_count }
+        requires laid_out { IsLaidOut
+            (splice self.old.mappings place (place + out_count) pieces.now) }
+        ensures mappings { self.new.mappings
+            ≡ splice self.old.mappings place (place + out_count) pieces.now }
+        ensures room { self.new.room ≡ self.old.room }
+    {
+        replace_run(&mut self.mappings, place, out_count, pieces);
+    }
+}
