@@ -1,0 +1,10 @@
+use Rattle.std.proofs.Common.{◌≡◌, ◌+◌, map, take, length, vec_len, vec_capacity}
+use Rattle.gv_split.specs.Steps.{step_of}
+use Rattle.gv_split.proofs.step.steps_of_run.Given as goal
+
+abbrev pub invariant-loop-mapping : goal.invariant-loop-mapping
+invariant-loop-mapping l = record {
+  items : l.answer.items ≡ map (step_of l.op) (take l.mapping-index l.run);
+  len : vec_len l.answer ≡ l.mapping-index;
+  room : vec_capacity l.answer ≡ length l.run + 1;
+}

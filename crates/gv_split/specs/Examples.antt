@@ -1,0 +1,39 @@
+-- Worked examples of steps.
+use Rattle.std.specs.Prelude.{◌≡◌, true, false, Some, None, [], ◌∷◌}
+use Rattle.gv_types.specs.declared.mapping.Backing.TheVariants.{Zero}
+use Rattle.gv_ranges.specs.Examples.{a, b, of, fixed, map_at, unmap_at}
+use Rattle.gv_types.specs.Span.{span}
+use Rattle.gv_types.specs.declared.operation.PageOp.TheVariants.{Map as MapOp}
+use Rattle.gv_split.specs.declared.step.Step.TheVariants.{Unmap, Remap, Map}
+use Rattle.gv_split.specs.Steps.{steps}
+
+-- a hole in a mapping leaves both rests, the second further on in the buffer
+abbrev pub HoleLeavesBothRests : Type 0
+HoleLeavesBothRests =
+    steps (of 0 4 (b 0) ∷ []) (unmap_at 1 1) ≡ Remap (of 0 4 (b 0)) (Some (of 0 1 (b 0))) (Some (of 2 2 (b 2))) false ∷ []
+
+-- a map over three mappings: the outer two keep a rest, and the middle one goes
+abbrev pub MapOverThree : Type 0
+MapOverThree =
+    steps (of 0 2 (a 0) ∷ of 2 2 (a 2) ∷ of 4 2 (a 4) ∷ []) (map_at 1 4 (b 0))
+    ≡ Remap (of 0 2 (a 0)) (Some (of 0 1 (a 0))) None false
+    ∷ Unmap (of 2 2 (a 2)) false
+    ∷ Remap (of 4 2 (a 4)) None (Some (of 5 1 (a 5))) false
+    ∷ Map (of 1 4 (b 0)) ∷ []
+
+-- the same mapping again is kept, and with other flags or another buffer it is not
+abbrev pub SameMapIsKept : Type 0
+SameMapIsKept =
+    (steps (of 0 4 (b 0) ∷ []) (map_at 0 4 (b 0)) ≡ Unmap (of 0 4 (b 0)) true ∷ Map (of 0 4 (b 0)) ∷ [])
+    × (steps (of 0 4 (b 0) ∷ []) (MapOp (span 0 4) (b 0) (record { read_only = true })) ≡ Unmap (of 0 4 (b 0)) false ∷ Map (fixed 0 4 (b 0)) ∷ [])
+    × (steps (of 0 4 (b 0) ∷ []) (map_at 0 4 (a 0)) ≡ Unmap (of 0 4 (b 0)) false ∷ Map (of 0 4 (a 0)) ∷ [])
+
+-- a remap whose pages continue is kept too, and one whose pages do not is not
+abbrev pub PartOfMapIsKept : Type 0
+PartOfMapIsKept =
+    (steps (of 0 4 (b 0) ∷ []) (map_at 2 2 (b 2)) ≡ Remap (of 0 4 (b 0)) (Some (of 0 2 (b 0))) None true ∷ Map (of 2 2 (b 2)) ∷ [])
+    × (steps (of 0 4 (b 0) ∷ []) (map_at 2 2 (b 0)) ≡ Remap (of 0 4 (b 0)) (Some (of 0 2 (b 0))) None false ∷ Map (of 2 2 (b 0)) ∷ [])
+
+-- pages of zeros are never kept
+abbrev pub ZerosAreNotKept : Type 0
+ZerosAreNotKept = steps (of 0 4 Zero ∷ []) (map_at 0 4 Zero) ≡ Unmap (of 0 4 Zero) false ∷ Map (of 0 4 Zero) ∷ []

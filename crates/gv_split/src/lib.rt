@@ -1,0 +1,9 @@
+//! The steps by which an operation changes a list of mappings.
+#![tactic(auto)]
+
+mod step;
+
+pub use step::{Step, plan};
+
+#[cfg(test)]
+mod tests;

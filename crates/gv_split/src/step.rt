@@ -1,0 +1,120 @@
+//! The steps by which an operation changes a list of mappings.
+ghost use Rattle.std.specs.Prelude.{◌≡◌, ◌++◌, map, IfOk, IfErr};
+ghost use Rattle.std.specs.List.{All};
+
+use gv_ranges::RangeList;
+use gv_types::{Backing, Fault, Mapping, PageOp, SPACE_PAGES};
+use std::alloc::Global;
+
+/// One step of an operation: what DRM GPUVM hands to its driver for a map or an unmap request.
+///
+/// The steps of an operation ascend by page, and the operation's own map comes last. No piece is
+/// joined to a neighbour. `keep` is set exactly where the operation is a map, the mapping has the
+/// same buffer and equal flags, and the pages of the buffer continue: page by page the operation
+/// maps what the mapping held, so page table entries of it may stay.
+#[derive(Clone, Copy, Debug, PartialEq, Eq)]
+pub enum Step {
+    /// The mapping lies in the operation's range, and goes.
+    Unmap {
+        mapping: Mapping,
+        keep: bool,
+    },
+    /// The mapping sticks out of the operation's range, and its rests take its place. `prev` keeps
+    /// the start and the offset of the mapping, and ends where the operation begins. `next` begins
+    /// where the operation ends, with the offset moved on by as many pages as the start. Each is
+    /// there where the mapping has pages on that side.
+    Remap {
+        mapping: Mapping,
+        prev: Option<Mapping>,
+        next: Option<Mapping>,
+        keep: bool,
+    },
+    /// The operation's own mapping comes in.
+    Map {
+        mapping: Mapping,
+    },
+}
+
+ghost use Rattle.gv_types.specs.Mapping.{IsMapping};
+ghost use Rattle.gv_types.specs.Operation.{own_mapping, IsPageOp};
+ghost use Rattle.gv_split.specs.Steps.{is_kept, step_of, steps};
+
+/// Whether the operation maps the pages of the mapping's buffer again where they were, with equal
+/// flags.
+fn is_kept(op: &PageOp, mapping: &Mapping) -> bool
+    requires mapping { IsMapping mapping.now }
+    requires op { IsPageOp op.now }
+    ensures { result ≡ is_kept op.now mapping.now }
+{
+    let PageOp::Map {
+        range,
+        backing: Backing::Buffer { id, page },
+        flags,
+    } = *op
+    else {
+        return false;
+    };
+    let Backing::Buffer {
+        id: old_id,
+        page: old_page,
+    } = mapping.backing
+    else {
+        return false;
+    };
+    id == old_id
+        && flags == mapping.flags
+        && page + mapping.range.first() == old_page + range.first()
+}
+
+/// The step for a mapping that meets the operation's range.
+fn step_of(op: &PageOp, mapping: &Mapping) -> Step
+    requires mapping { IsMapping mapping.now }
+    requires op { IsPageOp op.now }
+    ensures { result ≡ step_of op.now mapping.now }
+{
+    let keep = is_kept(op, mapping);
+    let range = op.range();
+    if mapping.range.lies_in(range) {
+        Step::Unmap {
+            mapping: *mapping,
+            keep,
+        }
+    } else {
+        Step::Remap {
+            mapping: *mapping,
+            prev: mapping.clip(0, range.first()),
+            next: mapping.clip(range.end(), SPACE_PAGES),
+            keep,
+        }
+    }
+}
+
+/// The steps for a run of mappings that meet the operation's range, and for its own mapping.
+fn steps_of_run(alloc: Global, run: &[Mapping], op: &PageOp) -> Result<Vec<Step>, Fault>
+    requires mappings { All IsMapping run.now }
+    requires op { IsPageOp op.now }
+    ensures ok { IfOk result (λ answer.
+        answer.items ≡ map (step_of op.now) run.now ++ map Step.Map (own_mapping op.now)) }
+    ensures err { IfErr result (λ fault. fault ≡ Fault.OutOfMemory) }
+{
+    let mut answer = Vec::with_capacity(alloc, run.len() + 1)?;
+    for mapping in run {
+        answer.push_reserved(step_of(op, mapping));
+    }
+    if let Some(mapping) = op.own_mapping() {
+        answer.push_reserved(Step::Map { mapping });
+    }
+    Ok(answer)
+}
+
+/// The steps by which the operation changes the list, in ascending order. `OutOfMemory` where the
+/// system refuses the memory for them.
+pub fn plan(alloc: Global, list: &RangeList, op: &PageOp) -> Result<Vec<Step>, Fault>
+    requires { IsPageOp op.now }
+    ensures ok { IfOk result (λ answer. answer.items ≡ steps list.now.mappings op.now) }
+    ensures err { IfErr result (λ fault. fault ≡ Fault.OutOfMemory) }
+{
+    let (place, count) = list.overlapping(op.range());
+    let run = &list.mappings()[place..place + count];
+    steps_of_run(alloc, run, op)
+}
