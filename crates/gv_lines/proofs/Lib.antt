@@ -1,0 +1,4 @@
+pub mod Parts
+mod Digits
+mod Names
+mod HexDigits

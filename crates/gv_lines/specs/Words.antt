@@ -1,0 +1,94 @@
+-- The words of a line, and which of them are names and numbers.
+use Rattle.std.specs.Prelude.{ℕ, ◌+◌, ◌-◌, ◌*◌, ◌^◌, Bool, false, not, ◌&&◌, ◌||◌, ◌==◌, nat_lt, nat_le, if◌then◌else◌, List, [], ◌∷◌, length, drop, Option, Some, None, codes, bytes_eq}
+use Rattle.std.specs.List.{slice_split, list_all, starts_with}
+use Rattle.std.specs.Char.{is_ascii_lowercase, is_ascii_digit}
+use Rattle.std.specs.Borrow.{Bor}
+use Rattle.gv_lines.specs.Hex.{number_limit, hex_digits}
+
+-- the parts of a text between the places of a byte
+abbrev pub parts : ℕ → List ℕ → List (List ℕ)
+parts byte text = slice_split (λ b. b == byte) text
+
+-- what is left of a text behind its last cut, in parts
+abbrev pub parts_left : ℕ → Option (Bor (List ℕ)) → List (List ℕ)
+parts_left byte None = []
+parts_left byte (Some text) = parts byte text.now
+
+-- the byte of a space
+abbrev pub space_byte : ℕ
+space_byte = 32
+
+-- The parts of a line between its spaces. Between two spaces in a row, and at an end with a space, is the empty word.
+abbrev pub words : List ℕ → List (List ℕ)
+words line = parts space_byte line
+
+-- how many bytes a name has at most
+abbrev pub name_bytes : ℕ
+name_bytes = 16
+
+-- the byte of an underscore
+abbrev pub underscore : ℕ
+underscore = 95
+
+abbrev pub is_name_byte : ℕ → Bool
+is_name_byte c = is_ascii_lowercase c || is_ascii_digit c || c == underscore
+
+-- a lower-case letter, then lower-case letters, digits and underscores; zero is no name
+abbrev pub is_name : List ℕ → Bool
+is_name [] = false
+is_name (c ∷ cs) =
+    is_ascii_lowercase c && list_all is_name_byte cs && nat_le (length (c ∷ cs)) name_bytes
+    && not (bytes_eq (c ∷ cs) (codes "zero"))
+
+-- the name that a word is, if it is one
+abbrev pub name_of : List ℕ → Option (List ℕ)
+name_of word = if is_name word then Some word else None
+
+-- the base of decimal numbers, and of hexadecimal ones
+abbrev pub decimal_base : ℕ
+decimal_base = 10
+
+abbrev pub hex_base : ℕ
+hex_base = 16
+
+-- the value of a digit 0-9 or a-f; for any other byte a value that is no digit's in any base up to this one
+abbrev pub digit_value : ℕ → ℕ
+digit_value c =
+    if is_ascii_digit c then c - 48 else if nat_le 97 c && nat_le c 102 then c - 97 + 10 else hex_base
+
+-- the value of these digits, of which the first is worth most
+abbrev pub value_of : ℕ → List ℕ → ℕ
+value_of base [] = 0
+value_of base (c ∷ cs) = digit_value c * base ^ length cs + value_of base cs
+
+abbrev pub is_digit : ℕ → ℕ → Bool
+is_digit base c = nat_lt (digit_value c) base
+
+-- the number of these digits, at least one, if it is not too large
+unfoldable pub digits_of : ℕ → List ℕ → Option ℕ
+digits_of base digits =
+    if nat_lt 0 (length digits) && list_all (is_digit base) digits && nat_lt (value_of base digits) number_limit
+    then Some (value_of base digits) else None
+
+-- 0x and some hexadecimal digits, or decimal digits without a leading zero
+unfoldable pub number_of : List ℕ → Option ℕ
+number_of word =
+    if starts_with (λ a b. a == b) word (codes "0x")
+    then (if nat_le (length (drop 2 word)) hex_digits then digits_of hex_base (drop 2 word) else None)
+    else if starts_with (λ a b. a == b) word (codes "0") && nat_lt 1 (length word) then None
+    else digits_of decimal_base word
+
+-- what the first word was read as, and the other words
+abbrev pub with_rest : {X : Type 0} → Option X → List (List ℕ) → Option (X × List (List ℕ))
+with_rest None more = None
+with_rest (Some x) more = Some (x, more)
+
+-- the first word, if it is a name, and the other words
+abbrev pub first_name : List (List ℕ) → Option (List ℕ × List (List ℕ))
+first_name [] = None
+first_name (word ∷ more) = with_rest (name_of word) more
+
+-- the first word, if it is a number, and the other words
+abbrev pub first_number : List (List ℕ) → Option (ℕ × List (List ℕ))
+first_number [] = None
+first_number (word ∷ more) = with_rest (number_of word) more
