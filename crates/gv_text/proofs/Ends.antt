@@ -1,0 +1,50 @@
+-- How a line that was not run ends the run.
+use Rattle.std.proofs.Common.{◌≡◌, ℕ, ◌+◌, ◌≤◌, List, [], ◌∷◌, Bool, true, false, nat_eq, Option, None, Err, refl, append-nil, length, arith}
+use Rattle.std.proofs.lemmas.Bool.Decides.{nat_tests}
+use Rattle.std.specs.Io.KnownBytes.{Appends}
+use Rattle.std.proofs.KnownBytes.{Appends-trans}
+use Rattle.gv_text.specs.Reading.{script_limit}
+use Rattle.gv_text.specs.State.{State}
+use Rattle.gv_text.specs.Answer.{ran}
+use Rattle.gv_text.specs.Script.{IsFront, IsBadBefore, StopsAt, Ends, LineEnds}
+use Rattle.gv_text.specs.declared.fault.ScriptFault.{ScriptFault}
+use Rattle.gv_text.specs.declared.fault.ScriptFault.TheVariants.{BadLine, ScriptTooLong, ReadFault, WriteFault, OutOfMemory}
+use Rattle.gv_text.proofs.Outcomes.{outcome_of_stop}
+
+bad_before : (now : State) (line : List ℕ) (more : List (List ℕ)) → (more ≡ [] → ⊥) → ran false now line ≡ None → IsBadBefore now line more
+bad_before now line [] some bad = absurd (some refl)
+bad_before now line (next ∷ more) some bad = bad
+
+Appends-end : (a b c : Option (List ℕ)) (text : List ℕ) → Appends a b text → Appends b c [] → Appends a c text
+Appends-end a b c text first second = rw append-nil at (Appends-trans a b c text [] first second)
+
+pub stops_at : (script text line : List ℕ) (more : List (List ℕ)) (count refusals number : ℕ) (now : State) → length script ≤ script_limit →
+    IsFront script text (line ∷ more) count refusals now → IsBadBefore now line more → number ≡ count + 1 → StopsAt script text number
+stops_at script text line more count refusals number now short front bad is = record {
+  short = short;
+  line = line;
+  more = more;
+  count = count;
+  refusals = refusals;
+  now = now;
+  front = front;
+  bad = bad;
+  counted = is;
+  ample = outcome_of_stop script text line more count refusals number now front bad is
+}
+
+pub line_ends : (T U : Type 0) (script text line : List ℕ) (more : List (List ℕ)) (count refusals : ℕ) (now new : State)
+    (held mid holds : Option (List ℕ)) (failed : Bool) (fault : ScriptFault) → length script ≤ script_limit →
+    IsFront script text (line ∷ more) count refusals now → (more ≡ [] → ⊥) → Appends held mid text →
+    LineEnds {T = T} now line (count + 1) new mid holds failed (Err fault) → Ends {T = U} script held holds failed (Err fault)
+line_ends T U script text line more count refusals now new held mid holds failed (BadLine number) short front some wrote ends =
+    (text, stops_at script text line more count refusals number now short front (bad_before now line more some ends.0) ends.1, Appends-end held mid holds text wrote ends.2)
+line_ends T U script text line more count refusals now new held mid holds failed OutOfMemory short front some wrote ends =
+    (text, record { next = line; more = more; count = count; refusals = refusals; now = now; front = front }, Appends-end held mid holds text wrote ends)
+line_ends T U script text line more count refusals now new held mid holds failed WriteFault short front some wrote ends = ends
+line_ends T U script text line more count refusals now new held mid holds failed ReadFault short front some wrote ends = absurd ends
+line_ends T U script text line more count refusals now new held mid holds failed ScriptTooLong short front some wrote ends = absurd ends
+
+pub empty_from : (xs : List ℕ) → true ≡ nat_eq (length xs) 0 → xs ≡ []
+empty_from [] is = refl
+empty_from (x ∷ xs) is = absurd (grind (arith, nat_tests))

@@ -1,0 +1,59 @@
+-- One more line of a script has run.
+use Rattle.std.proofs.Common.{◌≡◌, ℕ, ◌+◌, List, [], ◌∷◌, ◌++◌, Bool, true, false, Option, Some, None, IfSome, Err, refl, sym, ap, ◌∙◌, append_assoc, append-nil, length-append, length, arith}
+use Rattle.std.specs.Io.KnownBytes.{Appends}
+use Rattle.std.proofs.KnownBytes.{Appends-nil, Appends-trans}
+use Rattle.gv_lines.specs.Words.{parts}
+use Rattle.gv_lines.proofs.Parts.{parts_some}
+use Rattle.gv_text.specs.State.{State, start}
+use Rattle.gv_text.specs.Answer.{ran}
+use Rattle.gv_text.specs.Script.{Replies, IsFront, IsStart, one_if}
+
+Replies-more : (old mid new : State) (lines : List (List ℕ)) (line text reply : List ℕ) (refusals : ℕ) (lacks : Bool) →
+    Replies old lines text mid refusals → ran lacks mid line ≡ Some (reply, new) →
+    Replies old (lines ++ line ∷ []) (text ++ reply) new (refusals + one_if lacks)
+Replies-more old mid new [] line text reply refusals lacks before here = (
+  lacks,
+  reply,
+  new,
+  [],
+  0,
+  rw before.1 at here,
+  (refl, refl, refl),
+  rw (before.0, append-nil) refl,
+  omega (arith, before.2),
+)
+Replies-more old mid new (first ∷ lines) line text reply refusals lacks before here = (
+  before.0,
+  before.1,
+  before.2,
+  before.3 ++ reply,
+  before.4 + one_if lacks,
+  before.5,
+  Replies-more before.2 mid new lines line before.3 reply before.4 lacks before.6 here,
+  rw before.7 (append_assoc before.1 before.3 reply),
+  omega (arith, before.8),
+)
+
+-- before the first line
+pub front_start : (script : List ℕ) → IsFront script [] (parts 10 script) 0 0 start
+front_start script = record { lines = []; cut = refl; run = (refl, refl, refl); counted = refl }
+
+pub front_more : (script text reply line : List ℕ) (rest : List (List ℕ)) (count refusals : ℕ) (lacks : Bool) (now new : State) →
+    IsFront script text (line ∷ rest) count refusals now → ran lacks now line ≡ Some (reply, new) →
+    IsFront script (text ++ reply) rest (count + 1) (refusals + one_if lacks) new
+front_more script text reply line rest count refusals lacks now new front here = record {
+  lines = front.lines ++ line ∷ [];
+  cut = front.cut ∙ sym (append_assoc front.lines (line ∷ []) rest);
+  run = Replies-more start now new front.lines line text reply refusals lacks front.run here;
+  counted = simp length-append (omega (arith, front.counted))
+}
+
+-- nothing has run
+pub nothing_run : (known held : Option (List ℕ)) →
+    (script text : List ℕ) × IfSome known (λ bytes. script ≡ bytes) × IsStart script text × Appends held held text
+nothing_run None held = ([], [], tt, record { next = []; more = []; count = 0; refusals = 0; now = start; front = front_start [] }, Appends-nil held)
+nothing_run (Some bytes) held =
+    (elim (parts 10 bytes) as (λ (ps : List (List ℕ)). parts 10 bytes ≡ ps → (script text : List ℕ) × (script ≡ bytes) × IsStart script text × Appends held held text)
+    [ [] ↦ λ none. absurd (parts_some 10 bytes none)
+    | next ∷ more ↦ λ is. (bytes, [], refl, record { next = next; more = more; count = 0; refusals = 0; now = start; front = rw is at (front_start bytes) }, Appends-nil held)
+    ]) refl

@@ -1,0 +1,5 @@
+pub mod State
+pub mod Reply
+pub mod Answer
+pub mod Reading
+pub mod Script

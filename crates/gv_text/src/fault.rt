@@ -1,0 +1,42 @@
+//! Why a script ends early.
+ghost use Rattle.std.specs.Prelude.{◌≡◌};
+ghost use Rattle.gv_text.specs.declared.fault.ScriptFault.TheVariants as fault;
+
+use crate::device::{ReadFault, WriteFault};
+use std::alloc::AllocError;
+
+/// Why a script was not run to its end.
+#[derive(Clone, Copy, Debug, PartialEq, Eq)]
+pub enum ScriptFault {
+    /// This line, counted from 1, is no line of the language, or not at this place.
+    BadLine { line: u64 },
+    /// The script has more than `SCRIPT_LIMIT` bytes.
+    ScriptTooLong,
+    ReadFault,
+    WriteFault,
+    OutOfMemory,
+}
+
+impl From<ReadFault> for ScriptFault {
+    ghost from_gives = { λ _ e. e ≡ fault.ReadFault };
+
+    fn from(_fault: ReadFault) -> ScriptFault {
+        ScriptFault::ReadFault
+    }
+}
+
+impl From<WriteFault> for ScriptFault {
+    ghost from_gives = { λ _ e. e ≡ fault.WriteFault };
+
+    fn from(_fault: WriteFault) -> ScriptFault {
+        ScriptFault::WriteFault
+    }
+}
+
+impl From<AllocError> for ScriptFault {
+    ghost from_gives = { λ _ e. e ≡ fault.OutOfMemory };
+
+    fn from(_error: AllocError) -> ScriptFault {
+        ScriptFault::OutOfMemory
+    }
+}

@@ -1,0 +1,22 @@
+//! Scripts of an address space: read whole, run line by line, each line's reply written.
+#![tactic(auto)]
+
+mod bindings;
+mod buffers;
+mod desk;
+mod device;
+mod fault;
+mod history;
+mod memory;
+mod output;
+mod reply;
+mod script;
+mod standard;
+mod transfer;
+
+pub use device::{ReadFault, Sink, Source, WriteFault};
+pub use fault::ScriptFault;
+pub use memory::{MemorySink, MemorySource};
+pub use script::run_script;
+pub use standard::{ReadSource, WriteSink};
+pub use transfer::SCRIPT_LIMIT;

@@ -1,0 +1,106 @@
+//! A script from its bytes to its replies.
+ghost use Rattle.std.specs.Prelude.{◌≡◌, ◌<◌, ◌≤◌, ℕ, List, [], length, OnOk, IfSome, true};
+ghost use Rattle.std.specs.Io.KnownBytes.{Appends, append_known};
+ghost use Rattle.gv_text.specs.Reading.{script_limit};
+ghost use Rattle.gv_text.specs.Script.{IsRun, StopsAt, IsStart, Ends, LineEnds};
+
+use crate::desk::{Desk, LineFault};
+use crate::device::{Sink, Source};
+use crate::fault::ScriptFault;
+use crate::output::Output;
+use crate::transfer::read_script;
+use gv_lines::split_once;
+use std::alloc::Global;
+
+/// Reads a whole script, then runs its lines one after another and writes the reply of each.
+///
+/// A line that is not of the language, or not at its place, or that names what is not declared, ends the run as
+/// `BadLine`, after the replies of the lines before it; so does what stands behind the last line end. A script of
+/// over 1,048,576 bytes is `ScriptTooLong`. A device's fault is answered only where the device has failed. Want of
+/// memory inside a request is a reply; any other ends the run as `OutOfMemory`, after the replies of the lines
+/// before it.
+pub fn run_script<R: Source, W: Sink>(
+    alloc: Global,
+    reader: &mut R,
+    writer: &mut W,
+) -> Result<(), ScriptFault>
+    // The text is that of a run over the bytes that the reader gave.
+    ensures text { OnOk result ((script text : List ℕ)
+        × IfSome (R.remaining reader.old) (λ bytes. script ≡ bytes)
+        × IsRun script text × Appends (W.written writer.old) (W.written writer.new) text) }
+    // The line is the first bad one, and the text is that of the lines before it.
+    ensures bad_line { (line : ℕ) → result ≡ Err (ScriptFault.BadLine line) → (script text : List ℕ)
+        × IfSome (R.remaining reader.old) (λ bytes. script ≡ bytes)
+        × StopsAt script text line × Appends (W.written writer.old) (W.written writer.new) text }
+    // The text is that of some first lines.
+    ensures out_of_memory { result ≡ Err ScriptFault.OutOfMemory → (script text : List ℕ)
+        × IfSome (R.remaining reader.old) (λ bytes. script ≡ bytes)
+        × IsStart script text × Appends (W.written writer.old) (W.written writer.new) text }
+    ensures too_long { result ≡ Err ScriptFault.ScriptTooLong →
+        IfSome (R.remaining reader.old) (λ bytes. script_limit < length bytes) }
+    ensures too_long_silent { result ≡ Err ScriptFault.ScriptTooLong → writer.new ≡ writer.old }
+    ensures read_fault { result ≡ Err ScriptFault.ReadFault → R.failed reader.new ≡ true }
+    ensures read_fault_silent { result ≡ Err ScriptFault.ReadFault → writer.new ≡ writer.old }
+    ensures write_fault { result ≡ Err ScriptFault.WriteFault → W.failed writer.new ≡ true }
+{
+    let script = read_script(alloc, reader)?;
+    let mut output = Output::new(alloc);
+    let outcome = run_lines(alloc, script.as_slice(), &mut output, writer);
+    if outcome == Err(ScriptFault::WriteFault) {
+        return outcome;
+    }
+    output.flush(writer)?;
+    outcome
+}
+
+/// Runs the lines of a script.
+fn run_lines<W: Sink>(
+    alloc: Global,
+    script: &[u8],
+    output: &mut Output,
+    writer: &mut W,
+) -> Result<(), ScriptFault>
+    requires short { length script.now ≤ script_limit }
+    requires fresh { output.old ≡ [] }
+    ensures { Ends script.now (W.written writer.old) (append_known (W.written writer.new) output.new)
+        (W.failed writer.new) result }
+{
+    let mut desk = Desk::new(alloc);
+    let mut reply = String::new(alloc);
+    let mut rest = script;
+    let mut done: u64 = 0;
+    while let Some((line, after)) = split_once(rest, b'\n') {
+        let ran = run_line(alloc, &mut desk, line, done + 1, &mut reply, output, writer);
+        if let Err(fault) = ran {
+            return Err(fault);
+        }
+        rest = after;
+        done += 1;
+    }
+    if rest.is_empty() {
+        Ok(())
+    } else {
+        Err(ScriptFault::BadLine { line: done + 1 })
+    }
+}
+
+/// Runs the line of this number, and sends its reply on its way.
+fn run_line<W: Sink>(
+    alloc: Global,
+    desk: &mut Desk,
+    line: &[u8],
+    number: u64,
+    reply: &mut String,
+    output: &mut Output,
+    writer: &mut W,
+) -> Result<(), ScriptFault>
+    ensures { LineEnds desk.old line.now number desk.new (append_known (W.written writer.old) output.old)
+        (append_known (W.written writer.new) output.new) (W.failed writer.new) result }
+{
+    reply.clear();
+    match desk.run_text(alloc, line, reply) {
+        Ok(()) => Ok(output.push(writer, reply.as_bytes())?),
+        Err(LineFault::Bad) => Err(ScriptFault::BadLine { line: number }),
+        Err(LineFault::OutOfMemory) => Err(ScriptFault::OutOfMemory),
+    }
+}
