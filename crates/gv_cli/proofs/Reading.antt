@@ -1,0 +1,49 @@
+-- From what clap says of the words to what the program says.
+use Rattle.std.proofs.Common.{◌≡◌, ℕ, List, [], ◌∷◌, true, Result, Ok, Err, refl, subst, codes, inl, inr, ap, ◌∙◌}
+use Rattle.std.specs.Prelude.{IsErrAnd, IsOkUnless}
+use Rattle.clap.specs.Kinds.{Kinds, HasKind}
+use Rattle.clap.specs.Simple.{App}
+use Rattle.clap.specs.Takes.{takes}
+use Rattle.clap.specs.Faults.{fault_of, is_simple_and_free}
+use Rattle.clap.specs.Values.{kind_of}
+use Rattle.clap.proofs.OnLiterals.{clap_on_literals}
+use Rattle.clap.specs.declared.error.Error.{Error}
+use Rattle.clap.specs.declared.error.kind.ErrorKind.TheVariants as kind
+use Rattle.gv_cli.specs.CommandLine.{IsFaultOf, ReadsBy, command_line}
+use Rattle.gv_cli.specs.declared.words.WordsFault.{WordsFault}
+use Rattle.gv_cli.specs.declared.words.WordsFault.TheVariants.{Printed, OutOfMemory}
+
+is_exact : is_simple_and_free command_line ≡ true
+unfolding clap_on_literals
+is_exact = refl
+
+takes_run : (name : List ℕ) → takes command_line (name ∷ codes "run" ∷ []) ≡ true
+unfolding clap_on_literals
+takes_run name = refl
+
+-- what clap's clause says of the kinds of its errors holds at the program's command line
+pub at_command_line : (P : Kinds → Type 0) (words : List (List ℕ)) (app : App) → app ≡ command_line
+    → (is_simple_and_free app ≡ true → P (fault_of app words)) → P (fault_of command_line words)
+at_command_line P words app e given =
+    subst (λ a. P (fault_of a words)) e (given (ap is_simple_and_free e ∙ is_exact))
+
+-- an error of clap's is among the kinds of the fault that it becomes
+pub reads_by : {T : Type 0} (kinds : Kinds) (error : Error) (r : Result T WordsFault)
+    → HasKind kinds error → IsErrAnd r (IsFaultOf error) → ReadsBy kinds r
+reads_by kinds error (Ok task) has given = absurd given
+reads_by kinds error (Err (Printed shown)) (inl memory) given = absurd (given.1 memory)
+reads_by kinds error (Err (Printed shown)) (inr among) given = rw given.0 among
+reads_by kinds error (Err OutOfMemory) has given = tt
+
+-- an error of clap's for want of memory is the program's
+pub no_memory_of : {T : Type 0} (error : Error) (r : Result T WordsFault)
+    → kind_of error ≡ kind.OutOfMemory → IsErrAnd r (IsFaultOf error)
+    → IsOkUnless r OutOfMemory
+no_memory_of error (Ok task) memory given = absurd given
+no_memory_of error (Err (Printed shown)) memory given = absurd (given.1 memory)
+no_memory_of error (Err OutOfMemory) memory given = refl
+
+-- of the word `run` clap refuses nothing, but for want of memory
+pub run_passes : (app : App) (words : List (List ℕ)) (name : List ℕ) → app ≡ command_line
+    → words ≡ name ∷ codes "run" ∷ [] → takes app words ≡ true
+run_passes app words name e f = rw (e, f) (takes_run name)

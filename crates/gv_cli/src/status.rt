@@ -1,0 +1,16 @@
+//! The exit statuses of the program.
+
+/// The script was run to its end, or help was asked for and printed.
+pub const DONE: u8 = 0;
+
+/// The script has a bad line, or is too long.
+pub const BAD_SCRIPT: u8 = 1;
+
+/// The words of the command line are refused.
+pub const BAD_WORDS: u8 = 2;
+
+/// Standard input or standard output failed.
+pub const BROKEN_STREAM: u8 = 3;
+
+/// The system refused to give memory.
+pub const NO_MEMORY: u8 = 4;
