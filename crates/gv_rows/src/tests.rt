@@ -1,0 +1,200 @@
+//! Scripts from their bytes to their replies.
+
+use crate::devices::{FailingSink, FailingSource, StuckWriter};
+use crate::rows::{BAD_LINES, ROWS};
+use gv_text::{MemorySink, MemorySource, SCRIPT_LIMIT, ScriptFault, WriteSink, run_script};
+use std::alloc::Global;
+use std::process::Abort;
+use std::test::Fail;
+
+const HOLE: &[u8] =
+    b"buffer b 4\nbind map 0x0 0x4000 b 0x0\nplan unmap 0x1000 0x1000\nbind unmap 0x1000 0x1000\nmap\n";
+
+/// Runs the script over memory, and asserts what it comes to.
+fn expect(
+    rt: &impl Abort,
+    alloc: Global,
+    name: &str,
+    script: &[u8],
+    wanted: Result<(), ScriptFault>,
+    replies: &[u8],
+) {
+    let mut sink = MemorySink::new(alloc);
+    let outcome = run_script(alloc, &mut MemorySource::new(script), &mut sink);
+    assert!(rt; outcome == wanted, "{name}");
+    assert!(rt; sink.bytes() == replies, "{name}");
+}
+
+fn ends(bad_line: Option<u64>) -> Result<(), ScriptFault> {
+    match bad_line {
+        None => Ok(()),
+        Some(line) => Err(ScriptFault::BadLine { line }),
+    }
+}
+
+#[test]
+fn rows_come_to_their_replies(rt: HostRuntime) {
+    for row in &ROWS {
+        expect(
+            &rt,
+            rt.alloc(),
+            row.name,
+            row.script,
+            ends(row.bad_line),
+            row.replies,
+        );
+    }
+}
+
+#[test]
+fn bad_lines_end_the_script(rt: HostRuntime) -> Result<(), Fail> {
+    for (what, line) in &BAD_LINES {
+        let mut script = Vec::new(rt.alloc());
+        script.extend_from_slice(b"buffer b 4\n")?;
+        script.extend_from_slice(line)?;
+        script.extend_from_slice(b"\nmap\n")?;
+        expect(&rt, rt.alloc(), what, &script, ends(Some(2)), b"ok\n");
+    }
+    Ok(())
+}
+
+#[test]
+fn prefixes_end_at_their_last_line(rt: HostRuntime) -> Result<(), Fail> {
+    let mut whole = MemorySink::new(rt.alloc());
+    run_script(rt.alloc(), &mut MemorySource::new(HOLE), &mut whole)?;
+    let replies = [0, 1, 2, 3, 4, 6];
+    for len in 0..HOLE.len() {
+        let prefix = &HOLE[..len];
+        let lines = prefix.iter().filter(|byte| **byte == b'\n').count();
+        let at_end = prefix.is_empty() || prefix.ends_with(b"\n");
+        let bad_line = if at_end { None } else { Some(lines as u64 + 1) };
+        let kept = first_lines(whole.bytes(), replies.get(lines).copied().unwrap_or(0));
+        expect(&rt, rt.alloc(), "prefix", prefix, ends(bad_line), kept);
+    }
+    Ok(())
+}
+
+/// The first lines of a text.
+fn first_lines(text: &[u8], count: usize) -> &[u8] {
+    let mut left = count;
+    for (at, byte) in text.iter().enumerate() {
+        if left == 0 {
+            return &text[..at];
+        }
+        if *byte == b'\n' {
+            left -= 1;
+        }
+    }
+    text
+}
+
+#[test]
+fn longest_script_is_read(rt: HostRuntime) -> Result<(), Fail> {
+    let mut comment = vec![in rt.alloc(); b'#'; SCRIPT_LIMIT]?;
+    comment.pop();
+    comment.push(b'\n')?;
+    expect(&rt, rt.alloc(), "longest", &comment, Ok(()), b"");
+    comment.push(b'\n')?;
+    expect(
+        &rt,
+        rt.alloc(),
+        "too long",
+        &comment,
+        Err(ScriptFault::ScriptTooLong),
+        b"",
+    );
+    Ok(())
+}
+
+#[test]
+fn script_is_read_in_as_many_reads_as_it_has_bytes(rt: HostRuntime) -> Result<(), Fail> {
+    let comment = vec![in rt.alloc(); b'\n'; SCRIPT_LIMIT]?;
+    let mut source = FailingSource::new(&comment, SCRIPT_LIMIT + 2);
+    let mut sink = MemorySink::new(rt.alloc());
+    run_script(rt.alloc(), &mut source, &mut sink)?;
+    assert_eq!(rt; source.reads_left(), 1);
+    Ok(())
+}
+
+#[test]
+fn failed_read_writes_nothing(rt: HostRuntime) {
+    for reads in 0..HOLE.len() + 1 {
+        let mut source = FailingSource::new(HOLE, reads);
+        let mut sink = MemorySink::new(rt.alloc());
+        let outcome = run_script(rt.alloc(), &mut source, &mut sink);
+        assert!(rt;
+            outcome == Err(ScriptFault::ReadFault),
+            "after {reads} reads"
+        );
+        assert!(rt; sink.bytes().is_empty(), "after {reads} reads");
+    }
+}
+
+#[test]
+fn failed_write_is_told(rt: HostRuntime) -> Result<(), Fail> {
+    let mut whole = MemorySink::new(rt.alloc());
+    run_script(rt.alloc(), &mut MemorySource::new(HOLE), &mut whole)?;
+    for writes in 0..whole.bytes().len() {
+        let mut sink = FailingSink::new(rt.alloc(), writes);
+        let outcome = run_script(rt.alloc(), &mut MemorySource::new(HOLE), &mut sink);
+        assert!(rt;
+            outcome == Err(ScriptFault::WriteFault),
+            "after {writes} writes"
+        );
+        assert!(rt;
+            whole.bytes().starts_with(sink.bytes()),
+            "after {writes} writes"
+        );
+    }
+    let mut sink = FailingSink::new(rt.alloc(), whole.bytes().len());
+    run_script(rt.alloc(), &mut MemorySource::new(HOLE), &mut sink)?;
+    assert!(rt; sink.bytes() == whole.bytes());
+    Ok(())
+}
+
+#[test]
+fn writer_that_takes_nothing_has_failed(rt: HostRuntime) {
+    let mut sink = WriteSink::new(StuckWriter);
+    let outcome = run_script(rt.alloc(), &mut MemorySource::new(HOLE), &mut sink);
+    assert!(rt; outcome == Err(ScriptFault::WriteFault));
+}
+
+#[test]
+fn as_many_buffers_as_may_live(rt: HostRuntime) -> Result<(), Fail> {
+    let mut script = String::new(rt.alloc());
+    for first in b'a'..=b'z' {
+        for second in b'a'..=b'z' {
+            push_names(&mut script, char::from(first), char::from(second))?;
+        }
+    }
+    let mut source = MemorySource::new(script.as_bytes());
+    let mut sink = MemorySink::new(rt.alloc());
+    run_script(rt.alloc(), &mut source, &mut sink)?;
+    let refused = b"refused TooManyBuffers\n";
+    let granted = 65_536 * b"ok\n".len();
+    let lines = 26 * 26 * 98;
+    assert_eq!(rt;
+        sink.bytes().len(),
+        granted + (lines - 65_536) * refused.len()
+    );
+    assert!(rt; sink.bytes().ends_with(refused));
+    Ok(())
+}
+
+/// Lines for 98 names that begin with these letters.
+fn push_names(script: &mut String, first: char, second: char) -> Result<(), Fail> {
+    for number in 0..98u32 {
+        script.push_str("buffer ")?;
+        script.push(first)?;
+        script.push(second)?;
+        write_number(script, number)?;
+        script.push_str(" 1\n")?;
+    }
+    Ok(())
+}
+
+fn write_number(script: &mut String, number: u32) -> Result<(), Fail> {
+    use std::fmt::Write;
+    write!(script, "{number}")?;
+    Ok(())
+}
