@@ -9,6 +9,7 @@ ghost use Rattle.gv_ranges.specs.List.{IsLaidOut};
 ghost use Rattle.gv_ranges.specs.Edit.{edited, clipped, most_pieces};
 
 use gv_types::{Backing, Flags, Mapping, PageOp, PageRange, SPACE_PAGES};
+use std::fmt;
 use std::marker::Model;
 
 /// An operation leaves at most a rest before it, its own mapping and a rest behind it.
@@ -65,6 +66,12 @@ impl Pieces {
         ensures few { length result.now ≤ most_pieces }
     {
         &self.places[..self.len]
+    }
+}
+
+impl fmt::Debug for Pieces {
+    fn fmt<W: fmt::Write>(&self, f: &mut fmt::Formatter<W>) -> fmt::Result {
+        self.as_slice().fmt(f)
     }
 }
 
