@@ -2,7 +2,6 @@ ghost use Rattle.std.specs.Prelude.{◌≡◌, IfSome, OnErr, OnOk};
 ghost use Rattle.gv_types.specs.Span.{span};
 ghost use Rattle.gv_types.specs.Mapping.{IsMapping};
 ghost use Rattle.gv_types.specs.Operation.{IsPageOp};
-ghost use Rattle.gv_ranges.specs.Edit.{edited};
 ghost use Rattle.gv_ranges.specs.Examples.{EditOfNothing, EditOfLastPage, HoleLeavesBothRests};
 ghost use Rattle.gv_ranges.specs.Examples.{MapOverThree, MapAtSamePages, UnmapOfNothing};
 ghost use Rattle.gv_ranges.specs.Examples.{RestsKeepFlags, RestsOfZeros, NeighboursStayApart};
@@ -62,19 +61,6 @@ fn unmap(first: u64, count: u64) -> Option<PageOp>
     Some(PageOp::Unmap { range })
 }
 
-/// Changes the list by the operation.
-fn edit(list: &mut RangeList, op: &PageOp) -> Result<(), OutOfMemory>
-    requires { IsPageOp op.now }
-    ensures ok { OnOk result (list.new.mappings ≡ edited list.old.mappings op.now) }
-    ensures err { OnErr result (list.new.mappings ≡ list.old.mappings) }
-{
-    let (place, count) = list.overlapping(op.range());
-    let pieces = replacement(&list.mappings()[place..place + count], op);
-    list.reserve(pieces.as_slice().len())?;
-    list.splice(place, count, pieces.as_slice());
-    Ok(())
-}
-
 /// A mapping's first page, its count of pages, and the page of the buffer that it begins at.
 fn row(mapping: &Mapping) -> Option<(u64, u64, u64)> {
     match mapping.backing {
@@ -98,7 +84,7 @@ fn edits_leave_rests(rt: HostRuntime) -> Result<(), Fail> {
         map(1, 4, 100),
         unmap(2, 1),
     ] {
-        edit(&mut list, &op.ok_or("an operation")?)?;
+        list.edit(&op.ok_or("an operation")?)?;
     }
     let wanted = [(0, 1, 0), (1, 1, 100), (3, 2, 102), (5, 1, 5)];
     assert_eq!(rt; list.mappings().len(), wanted.len());
@@ -123,7 +109,7 @@ fn a_thousand_mappings(rt: HostRuntime) -> Result<(), Fail> {
     let mut list = RangeList::new(rt.alloc());
     for k in 0..1000u32 {
         let op = map(u64::from(k) * 2, 1, k).ok_or("an operation")?;
-        edit(&mut list, &op)?;
+        list.edit(&op)?;
     }
     assert_eq!(rt; list.mappings().len(), 1000);
     for k in 0..1000u32 {

@@ -30,7 +30,7 @@ stops_at script text line more count refusals number now short front bad is = re
   front = front;
   bad = bad;
   counted = is;
-  ample = outcome_of_stop script text line more count refusals number now front bad is
+  ample = outcome_of_stop script text line more count refusals number now front bad is;
 }
 
 pub line_ends : (T U : Type 0) (script text line : List ℕ) (more : List (List ℕ)) (count refusals : ℕ) (now new : State)

@@ -1,7 +1,7 @@
 -- One more line of a script has run.
-use Rattle.std.proofs.Common.{◌≡◌, ℕ, ◌+◌, List, [], ◌∷◌, ◌++◌, Bool, true, false, Option, Some, None, IfSome, Err, refl, sym, ap, ◌∙◌, append_assoc, append-nil, length-append, length, arith}
+use Rattle.std.proofs.Common.{◌≡◌, ℕ, ◌+◌, List, [], ◌∷◌, ◌++◌, Bool, Option, Some, None, IfSome, refl, sym, ◌∙◌, append_assoc, append-nil, length-append, arith}
 use Rattle.std.specs.Io.KnownBytes.{Appends}
-use Rattle.std.proofs.KnownBytes.{Appends-nil, Appends-trans}
+use Rattle.std.proofs.KnownBytes.{Appends-nil}
 use Rattle.gv_lines.specs.Words.{parts}
 use Rattle.gv_lines.proofs.Parts.{parts_some}
 use Rattle.gv_text.specs.State.{State, start}
@@ -45,7 +45,7 @@ front_more script text reply line rest count refusals lacks now new front here =
   lines = front.lines ++ line ∷ [];
   cut = front.cut ∙ sym (append_assoc front.lines (line ∷ []) rest);
   run = Replies-more start now new front.lines line text reply refusals lacks front.run here;
-  counted = simp length-append (omega (arith, front.counted))
+  counted = simp length-append (omega (arith, front.counted));
 }
 
 -- nothing has run
@@ -53,7 +53,7 @@ pub nothing_run : (known held : Option (List ℕ)) →
     (script text : List ℕ) × IfSome known (λ bytes. script ≡ bytes) × IsStart script text × Appends held held text
 nothing_run None held = ([], [], tt, record { next = []; more = []; count = 0; refusals = 0; now = start; front = front_start [] }, Appends-nil held)
 nothing_run (Some bytes) held =
-    (elim (parts 10 bytes) as (λ (ps : List (List ℕ)). parts 10 bytes ≡ ps → (script text : List ℕ) × (script ≡ bytes) × IsStart script text × Appends held held text)
-    [ [] ↦ λ none. absurd (parts_some 10 bytes none)
-    | next ∷ more ↦ λ is. (bytes, [], refl, record { next = next; more = more; count = 0; refusals = 0; now = start; front = rw is at (front_start bytes) }, Appends-nil held)
+    (elim (parts 10 bytes) as (λ (ps : List (List ℕ)). parts 10 bytes ≡ ps → (script text : List ℕ) × (script ≡ bytes) × IsStart script text × Appends held held text) [
+      | [] ↦ λ none. absurd (parts_some 10 bytes none)
+      | next ∷ more ↦ λ is. (bytes, [], refl, record { next = next; more = more; count = 0; refusals = 0; now = start; front = rw is at (front_start bytes) }, Appends-nil held)
     ]) refl

@@ -1,5 +1,5 @@
 -- What lies inside a buffer: pieces of a mapping, an edited list, split steps, and what an address reaches.
-use Rattle.std.proofs.Common.{◌≡◌, ℕ, ◌+◌, ◌-◌, ◌≤◌, ◌<◌, max, min, List, [], ◌∷◌, ◌++◌, Bool, true, false, cond, Option, Some, None, IsSomeAnd, arith, rules, refl, map, ltb, leb}
+use Rattle.std.proofs.Common.{◌≡◌, ℕ, ◌+◌, ◌-◌, ◌≤◌, ◌<◌, max, min, List, [], ◌∷◌, true, false, cond, Option, Some, None, IsSomeAnd, arith, refl, map}
 use Rattle.std.specs.List.{All, filter}
 use Rattle.std.proofs.lemmas.List.Elements.{All-head, All-tail, All-append, All-map, All-filter}
 use Rattle.std.proofs.lemmas.Bool.Decides.{nat_tests}
@@ -11,7 +11,6 @@ use Rattle.gv_types.specs.declared.mapping.Backing.{Backing}
 use Rattle.gv_types.specs.declared.mapping.Backing.TheVariants.{Buffer, Zero}
 use Rattle.gv_types.specs.declared.mapping.Mapping.{Mapping}
 use Rattle.gv_types.specs.declared.operation.PageOp.{PageOp}
-use Rattle.gv_types.specs.declared.operation.PageOp.TheVariants.{Map as MapOp, Unmap as UnmapOp}
 use Rattle.gv_ranges.specs.List.{at, IsLaidOut}
 use Rattle.gv_ranges.specs.Edit.{edited}
 use Rattle.gv_ranges.proofs.Kept.{clip_is_piece, HoldsOfPieces, All-edited}
@@ -49,11 +48,11 @@ held_entry buffers [] page held = tt
 held_entry buffers (m ∷ ms) page held =
     let rest : IsHeldEntry buffers (at ms page) = held_entry buffers ms page (All-tail (IsHeld buffers) m ms held) in
     let here : IsHeld buffers m = All-head (IsHeld buffers) m ms held in
-    (elim (covers m.range page) as (λ b. covers m.range page ≡ b → IsHeldEntry buffers (cond b (Some (part m page)) (at ms page)))
-    [ true ↦ λ is.
-        let within : page - m.range.first + 1 ≤ m.range.count = grind (arith, nat_tests) in
-        lie_inside-advanced buffers m.backing (page - m.range.first) 1 m.range.count within here
-    | false ↦ λ is. rest
+    (elim (covers m.range page) as (λ b. covers m.range page ≡ b → IsHeldEntry buffers (cond b (Some (part m page)) (at ms page))) [
+      | true ↦ λ is.
+          let within : page - m.range.first + 1 ≤ m.range.count = grind (arith, nat_tests) in
+          lie_inside-advanced buffers m.backing (page - m.range.first) 1 m.range.count within here
+      | false ↦ λ is. rest
     ]) refl
 
 held_rest : (buffers : Declared) (low high : ℕ) (m : Mapping) → IsMapping m → IsHeld buffers m → IsHeldRest buffers (clip low high m)
@@ -63,9 +62,9 @@ held_rest buffers low high m is held =
 
 held_step : (buffers : Declared) (op : PageOp) (m : Mapping) → IsMapping m → IsHeld buffers m → IsHeldStep buffers (step_of op m)
 held_step buffers op m is held =
-    (elim (lies_in m.range (range_of op)) as (λ b. IsHeldStep buffers (cond b (Unmap m (is_kept op m)) (Remap m (clip 0 (range_of op).first m) (clip (end_of (range_of op)) PAGES m) (is_kept op m))))
-    [ true ↦ held
-    | false ↦ (held, held_rest buffers 0 (range_of op).first m is held, held_rest buffers (end_of (range_of op)) PAGES m is held)
+    (elim (lies_in m.range (range_of op)) as (λ b. IsHeldStep buffers (cond b (Unmap m (is_kept op m)) (Remap m (clip 0 (range_of op).first m) (clip (end_of (range_of op)) PAGES m) (is_kept op m)))) [
+      | true ↦ held
+      | false ↦ (held, held_rest buffers 0 (range_of op).first m is held, held_rest buffers (end_of (range_of op)) PAGES m is held)
     ])
 
 own_step : (buffers : Declared) (op : PageOp) → All (IsHeld buffers) (own_mapping op) → All (IsHeldStep buffers) (map Map (own_mapping op))

@@ -1,9 +1,8 @@
 -- Where no reply is want of memory, a run's text is what the script comes to.
-use Rattle.std.proofs.Common.{◌≡◌, ◌≢◌, ℕ, zero, suc, ◌+◌, List, [], ◌∷◌, ◌++◌, Bool, true, false, Option, Some, None, refl, sym, ap, ◌∙◌, append_assoc, append-nil, length, arith}
-use Rattle.gv_lines.specs.Words.{parts}
+use Rattle.std.proofs.Common.{◌≡◌, ℕ, ◌+◌, List, [], ◌∷◌, ◌++◌, Bool, true, false, Some, None, refl, sym, ap, ◌∙◌, append_assoc, append-nil, length, arith}
 use Rattle.gv_text.specs.State.{State, start}
 use Rattle.gv_text.specs.Answer.{ran}
-use Rattle.gv_text.specs.Script.{Replies, IsFront, IsBadBefore, Outcome, behind, at_end, after_line, outcome_from, outcome, one_if}
+use Rattle.gv_text.specs.Script.{Replies, IsFront, IsBadBefore, Outcome, behind, after_line, outcome_from, outcome, one_if}
 
 -- a line with something behind it runs
 outcome_step : (s : State) (number : ℕ) (line : List ℕ) (rest : List (List ℕ)) → (rest ≡ [] → ⊥) →

@@ -1,6 +1,5 @@
 -- One more buffer is declared.
-use Rattle.std.proofs.Common.{◌≡◌, ℕ, ◌+◌, ◌≤◌, ◌<◌, List, [], ◌∷◌, ◌++◌, Bool, true, false, cond, Option, Some, None, not, ◌&&◌, nat_le, nat_lt, length, length-append, arith, refl}
-use Rattle.std.specs.List.{All}
+use Rattle.std.proofs.Common.{◌≡◌, ℕ, ◌≤◌, ◌<◌, List, [], ◌∷◌, ◌++◌, Bool, true, false, cond, Some, None, not, ◌&&◌, nat_le, nat_lt, length, length-append, arith, refl}
 use Rattle.std.proofs.lemmas.List.Elements.{All-nil, All-cons, All-append}
 use Rattle.std.proofs.lemmas.Bool.{leb-true, ltb-true}
 use Rattle.gv_types.specs.Page.{pages_per_buffer}
@@ -27,5 +26,5 @@ IsStocked-declared buffers name size stocked allowed =
     record {
       sizes = All-append (λ (b : List ℕ × ℕ). b.1 ≤ pages_per_buffer) buffers ((name, size) ∷ []) stocked.sizes
           (All-cons (λ (b : List ℕ × ℕ). b.1 ≤ pages_per_buffer) (name, size) [] small (All-nil (λ (b : List ℕ × ℕ). b.1 ≤ pages_per_buffer)));
-      few = simp length-append (omega arith)
+      few = simp length-append (omega arith);
     }

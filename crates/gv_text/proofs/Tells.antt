@@ -1,5 +1,5 @@
 -- What a line with an operation replies, by the operation's verdict.
-use Rattle.std.proofs.Common.{◌≡◌, ◌++◌, ℕ, List, Option, Some, Result, Ok, Err, String, Global, string_bytes, refl}
+use Rattle.std.proofs.Common.{◌≡◌, ◌++◌, Some, Ok, Err, String, Global, string_bytes, refl}
 use Rattle.gv_types.specs.declared.fault.Fault.{Fault}
 use Rattle.gv_types.specs.declared.operation.Op.{Op}
 use Rattle.gv_types.specs.declared.operation.PageOp.{PageOp}

@@ -1,5 +1,5 @@
 -- What a line of a script does: its reply, and the state after it.
-use Rattle.std.specs.Prelude.{◌≡◌, ℕ, ◌+◌, ◌/◌, ◌%◌, Bool, true, false, not, ◌&&◌, nat_lt, nat_le, if◌then◌else◌, is_some, List, [], ◌∷◌, ◌++◌, length, Option, Some, None, option_map, option_and_then, slice_get, Result, Ok, Err, map, IsSomeAnd, String, string_bytes}
+use Rattle.std.specs.Prelude.{◌≡◌, ℕ, ◌+◌, ◌/◌, ◌%◌, Bool, true, false, not, ◌&&◌, nat_lt, nat_le, if◌then◌else◌, is_some, List, [], ◌∷◌, ◌++◌, length, Option, Some, None, option_map, option_and_then, slice_get, Result, Ok, Err, IsSomeAnd, String, string_bytes}
 use Rattle.std.specs.Option.{option_map_or}
 use Rattle.std.specs.declared.alloc.Global.{Global}
 use Rattle.gv_types.specs.Page.{bytes_per_page, pages_per_buffer}
@@ -22,7 +22,7 @@ use Rattle.gv_lines.specs.declared.line.Operation.{Operation}
 use Rattle.gv_lines.specs.declared.line.Operation.TheVariants.{Map as MapWords, Zero as ZeroWords, Unmap as UnmapWords}
 use Rattle.gv_lines.specs.declared.line.Line.{Line}
 use Rattle.gv_lines.specs.declared.line.Line.TheVariants.{Silent, Space, Buffer, Bind, Plan, Map, At}
-use Rattle.gv_text.specs.State.{State, Declared, Bound, place_of, with_operation}
+use Rattle.gv_text.specs.State.{State, Declared, place_of, with_operation}
 use Rattle.gv_text.specs.Reply.{ok_reply, accepted_reply, refused_request, refused_reply, place_reply, lines_reply, mapping_text, step_text}
 
 abbrev pub flags_of : Bool → Flags

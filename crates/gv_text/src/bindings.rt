@@ -1,11 +1,9 @@
 //! The mappings of a script, with the operations that made them.
 ghost use Rattle.std.specs.Prelude.{◌≡◌, [], length, OnOk, OnErr};
 ghost use Rattle.gv_types.specs.Operation.{IsPageOp};
-ghost use Rattle.gv_ranges.specs.List.{IsLaidOut};
-ghost use Rattle.gv_ranges.specs.Edit.{edited};
 
 use crate::history::History;
-use gv_ranges::{RangeList, replacement};
+use gv_ranges::RangeList;
 use gv_types::{OutOfMemory, PageOp};
 use std::alloc::Global;
 use std::marker::Model;
@@ -64,23 +62,8 @@ impl Bindings {
         ensures was_bound { IsBound self.old }
     {
         self.accepted.reserve()?;
-        edit(&mut self.list, &op)?;
+        self.list.edit(&op)?;
         self.accepted.push(op);
         Ok(())
     }
-}
-
-/// Puts what the operation leaves of the mappings that meet it, and its own mapping, in their place.
-fn edit(list: &mut RangeList, op: &PageOp) -> Result<(), OutOfMemory>
-    requires { IsPageOp op.now }
-    ensures ok { OnOk result (list.new.mappings ≡ edited list.old.mappings op.now) }
-    ensures err { OnErr result (list.new.mappings ≡ list.old.mappings) }
-    ensures was_laid_out { OnOk result (IsLaidOut list.old.mappings) }
-{
-    let (place, count) = list.overlapping(op.range());
-    let pieces = replacement(&list.mappings()[place..place + count], op);
-    let pieces = pieces.as_slice();
-    list.reserve(pieces.len())?;
-    list.splice(place, count, pieces);
-    Ok(())
 }

@@ -1,5 +1,5 @@
 //! The operations that a script's requests have applied.
-ghost use Rattle.std.specs.Prelude.{◌≡◌, ◌∷◌, ◌<◌, ◌≤◌, [], length, OnOk};
+ghost use Rattle.std.specs.Prelude.{◌≡◌, ◌∷◌, ◌<◌, [], length, OnOk};
 
 use gv_types::{Backing, OutOfMemory, PageOp};
 use std::alloc::Global;
@@ -18,8 +18,9 @@ impl Model for History {
     ghost Value = { Past };
 
     ghost view = { λ h. record {
-        operations = reverse h.oldest_first.items;
-        room = vec_capacity h.oldest_first - vec_len h.oldest_first } };
+      operations = reverse h.oldest_first.items;
+      room = vec_capacity h.oldest_first - vec_len h.oldest_first;
+    } };
 }
 
 impl History {
@@ -43,6 +44,8 @@ impl History {
         ensures operations { self.new.operations ≡ self.old.operations }
         ensures ok { OnOk result (0 < self.new.room) }
     {
+        // The borrow checker proves a call on such a vector only where the function names the types inside its
+        // elements.
         let _backing = Backing::Zero;
         self.oldest_first.reserve(1)?;
         Ok(())

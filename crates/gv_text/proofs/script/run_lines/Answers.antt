@@ -1,4 +1,4 @@
-use Rattle.std.proofs.Common.{◌≡◌, ℕ, ◌++◌, ◌+◌, List, [], ◌∷◌, length, arith, rules, refl}
+use Rattle.std.proofs.Common.{◌≡◌, ◌++◌, ◌+◌, [], arith, refl}
 use Rattle.std.proofs.KnownBytes.{Appends-trans}
 use Rattle.gv_lines.proofs.Parts.{parts_some}
 use Rattle.gv_text.specs.Script.{one_if}
@@ -21,21 +21,24 @@ loop-line-preserved g c =
       refusals = c.loop-line.invariant.refusals + one_if ran.0;
       front = front_more _ _ _ _ _ _ _ _ _ _ front ran.2;
       wrote = Appends-trans _ _ _ _ _ c.loop-line.invariant.wrote ran.3;
-      left = omega (arith, c.in-Some.ensures.shorter)
+      left = omega (arith, c.in-Some.ensures.shorter);
     }
 
 pub returns-then-is_empty : goal.returns-then-is_empty
 returns-then-is_empty g c =
     let none : c.loop-line.rest.now ≡ [] = empty_from c.loop-line.rest.now c.if-is_empty.ensures in
-    let front = rw (c.in_default.ensures.parts, none) at c.loop-line.invariant.front in
-    (c.loop-line.invariant.text, record {
-      short = c.requires.short;
-      count = c.loop-line.done;
-      refusals = c.loop-line.invariant.refusals;
-      now = c.loop-line.desk;
-      front = front;
-      ample = outcome_of_run _ _ _ _ _ front
-    }, c.loop-line.invariant.wrote)
+    let front = rw (c.in_default.ensures.parts, none) at c.loop-line.invariant.front in (
+      c.loop-line.invariant.text,
+      record {
+        short = c.requires.short;
+        count = c.loop-line.done;
+        refusals = c.loop-line.invariant.refusals;
+        now = c.loop-line.desk;
+        front = front;
+        ample = outcome_of_run _ _ _ _ _ front;
+      },
+      c.loop-line.invariant.wrote,
+    )
 
 pub returns : goal.returns
 returns g c =

@@ -10,7 +10,7 @@ invariant-loop-line g l = record {
   refusals : ℕ;
   front : IsFront l.script text (parts 10 l.rest) l.done refusals l.desk;
   wrote : Appends (g.W.Sink.written l.initial.writer) (append_known (g.W.Sink.written l.writer) l.output) text;
-  left : l.done + length l.rest ≤ length l.script
+  left : l.done + length l.rest ≤ length l.script;
 }
 
 abbrev pub decreases-loop-line : goal.decreases-loop-line

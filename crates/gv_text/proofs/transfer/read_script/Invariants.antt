@@ -7,5 +7,5 @@ abbrev pub invariant-loop-reads : goal.invariant-loop-reads
 invariant-loop-reads g l = record {
   each_gave : l._reads ≤ vec_len l.script;
   short : vec_len l.script ≤ script_limit;
-  so_far : Consumes (g.S.Source.remaining l.initial.source) (g.S.Source.remaining l.source) l.script.items
+  so_far : Consumes (g.S.Source.remaining l.initial.source) (g.S.Source.remaining l.source) l.script.items;
 }

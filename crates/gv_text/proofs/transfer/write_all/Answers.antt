@@ -1,4 +1,4 @@
-use Rattle.std.proofs.Common.{arith, ◌+◌, ◌-◌, length, take, drop, ap, take_all, length-drop}
+use Rattle.std.proofs.Common.{arith, ◌-◌, length, drop, take_all, length-drop}
 use Rattle.std.proofs.Math.Seq.{take-add}
 use Rattle.std.proofs.KnownBytes.{Appends-trans}
 use Rattle.gv_text.proofs.transfer.write_all.Goals as goal
@@ -7,8 +7,8 @@ pub loop-at-preserved : goal.loop-at-preserved
 loop-at-preserved g c = record {
   in_range = omega (arith, c.in_ok-at.ensures.bound);
   so_far =
-    let both = Appends-trans _ _ _ _ _ c.loop-at.invariant.so_far c.in_ok-at.ensures.bytes in
-    let at = c.loop-at.at in let bytes = c.args.bytes.now in
-    let whole = take_all (length bytes - at) (drop at bytes) (omega (arith, length-drop at bytes)) in
-    rw take-add (rw whole at both)
+      let both = Appends-trans _ _ _ _ _ c.loop-at.invariant.so_far c.in_ok-at.ensures.bytes in
+      let at = c.loop-at.at in let bytes = c.args.bytes.now in
+      let whole = take_all (length bytes - at) (drop at bytes) (omega (arith, length-drop at bytes)) in
+      rw take-add (rw whole at both);
 }
