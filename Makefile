@@ -24,5 +24,18 @@ run: vmbind
 test:
 	$(RT) ci
 
+# Outside the gate, since it has no way to refuse memory: the first example with each request for memory refused in
+# turn, the first, the second and so on. A run that asks for less than N times ends as it does with ample memory.
+LAST ?= 40
+refuse-memory:
+	@cd $(PROGRAM) && for n in $$(seq 1 $(LAST)); do \
+		echo "== request $$n refused"; \
+		$(RT) try --fail-alloc $$n -- run < ../../examples/first.vmb 2>&1 | tail -n 12; \
+	done
+
+# Times of edits and look-ups. The figures are of this machine.
+measure:
+	cd crates/gv_bench && $(RT) run > /dev/null
+
 clean:
 	rm -rf vmbind crates/*/out
