@@ -1,0 +1,140 @@
+-- How many tables a slot holds.
+use Rattle.std.proofs.Common.{◌≡◌, ◌≢◌, ℕ, zero, suc, ◌+◌, ◌-◌, ◌*◌, ◌<◌, ◌≤◌, inl, inr, Bool, true, false, nat_eq, List, slice_index_or, Box, Global, refl, arith, sym, ap, ◌∙◌, if◌then◌else◌}
+use Rattle.std.proofs.lemmas.Bool.Decides.{nat_tests}
+use Rattle.gv_types.specs.declared.mapping.Mapping.{Mapping}
+use Rattle.gv_table.specs.declared.wanted.Wanted.TheVariants as variant
+use Rattle.gv_table.specs.Levels.{pages_of}
+use Rattle.gv_table.specs.Wanted.{wanted}
+use Rattle.gv_table.specs.declared.slot.Slot.{Slot}
+use Rattle.gv_table.specs.declared.slot.Slot.TheVariants.{Empty, Table}
+use Rattle.gv_table.specs.Tree.{is_table, child}
+use Rattle.gv_table.specs.Counts.{tables_in, tables_at, gained, lost, one_if, one_if_not, HasSameTables}
+use Rattle.gv_table.specs.Sums.{sum_below}
+use Rattle.gv_table.proofs.Sums.{sum_below-same, sum_below-zeros}
+use Rattle.gv_table.proofs.Slots.{is_table-Table, child-Table, is_table-Empty, child-other}
+
+pub tables_in-zero : (slot : Slot) → tables_in 0 slot ≡ 0
+unfolding tables_in
+tables_in-zero slot = refl
+
+pub tables_in-other : (level : ℕ) (slot : Slot) → is_table slot ≡ false → tables_in level slot ≡ 0
+unfolding tables_in
+tables_in-other zero slot other = refl
+tables_in-other (suc level) slot other = rw other refl
+
+-- one more than its slots hold
+pub tables_in-Table :
+    (level : ℕ) (slots : Box (List Slot) Global) → 0 < level →
+    tables_in level (Table slots) ≡ 1 + sum_below 512 (λ index. tables_in (level - 1) (slice_index_or slots.value index Empty))
+unfolding tables_in
+tables_in-Table zero slots some = absurd (omega arith)
+tables_in-Table (suc level) slots some =
+    let lower : suc level - 1 ≡ level = omega arith in
+    let same = sum_below-same 512 (λ index. tables_in level (child (Table slots) index)) (λ index. tables_in level (slice_index_or slots.value index Empty))
+    (λ index below. ap (λ (s : Slot). tables_in level s) (child-Table slots index)) in
+    rw (is_table-Table slots, lower) (ap (λ (n : ℕ). 1 + n) same)
+
+pub tables_at-other : (target level : ℕ) (slot : Slot) → is_table slot ≡ false → tables_at target level slot ≡ 0
+unfolding tables_at
+tables_at-other target zero slot other = refl
+tables_at-other target (suc level) slot other = rw other refl
+
+pub tables_at-Table :
+    (target level : ℕ) (slots : Box (List Slot) Global) → 0 < level →
+    tables_at target level (Table slots) ≡
+    one_if (nat_eq target (level - 1)) + sum_below 512 (λ index. tables_at target (level - 1) (slice_index_or slots.value index Empty))
+unfolding tables_at
+tables_at-Table target zero slots some = absurd (omega arith)
+tables_at-Table target (suc level) slots some =
+    let lower : suc level - 1 ≡ level = omega arith in
+    let same = sum_below-same 512 (λ index. tables_at target level (child (Table slots) index)) (λ index. tables_at target level (slice_index_or slots.value index Empty))
+    (λ index below. ap (λ (s : Slot). tables_at target level s) (child-Table slots index)) in
+    rw (is_table-Table slots, lower) (ap (λ (n : ℕ). one_if (nat_eq target level) + n) same)
+
+eq-true : (a b : ℕ) → a ≡ b → nat_eq a b ≡ true
+eq-true a b e = grind (arith, nat_tests)
+
+eq-false : (a b : ℕ) → a ≢ b → nat_eq a b ≡ false
+eq-false a b e = grind (arith, nat_tests)
+
+zero-by : (b : Bool) (n : ℕ) → n ≡ 0 → (if b then n else 0) ≡ 0
+zero-by true n e = e
+zero-by false n e = refl
+
+-- no table of a slot has slots at the slot's level or above
+pub tables_at-low : (target level : ℕ) (slot : Slot) → level ≤ target → tables_at target level slot ≡ 0
+unfolding tables_at
+tables_at-low target zero slot low = refl
+tables_at-low target (suc level) slot low =
+    let differ : target ≢ level = omega arith in
+    let one = ap one_if (eq-false target level differ) in
+    let z = sum_below-zeros 512 (λ k. tables_at target level (child slot k)) (λ k below. tables_at-low target level (child slot k) (omega arith)) in
+    zero-by (is_table slot) _ (omega (arith, one, z))
+
+-- a table of the target level is the only one of its slot
+pub tables_at-here : (target level : ℕ) (slots : Box (List Slot) Global) → 0 < level → target ≡ level - 1 → tables_at target level (Table slots) ≡ 1
+tables_at-here target level slots some same =
+    let whole = tables_at-Table target level slots some in
+    let one = ap one_if (eq-true target (level - 1) same) in
+    let z = sum_below-zeros 512 (λ k. tables_at target (level - 1) (slice_index_or slots.value k Empty))
+    (λ k below. tables_at-low target (level - 1) (slice_index_or slots.value k Empty) (omega arith)) in
+    omega (arith, whole, one, z)
+
+pub tables_at-above : (target level : ℕ) (slots : Box (List Slot) Global) → 0 < level → target ≢ level - 1 →
+    tables_at target level (Table slots) ≡ sum_below 512 (λ k. tables_at target (level - 1) (slice_index_or slots.value k Empty))
+tables_at-above target level slots some differ =
+    let whole = tables_at-Table target level slots some in
+    let one = ap one_if (eq-false target (level - 1) differ) in
+    omega (arith, whole, one)
+
+-- a slot that is a table gains its parts' gains, and one that is none one more
+pub gained-parts : (ms : List Mapping) (level first : ℕ) (slot : Slot) → 0 < level → wanted ms level first ≡ variant.Table →
+    gained ms level first slot ≡
+    one_if_not (is_table slot) + sum_below 512 (λ k. gained ms (level - 1) (first + k * pages_of (level - 1)) (child slot k))
+unfolding gained
+gained-parts ms zero first slot some want = absurd (omega arith)
+gained-parts ms (suc level) first slot some want = let lower : suc level - 1 ≡ level = omega arith in rw (want, lower) refl
+
+gained-other-by : (ms : List Mapping) (level first : ℕ) (one other : Slot) → is_table one ≡ false → is_table other ≡ false →
+    gained ms level first one ≡ gained ms level first other
+unfolding gained
+gained-other-by ms zero first one other a b = refl
+gained-other-by ms (suc level) first one other a b =
+    let parts = sum_below-same 512 (λ k. gained ms level (first + k * pages_of level) (child one k)) (λ k. gained ms level (first + k * pages_of level) (child other k))
+    (λ k below. ap (λ (s : Slot). gained ms level (first + k * pages_of level) s) (child-other one k a ∙ sym (child-other other k b))) in
+    rw (a, b, parts) refl
+
+-- slots with the same tables gain the same
+pub gained-same : (ms : List Mapping) (level first : ℕ) (one other : Slot) → HasSameTables one other → gained ms level first one ≡ gained ms level first other
+gained-same ms level first one other same =
+    elim same [
+      | inl e ↦ ap (λ (s : Slot). gained ms level first s) e
+      | inr p ↦ gained-other-by ms level first one other p.0 p.1
+    ]
+
+pub lost-other : (ms : List Mapping) (level first : ℕ) (slot : Slot) → is_table slot ≡ false → lost ms level first slot ≡ 0
+unfolding lost
+lost-other ms zero first slot other = refl
+lost-other ms (suc level) first slot other = rw other refl
+
+-- and they lose the same
+pub lost-same : (ms : List Mapping) (level first : ℕ) (one other : Slot) → HasSameTables one other → lost ms level first one ≡ lost ms level first other
+lost-same ms level first one other same =
+    elim same [
+      | inl e ↦ ap (λ (s : Slot). lost ms level first s) e
+      | inr p ↦ lost-other ms level first one p.0 ∙ sym (lost-other ms level first other p.1)
+    ]
+
+lost-by : (b : Bool) (n : ℕ) → (b ≡ false → n ≡ 0) → (if b then 0 + n else 0) ≡ n
+lost-by true n none = omega arith
+lost-by false n none = sym (none refl)
+
+-- a slot that stays a table, or becomes one, loses its parts' losses
+pub lost-parts : (ms : List Mapping) (level first : ℕ) (slot : Slot) → 0 < level → wanted ms level first ≡ variant.Table →
+    lost ms level first slot ≡ sum_below 512 (λ k. lost ms (level - 1) (first + k * pages_of (level - 1)) (child slot k))
+unfolding lost
+lost-parts ms zero first slot some want = absurd (omega arith)
+lost-parts ms (suc level) first slot some want =
+    let lower : suc level - 1 ≡ level = omega arith in
+    rw (want, lower) (lost-by (is_table slot) (sum_below 512 (λ k. lost ms level (first + k * pages_of level) (child slot k)))
+    (λ other. sum_below-zeros 512 (λ k. lost ms level (first + k * pages_of level) (child slot k)) (λ k below. ap (λ (s : Slot). lost ms level (first + k * pages_of level) s) (child-other slot k other) ∙ lost-other ms level (first + k * pages_of level) Empty is_table-Empty)))

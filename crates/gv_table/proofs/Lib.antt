@@ -1,0 +1,16 @@
+pub mod Sums
+pub mod Spans
+pub mod PagesOf
+pub mod Slots
+pub mod Counts
+pub mod Covered
+pub mod Clips
+pub mod Nearness
+pub mod Wants
+pub mod Trees
+pub mod Rows
+pub mod Matches
+pub mod Painted
+pub mod Needs
+pub mod Foresight
+pub mod Edits

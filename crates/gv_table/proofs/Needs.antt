@@ -1,0 +1,66 @@
+-- How many places of a slot may need a table, part by part.
+use Rattle.std.proofs.Common.{◌≡◌, ℕ, zero, suc, ◌+◌, ◌-◌, ◌*◌, ◌<◌, ◌≤◌, inl, inr, Bool, true, false, not, ◌&&◌, ◌||◌, List, refl, arith, ap}
+use Rattle.std.proofs.lemmas.Bool.{cases_lt}
+use Rattle.gv_types.specs.Span.{Span, meets, lies_in}
+use Rattle.gv_types.specs.declared.mapping.Mapping.{Mapping}
+use Rattle.gv_table.specs.declared.slot.Slot.{Slot}
+use Rattle.gv_table.specs.Levels.{pages_of, slot_pages}
+use Rattle.gv_table.specs.Sums.{sum_below}
+use Rattle.gv_table.specs.Wanted.{wanted, is_divided}
+use Rattle.gv_table.specs.Tree.{is_table, child}
+use Rattle.gv_table.specs.Counts.{needed, may_divide, one_if_not}
+use Rattle.gv_table.proofs.PagesOf.{rows-rise}
+
+pub needed-zero : (pieces : List Mapping) (range : Span) (first : ℕ) (slot : Slot) → needed pieces range 0 first slot ≡ 0
+unfolding needed
+needed-zero pieces range first slot = refl
+
+pub needed-none : (pieces : List Mapping) (range : Span) (level first : ℕ) (slot : Slot) → may_divide pieces range level first ≡ false →
+    needed pieces range level first slot ≡ 0
+unfolding needed
+needed-none pieces range zero first slot whole = refl
+needed-none pieces range (suc level) first slot whole = rw whole refl
+
+left-false : (a b : Bool) → a ≡ false → (a && b) ≡ false
+left-false true b e = cc
+left-false false b e = refl
+
+left-true : (a b : Bool) → (a && b) ≡ true → a ≡ true
+left-true true b e = refl
+left-true false b e = e
+
+-- a slot apart from the range needs nothing
+pub needed-apart : (pieces : List Mapping) (range : Span) (level first : ℕ) (slot : Slot) → meets (slot_pages level first) range ≡ false →
+    needed pieces range level first slot ≡ 0
+needed-apart pieces range level first slot apart =
+    needed-none pieces range level first slot
+    (left-false (meets (slot_pages level first) range) (not (lies_in (slot_pages level first) range) || is_divided (wanted pieces level first)) apart)
+
+pub may-met : (pieces : List Mapping) (range : Span) (level first : ℕ) → may_divide pieces range level first ≡ true → meets (slot_pages level first) range ≡ true
+may-met pieces range level first may =
+    left-true (meets (slot_pages level first) range) (not (lies_in (slot_pages level first) range) || is_divided (wanted pieces level first)) may
+
+pub needed-parts : (pieces : List Mapping) (range : Span) (level first : ℕ) (slot : Slot) → 0 < level → may_divide pieces range level first ≡ true →
+    needed pieces range level first slot ≡
+    one_if_not (is_table slot) + sum_below 512 (λ k. needed pieces range (level - 1) (first + k * pages_of (level - 1)) (child slot k))
+unfolding needed
+needed-parts pieces range zero first slot some may = absurd (omega arith)
+needed-parts pieces range (suc level) first slot some may = let lower : suc level - 1 ≡ level = omega arith in rw (may, lower) refl
+
+pub one_if_not-small : (b : Bool) → one_if_not b ≤ 1
+one_if_not-small true = omega arith
+one_if_not-small false = omega arith
+
+pub product-up : (n p : ℕ) → 0 < p → n ≤ n * p
+product-up n p some = grind arith
+
+-- the parts of a slot and the slot itself are fewer than its pages
+pub bound-all : (total one high p n : ℕ) → one ≤ 1 → total + high ≤ one + high * p → high ≤ 512 → 0 < p → n ≡ 512 * p → total + 1 ≤ n
+bound-all total one zero p n small bound few some e = omega (arith, bound, e)
+bound-all total one (suc high) p n small bound few some e =
+    elim (cases_lt (suc high) 512) [
+      | inl less ↦ (let up = rows-rise (suc high) 512 p less in omega (arith, up, bound, e))
+      | inr all ↦ (let same : suc high ≡ 512 = omega arith in
+          let product = ap (λ (m : ℕ). m * p) same in
+          omega (arith, product, bound, e))
+    ]

@@ -1,0 +1,84 @@
+-- One more slot of a row is painted.
+use Rattle.std.proofs.Common.{◌≡◌, ◌≢◌, ℕ, ◌+◌, ◌*◌, ◌<◌, ◌≤◌, List, slice_index_or, arith, sym, ap, ◌∙◌, subst, ◌⊎◌, inl, inr, refl}
+use Rattle.std.proofs.lemmas.Bool.{cases_lt}
+use Rattle.gv_types.specs.Page.{PAGES}
+use Rattle.gv_types.specs.Span.{Span, end_of}
+use Rattle.gv_types.specs.declared.mapping.Mapping.{Mapping}
+use Rattle.gv_ranges.specs.List.{IsLaidOut}
+use Rattle.gv_table.specs.declared.slot.Slot.{Slot}
+use Rattle.gv_table.specs.declared.slot.Slot.TheVariants.{Empty}
+use Rattle.gv_table.specs.Levels.{pages_of, slot_pages}
+use Rattle.gv_table.specs.Tree.{IsTreeOf, IsTreeOutside}
+use Rattle.gv_table.specs.Counts.{gained, lost, row_gained, row_lost}
+use Rattle.gv_table.proofs.Sums.{sum_below-change, sum_below-zeros}
+use Rattle.gv_table.proofs.PagesOf.{part-within}
+use Rattle.gv_table.proofs.Spans.{meets-after}
+use Rattle.gv_table.proofs.Trees.{outside-apart}
+use Rattle.gv_table.proofs.Matches.{tree-match, gained-match, lost-match}
+
+split : (i n : ℕ) → i < n + 1 → (i < n) ⊎ (i ≡ n)
+split i n below = grind arith
+
+module _ (ms : List Mapping) (level first i : ℕ) (before row after : List Slot)
+    (same : (k : ℕ) → k ≢ i → slice_index_or after k Empty ≡ slice_index_or row k Empty)
+    (above : (k : ℕ) → i ≤ k → slice_index_or row k Empty ≡ slice_index_or before k Empty)
+    (laid : IsLaidOut ms)
+    (here : IsTreeOf ms level (first + i * pages_of level) (slice_index_or after i Empty)) where
+  pub painted-below :
+      ((k : ℕ) → k < i → IsTreeOf ms level (first + k * pages_of level) (slice_index_or row k Empty)) →
+      (k : ℕ) → k < i + 1 → IsTreeOf ms level (first + k * pages_of level) (slice_index_or after k Empty)
+  painted-below below k less =
+      elim (split k i less) [
+        | inl smaller ↦ (let differ : k ≢ i = omega arith in
+            subst (λ (s : Slot). IsTreeOf ms level (first + k * pages_of level) s) (sym (same k differ)) (below k smaller))
+        | inr e ↦ (let P : ℕ → Type 0 = λ j. IsTreeOf ms level (first + j * pages_of level) (slice_index_or after j Empty) in subst P (sym e) here)
+      ]
+
+  pub painted-above : (k : ℕ) → i + 1 ≤ k → slice_index_or after k Empty ≡ slice_index_or before k Empty
+  painted-above k more = let differ : k ≢ i = omega arith in same k differ ∙ above k (omega arith)
+
+  pub painted-gained : i < 512 → row_gained ms level first after + gained ms level (first + i * pages_of level) (slice_index_or row i Empty) ≡ row_gained ms level first row
+  painted-gained within =
+      let f = λ (k : ℕ). gained ms level (first + k * pages_of level) (slice_index_or row k Empty) in
+      let g = λ (k : ℕ). gained ms level (first + k * pages_of level) (slice_index_or after k Empty) in
+      let e = sum_below-change 512 f g i within (λ k differ. ap (λ (s : Slot). gained ms level (first + k * pages_of level) s) (same k differ)) in
+      let z = gained-match ms level (first + i * pages_of level) (slice_index_or after i Empty) (tree-match ms level (first + i * pages_of level) (slice_index_or after i Empty) laid here) in
+      omega (arith, e, z)
+
+  pub painted-lost : i < 512 → row_lost ms level first after + lost ms level (first + i * pages_of level) (slice_index_or row i Empty) ≡ row_lost ms level first row
+  painted-lost within =
+      let f = λ (k : ℕ). lost ms level (first + k * pages_of level) (slice_index_or row k Empty) in
+      let g = λ (k : ℕ). lost ms level (first + k * pages_of level) (slice_index_or after k Empty) in
+      let e = sum_below-change 512 f g i within (λ k differ. ap (λ (s : Slot). lost ms level (first + k * pages_of level) s) (same k differ)) in
+      let z = lost-match ms level (first + i * pages_of level) (slice_index_or after i Empty) (tree-match ms level (first + i * pages_of level) (slice_index_or after i Empty) laid here) in
+      omega (arith, e, z)
+
+-- a row of the tree gains nothing and loses nothing
+pub row_gained-zero : (ms : List Mapping) (level first : ℕ) (row : List Slot) → IsLaidOut ms →
+    ((k : ℕ) → k < 512 → IsTreeOf ms level (first + k * pages_of level) (slice_index_or row k Empty)) → row_gained ms level first row ≡ 0
+row_gained-zero ms level first row laid tree =
+    sum_below-zeros 512 (λ k. gained ms level (first + k * pages_of level) (slice_index_or row k Empty))
+    (λ k below. gained-match ms level (first + k * pages_of level) (slice_index_or row k Empty) (tree-match ms level (first + k * pages_of level) (slice_index_or row k Empty) laid (tree k below)))
+
+pub row_lost-zero : (ms : List Mapping) (level first : ℕ) (row : List Slot) → IsLaidOut ms →
+    ((k : ℕ) → k < 512 → IsTreeOf ms level (first + k * pages_of level) (slice_index_or row k Empty)) → row_lost ms level first row ≡ 0
+row_lost-zero ms level first row laid tree =
+    sum_below-zeros 512 (λ k. lost ms level (first + k * pages_of level) (slice_index_or row k Empty))
+    (λ k below. lost-match ms level (first + k * pages_of level) (slice_index_or row k Empty) (tree-match ms level (first + k * pages_of level) (slice_index_or row k Empty) laid (tree k below)))
+
+-- the slots of a row are right where some are painted and the rest are apart from the range
+pub row-tree : (ms : List Mapping) (range : Span) (level first i : ℕ) (before row : List Slot) → IsLaidOut ms → first + 512 * pages_of level ≤ PAGES →
+    ((k : ℕ) → k < i → IsTreeOf ms level (first + k * pages_of level) (slice_index_or row k Empty)) →
+    ((k : ℕ) → i ≤ k → slice_index_or row k Empty ≡ slice_index_or before k Empty) →
+    ((k : ℕ) → k < 512 → IsTreeOutside ms range level (first + k * pages_of level) (slice_index_or before k Empty)) →
+    ((k : ℕ) → i ≤ k → k < 512 → end_of range ≤ first + k * pages_of level) →
+    (k : ℕ) → k < 512 → IsTreeOf ms level (first + k * pages_of level) (slice_index_or row k Empty)
+row-tree ms range level first i before row laid within painted untouched outside behind k below =
+    elim (cases_lt k i) [
+      | inl less ↦ painted k less
+      | inr from ↦ (
+          let fits = part-within k (512 * pages_of level) (pages_of level) below refl in
+          let apart = meets-after (slot_pages level (first + k * pages_of level)) range (behind k from below) in
+          subst (λ (s : Slot). IsTreeOf ms level (first + k * pages_of level) s) (sym (untouched k from))
+          (outside-apart ms range level (first + k * pages_of level) (slice_index_or before k Empty) laid (outside k below) (omega (arith, fits)) apart))
+    ]

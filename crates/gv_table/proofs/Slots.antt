@@ -1,0 +1,123 @@
+-- What a slot made of a variant is, and the chain of empty tables.
+use Rattle.std.proofs.Common.{◌≡◌, ◌≢◌, ℕ, zero, suc, map, ◌+◌, ◌-◌, ◌<◌, true, false, List, [], ◌∷◌, length, slice_index_or, slice_set, Box, Global, refl, arith, subst, sym, ap, ◌∙◌, add-one, rules}
+use Rattle.std.proofs.lemmas.List.{get_or-set_same, get_or-set_other, length-set}
+use Rattle.gv_types.specs.declared.mapping.Entry.{Entry}
+use Rattle.gv_table.specs.declared.slot.Slot.{Slot, out-Slot, the_lemmas}
+use Rattle.gv_table.specs.declared.slot.Slot.TheVariants.{Empty, Leaf, Table}
+use Rattle.gv_table.specs.declared.slot.Slot.TheOpen as layer
+use Rattle.gv_table.specs.Tree.{is_table, child, layer_is_table, layer_child}
+use Rattle.gv_table.specs.Chain.{IsChainOf, AreEmpty, chain_length}
+
+pub out-Table : (slots : Box (List Slot) Global) → out-Slot (Table slots) ≡ layer.Table slots
+out-Table slots = search (rules, the_lemmas)
+
+out-Empty : out-Slot Empty ≡ layer.Empty
+out-Empty = search (rules, the_lemmas)
+
+out-Leaf : (entry : Entry) → out-Slot (Leaf entry) ≡ layer.Leaf entry
+out-Leaf entry = search (rules, the_lemmas)
+
+pub is_table-Table : (slots : Box (List Slot) Global) → is_table (Table slots) ≡ true
+unfolding is_table
+is_table-Table slots = ap layer_is_table (out-Table slots)
+
+pub is_table-Empty : is_table Empty ≡ false
+unfolding is_table
+is_table-Empty = ap layer_is_table out-Empty
+
+pub is_table-Leaf : (entry : Entry) → is_table (Leaf entry) ≡ false
+unfolding is_table
+is_table-Leaf entry = ap layer_is_table (out-Leaf entry)
+
+pub child-Table : (slots : Box (List Slot) Global) (index : ℕ) → child (Table slots) index ≡ slice_index_or slots.value index Empty
+unfolding child
+child-Table slots index = ap (λ (l : layer.Slot-F Slot). layer_child l index) (out-Table slots)
+
+pub child-Empty : (index : ℕ) → child Empty index ≡ Empty
+unfolding child
+child-Empty index = ap (λ (l : layer.Slot-F Slot). layer_child l index) out-Empty
+
+-- an empty table before a chain
+pub IsChainOf-more :
+    (count : ℕ) (slots : Box (List Slot) Global) (rest : Slot) → length slots.value ≡ 512 → AreEmpty slots.value → IsChainOf count rest →
+    (linked : Box (List Slot) Global) → linked.value ≡ slice_set slots.value 0 rest → IsChainOf (count + 1) (Table linked)
+unfolding IsChainOf
+IsChainOf-more count slots rest long empty chain linked e =
+    let within : 0 < length slots.value = omega arith in
+    let head : child (Table linked) 0 ≡ rest =
+    child-Table linked 0 ∙ ap (λ (l : List Slot). slice_index_or l 0 Empty) e ∙ get_or-set_same slots.value 0 rest Empty within in
+    let P : Slot → Type 0 = λ s. IsChainOf count s in
+    rw add-one (
+      is_table-Table linked,
+      subst P (sym head) chain,
+      λ index some below.
+          let differ : index ≢ 0 = omega arith in
+          child-Table linked index ∙ ap (λ (l : List Slot). slice_index_or l index Empty) e ∙
+          get_or-set_other slots.value 0 index rest Empty differ ∙ empty index below,
+    )
+
+pub IsChainOf-none : IsChainOf 0 Empty
+unfolding IsChainOf
+IsChainOf-none = refl
+
+-- a chain of some tables begins with one
+pub IsChainOf-first : (count : ℕ) (slot : Slot) → 0 < count → IsChainOf count slot → is_table slot ≡ true
+unfolding IsChainOf
+IsChainOf-first zero slot some chain = absurd (omega arith)
+IsChainOf-first (suc count) slot some chain = chain.0
+
+pub IsChainOf-rest : (count : ℕ) (slots : Box (List Slot) Global) → 0 < count → IsChainOf count (Table slots) → IsChainOf (count - 1) (slice_index_or slots.value 0 Empty)
+unfolding IsChainOf
+IsChainOf-rest zero slots some chain = absurd (omega arith)
+IsChainOf-rest (suc count) slots some chain =
+    let P : Slot → Type 0 = λ s. IsChainOf count s in
+    let e : suc count - 1 ≡ count = omega arith in
+    rw e (subst P (child-Table slots 0) chain.1)
+
+pub IsChainOf-others :
+    (count : ℕ) (slots : Box (List Slot) Global) → 0 < count → IsChainOf count (Table slots) → length slots.value ≡ 512 →
+    (first : Slot) → first ≡ Empty → AreEmpty (slice_set slots.value 0 first)
+unfolding IsChainOf
+IsChainOf-others zero slots some chain long first none index below = absurd (omega arith)
+IsChainOf-others (suc count) slots some chain long first none zero below =
+    get_or-set_same slots.value 0 first Empty (let h : 0 < length slots.value = omega arith in h) ∙ none
+IsChainOf-others (suc count) slots some chain long first none (suc index) below =
+    let differ : suc index ≢ 0 = omega arith in
+    get_or-set_other slots.value 0 (suc index) first Empty differ ∙ sym (child-Table slots (suc index)) ∙ chain.2 (suc index) (omega arith) below
+
+layer-other : (l : layer.Slot-F Slot) (k : ℕ) → layer_is_table l ≡ false → layer_child l k ≡ Empty
+layer-other layer.Empty k other = refl
+layer-other (layer.Leaf entry) k other = refl
+layer-other (layer.Table slots) k other = cc
+
+-- a slot that is no table has empty parts
+pub child-other : (slot : Slot) (k : ℕ) → is_table slot ≡ false → child slot k ≡ Empty
+unfolding is_table child
+child-other slot k other = layer-other (out-Slot slot) k other
+
+pub chain_length-Empty : chain_length Empty ≡ 0
+unfolding chain_length
+chain_length-Empty = search (rules, the_lemmas)
+
+pub chain_length-Table : (slots : Box (List Slot) Global) → chain_length (Table slots) ≡ 1 + slice_index_or (map chain_length slots.value) 0 0
+unfolding chain_length
+chain_length-Table slots = search (rules, the_lemmas)
+
+first-map : (xs : List Slot) → 0 < length xs → slice_index_or (map chain_length xs) 0 0 ≡ chain_length (slice_index_or xs 0 Empty)
+first-map [] some = absurd (omega arith)
+first-map (x ∷ xs) some = refl
+
+-- a table's chain is one longer than that of its first slot
+pub chain_length-first : (slots : Box (List Slot) Global) → 0 < length slots.value → chain_length (Table slots) ≡ 1 + chain_length (slice_index_or slots.value 0 Empty)
+chain_length-first slots some = chain_length-Table slots ∙ ap (λ (n : ℕ). 1 + n) (first-map slots.value some)
+
+-- a chain put into a table's first slot
+pub chain_length-put : (slots : Box (List Slot) Global) (rest : Slot) → length slots.value ≡ 512 → (linked : Box (List Slot) Global) →
+    linked.value ≡ slice_set slots.value 0 rest → chain_length (Table linked) ≡ chain_length rest + 1
+chain_length-put slots rest long linked e =
+    let within : 0 < length slots.value = omega arith in
+    let longs : length linked.value ≡ 512 = ap length e ∙ length-set slots.value 0 rest ∙ long in
+    let head : slice_index_or linked.value 0 Empty ≡ rest = ap (λ (l : List Slot). slice_index_or l 0 Empty) e ∙ get_or-set_same slots.value 0 rest Empty within in
+    let one = chain_length-first linked (omega arith) in
+    let same = ap chain_length head in
+    omega (arith, one, same)

@@ -1,0 +1,195 @@
+-- Laws of the tree of a list, level by level.
+use Rattle.std.proofs.Common.{◌≡◌, ℕ, zero, suc, ◌+◌, ◌-◌, ◌*◌, ◌<◌, ◌≤◌, inl, inr, true, false, List, slice_index_or, Option, Some, None, Box, Global, refl, arith, sym, ap, ◌∙◌, subst}
+use Rattle.gv_types.specs.Page.{PAGES}
+use Rattle.gv_types.specs.Span.{Span, span, end_of, meets}
+use Rattle.gv_types.specs.Mapping.{HasSmallPages}
+use Rattle.gv_types.specs.declared.mapping.Entry.{Entry}
+use Rattle.gv_types.specs.declared.mapping.Mapping.{Mapping}
+use Rattle.gv_ranges.specs.List.{at, IsLaidOut}
+use Rattle.gv_table.specs.declared.wanted.Wanted.{Wanted}
+use Rattle.gv_table.specs.declared.wanted.Wanted.TheVariants as variant
+use Rattle.gv_table.specs.declared.slot.Slot.{Slot}
+use Rattle.gv_table.specs.declared.slot.Slot.TheVariants.{Empty, Leaf, Table}
+use Rattle.gv_table.specs.Levels.{pages_of, slot_pages}
+use Rattle.gv_table.specs.Reads.{any_meets, covering, entry_after, AreAlikeOutside}
+use Rattle.gv_table.specs.Wanted.{wanted}
+use Rattle.gv_table.specs.Tree.{is_table, child, page_slot, HoldsWanted, IsTreeOf, IsTreeOutside}
+use Rattle.gv_table.proofs.PagesOf.{pages_of-zero, pages_of-some, pages_of-more, part-within}
+use Rattle.gv_table.proofs.Spans.{apart-cases, meets-after, meets-before}
+use Rattle.gv_table.proofs.Covered.{at-covering, covering-none, covering-part, covering-small, any_meets-part}
+use Rattle.gv_table.proofs.Clips.{alike-outside}
+use Rattle.gv_table.proofs.Wants.{nothing-meets, entry-covers, nothing-part, entry-part, wanted-alike}
+use Rattle.gv_table.proofs.Slots.{is_table-Table, child-Table, is_table-Empty, is_table-Leaf}
+
+pub IsTreeOf-nothing : (ms : List Mapping) (level first : ℕ) (slot : Slot) → wanted ms level first ≡ variant.Nothing → slot ≡ Empty →
+    IsTreeOf ms level first slot
+unfolding IsTreeOf
+IsTreeOf-nothing ms zero first slot want e =
+    let none : any_meets ms (span first 1) ≡ false = rw pages_of-zero at (nothing-meets ms 0 first want) in
+    let nothing : at ms first ≡ None = at-covering ms first ∙ covering-none ms (span first 1) (omega arith) none in
+    rw nothing e
+IsTreeOf-nothing ms (suc level) first slot want e = rw want e
+
+pub IsTreeOf-leaf : (ms : List Mapping) (level first : ℕ) (entry : Entry) (slot : Slot) → wanted ms level first ≡ variant.Entry entry → slot ≡ Leaf entry →
+    IsTreeOf ms level first slot
+unfolding IsTreeOf
+IsTreeOf-leaf ms zero first entry slot want e =
+    let some : covering ms (span first 1) ≡ Some entry = rw pages_of-zero at ((entry-covers ms 0 first entry want).1) in
+    let found : at ms first ≡ Some entry = at-covering ms first ∙ some in
+    rw found e
+IsTreeOf-leaf ms (suc level) first entry slot want e = rw want e
+
+pub IsTreeOf-table : (ms : List Mapping) (level first : ℕ) (slots : Box (List Slot) Global) → 0 < level → wanted ms level first ≡ variant.Table →
+    ((k : ℕ) → k < 512 → IsTreeOf ms (level - 1) (first + k * pages_of (level - 1)) (slice_index_or slots.value k Empty)) →
+    IsTreeOf ms level first (Table slots)
+unfolding IsTreeOf
+IsTreeOf-table ms zero first slots some want parts = absurd (omega arith)
+IsTreeOf-table ms (suc level) first slots some want parts =
+    let lower : suc level - 1 ≡ level = omega arith in
+    let parts' : (k : ℕ) → k < 512 → IsTreeOf ms level (first + k * pages_of level) (slice_index_or slots.value k Empty) = rw lower at parts in
+    rw want (
+      is_table-Table slots,
+      λ k below. subst (λ (s : Slot). IsTreeOf ms level (first + k * pages_of level) s) (sym (child-Table slots k)) (parts' k below),
+    )
+
+-- a slot of the tree opened, at a level above 0
+pub opened : (ms : List Mapping) (level first : ℕ) (slot : Slot) → IsTreeOf ms (suc level) first slot →
+    HoldsWanted (wanted ms (suc level) first) slot ((k : ℕ) → k < 512 → IsTreeOf ms level (first + k * pages_of level) (child slot k))
+unfolding IsTreeOf
+opened ms level first slot tree = tree
+
+page-of : (ms : List Mapping) (first : ℕ) (slot : Slot) → IsTreeOf ms 0 first slot → slot ≡ page_slot (at ms first)
+unfolding IsTreeOf
+page-of ms first slot tree = tree
+
+page-empty : (o : Option Entry) → Empty ≡ page_slot o → o ≡ None
+page-empty None e = refl
+page-empty (Some entry) e = cc
+
+page-leaf : (o : Option Entry) (entry : Entry) → Leaf entry ≡ page_slot o → o ≡ Some entry
+page-leaf None entry e = cc
+page-leaf (Some found) entry e = cc
+
+page-table : (o : Option Entry) (slot : Slot) → slot ≡ page_slot o → is_table slot ≡ true → ⊥
+page-table None slot e table = let bad : true ≡ false = sym table ∙ ap is_table e ∙ is_table-Empty in cc
+page-table (Some entry) slot e table = let bad : true ≡ false = sym table ∙ ap is_table e ∙ is_table-Leaf entry in cc
+
+pub no-table-at-zero : (ms : List Mapping) (first : ℕ) (slot : Slot) → IsTreeOf ms 0 first slot → is_table slot ≡ true → ⊥
+no-table-at-zero ms first slot tree table = page-table (at ms first) slot (page-of ms first slot tree) table
+
+empty-by : (w : Wanted) (Parts : Type 0) → HoldsWanted w Empty Parts → w ≡ variant.Nothing
+empty-by variant.Nothing Parts holds = refl
+empty-by (variant.Entry entry) Parts holds = cc
+empty-by variant.Table Parts holds = let bad : true ≡ false = sym holds.0 ∙ is_table-Empty in cc
+
+-- nothing is wanted of an empty slot
+pub empty-wanted : (ms : List Mapping) (level first : ℕ) → IsTreeOf ms (suc level) first Empty → wanted ms (suc level) first ≡ variant.Nothing
+empty-wanted ms level first tree = empty-by (wanted ms (suc level) first) _ (opened ms level first Empty tree)
+
+leaf-by : (w : Wanted) (entry : Entry) (Parts : Type 0) → HoldsWanted w (Leaf entry) Parts → w ≡ variant.Entry entry
+leaf-by variant.Nothing entry Parts holds = cc
+leaf-by (variant.Entry found) entry Parts holds = cc
+leaf-by variant.Table entry Parts holds = let bad : true ≡ false = sym holds.0 ∙ is_table-Leaf entry in cc
+
+pub leaf-wanted : (ms : List Mapping) (level first : ℕ) (entry : Entry) → IsTreeOf ms (suc level) first (Leaf entry) → wanted ms (suc level) first ≡ variant.Entry entry
+leaf-wanted ms level first entry tree = leaf-by (wanted ms (suc level) first) entry _ (opened ms level first (Leaf entry) tree)
+
+-- no page of an empty slot holds anything
+pub read-empty : (ms : List Mapping) (level first page : ℕ) → IsTreeOf ms level first Empty → first ≤ page → page < first + pages_of level → at ms page ≡ None
+read-empty ms zero first page tree low high =
+    let one = pages_of-zero in
+    let same : first ≡ page = omega (arith, one) in
+    subst (λ (p : ℕ). at ms p ≡ None) same (page-empty (at ms first) (page-of ms first Empty tree))
+read-empty ms (suc level) first page tree low high =
+    let none = nothing-meets ms (suc level) first (empty-wanted ms level first tree) in
+    at-covering ms page ∙ covering-none ms (span page 1) (omega arith)
+    (any_meets-part ms (slot_pages (suc level) first) (span page 1) none low (omega arith))
+
+-- a page of a leaf holds what lies so far on, and there no sum is great
+pub read-leaf : (ms : List Mapping) (level first page : ℕ) (entry : Entry) → IsLaidOut ms → IsTreeOf ms level first (Leaf entry) → first ≤ page →
+    page < first + pages_of level → HasSmallPages entry.backing (pages_of level) × (at ms page ≡ Some (entry_after entry (page - first)))
+read-leaf ms zero first page entry laid tree low high =
+    let one = pages_of-zero in
+    let found = page-leaf (at ms first) entry (page-of ms first (Leaf entry) tree) in
+    let covered : covering ms (span first 1) ≡ Some entry = sym (at-covering ms first) ∙ found in (
+      rw one (covering-small ms 0 (span first 1) entry laid covered),
+      at-covering ms page ∙ covering-part ms 0 (span first 1) (span page 1) entry laid covered low (omega arith) (omega (arith, one)),
+    )
+read-leaf ms (suc level) first page entry laid tree low high =
+    let covered = (entry-covers ms (suc level) first entry (leaf-wanted ms level first entry tree)).1 in (
+      covering-small ms 0 (slot_pages (suc level) first) entry laid covered,
+      at-covering ms page ∙ covering-part ms 0 (slot_pages (suc level) first) (span page 1) entry laid covered low (omega arith) (omega arith),
+    )
+
+pub leaf-small : (ms : List Mapping) (level first : ℕ) (entry : Entry) → IsLaidOut ms → IsTreeOf ms level first (Leaf entry) → HasSmallPages entry.backing (pages_of level)
+leaf-small ms level first entry laid tree =
+    let some = pages_of-some level in (read-leaf ms level first first entry laid tree (omega arith) (omega (arith, some))).0
+
+parts-by : (slot : Slot) (Parts : Type 0) (w : Wanted) → HoldsWanted w slot Parts → is_table slot ≡ true → Parts
+parts-by slot Parts variant.Nothing holds table = let bad : true ≡ false = sym table ∙ ap is_table holds ∙ is_table-Empty in cc
+parts-by slot Parts (variant.Entry entry) holds table = let bad : true ≡ false = sym table ∙ ap is_table holds ∙ is_table-Leaf entry in cc
+parts-by slot Parts variant.Table holds table = holds.1
+
+-- the slots of a table of the tree
+pub read-parts : (ms : List Mapping) (level first : ℕ) (slot : Slot) → 0 < level → IsTreeOf ms level first slot → is_table slot ≡ true →
+    (k : ℕ) → k < 512 → IsTreeOf ms (level - 1) (first + k * pages_of (level - 1)) (child slot k)
+read-parts ms zero first slot some tree table k below = absurd (omega arith)
+read-parts ms (suc level) first slot some tree table k below =
+    let lower : suc level - 1 ≡ level = omega arith in
+    rw lower (parts-by slot _ (wanted ms (suc level) first) (opened ms level first slot tree) table k below)
+
+-- the parts of an empty slot, and of a leaf
+pub empty-parts : (ms : List Mapping) (level first : ℕ) → 0 < level → IsTreeOf ms level first Empty → (k : ℕ) → k < 512 →
+    IsTreeOf ms (level - 1) (first + k * pages_of (level - 1)) Empty
+empty-parts ms zero first some tree k below = absurd (omega arith)
+empty-parts ms (suc level) first some tree k below =
+    let lower : suc level - 1 ≡ level = omega arith in
+    rw lower (IsTreeOf-nothing ms level (first + k * pages_of level) Empty (nothing-part ms level first k below (empty-wanted ms level first tree)) refl)
+
+pub leaf-parts : (ms : List Mapping) (level first : ℕ) (entry : Entry) → IsLaidOut ms → 0 < level → IsTreeOf ms level first (Leaf entry) → (k : ℕ) → k < 512 →
+    IsTreeOf ms (level - 1) (first + k * pages_of (level - 1)) (Leaf (entry_after entry (k * pages_of (level - 1))))
+leaf-parts ms zero first entry laid some tree k below = absurd (omega arith)
+leaf-parts ms (suc level) first entry laid some tree k below =
+    let lower : suc level - 1 ≡ level = omega arith in
+    rw lower (IsTreeOf-leaf ms level (first + k * pages_of level) (entry_after entry (k * pages_of level)) _
+    (entry-part ms level first k entry laid below (leaf-wanted ms level first entry tree)) refl)
+
+holds-alike : (w : Wanted) (slot : Slot) (A B : Type 0) → (A → B) → HoldsWanted w slot A → HoldsWanted w slot B
+holds-alike variant.Nothing slot A B f h = h
+holds-alike (variant.Entry entry) slot A B f h = h
+holds-alike variant.Table slot A B f h = (h.0, f h.1)
+
+-- a part of what is apart from a range is apart from it
+pub apart-part : (range : Span) (first n k p : ℕ) → meets (span first n) range ≡ false → k < 512 → n ≡ 512 * p → meets (span (first + k * p) p) range ≡ false
+apart-part range first n k p apart below e =
+    let w = part-within k n p below e in
+    elim (apart-cases (span first n) range apart) [
+      | inl behind ↦ meets-after (span (first + k * p) p) range (omega (arith, behind))
+      | inr before ↦ meets-before (span (first + k * p) p) range (omega (arith, before, w))
+    ]
+
+-- a slot apart from a range is the tree of each list that is alike outside the range
+pub tree-alike : (range : Span) (one other : List Mapping) (level first : ℕ) (slot : Slot) → AreAlikeOutside range one other → IsLaidOut one → IsLaidOut other →
+    end_of (slot_pages level first) ≤ PAGES → meets (slot_pages level first) range ≡ false → IsTreeOf one level first slot → IsTreeOf other level first slot
+unfolding IsTreeOf
+tree-alike range one other zero first slot alike laid laid' within apart tree =
+    let p = pages_of-zero in
+    let apart' : meets (span first 1) range ≡ false = rw p at apart in
+    let same = alike-outside range one other (span first 1) alike laid laid' (omega arith) (omega (arith, p)) apart' in
+    tree ∙ ap page_slot (at-covering one first ∙ same.1 ∙ sym (at-covering other first))
+tree-alike range one other (suc level) first slot alike laid laid' within apart tree =
+    let same = wanted-alike one other (suc level) first
+    (alike-outside range one other (slot_pages (suc level) first) alike laid laid' (pages_of-some (suc level)) within apart) in
+    rw (← same)
+    (holds-alike (wanted one (suc level) first) slot _ _
+    (λ parts k below.
+    let w = part-within k (pages_of (suc level)) (pages_of level) below (pages_of-more level) in
+    tree-alike range one other level (first + k * pages_of level) (child slot k) alike laid laid' (omega (arith, w))
+    (apart-part range first (pages_of (suc level)) k (pages_of level) apart below (pages_of-more level)) (parts k below))
+    tree)
+
+-- what is right outside the range is right where it is apart from it
+pub outside-apart : (ms : List Mapping) (range : Span) (level first : ℕ) (slot : Slot) → IsLaidOut ms → IsTreeOutside ms range level first slot →
+    end_of (slot_pages level first) ≤ PAGES → meets (slot_pages level first) range ≡ false → IsTreeOf ms level first slot
+outside-apart ms range level first slot laid outside within apart =
+    tree-alike range outside.earlier ms level first slot outside.alike outside.laid_out laid within apart outside.tree

@@ -1,0 +1,25 @@
+use Rattle.std.proofs.Common.{List, arith, subst}
+use Rattle.gv_types.specs.declared.mapping.Mapping.{Mapping}
+use Rattle.gv_table.specs.Tree.{IsTreeOf}
+use Rattle.gv_table.specs.Levels.{slot_pages}
+use Rattle.gv_table.proofs.Matches.{tree-match, gained-lost}
+use Rattle.gv_table.proofs.PagesOf.{pages_of-four}
+use Rattle.gv_table.proofs.Spans.{meets-from}
+use Rattle.gv_table.proofs.page_table.PageTable.paint.Goals as goal
+
+pub paint_slot-requires-clause-in_space : goal.paint_slot-requires-clause-in_space
+paint_slot-requires-clause-in_space c = let all = pages_of-four in omega (arith, all)
+
+pub paint_slot-requires-clause-met : goal.paint_slot-requires-clause-met
+paint_slot-requires-clause-met c =
+    let all = pages_of-four in
+    let some = c.around-near.ensures.in_space in
+    rw c.around-near.ensures.range (meets-from (slot_pages 4 0) c.args.range (omega (arith, some)) (omega (arith, all, some)))
+
+pub returns-clause-back : goal.returns-clause-back
+returns-clause-back c = λ ms laid tree.
+    let same = gained-lost ms c.args.list.now.mappings 4 0 c.args.self.now.root c.paint_slot.new.slot
+    (tree-match ms 4 0 c.args.self.now.root laid tree) (tree-match c.args.list.now.mappings 4 0 c.paint_slot.new.slot c.mappings.ensures.laid_out
+    (subst (λ (xs : List Mapping). IsTreeOf xs 4 0 c.paint_slot.new.slot) c.mappings.ensures.value c.paint_slot.ensures.tree)) in
+    let exchanged = rw c.mappings.ensures.value at c.paint_slot.ensures.exchanged in
+    omega (arith, same, exchanged, c.requires.enough)

@@ -1,0 +1,229 @@
+use Rattle.std.proofs.Common.{rules, arith, ◌≡◌, ◌≢◌, ◌+◌, ◌*◌, ◌<◌, ◌≤◌, ◌-◌, ℕ, true, false, length, slice_index_or, slice_set, List, refl, sym, ap, ◌∙◌, subst}
+use Rattle.std.proofs.lemmas.List.{get_or_default}
+use Rattle.gv_types.specs.Span.{span, meets}
+use Rattle.gv_table.specs.declared.slot.Slot.{Slot}
+use Rattle.gv_table.specs.declared.slot.Slot.TheVariants.{Empty}
+use Rattle.gv_table.specs.Levels.{pages_of, slot_pages}
+use Rattle.gv_table.specs.Wanted.{is_divided}
+use Rattle.gv_table.specs.Tree.{IsTreeOf, IsTreeOutside, is_table, child}
+use Rattle.gv_table.specs.Counts.{gained, lost, one_if_not}
+use Rattle.gv_table.proofs.Counts.{gained-parts, lost-parts, gained-same, lost-same}
+use Rattle.gv_table.proofs.Matches.{lost-whole, gained-none}
+use Rattle.gv_table.proofs.PagesOf.{pages_of-below, part-within}
+use Rattle.gv_table.proofs.Painted.{painted-below, painted-above, painted-gained, painted-lost, row-tree, row_gained-zero, row_lost-zero}
+use Rattle.gv_table.proofs.Rows.{row-other, row-here}
+use Rattle.gv_table.proofs.Spans.{meets-before}
+use Rattle.gv_table.proofs.Sums.{sum_below-at, sum_below-same}
+use Rattle.gv_table.proofs.Trees.{IsTreeOf-nothing, IsTreeOf-leaf, IsTreeOf-table, outside-apart}
+use Rattle.gv_table.proofs.Wants.{table-above}
+use Rattle.gv_table.proofs.paint.+paint.Goals as goal
+
+pub paint_row-loop-index-init : goal.paint_row-loop-index-init
+paint_row-loop-index-init t c = record {
+  painted = λ k below.
+      let fits = part-within k (512 * pages_of c.args.level) (pages_of c.args.level) (omega (arith, c.slots_met-low.ensures.ordered, c.slots_met-low.ensures.within)) refl in
+      let apart = meets-before (slot_pages c.args.level (c.args.first + k * pages_of c.args.level)) c.args.near.now.range (c.slots_met-low.ensures.before k below) in
+      outside-apart c.args.mappings.now c.args.near.now.range c.args.level (c.args.first + k * pages_of c.args.level) (slice_index_or c.args.slots.now k Empty)
+      c.requires.laid_out (c.requires.outside k (omega (arith, c.slots_met-low.ensures.ordered, c.slots_met-low.ensures.within)))
+      (omega (arith, fits, c.requires.in_space)) apart;
+  untouched = λ k above. refl;
+  enough = c.requires.enough;
+  exchanged = omega arith;
+}
+
+pub paint_row-paint_slot-requires : goal.paint_row-paint_slot-requires
+paint_row-paint_slot-requires t c =
+    let i : ℕ = c.loop-index.index in
+    let within : c.loop-index.index < length c.loop-index.slots = search rules in
+    let below : c.loop-index.index < 512 = omega (arith, c.loop-index-test.true, c.slots_met-low.ensures.within) in
+    let from : c.slots_met-low.result.0 ≤ c.loop-index.index = c.loop-index.auto.index in
+    let pages : c.pages_of-pages.result ≡ pages_of c.args.level = c.pages_of-pages.ensures.pages in
+    let fits = part-within c.loop-index.index (512 * pages_of c.args.level) (pages_of c.args.level) below refl in
+    let start : c.args.first + c.loop-index.index * c.pages_of-pages.result ≡ c.args.first + c.loop-index.index * pages_of c.args.level =
+    ap (λ (n : ℕ). c.args.first + c.loop-index.index * n) pages in
+    let slot : slice_index_or c.loop-index.slots c.loop-index.index c.index-slots-index.result ≡ slice_index_or c.loop-index.slots c.loop-index.index Empty =
+    get_or_default c.loop-index.slots c.loop-index.index c.index-slots-index.result Empty within in
+    let read = slot ∙ c.loop-index.invariant.untouched c.loop-index.index (omega arith) in
+    let g = λ (k : ℕ). gained c.args.mappings.now c.args.level (c.args.first + k * pages_of c.args.level) (slice_index_or c.loop-index.slots k Empty) in
+    let part = sum_below-at 512 g c.loop-index.index below in
+    let here : gained c.args.mappings.now c.args.level (c.args.first + c.loop-index.index * c.pages_of-pages.result) (slice_index_or c.loop-index.slots c.loop-index.index c.index-slots-index.result) ≡ g c.loop-index.index =
+    ap (λ (n : ℕ). gained c.args.mappings.now c.args.level n (slice_index_or c.loop-index.slots c.loop-index.index c.index-slots-index.result)) start ∙
+    ap (λ (s : Slot). gained c.args.mappings.now c.args.level (c.args.first + c.loop-index.index * pages_of c.args.level) s) slot in (
+      omega arith,
+      (
+        omega (arith, c.requires.known),
+        (
+          omega (arith, start, fits, c.requires.in_space),
+          (
+            c.requires.laid_out,
+            (
+              c.requires.near,
+              (
+                subst (λ (n : ℕ). meets (slot_pages c.args.level n) c.args.near.now.range ≡ true) (sym start) (c.slots_met-low.ensures.met c.loop-index.index from c.loop-index-test.true),
+                (
+                  subst (λ (n : ℕ). IsTreeOutside c.args.mappings.now c.args.near.now.range c.args.level n (slice_index_or c.loop-index.slots c.loop-index.index c.index-slots-index.result)) (sym start)
+                      (subst (λ (s : Slot). IsTreeOutside c.args.mappings.now c.args.near.now.range c.args.level (c.args.first + c.loop-index.index * pages_of c.args.level) s) (sym read)
+                      (c.requires.outside c.loop-index.index below)),
+                  omega (arith, here, part, c.loop-index.invariant.enough),
+                ),
+              ),
+            ),
+          ),
+        ),
+      ),
+    )
+
+pub paint_row-loop-index-preserved : goal.paint_row-loop-index-preserved
+paint_row-loop-index-preserved t c =
+    let inv = c.loop-index.invariant in
+    let ms = c.args.mappings.now in
+    let i : ℕ = c.loop-index.index in
+    let row = c.loop-index.slots in
+    let within : c.loop-index.index < length c.loop-index.slots = search rules in
+    let below : c.loop-index.index < 512 = omega (arith, c.loop-index-test.true, c.slots_met-low.ensures.within) in
+    let start : c.args.first + c.loop-index.index * c.pages_of-pages.result ≡ c.args.first + c.loop-index.index * pages_of c.args.level =
+    ap (λ (n : ℕ). c.args.first + c.loop-index.index * n) c.pages_of-pages.ensures.pages in
+    let read : slice_index_or row i c.index-slots-index.result ≡ slice_index_or row i Empty = get_or_default row i c.index-slots-index.result Empty within in
+    let after : List Slot = slice_set row i c.paint_slot.new.slot in
+    let same : (k : ℕ) → k ≢ i → slice_index_or after k Empty ≡ slice_index_or row k Empty = row-other after row i _ refl in
+    let new : slice_index_or after i Empty ≡ c.paint_slot.new.slot = row-here after row i _ refl within in
+    let here : IsTreeOf ms c.args.level (c.args.first + i * pages_of c.args.level) (slice_index_or after i Empty) =
+    subst (λ (n : ℕ). IsTreeOf ms c.args.level n (slice_index_or after i Empty)) start
+    (subst (λ (s : Slot). IsTreeOf ms c.args.level (c.args.first + i * c.pages_of-pages.result) s) (sym new) c.paint_slot.ensures.tree) in
+    let g1 = ap (λ (s : Slot). gained ms c.args.level (c.args.first + i * c.pages_of-pages.result) s) read in
+    let g2 = ap (λ (n : ℕ). gained ms c.args.level n (slice_index_or row i Empty)) start in
+    let l1 = ap (λ (s : Slot). lost ms c.args.level (c.args.first + i * c.pages_of-pages.result) s) read in
+    let l2 = ap (λ (n : ℕ). lost ms c.args.level n (slice_index_or row i Empty)) start in
+    let g = painted-gained ms c.args.level c.args.first i c.args.slots.now row after same inv.untouched c.requires.laid_out here below in
+    let l = painted-lost ms c.args.level c.args.first i c.args.slots.now row after same inv.untouched c.requires.laid_out here below in
+    record {
+      painted = painted-below ms c.args.level c.args.first i c.args.slots.now row after same inv.untouched c.requires.laid_out here inv.painted;
+      untouched = painted-above ms c.args.level c.args.first i c.args.slots.now row after same inv.untouched c.requires.laid_out here;
+      enough = omega (arith, g1, g2, l1, l2, g, l, inv.enough, c.paint_slot.ensures.exchanged);
+      exchanged = omega (arith, g1, g2, l1, l2, g, l, inv.exchanged, c.paint_slot.ensures.exchanged);
+    }
+
+pub paint_row-returns-clause-tree : goal.paint_row-returns-clause-tree
+paint_row-returns-clause-tree t c =
+    row-tree c.args.mappings.now c.args.near.now.range c.args.level c.args.first c.loop-index.index c.args.slots.now c.loop-index.slots c.requires.laid_out c.requires.in_space
+    c.loop-index.invariant.painted c.loop-index.invariant.untouched c.requires.outside
+    (λ k from below. c.slots_met-low.ensures.behind k (omega (arith, c.loop-index-test.false)) below)
+
+pub paint_row-returns-clause-exchanged : goal.paint_row-returns-clause-exchanged
+paint_row-returns-clause-exchanged t c =
+    let tree = row-tree c.args.mappings.now c.args.near.now.range c.args.level c.args.first c.loop-index.index c.args.slots.now c.loop-index.slots c.requires.laid_out c.requires.in_space
+    c.loop-index.invariant.painted c.loop-index.invariant.untouched c.requires.outside
+    (λ k from below. c.slots_met-low.ensures.behind k (omega (arith, c.loop-index-test.false)) below) in
+    let g = row_gained-zero c.args.mappings.now c.args.level c.args.first c.loop-index.slots c.requires.laid_out tree in
+    let l = row_lost-zero c.args.mappings.now c.args.level c.args.first c.loop-index.slots c.requires.laid_out tree in
+    omega (arith, g, l, c.loop-index.invariant.exchanged)
+
+pub paint_slot-divide-slots-requires-clause-some : goal.paint_slot-divide-slots-requires-clause-some
+paint_slot-divide-slots-requires-clause-some t c = table-above _ c.args.level c.args.first (sym c.slot_wanted.ensures ∙ c.in-Table.is)
+
+pub paint_slot-divide-slots-requires-clause-enough : goal.paint_slot-divide-slots-requires-clause-enough
+paint_slot-divide-slots-requires-clause-enough t c =
+    let want = sym c.slot_wanted.ensures ∙ c.in-Table.is in
+    let e = gained-parts c.args.mappings.now c.args.level c.args.first c.args.slot.now (table-above _ c.args.level c.args.first want) want in
+    let o = ap (λ (s : Slot). one_if_not (is_table s)) c.replace-old.ensures.value in
+    omega (arith, e, o, c.requires.enough)
+
+pub paint_slot-overflow_sub-level : goal.paint_slot-overflow_sub-level
+paint_slot-overflow_sub-level t c =
+    let some = table-above _ c.args.level c.args.first (sym c.slot_wanted.ensures ∙ c.in-Table.is) in omega (arith, some)
+
+pub paint_slot-paint_row-requires : goal.paint_slot-paint_row-requires
+paint_slot-paint_row-requires t c =
+    let ms = c.args.mappings.now in
+    let want = sym c.slot_wanted.ensures ∙ c.in-Table.is in
+    let some = table-above ms c.args.level c.args.first want in
+    let below-of = pages_of-below c.args.level some in
+    let first-of : (k : ℕ) → slice_index_or c.deref_mut.result.now k Empty ≡ slice_index_or c.divide-slots.result.value k Empty =
+    λ k. ap (λ (l : List Slot). slice_index_or l k Empty) c.deref_mut.ensures.value in
+    let old = c.replace-old.ensures.value in
+    let gains = sum_below-same 512
+    (λ k. gained ms (c.args.level - 1) (c.args.first + k * pages_of (c.args.level - 1)) (slice_index_or c.deref_mut.result.now k Empty))
+    (λ k. gained ms (c.args.level - 1) (c.args.first + k * pages_of (c.args.level - 1)) (child c.args.slot.now k))
+    (λ k below. ap (λ (s : Slot). gained ms (c.args.level - 1) (c.args.first + k * pages_of (c.args.level - 1)) s) (first-of k) ∙
+    sym (gained-same ms (c.args.level - 1) (c.args.first + k * pages_of (c.args.level - 1)) _ _ (c.divide-slots.ensures.tables k below)) ∙
+    ap (λ (s : Slot). gained ms (c.args.level - 1) (c.args.first + k * pages_of (c.args.level - 1)) (child s k)) old) in
+    let gain = gained-parts ms c.args.level c.args.first c.args.slot.now some want in
+    let one = ap (λ (s : Slot). one_if_not (is_table s)) old in
+    let tree = subst (λ (s : Slot). IsTreeOf c.requires.outside.earlier c.args.level c.args.first s) (sym old) c.requires.outside.tree in (
+      omega (arith, some),
+      (
+        omega (arith, c.requires.known),
+        (
+          omega (arith, below-of, c.requires.in_space),
+          (
+            c.requires.laid_out,
+            (
+              c.requires.near,
+              (
+                subst (λ (n : ℕ). meets (span c.args.first n) c.args.near.now.range ≡ true) below-of c.requires.met,
+                (
+                  λ k below. record {
+                    earlier = c.requires.outside.earlier;
+                    laid_out = c.requires.outside.laid_out;
+                    alike = c.requires.outside.alike;
+                    tree = subst (λ (s : Slot). IsTreeOf c.requires.outside.earlier (c.args.level - 1) (c.args.first + k * pages_of (c.args.level - 1)) s) (sym (first-of k))
+                        (c.divide-slots.ensures.parts c.requires.outside.earlier c.args.first c.requires.outside.laid_out tree k below);
+                  },
+                  omega (arith, gains, gain, one, c.divide-slots.ensures.taken, c.requires.enough),
+                ),
+              ),
+            ),
+          ),
+        ),
+      ),
+    )
+
+pub paint_slot-returns-in-Nothing-clause-tree : goal.paint_slot-returns-in-Nothing-clause-tree
+paint_slot-returns-in-Nothing-clause-tree t c = IsTreeOf-nothing _ c.args.level c.args.first _ (sym c.slot_wanted.ensures ∙ c.in-Nothing.is) c.release.ensures.emptied
+
+pub paint_slot-returns-in-Nothing-clause-exchanged : goal.paint_slot-returns-in-Nothing-clause-exchanged
+paint_slot-returns-in-Nothing-clause-exchanged t c =
+    let none : is_divided _ ≡ false = ap is_divided (sym c.slot_wanted.ensures ∙ c.in-Nothing.is) in
+    let g = gained-none c.args.mappings.now c.args.level c.args.first c.args.slot.now none in
+    let l = lost-whole c.args.mappings.now c.args.level c.args.first c.args.slot.now c.requires.laid_out none in
+    omega (arith, g, l, c.release.ensures.put)
+
+pub paint_slot-returns-in-Entry-clause-tree : goal.paint_slot-returns-in-Entry-clause-tree
+paint_slot-returns-in-Entry-clause-tree t c = IsTreeOf-leaf _ c.args.level c.args.first c.in-Entry.entry _ (sym c.slot_wanted.ensures ∙ c.in-Entry.is) refl
+
+pub paint_slot-returns-in-Entry-clause-exchanged : goal.paint_slot-returns-in-Entry-clause-exchanged
+paint_slot-returns-in-Entry-clause-exchanged t c =
+    let none : is_divided _ ≡ false = ap is_divided (sym c.slot_wanted.ensures ∙ c.in-Entry.is) in
+    let g = gained-none c.args.mappings.now c.args.level c.args.first c.args.slot.now none in
+    let l = lost-whole c.args.mappings.now c.args.level c.args.first c.args.slot.now c.requires.laid_out none in
+    omega (arith, g, l, c.release-in-Entry.ensures.put)
+
+pub paint_slot-returns-in-Table-clause-tree : goal.paint_slot-returns-in-Table-clause-tree
+paint_slot-returns-in-Table-clause-tree t c =
+    let want = sym c.slot_wanted.ensures ∙ c.in-Table.is in
+    IsTreeOf-table _ c.args.level c.args.first _ (table-above _ c.args.level c.args.first want) want c.paint_row.ensures.tree
+
+pub paint_slot-returns-in-Table-clause-exchanged : goal.paint_slot-returns-in-Table-clause-exchanged
+paint_slot-returns-in-Table-clause-exchanged t c =
+    let ms = c.args.mappings.now in
+    let want = sym c.slot_wanted.ensures ∙ c.in-Table.is in
+    let some = table-above ms c.args.level c.args.first want in
+    let first-of : (k : ℕ) → slice_index_or c.deref_mut.result.now k Empty ≡ slice_index_or c.divide-slots.result.value k Empty =
+    λ k. ap (λ (l : List Slot). slice_index_or l k Empty) c.deref_mut.ensures.value in
+    let old = c.replace-old.ensures.value in
+    let gains = sum_below-same 512
+    (λ k. gained ms (c.args.level - 1) (c.args.first + k * pages_of (c.args.level - 1)) (slice_index_or c.deref_mut.result.now k Empty))
+    (λ k. gained ms (c.args.level - 1) (c.args.first + k * pages_of (c.args.level - 1)) (child c.args.slot.now k))
+    (λ k below. ap (λ (s : Slot). gained ms (c.args.level - 1) (c.args.first + k * pages_of (c.args.level - 1)) s) (first-of k) ∙
+    sym (gained-same ms (c.args.level - 1) (c.args.first + k * pages_of (c.args.level - 1)) _ _ (c.divide-slots.ensures.tables k below)) ∙
+    ap (λ (s : Slot). gained ms (c.args.level - 1) (c.args.first + k * pages_of (c.args.level - 1)) (child s k)) old) in
+    let losses = sum_below-same 512
+    (λ k. lost ms (c.args.level - 1) (c.args.first + k * pages_of (c.args.level - 1)) (slice_index_or c.deref_mut.result.now k Empty))
+    (λ k. lost ms (c.args.level - 1) (c.args.first + k * pages_of (c.args.level - 1)) (child c.args.slot.now k))
+    (λ k below. ap (λ (s : Slot). lost ms (c.args.level - 1) (c.args.first + k * pages_of (c.args.level - 1)) s) (first-of k) ∙
+    sym (lost-same ms (c.args.level - 1) (c.args.first + k * pages_of (c.args.level - 1)) _ _ (c.divide-slots.ensures.tables k below)) ∙
+    ap (λ (s : Slot). lost ms (c.args.level - 1) (c.args.first + k * pages_of (c.args.level - 1)) (child s k)) old) in
+    let gain = gained-parts ms c.args.level c.args.first c.args.slot.now some want in
+    let loss = lost-parts ms c.args.level c.args.first c.args.slot.now some want in
+    let one = ap (λ (s : Slot). one_if_not (is_table s)) old in
+    omega (arith, gains, losses, gain, loss, one, c.divide-slots.ensures.taken, c.paint_row.ensures.exchanged)

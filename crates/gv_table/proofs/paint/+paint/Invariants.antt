@@ -1,0 +1,25 @@
+use Rattle.std.proofs.Common.{◌≡◌, ◌+◌, ◌*◌, ◌<◌, ◌≤◌, ℕ, slice_index_or}
+use Rattle.gv_table.specs.declared.slot.Slot.TheVariants.{Empty}
+use Rattle.gv_table.specs.Levels.{pages_of}
+use Rattle.gv_table.specs.Sums.{sum_below}
+use Rattle.gv_table.specs.Tree.{IsTreeOf}
+use Rattle.gv_table.specs.Counts.{gained, lost}
+use Rattle.gv_table.proofs.paint.+paint.Given as goal
+
+abbrev pub decreases-paint_slot : goal.decreases-paint_slot
+decreases-paint_slot l = 2 * l.level
+
+abbrev pub decreases-paint_row : goal.decreases-paint_row
+decreases-paint_row l = 2 * l.level + 1
+
+abbrev pub invariant-paint_row-loop-index : goal.invariant-paint_row-loop-index
+invariant-paint_row-loop-index l = record {
+  painted : (k : ℕ) → k < l.index → IsTreeOf l.mappings l.level (l.first + k * pages_of l.level) (slice_index_or l.slots k Empty);
+  untouched : (k : ℕ) → l.index ≤ k → slice_index_or l.slots k Empty ≡ slice_index_or l.initial.slots k Empty;
+  enough : sum_below 512 (λ k. gained l.mappings l.level (l.first + k * pages_of l.level) (slice_index_or l.slots k Empty)) ≤ l.spares;
+  exchanged :
+      l.spares + sum_below 512 (λ k. gained l.mappings l.level (l.first + k * pages_of l.level) (slice_index_or l.initial.slots k Empty)) +
+      sum_below 512 (λ k. lost l.mappings l.level (l.first + k * pages_of l.level) (slice_index_or l.slots k Empty)) ≡
+      l.initial.spares + sum_below 512 (λ k. lost l.mappings l.level (l.first + k * pages_of l.level) (slice_index_or l.initial.slots k Empty)) +
+      sum_below 512 (λ k. gained l.mappings l.level (l.first + k * pages_of l.level) (slice_index_or l.slots k Empty));
+}

@@ -1,0 +1,55 @@
+use Rattle.std.proofs.Common.{rules, arith, ◌≡◌, ◌+◌, ◌<◌, ◌∙◌, sym, ap, ℕ, ◌-◌, length, false, slice_index_or, inl, inr, refl}
+use Rattle.gv_table.specs.declared.slot.Slot.{Slot}
+use Rattle.gv_table.specs.declared.slot.Slot.TheVariants.{Empty, Table}
+use Rattle.gv_table.specs.Sums.{sum_below}
+use Rattle.gv_table.specs.Tree.{is_table}
+use Rattle.gv_table.specs.Counts.{tables_in}
+use Rattle.gv_table.proofs.Counts.{tables_in-zero, tables_in-other, tables_in-Table}
+use Rattle.gv_table.proofs.Rows.{row-below, row-above, row-read}
+use Rattle.gv_table.proofs.Slots.{is_table-Empty, is_table-Leaf}
+use Rattle.gv_table.proofs.Sums.{sum_below-none, sum_below-more}
+use Rattle.gv_table.proofs.release.+release.Goals as goal
+
+pub returns-then-level-eq0-clause-put : goal.returns-then-level-eq0-clause-put
+returns-then-level-eq0-clause-put t c = rw c.if-level-eq0.true (let e = tables_in-zero c.args.slot.now in omega (arith, e))
+
+pub loop-index-init : goal.loop-index-init
+loop-index-init t c = record {
+  below = λ k below. absurd (omega arith);
+  above = λ k above. refl;
+  put = (let e = sum_below-none (λ k. tables_in (c.args.level - 1) (slice_index_or c.in-Table.slots.value k Empty)) in omega (arith, e));
+}
+
+pub loop-index-preserved : goal.loop-index-preserved
+loop-index-preserved t c =
+    let within : c.loop-index.index < length c.deref_mut.result.now = search rules in
+    let read = row-read c.deref_mut.result.now c.loop-index.slots.value c.in-Table.slots.value c.loop-index.index c.index-deref_mut-index.result
+    c.deref_mut.ensures.value within c.loop-index.invariant.above in
+    let f : ℕ → ℕ = λ k. tables_in (c.args.level - 1) (slice_index_or c.in-Table.slots.value k Empty) in
+    let one = ap (λ (s : Slot). tables_in (c.args.level - 1) s) read in
+    let more = sum_below-more c.loop-index.index f in
+    let within' : c.loop-index.index < length c.loop-index.slots.value = rw (← c.deref_mut.ensures.value) within in
+    record {
+      below = rw c.deref_mut.ensures.value (row-below (λ k s. s ≡ Empty) c.loop-index.slots.value c.loop-index.index _ within' c.release.ensures.emptied c.loop-index.invariant.below);
+      above = rw c.deref_mut.ensures.value (row-above c.loop-index.slots.value c.in-Table.slots.value c.loop-index.index _ c.loop-index.invariant.above);
+      put = omega (arith, more, one, c.loop-index.invariant.put, c.release.ensures.put);
+    }
+
+pub returns-after-loop-index-clause-put : goal.returns-after-loop-index-clause-put
+returns-after-loop-index-clause-put t c =
+    let f : ℕ → ℕ = λ k. tables_in (c.args.level - 1) (slice_index_or c.in-Table.slots.value k Empty) in
+    let table : Table c.in-Table.slots ≡ c.args.slot.now = sym c.in-Table.is ∙ c.replace.ensures.value in
+    let whole = tables_in-Table c.args.level c.in-Table.slots (omega arith) in
+    let all : tables_in c.args.level c.args.slot.now ≡ 1 + sum_below 512 f = ap (λ (s : Slot). tables_in c.args.level s) (sym table) ∙ whole in
+    let end : c.loop-index.index ≡ 512 = omega arith in
+    let sums = ap (λ (n : ℕ). sum_below n f) end in
+    omega (arith, all, sums, c.loop-index.invariant.put, c.put.ensures)
+
+pub returns-in-Empty : goal.returns-in-Empty
+returns-in-Empty t c =
+    let other : is_table c.args.slot.now ≡ false = elim c.in-Empty.is [
+      | inl e ↦ ap is_table (sym c.replace.ensures.value ∙ e) ∙ is_table-Empty
+      | inr p ↦ ap is_table (sym c.replace.ensures.value ∙ p.1) ∙ is_table-Leaf p.0
+    ] in
+    let none = tables_in-other c.args.level c.args.slot.now other in
+    record { emptied = c.replace.ensures.after; put = omega (arith, none) }

@@ -1,0 +1,30 @@
+use Rattle.std.proofs.Common.{◌≡◌, false, sym, ap, ◌∙◌, inl, inr, List, length, slice_index_or, arith, rules}
+use Rattle.std.proofs.lemmas.List.{get_or_default}
+use Rattle.gv_table.specs.declared.slot.Slot.{Slot}
+use Rattle.gv_table.specs.declared.slot.Slot.TheVariants.{Empty}
+use Rattle.gv_table.specs.Tree.{child, is_table}
+use Rattle.gv_table.proofs.Slots.{is_table-Empty, is_table-Leaf, child-Table, child-other}
+use Rattle.gv_table.proofs.spare.child_of.Goals as goal
+
+pub returns-in-Table : goal.returns-in-Table
+returns-in-Table c =
+    let long : length c.deref.result.now ≡ 512 = search rules in
+    get_or_default c.deref.result.now c.args.index c.index-deref-index.result Empty (omega (arith, long, c.requires.within)) ∙
+    ap (λ (l : List Slot). slice_index_or l c.args.index Empty) c.deref.ensures ∙
+    sym (ap (λ (s : Slot). child s c.args.index) c.in-Table.is ∙ child-Table c.in-Table.slots c.args.index)
+
+pub returns-in-Empty : goal.returns-in-Empty
+returns-in-Empty c =
+    let other : is_table c.args.slot.now ≡ false = elim c.in-Empty.is [
+      | inl e ↦ ap is_table e ∙ is_table-Empty
+      | inr p ↦ ap is_table p.1 ∙ is_table-Leaf p.0
+    ] in
+    c.requires.empty ∙ sym (child-other c.args.slot.now c.args.index other)
+
+pub returns-in-Empty-2 : goal.returns-in-Empty-2
+returns-in-Empty-2 c =
+    let other : is_table c.args.slot.now ≡ false = elim c.in-Empty.is [
+      | inl e ↦ ap is_table e ∙ is_table-Empty
+      | inr p ↦ ap is_table p.1 ∙ is_table-Leaf p.0
+    ] in
+    c.requires.empty ∙ sym (child-other c.args.slot.now c.args.index other)

@@ -1,0 +1,37 @@
+use Rattle.std.proofs.Common.{◌≡◌, ◌≤◌, sym, subst, Option, List}
+use Rattle.std.specs.Prelude.{IfSome}
+use Rattle.gv_types.specs.Span.{Span}
+use Rattle.gv_types.specs.Operation.{range_of, IsPageOp}
+use Rattle.gv_types.specs.declared.mapping.Mapping.{Mapping}
+use Rattle.gv_types.specs.declared.operation.PageOp.{PageOp}
+use Rattle.gv_ranges.specs.Edit.{edited}
+use Rattle.gv_ranges.proofs.Changes.{laid_out-edited}
+use Rattle.gv_table.specs.Reads.{AreAlikeOutside}
+use Rattle.gv_table.specs.Table.{FitsOutside, gained_by}
+use Rattle.gv_table.proofs.Edits.{edited-alike, edited-own}
+use Rattle.gv_table.proofs.tests.apply.Goals as goal
+
+pub paint-requires-clause-fitted : goal.paint-requires-clause-fitted
+paint-requires-clause-fitted c =
+    let after : c.edit.new.list.mappings ≡ edited c.args.list.now.mappings c.in_ok-op.op = c.in_ok-edit.ensures.ok in
+    let laid = c.edit.ensures.laid_out in
+    let alike = edited-alike c.args.list.now.mappings c.in_ok-op.op laid in
+    record {
+      earlier = c.args.list.now.mappings;
+      laid_out = laid;
+      alike = subst (λ (s : Span). AreAlikeOutside s c.args.list.now.mappings c.edit.new.list.mappings) (sym c.range.ensures)
+          (subst (λ (ms : List Mapping). AreAlikeOutside (range_of c.in_ok-op.op) c.args.list.now.mappings ms) (sym after) alike);
+      tree = c.requires.tree;
+    }
+
+pub paint-requires-clause-enough : goal.paint-requires-clause-enough
+paint-requires-clause-enough c =
+    let before = c.args.list.now.mappings in
+    let op = c.in_ok-op.op in
+    let is : IsPageOp op = subst (λ (o : Option PageOp). IfSome o IsPageOp) c.in_ok-op.ensures.ok_part c.requires.operation in
+    let laid = c.edit.ensures.laid_out in
+    let after : c.edit.new.list.mappings ≡ edited before op = c.in_ok-edit.ensures.ok in
+    let fits : FitsOutside (edited before op) (range_of op) c.args.table.now =
+    record { earlier = before; laid_out = laid; alike = edited-alike before op laid; tree = c.requires.tree } in
+    subst (λ (ms : List Mapping). gained_by ms c.args.table.now ≤ c.in_ok-spares.spares) (sym after)
+    (c.in_ok-spares.ensures (edited before op) (laid_out-edited before op laid is) fits (edited-own before op laid is))

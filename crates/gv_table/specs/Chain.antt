@@ -1,0 +1,29 @@
+-- A chain of empty tables, linked through their first slots.
+use Rattle.std.specs.Prelude.{◌≡◌, ℕ, zero, suc, ◌+◌, ◌<◌, true, List, slice_index_or}
+use Rattle.gv_table.specs.declared.slot.Slot.{Slot}
+use Rattle.gv_table.specs.declared.slot.Slot.TheVariants.{Empty}
+use Rattle.gv_table.specs.declared.slot.Slot.TheOpen as layer
+use Rattle.gv_table.specs.declared.slot.Slot.TheFolds.{fold-Slot}
+use Rattle.gv_table.specs.Levels.{slots_per_table}
+use Rattle.gv_table.specs.Tree.{is_table, child}
+
+-- the slots of a table are all empty
+abbrev pub AreEmpty : List Slot → Type 0
+AreEmpty slots = (k : ℕ) → k < slots_per_table → slice_index_or slots k Empty ≡ Empty
+
+-- a table is one more than the chain in its first slot
+abbrev pub length_step : layer.Slot-F ℕ → ℕ
+length_step layer.Empty = 0
+length_step (layer.Leaf entry) = 0
+length_step (layer.Table slots) = 1 + slice_index_or slots.value 0 0
+
+-- how many tables a chain has
+unfoldable pub chain_length : Slot → ℕ
+chain_length = fold-Slot ℕ length_step
+
+-- some tables, one after another, each empty but for its first slot
+unfoldable pub IsChainOf : ℕ → Slot → Type 0
+IsChainOf zero slot = slot ≡ Empty
+IsChainOf (suc count) slot =
+    (is_table slot ≡ true) × IsChainOf count (child slot 0) ×
+    ((k : ℕ) → 0 < k → k < slots_per_table → child slot k ≡ Empty)

@@ -1,0 +1,80 @@
+-- How many tables a slot holds, gains and loses.
+use Rattle.std.specs.Prelude.{◌≡◌, ◌⊎◌, ℕ, zero, suc, ◌+◌, ◌*◌, Bool, true, false, not, ◌&&◌, ◌||◌, nat_eq, List, slice_index_or, if◌then◌else◌}
+use Rattle.gv_types.specs.Span.{Span, meets, lies_in}
+use Rattle.gv_types.specs.declared.mapping.Mapping.{Mapping}
+use Rattle.gv_table.specs.declared.slot.Slot.{Slot}
+use Rattle.gv_table.specs.declared.slot.Slot.TheVariants.{Empty}
+use Rattle.gv_table.specs.Levels.{slots_per_table, pages_of, slot_pages}
+use Rattle.gv_table.specs.Sums.{sum_below}
+use Rattle.gv_table.specs.Tree.{is_table, child}
+use Rattle.gv_table.specs.Wanted.{wanted, is_divided}
+
+abbrev pub one_if : Bool → ℕ
+one_if true = 1
+one_if false = 0
+
+abbrev pub one_if_not : Bool → ℕ
+one_if_not true = 0
+one_if_not false = 1
+
+-- how many tables a slot holds, itself included
+unfoldable pub tables_in : ℕ → Slot → ℕ
+tables_in zero slot = 0
+tables_in (suc level) slot =
+    if is_table slot then 1 + sum_below slots_per_table (λ k. tables_in level (child slot k)) else 0
+
+-- how many tables of a slot have slots at the target level
+unfoldable pub tables_at : ℕ → ℕ → Slot → ℕ
+tables_at target zero slot = 0
+tables_at target (suc level) slot =
+    if is_table slot
+    then one_if (nat_eq target level) + sum_below slots_per_table (λ k. tables_at target level (child slot k))
+    else 0
+
+-- how many places have a table in the tree of the mappings, and none in the slot
+unfoldable pub gained : List Mapping → ℕ → ℕ → Slot → ℕ
+gained ms zero first slot = 0
+gained ms (suc level) first slot =
+    if is_divided (wanted ms (suc level) first)
+    then one_if_not (is_table slot) +
+    sum_below slots_per_table (λ k. gained ms level (first + k * pages_of level) (child slot k))
+    else 0
+
+-- how many places have a table in the slot, and none in the tree of the mappings
+unfoldable pub lost : List Mapping → ℕ → ℕ → Slot → ℕ
+lost ms zero first slot = 0
+lost ms (suc level) first slot =
+    if is_table slot
+    then one_if_not (is_divided (wanted ms (suc level) first)) +
+    sum_below slots_per_table (λ k. lost ms level (first + k * pages_of level) (child slot k))
+    else 0
+
+-- how many places of a row of slots, which begins at a page, have a table in the tree of the mappings and none in the row
+abbrev pub row_gained : List Mapping → ℕ → ℕ → List Slot → ℕ
+row_gained ms level first row =
+    sum_below slots_per_table (λ k. gained ms level (first + k * pages_of level) (slice_index_or row k Empty))
+
+-- how many have a table in the row and none in the tree
+abbrev pub row_lost : List Mapping → ℕ → ℕ → List Slot → ℕ
+row_lost ms level first row =
+    sum_below slots_per_table (λ k. lost ms level (first + k * pages_of level) (slice_index_or row k Empty))
+
+-- whether a slot may have to be a table, where a list will have the pieces in the range: what it has outside is not
+-- known, so a slot that the range covers in part may be one
+abbrev pub may_divide : List Mapping → Span → ℕ → ℕ → Bool
+may_divide pieces range level first =
+    meets (slot_pages level first) range &&
+    (not (lies_in (slot_pages level first) range) || is_divided (wanted pieces level first))
+
+-- how many places may need a table where the slot has none
+unfoldable pub needed : List Mapping → Span → ℕ → ℕ → Slot → ℕ
+needed pieces range zero first slot = 0
+needed pieces range (suc level) first slot =
+    if may_divide pieces range (suc level) first
+    then one_if_not (is_table slot) +
+    sum_below slots_per_table (λ k. needed pieces range level (first + k * pages_of level) (child slot k))
+    else 0
+
+-- two slots are the same, or neither is a table
+abbrev pub HasSameTables : Slot → Slot → Type 0
+HasSameTables one other = (one ≡ other) ⊎ ((is_table one ≡ false) × (is_table other ≡ false))

@@ -1,0 +1,27 @@
+-- The shape of the tables: how many slots, which levels, how many pages a slot covers.
+use Rattle.std.specs.Prelude.{ℕ, ◌+◌, ◌^◌}
+use Rattle.gv_types.specs.Span.{Span, span}
+
+-- how many slots a table has
+abbrev pub slots_per_table : ℕ
+slots_per_table = 512
+
+-- the level of the slots of the root
+abbrev pub root_level : ℕ
+root_level = 3
+
+-- the level of the slot that the root fills: a table with slots at a level fills a slot one level higher
+abbrev pub top_level : ℕ
+top_level = root_level + 1
+
+-- no slot above this level is a leaf
+abbrev pub greatest_leaf_level : ℕ
+greatest_leaf_level = 2
+
+-- how many pages a slot at a level covers
+unfoldable pub pages_of : ℕ → ℕ
+pages_of level = slots_per_table ^ level
+
+-- the pages of a slot at a level that begins at a page
+abbrev pub slot_pages : ℕ → ℕ → Span
+slot_pages level first = span first (pages_of level)

@@ -1,0 +1,10 @@
+pub mod Levels
+pub mod Reads
+pub mod Wanted
+pub mod Sums
+pub mod Tree
+pub mod Counts
+pub mod Chain
+pub mod Near
+pub mod Table
+pub mod Laws

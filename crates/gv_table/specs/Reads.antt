@@ -1,0 +1,34 @@
+-- What a list says of a range of pages.
+use Rattle.std.specs.Prelude.{◌≡◌, ℕ, Bool, true, false, ◌||◌, if◌then◌else◌, Option, Some, None, List, [], ◌∷◌}
+use Rattle.gv_types.specs.Page.{PAGES}
+use Rattle.gv_types.specs.Span.{Span, end_of, meets, lies_in}
+use Rattle.gv_types.specs.Mapping.{part, advanced, IsMapping}
+use Rattle.gv_types.specs.declared.mapping.Entry.{Entry}
+use Rattle.gv_types.specs.declared.mapping.Mapping.{Mapping}
+use Rattle.gv_ranges.specs.Edit.{clipped}
+
+-- some mapping holds a page of the range
+abbrev pub any_meets : List Mapping → Span → Bool
+any_meets [] range = false
+any_meets (m ∷ ms) range = meets m.range range || any_meets ms range
+
+-- what the range's first page holds, where one mapping holds all its pages
+abbrev pub covering : List Mapping → Span → Option Entry
+covering [] range = None
+covering (m ∷ ms) range = if lies_in range m.range then Some (part m range.first) else covering ms range
+
+-- a mapping that meets the range decides what the list says of it
+abbrev pub IsReadBy : List Mapping → Span → Option Mapping → Type 0
+IsReadBy ms range None = any_meets ms range ≡ false
+IsReadBy ms range (Some m) =
+    (any_meets ms range ≡ true) ×
+    (covering ms range ≡ (if lies_in range m.range then Some (part m range.first) else None)) × IsMapping m
+
+-- two lists have the same mappings before the range, and the same behind it
+pub record AreAlikeOutside (range : Span) (one other : List Mapping) : Type 0 where
+  pub before : clipped 0 range.first one ≡ clipped 0 range.first other
+  pub behind : clipped (end_of range) PAGES one ≡ clipped (end_of range) PAGES other
+
+-- what the page holds that lies some pages past the entry's, in the same mapping
+abbrev pub entry_after : Entry → ℕ → Entry
+entry_after entry distance = record { backing = advanced entry.backing distance; flags = entry.flags }

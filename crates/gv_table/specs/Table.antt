@@ -1,0 +1,34 @@
+-- The page table as a whole.
+use Rattle.std.specs.Prelude.{ℕ, List, [], ◌∷◌}
+use Rattle.gv_types.specs.Span.{Span}
+use Rattle.gv_types.specs.declared.mapping.Mapping.{Mapping}
+use Rattle.gv_table.specs.declared.page_table.PageTable.{PageTable}
+use Rattle.gv_table.specs.Levels.{top_level}
+use Rattle.gv_table.specs.Tree.{IsTreeOf, IsTreeOutside}
+use Rattle.gv_table.specs.Counts.{gained, lost, needed, tables_at}
+
+-- the tree is that of the mappings
+abbrev pub IsTree : List Mapping → PageTable → Type 0
+IsTree ms table = IsTreeOf ms top_level 0 table.root
+
+-- the tree fits the mappings outside the range
+abbrev pub FitsOutside : List Mapping → Span → PageTable → Type 0
+FitsOutside ms range table = IsTreeOutside ms range top_level 0 table.root
+
+-- how many places (a level and a first page) have a table in the tree of the mappings and none in this one
+abbrev pub gained_by : List Mapping → PageTable → ℕ
+gained_by ms table = gained ms top_level 0 table.root
+
+-- how many places have a table in this tree and none in that of the mappings
+abbrev pub lost_by : List Mapping → PageTable → ℕ
+lost_by ms table = lost ms top_level 0 table.root
+
+-- how many places of this tree may come to need a table, where a list is given the pieces in the range
+abbrev pub needed_for : List Mapping → Span → PageTable → ℕ
+needed_for pieces range table = needed pieces range top_level 0 table.root
+
+-- how many tables stand at the levels 3, 2, 1 and 0
+abbrev pub tables_by_level : PageTable → List ℕ
+tables_by_level table =
+    tables_at 3 top_level table.root ∷ tables_at 2 top_level table.root ∷
+    tables_at 1 top_level table.root ∷ tables_at 0 top_level table.root ∷ []

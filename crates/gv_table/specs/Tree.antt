@@ -1,0 +1,59 @@
+-- The tree of a list of mappings.
+use Rattle.std.specs.Prelude.{◌≡◌, ℕ, zero, suc, ◌+◌, ◌*◌, ◌<◌, Bool, true, false, List, slice_index_or, Option, Some, None}
+use Rattle.gv_types.specs.Span.{Span}
+use Rattle.gv_types.specs.declared.mapping.Entry.{Entry}
+use Rattle.gv_types.specs.declared.mapping.Mapping.{Mapping}
+use Rattle.gv_ranges.specs.List.{at, IsLaidOut}
+use Rattle.gv_table.specs.declared.wanted.Wanted.{Wanted}
+use Rattle.gv_table.specs.declared.wanted.Wanted.TheVariants as variant
+use Rattle.gv_table.specs.declared.slot.Slot.{Slot, out-Slot}
+use Rattle.gv_table.specs.declared.slot.Slot.TheVariants.{Empty, Leaf}
+use Rattle.gv_table.specs.declared.slot.Slot.TheOpen as layer
+use Rattle.gv_table.specs.Levels.{slots_per_table, pages_of}
+use Rattle.gv_table.specs.Reads.{AreAlikeOutside}
+use Rattle.gv_table.specs.Wanted.{wanted}
+
+-- whether one layer of a slot is that of a table
+abbrev pub layer_is_table : layer.Slot-F Slot → Bool
+layer_is_table layer.Empty = false
+layer_is_table (layer.Leaf entry) = false
+layer_is_table (layer.Table slots) = true
+
+-- whether a slot is a table
+unfoldable pub is_table : Slot → Bool
+is_table slot = layer_is_table (out-Slot slot)
+
+-- a slot of one layer; a slot that is no table has empty ones
+abbrev pub layer_child : layer.Slot-F Slot → ℕ → Slot
+layer_child layer.Empty index = Empty
+layer_child (layer.Leaf entry) index = Empty
+layer_child (layer.Table slots) index = slice_index_or slots.value index Empty
+
+-- a slot of the slot's table
+unfoldable pub child : Slot → ℕ → Slot
+child slot index = layer_child (out-Slot slot) index
+
+-- the slot of one page
+abbrev pub page_slot : Option Entry → Slot
+page_slot None = Empty
+page_slot (Some entry) = Leaf entry
+
+-- a slot that holds what is wanted, where a table also has the right parts
+abbrev pub HoldsWanted : Wanted → Slot → Type 0 → Type 0
+HoldsWanted variant.Nothing slot Parts = slot ≡ Empty
+HoldsWanted (variant.Entry entry) slot Parts = slot ≡ Leaf entry
+HoldsWanted variant.Table slot Parts = (is_table slot ≡ true) × Parts
+
+-- a slot at a level, with its first page, is that of the tree of the mappings
+unfoldable pub IsTreeOf : List Mapping → ℕ → ℕ → Slot → Type 0
+IsTreeOf ms zero first slot = slot ≡ page_slot (at ms first)
+IsTreeOf ms (suc level) first slot =
+    HoldsWanted (wanted ms (suc level) first) slot
+    ((k : ℕ) → k < slots_per_table → IsTreeOf ms level (first + k * pages_of level) (child slot k))
+
+-- the slot is that of the tree of a list in order which is like the mappings outside the range
+pub record IsTreeOutside (ms : List Mapping) (range : Span) (level first : ℕ) (slot : Slot) : Type 0 where
+  pub earlier : List Mapping
+  pub laid_out : IsLaidOut earlier
+  pub alike : AreAlikeOutside range earlier ms
+  pub tree : IsTreeOf earlier level first slot

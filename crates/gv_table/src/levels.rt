@@ -1,0 +1,57 @@
+//! The shape of the tables.
+ghost use Rattle.std.specs.Prelude.{◌≡◌, ◌+◌, ◌*◌, ◌-◌, ◌<◌, ◌≤◌, ℕ, IsTrue};
+ghost use Rattle.gv_types.specs.Page.{PAGES};
+ghost use Rattle.gv_types.specs.Span.{span, end_of, meets};
+ghost use Rattle.gv_table.specs.Levels.{top_level, root_level, slots_per_table};
+ghost use Rattle.gv_table.specs.Levels.{pages_of, slot_pages};
+
+use gv_types::PageRange;
+
+/// How many slots a table has.
+pub const SLOTS: usize = 512;
+
+/// The level of the slots of the root.
+pub const ROOT_LEVEL: usize = 3;
+
+/// The level of the slot that the root fills.
+pub const TOP_LEVEL: usize = ROOT_LEVEL + 1;
+
+/// The greatest level whose slots may be leaves.
+pub const GREATEST_LEAF_LEVEL: usize = 2;
+
+/// How many pages a slot at a level covers.
+pub fn pages_of(level: usize) -> u64
+    requires { level ≤ top_level }
+    ensures pages { result ≡ pages_of level }
+    ensures some { 0 < result }
+    ensures bound { result ≤ PAGES }
+{
+    match level {
+        0 => 1,
+        1 => 512,
+        2 => 262_144,
+        3 => 134_217_728,
+        _ => 68_719_476_736,
+    }
+}
+
+/// Which slots of a table meet the range, where some does: from the first up to, and without, the
+/// second. The table's slots are at the level, and begin at the page `first`.
+pub fn slots_met(level: usize, first: u64, range: PageRange) -> (usize, usize)
+    requires known { level ≤ root_level }
+    requires in_space { first + slots_per_table * pages_of level ≤ PAGES }
+    requires met { IsTrue (meets (span first (slots_per_table * pages_of level)) range) }
+    ensures ordered { result.0 ≤ result.1 }
+    ensures within { result.1 ≤ slots_per_table }
+    ensures before { (k : ℕ) → k < result.0
+        → end_of (slot_pages level (first + k * pages_of level)) ≤ range.first }
+    ensures met { (k : ℕ) → result.0 ≤ k → k < result.1
+        → IsTrue (meets (slot_pages level (first + k * pages_of level)) range) }
+    ensures behind { (k : ℕ) → result.1 ≤ k → k < slots_per_table
+        → end_of range ≤ first + k * pages_of level }
+{
+    let pages = pages_of(level);
+    let low = range.first().saturating_sub(first) / pages;
+    let high = (range.end() - first - 1) / pages + 1;
+    (low as usize, high.min(SLOTS as u64) as usize)
+}

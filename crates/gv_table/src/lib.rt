@@ -1,0 +1,22 @@
+//! The page table of an address space: a tree of tables of 512 slots, with leaves of one page, of
+//! 512 pages and of 262,144 pages.
+#![tactic(auto)]
+
+mod count;
+pub mod laws;
+mod levels;
+mod near;
+mod page_table;
+mod paint;
+mod release;
+mod slot;
+mod spare;
+mod spares;
+mod walk;
+mod wanted;
+
+pub use page_table::PageTable;
+pub use spares::Spares;
+
+#[cfg(test)]
+mod tests;

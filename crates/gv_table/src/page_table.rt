@@ -1,0 +1,102 @@
+//! The tree of tables.
+ghost use Rattle.std.specs.Prelude.{◌≡◌, ◌≤◌, ◌+◌, List, [], IfOk, IfErr};
+ghost use Rattle.gv_types.specs.declared.fault.Fault.TheVariants.{OutOfMemory};
+ghost use Rattle.gv_types.specs.declared.mapping.Mapping.{Mapping};
+ghost use Rattle.gv_types.specs.Span.{end_of};
+ghost use Rattle.gv_ranges.specs.List.{at, IsLaidOut};
+ghost use Rattle.gv_ranges.specs.Edit.{clipped};
+
+use crate::count::count_tables;
+use crate::levels::TOP_LEVEL;
+use crate::near::Near;
+use crate::paint::paint_slot;
+use crate::slot::Slot;
+use crate::spare::needed_in;
+use crate::spares::Spares;
+use crate::walk::walk_slot;
+use gv_ranges::RangeList;
+use gv_types::{Entry, Fault, Mapping, PageRange, SPACE_PAGES};
+use std::alloc::Global;
+
+/// The tree of tables of a list of mappings: what a GPU's page table would be, with leaves of one
+/// page, 512 pages and 262,144 pages.
+#[derive(Drop)]
+pub struct PageTable {
+    root: Slot,
+}
+
+impl PageTable {
+    ghost use Rattle.gv_table.specs.Table.{IsTree, FitsOutside, gained_by, lost_by, needed_for};
+    ghost use Rattle.gv_table.specs.Table.{tables_by_level};
+
+    /// The tree of no mapping: it has no table, and takes no memory.
+    pub fn new() -> PageTable
+        ensures { IsTree [] result }
+    {
+        PageTable { root: Slot::Empty }
+    }
+
+    /// What a page holds: at most four steps from table to table. None past the end of the address
+    /// space.
+    pub fn walk(&self, page: u64) -> Option<Entry>
+        ensures { (ms : List Mapping) → IsLaidOut ms → IsTree ms self.now → result ≡ at ms page }
+    {
+        if page >= SPACE_PAGES {
+            return None;
+        }
+        walk_slot(&self.root, TOP_LEVEL, 0, page)
+    }
+
+    /// How many tables stand at the levels 3, 2, 1 and 0.
+    pub fn tables(&self) -> [u64; 4]
+        ensures { result ≡ tables_by_level self.now }
+    {
+        [
+            count_tables(&self.root, TOP_LEVEL, 3),
+            count_tables(&self.root, TOP_LEVEL, 2),
+            count_tables(&self.root, TOP_LEVEL, 1),
+            count_tables(&self.root, TOP_LEVEL, 0),
+        ]
+    }
+
+    /// Empty tables for a paint after which the list holds these pieces in the range: enough for
+    /// each list that is like the one of this tree outside the range. `OutOfMemory` where the
+    /// system refuses the memory for one.
+    pub fn spare(
+        &self,
+        alloc: Global,
+        range: PageRange,
+        pieces: &[Mapping],
+    ) -> Result<Spares, Fault>
+        requires { IsLaidOut pieces.now }
+        ensures number { IfOk result (λ spares. spares ≡ needed_for pieces.now range self.now) }
+        ensures enough { IfOk result (λ spares. (ms : List Mapping) → IsLaidOut ms
+            → FitsOutside ms range self.now
+            → clipped range.first (end_of range) ms ≡ pieces.now → gained_by ms self.now ≤ spares) }
+        ensures err { IfErr result (λ fault. fault ≡ OutOfMemory) }
+    {
+        let near = Near::whole(pieces, range);
+        let mut spares = Spares::new();
+        for _ in 0..needed_in(&self.root, TOP_LEVEL, 0, pieces, &near) {
+            spares.grow(alloc)?;
+        }
+        Ok(spares)
+    }
+
+    /// Makes the tree that of the list, where it fits the list outside the range. It takes from the
+    /// spares just the tables that the tree gains, puts in just those that it loses, and takes no
+    /// memory. What is in the spares afterwards is enough to paint the list back that the tree was
+    /// of.
+    pub fn paint(&mut self, list: &RangeList, range: PageRange, spares: &mut Spares)
+        requires fitted { FitsOutside list.now.mappings range self.old }
+        requires enough { gained_by list.now.mappings self.old ≤ spares.old }
+        ensures tree { IsTree list.now.mappings self.new }
+        ensures exchanged { spares.new + gained_by list.now.mappings self.old
+            ≡ spares.old + lost_by list.now.mappings self.old }
+        ensures back { (ms : List Mapping) → IsLaidOut ms → IsTree ms self.old
+            → gained_by ms self.new ≤ spares.new }
+    {
+        let near = Near::around(list, range);
+        paint_slot(&mut self.root, TOP_LEVEL, 0, list.mappings(), &near, spares);
+    }
+}

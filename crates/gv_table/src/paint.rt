@@ -1,0 +1,132 @@
+//! A tree made that of a list, inside a range.
+ghost use Rattle.std.specs.Prelude.{◌≡◌, ◌+◌, ◌-◌, ◌*◌, ◌<◌, ◌≤◌, ℕ, false, IsTrue};
+ghost use Rattle.std.specs.Prelude.{List, slice_index_or};
+ghost use Rattle.gv_types.specs.Page.{PAGES};
+ghost use Rattle.gv_types.specs.Span.{span, meets, end_of};
+ghost use Rattle.gv_types.specs.declared.mapping.Mapping.{Mapping};
+ghost use Rattle.gv_ranges.specs.List.{IsLaidOut};
+ghost use Rattle.gv_table.specs.declared.slot.Slot.TheVariants.{Empty, Leaf};
+ghost use Rattle.gv_table.specs.Levels.{top_level, root_level, slots_per_table, pages_of};
+ghost use Rattle.gv_table.specs.Levels.{slot_pages};
+ghost use Rattle.gv_table.specs.Near.{IsNear};
+ghost use Rattle.gv_table.specs.Reads.{entry_after};
+ghost use Rattle.gv_table.specs.Tree.{IsTreeOf, IsTreeOutside, is_table, child};
+ghost use Rattle.gv_table.specs.Counts.{gained, lost, row_gained, row_lost};
+ghost use Rattle.gv_table.specs.Counts.{one_if_not, HasSameTables};
+ghost use Rattle.gv_types.specs.Mapping.{HasSmallPages};
+
+use crate::levels::{SLOTS, pages_of, slots_met};
+use crate::near::Near;
+use crate::release::release;
+use crate::slot::Slot;
+use crate::spares::Spares;
+use crate::walk::entry_after;
+use crate::wanted::{Wanted, slot_wanted};
+use gv_types::{Entry, Mapping};
+use std::mem;
+
+/// Makes the slots the parts of a leaf, each of `pages` pages.
+fn spread(slots: &mut [Slot; SLOTS], entry: &Entry, pages: u64)
+    requires { slots_per_table * pages ≤ PAGES }
+    ensures leaves { (k : ℕ) → k < slots_per_table
+        → is_table (slice_index_or slots.new k Empty) ≡ false }
+    ensures entries { HasSmallPages entry.now.backing (slots_per_table * pages)
+        → (k : ℕ) → k < slots_per_table
+        → slice_index_or slots.new k Empty ≡ Leaf (entry_after entry.now (k * pages)) }
+{
+    for index in 0..SLOTS {
+        slots[index] = Slot::Leaf(entry_after(entry, index as u64 * pages));
+    }
+}
+
+/// The table of a slot, or a spare one with the parts of what the slot held.
+fn divide(slot: Slot, level: usize, spares: &mut Spares) -> Box<[Slot; SLOTS]>
+    requires some { 0 < level }
+    requires known { level ≤ top_level }
+    requires enough { one_if_not (is_table slot) ≤ spares.old }
+    ensures parts { (ms : List Mapping) (first : ℕ) → IsLaidOut ms → IsTreeOf ms level first slot
+        → (k : ℕ) → k < slots_per_table
+        → IsTreeOf ms (level - 1) (first + k * pages_of (level - 1))
+        (slice_index_or result.value k Empty) }
+    ensures tables { (k : ℕ) → k < slots_per_table
+        → HasSameTables (child slot k) (slice_index_or result.value k Empty) }
+    ensures taken { spares.new + one_if_not (is_table slot) ≡ spares.old }
+{
+    match slot {
+        Slot::Table(slots) => slots,
+        Slot::Empty => spares.take(),
+        Slot::Leaf(entry) => {
+            let mut slots = spares.take();
+            spread(&mut slots, &entry, pages_of(level - 1));
+            slots
+        }
+    }
+}
+
+/// Makes a slot that meets the range that of the list's tree, given that it fits outside the range.
+#[cycle(paint)]
+pub fn paint_slot(
+    slot: &mut Slot,
+    level: usize,
+    first: u64,
+    mappings: &[Mapping],
+    near: &Near,
+    spares: &mut Spares,
+)
+    requires known { level ≤ top_level }
+    requires in_space { end_of (slot_pages level first) ≤ PAGES }
+    requires laid_out { IsLaidOut mappings.now }
+    requires near { IsNear mappings.now near.now }
+    requires met { IsTrue (meets (slot_pages level first) near.now.range) }
+    requires outside { IsTreeOutside mappings.now near.now.range level first slot.old }
+    requires enough { gained mappings.now level first slot.old ≤ spares.old }
+    ensures tree { IsTreeOf mappings.now level first slot.new }
+    ensures exchanged { spares.new + gained mappings.now level first slot.old
+        ≡ spares.old + lost mappings.now level first slot.old }
+{
+    match slot_wanted(mappings, near, level, first) {
+        Wanted::Nothing => release(slot, level, spares),
+        Wanted::Entry(entry) => {
+            release(slot, level, spares);
+            *slot = Slot::Leaf(entry);
+        }
+        Wanted::Table => {
+            let old = mem::replace(slot, Slot::Empty);
+            let mut slots = divide(old, level, spares);
+            paint_row(&mut slots, level - 1, first, mappings, near, spares);
+            *slot = Slot::Table(slots);
+        }
+    }
+}
+
+/// The same for the slots of a table, of which those are visited that meet the range.
+#[cycle(paint)]
+fn paint_row(
+    slots: &mut [Slot; SLOTS],
+    level: usize,
+    first: u64,
+    mappings: &[Mapping],
+    near: &Near,
+    spares: &mut Spares,
+)
+    requires known { level ≤ root_level }
+    requires in_space { first + slots_per_table * pages_of level ≤ PAGES }
+    requires laid_out { IsLaidOut mappings.now }
+    requires near { IsNear mappings.now near.now }
+    requires met { IsTrue (meets (span first (slots_per_table * pages_of level)) near.now.range) }
+    requires outside { (k : ℕ) → k < slots_per_table
+        → IsTreeOutside mappings.now near.now.range level (first + k * pages_of level)
+        (slice_index_or slots.old k Empty) }
+    requires enough { row_gained mappings.now level first slots.old ≤ spares.old }
+    ensures tree { (k : ℕ) → k < slots_per_table → IsTreeOf mappings.now level
+        (first + k * pages_of level) (slice_index_or slots.new k Empty) }
+    ensures exchanged { spares.new + row_gained mappings.now level first slots.old
+        ≡ spares.old + row_lost mappings.now level first slots.old }
+{
+    let pages = pages_of(level);
+    let (low, high) = slots_met(level, first, near.range);
+    for index in low..high {
+        let start = first + index as u64 * pages;
+        paint_slot(&mut slots[index], level, start, mappings, near, spares);
+    }
+}

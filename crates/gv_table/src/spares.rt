@@ -1,0 +1,78 @@
+//! Tables that are in no tree.
+ghost use Rattle.std.specs.Prelude.{◌≡◌, ◌+◌, ◌<◌, OnOk, OnErr};
+ghost use Rattle.gv_table.specs.Chain.{AreEmpty};
+
+use crate::levels::SLOTS;
+use crate::slot::Slot;
+use std::alloc::{AllocError, Global};
+use std::marker::Model;
+use std::mem;
+
+/// Empty tables, linked through their first slots: a paint takes from them and puts back to them.
+/// Contracts see how many they are.
+pub struct Spares {
+    first: Slot,
+}
+
+impl Model for Spares {
+    ghost use Rattle.std.specs.Prelude.{ℕ};
+    ghost use Rattle.gv_table.specs.Chain.{IsChainOf, chain_length};
+
+    ghost Value = { ℕ };
+
+    ghost view = { λ s. chain_length s.first };
+
+    ghost invariant = { λ s. IsChainOf (chain_length s.first) s.first };
+}
+
+impl Drop for Spares {
+    fn drop(self) {
+        let Spares { first: mut slot } = self;
+        while let Slot::Table(mut slots) = slot {
+            slot = mem::replace(&mut slots[0], Slot::Empty);
+        }
+    }
+}
+
+impl Spares {
+    /// No table. It takes no memory.
+    pub fn new() -> Spares
+        ensures { result ≡ 0 }
+    {
+        Spares { first: Slot::Empty }
+    }
+
+    /// Adds an empty table.
+    pub(crate) fn put(&mut self, mut slots: Box<[Slot; SLOTS]>)
+        requires { AreEmpty slots.value }
+        ensures { self.new ≡ self.old + 1 }
+    {
+        slots[0] = mem::replace(&mut self.first, Slot::Empty);
+        self.first = Slot::Table(slots);
+    }
+
+    /// Takes an empty table off.
+    pub(crate) fn take(&mut self) -> Box<[Slot; SLOTS]>
+        requires { 0 < self.old }
+        ensures empty { AreEmpty result.value }
+        ensures fewer { self.new + 1 ≡ self.old }
+    {
+        match mem::replace(&mut self.first, Slot::Empty) {
+            Slot::Table(mut slots) => {
+                self.first = mem::replace(&mut slots[0], Slot::Empty);
+                slots
+            }
+            Slot::Empty | Slot::Leaf(_) => unreachable!(),
+        }
+    }
+
+    /// Makes one more empty table.
+    pub(crate) fn grow(&mut self, alloc: Global) -> Result<(), AllocError>
+        ensures grown { OnOk result (self.new ≡ self.old + 1) }
+        ensures unchanged { OnErr result (self.new ≡ self.old) }
+    {
+        let slots = Box::new(alloc, [const { Slot::Empty }; SLOTS])?;
+        self.put(slots);
+        Ok(())
+    }
+}

@@ -1,0 +1,128 @@
+ghost use Rattle.std.specs.Prelude.{◌≡◌, ◌≤◌, IfOk, IfSome, List, OnErr, OnOk};
+ghost use Rattle.gv_types.specs.Span.{span, end_of};
+ghost use Rattle.gv_types.specs.Mapping.{IsMapping};
+ghost use Rattle.gv_types.specs.Operation.{IsPageOp, own_mapping, range_of};
+ghost use Rattle.gv_types.specs.declared.mapping.Mapping.{Mapping};
+ghost use Rattle.gv_ranges.specs.List.{IsLaidOut};
+ghost use Rattle.gv_ranges.specs.Edit.{clipped, edited};
+ghost use Rattle.gv_table.specs.Table.{IsTree, FitsOutside, gained_by};
+
+use crate::{PageTable, Spares, laws};
+use gv_ranges::{RangeList, replacement};
+use gv_types::{Backing, BufferId, Fault, Flags, OutOfMemory, PageOp, PageRange};
+use std::alloc::Global;
+use std::test::Fail;
+
+/// A map of `count` pages from `first` on to a buffer's pages from `page` on.
+fn map(first: u64, count: u64, page: u32) -> Option<PageOp>
+    ensures { IfSome result IsPageOp }
+{
+    let range = PageRange::new(first, count)?;
+    Some(PageOp::Map {
+        range,
+        backing: Backing::Buffer {
+            id: BufferId::new(1, 1),
+            page: u64::from(page),
+        },
+        flags: Flags { read_only: false },
+    })
+}
+
+fn unmap(first: u64, count: u64) -> Option<PageOp>
+    ensures { IfSome result IsPageOp }
+{
+    let range = PageRange::new(first, count)?;
+    Some(PageOp::Unmap { range })
+}
+
+/// Changes the list by the operation.
+fn edit(list: &mut RangeList, op: &PageOp) -> Result<(), OutOfMemory>
+    requires { IsPageOp op.now }
+    ensures ok { OnOk result (list.new.mappings ≡ edited list.old.mappings op.now) }
+    ensures err { OnErr result (list.new.mappings ≡ list.old.mappings) }
+    ensures laid_out { IsLaidOut list.old.mappings }
+{
+    let (place, count) = list.overlapping(op.range());
+    let pieces = replacement(&list.mappings()[place..place + count], op);
+    list.reserve(pieces.as_slice().len())?;
+    list.splice(place, count, pieces.as_slice());
+    Ok(())
+}
+
+/// The spares for the operation.
+fn spares_for(alloc: Global, table: &PageTable, op: &PageOp) -> Result<Spares, Fault>
+    requires { IsPageOp op.now }
+    ensures { IfOk result (λ spares. (ms : List Mapping) → IsLaidOut ms
+        → FitsOutside ms (range_of op.now) table.now
+        → clipped (range_of op.now).first (end_of (range_of op.now)) ms ≡ own_mapping op.now
+        → gained_by ms table.now ≤ spares) }
+{
+    match op.own_mapping() {
+        Some(own) => table.spare(alloc, op.range(), &[own]),
+        None => table.spare(alloc, op.range(), &[]),
+    }
+}
+
+/// Changes the list by the operation, and the tree with it.
+fn apply(
+    alloc: Global,
+    list: &mut RangeList,
+    table: &mut PageTable,
+    op: Option<PageOp>,
+) -> Result<(), Fail>
+    requires operation { IfSome op IsPageOp }
+    requires tree { IsTree list.old.mappings table.old }
+    ensures { IsTree list.new.mappings table.new }
+{
+    let op = op.ok_or("an operation")?;
+    let mut spares = spares_for(alloc, table, &op)?;
+    edit(list, &op)?;
+    table.paint(list, op.range(), &mut spares);
+    Ok(())
+}
+
+#[test]
+fn one_large_mapping(rt: HostRuntime) -> Result<(), Fail> {
+    laws::replaces();
+    let mut list = RangeList::new(rt.alloc());
+    let mut table = PageTable::new();
+    let none = Spares::new();
+    drop(none);
+    apply(rt.alloc(), &mut list, &mut table, map(0, 262_144, 0))?;
+    assert_eq!(rt; table.tables(), [1, 1, 0, 0]);
+    apply(rt.alloc(), &mut list, &mut table, unmap(0, 1))?;
+    assert_eq!(rt; table.tables(), [1, 1, 1, 1]);
+    assert!(rt; table.walk(0).is_none());
+    let entry = table.walk(262_143).ok_or("an entry")?;
+    let wanted = Backing::Buffer {
+        id: BufferId::new(1, 1),
+        page: 262_143,
+    };
+    assert!(rt; entry.backing == wanted);
+    assert!(rt; table.walk(u64::MAX).is_none());
+    Ok(())
+}
+
+#[test]
+fn tables_come_and_go(rt: HostRuntime) -> Result<(), Fail> {
+    let mut list = RangeList::new(rt.alloc());
+    let mut table = PageTable::new();
+    for (is_map, first, count, wanted) in [
+        (true, 0, 65_536, [1, 1, 1, 0]),
+        (false, 0, 65_536, [0, 0, 0, 0]),
+        (true, 0x1ff, 2, [1, 1, 1, 2]),
+        (false, 0x1ff, 2, [0, 0, 0, 0]),
+        (true, 0, 512, [1, 1, 1, 0]),
+        (false, 7, 1, [1, 1, 1, 1]),
+        (true, 0, 512, [1, 1, 1, 0]),
+    ] {
+        let op = if is_map {
+            map(first, count, 0)
+        } else {
+            unmap(first, count)
+        };
+        apply(rt.alloc(), &mut list, &mut table, op)?;
+        assert_eq!(rt; table.tables(), wanted);
+    }
+    Ok(())
+}

@@ -1,0 +1,39 @@
+//! What a slot is to hold.
+ghost use Rattle.std.specs.Prelude.{◌≡◌, ◌≤◌, IsTrue};
+ghost use Rattle.gv_types.specs.Page.{PAGES};
+ghost use Rattle.gv_types.specs.Span.{meets, end_of};
+ghost use Rattle.gv_ranges.specs.List.{IsLaidOut};
+ghost use Rattle.gv_table.specs.Levels.{top_level, slot_pages};
+ghost use Rattle.gv_table.specs.Near.{IsNear};
+ghost use Rattle.gv_table.specs.Wanted.{wanted};
+
+use crate::levels::{GREATEST_LEAF_LEVEL, pages_of};
+use crate::near::{Near, met_by};
+use gv_types::{Entry, Mapping};
+
+/// What a slot is to hold.
+pub enum Wanted {
+    Nothing,
+    Entry(Entry),
+    Table,
+}
+
+/// What the list wants of a slot that meets the range.
+pub fn slot_wanted(mappings: &[Mapping], near: &Near, level: usize, first: u64) -> Wanted
+    requires known { level ≤ top_level }
+    requires in_space { end_of (slot_pages level first) ≤ PAGES }
+    requires laid_out { IsLaidOut mappings.now }
+    requires near { IsNear mappings.now near.now }
+    requires met { IsTrue (meets (slot_pages level first) near.now.range) }
+    ensures { result ≡ wanted mappings.now level first }
+{
+    let Some(m) = met_by(mappings, near, level, first) else {
+        return Wanted::Nothing;
+    };
+    let end = first + pages_of(level);
+    if level <= GREATEST_LEAF_LEVEL && m.range.first() <= first && end <= m.range.end() {
+        Wanted::Entry(m.part(first))
+    } else {
+        Wanted::Table
+    }
+}
