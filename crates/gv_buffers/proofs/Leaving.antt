@@ -1,0 +1,47 @@
+-- A job leaves the buffers at some places, one after another.
+use Rattle.std.proofs.Common.{◌≡◌, ◌≢◌, ℕ, List, [], ◌∷◌, ◌++◌, true, false, cond, not, eqb, refl, sym, ◌∙◌, ap, inl, inr, ⊎_elim, Some, None, Option, Contains}
+use Rattle.std.specs.Option.{option_map}
+use Rattle.std.proofs.lemmas.Bool.{cases_eq}
+use Rattle.std.proofs.lemmas.List.Elements.{Contains-push_cases}
+use Rattle.slab.specs.Slab.{Slab, get}
+use Rattle.gv_buffers.specs.declared.slots.Slot.{Slot}
+use Rattle.gv_buffers.specs.declared.usage.User.{User}
+use Rattle.gv_buffers.specs.Users.{left}
+use Rattle.gv_buffers.specs.Table.{Buffer, left_by}
+use Rattle.gv_buffers.specs.Slots.{buffer_at, buffer_in, IsLeftOrSame}
+
+-- a job has left the buffers at the places of the list, and each other is left or as it was
+pub record HaveLeft (job : ℕ) (old new : Slab Slot) (places : List ℕ) : Type 0 where
+  pub noted : (place : ℕ) → Contains places place → buffer_in new place ≡ option_map (left_by job) (buffer_in old place)
+  pub others : (place : ℕ) → IsLeftOrSame job old new place
+  pub capacity : new.capacity ≡ old.capacity
+
+pub left-left : (job : ℕ) (users : List User) → left job (left job users) ≡ left job users
+left-left job [] = refl
+left-left job (user ∷ users) =
+    elim (not (eqb user.job job)) as (λ t. t ≡ not (eqb user.job job) → left job (cond t (user ∷ left job users) (left job users)) ≡ cond t (user ∷ left job users) (left job users))
+    [ true ↦ (λ e. rw (← e, left-left job users) refl) | false ↦ (λ e. left-left job users) ] refl
+
+-- to leave twice is to leave once
+pub left_by-left_by : (job : ℕ) (o : Option Buffer) → option_map (left_by job) (option_map (left_by job) o) ≡ option_map (left_by job) o
+left_by-left_by job None = refl
+left_by-left_by job (Some b) = rw left-left refl
+
+-- one more place
+pub HaveLeft-more : (job : ℕ) (old mid new : Slab Slot) (places : List ℕ) (place : ℕ) → HaveLeft job old mid places →
+    buffer_in new place ≡ option_map (left_by job) (buffer_in mid place) →
+    ((key : ℕ) → key ≢ place → get new key ≡ get mid key) → new.capacity ≡ mid.capacity → HaveLeft job old new (places ++ place ∷ [])
+HaveLeft-more job old mid new places place before here others capacity =
+    let at_place : buffer_in new place ≡ option_map (left_by job) (buffer_in old place) =
+    ⊎_elim (λ e. here ∙ ap (option_map (left_by job)) e ∙ left_by-left_by job (buffer_in old place))
+    (λ e. here ∙ ap (option_map (left_by job)) e) (before.others place) in
+    let elsewhere = λ (key : ℕ) (apart : key ≢ place). ap (option_map (buffer_at key)) (others key apart) in
+    record {
+      noted = λ key among. ⊎_elim (λ (e : key ≡ place). rw e at_place)
+          (λ (apart : key ≢ place). elsewhere key apart ∙ ⊎_elim (λ at. before.noted key at) (λ e. absurd (apart (sym e))) (Contains-push_cases places place key among))
+          (cases_eq key place);
+      others = λ key. ⊎_elim (λ (e : key ≡ place). inl (rw e at_place))
+          (λ (apart : key ≢ place). ⊎_elim (λ e. inl (elsewhere key apart ∙ e)) (λ e. inr (elsewhere key apart ∙ e)) (before.others key))
+          (cases_eq key place);
+      capacity = capacity ∙ before.capacity;
+    }

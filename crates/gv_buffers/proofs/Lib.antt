@@ -1,0 +1,9 @@
+pub mod Joins
+pub mod Lists
+pub mod Leaving
+pub mod Tables
+pub mod Conflicts
+pub mod Rooms
+pub mod Making
+pub mod Using
+pub mod Found

@@ -1,0 +1,32 @@
+-- A job that is among the users of a buffer needs no more room there.
+use Rattle.std.proofs.Common.{◌≡◌, ℕ, true, is_some, refl, sym, ◌∙◌, subst, Some, None, Option, List, position}
+use Rattle.std.specs.List.{All}
+use Rattle.std.proofs.lemmas.Bool.{eqb-true, false≢true}
+use Rattle.std.proofs.lemmas.List.Quantifiers.{position-Some}
+use Rattle.slab.specs.Slab.{Slab, get, ContainsKey, with_value, Updates}
+use Rattle.slab.proofs.SlabLemmas.{Updates-with_value}
+use Rattle.gv_buffers.specs.declared.slots.Slot.{Slot}
+use Rattle.gv_buffers.specs.declared.usage.Usage.TheVariants.{Read}
+use Rattle.gv_buffers.specs.declared.usage.User.{User}
+use Rattle.gv_buffers.specs.Places.{Notes, IsNoted}
+use Rattle.gv_buffers.specs.Slots.{HasRoomFor}
+use Rattle.gv_buffers.proofs.Joins.{is_of}
+
+some_of : (o : Option ℕ) → is_some o ≡ true → (i : ℕ) × (o ≡ Some i)
+some_of None found = absurd (false≢true found)
+some_of (Some i) found = (i, refl)
+
+-- what is noted for each user is noted for a job among them
+pub noted_user : (notes : Notes) (place job : ℕ) (users : List User) → is_some (position (is_of job) users) ≡ true →
+    All (λ u. IsNoted notes u.job place) users → IsNoted notes job place
+noted_user notes place job users found noted =
+    let no_one : User = record { job = 0; usage = Read } in
+    let at = some_of (position (is_of job) users) found in
+    let here = position-Some (is_of job) users at.0 no_one at.1 in
+    subst (λ (j : ℕ). IsNoted notes j place) (eqb-true _ _ here.1) (noted at.0 no_one here.0)
+
+pub room_from_user : (slots : Slab Slot) (place : ℕ) (slot : Slot) (job : ℕ) → ContainsKey slots place → is_some (position (is_of job) slot.users.items) ≡ true →
+    HasRoomFor job (get (with_value slots place slot) place)
+room_from_user slots place slot job lives found =
+    let updates : Updates slots (with_value slots place slot) place (Some slot) = Updates-with_value slots place slot lives in
+    rw updates.changed (λ missed. absurd (false≢true (sym missed ∙ found)))

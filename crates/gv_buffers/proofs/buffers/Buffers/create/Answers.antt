@@ -1,0 +1,33 @@
+use Rattle.std.proofs.Common.{arith, refl, ap}
+use Rattle.gv_buffers.specs.Table.{Table}
+use Rattle.gv_buffers.proofs.Tables.{live_count}
+use Rattle.gv_buffers.proofs.Making.{no_create_fault, too_many_live, too_many_made, made}
+use Rattle.gv_buffers.proofs.buffers.Buffers.create.Goals as goal
+use Rattle.gv_buffers.proofs.buffers.Buffers.create.Goals.{then-len-self-via-then-len-self, then-len-self-via-else-len-self+then-self}
+
+pub returns-then-len-self-clause-fault : goal.returns-then-len-self-clause-fault
+returns-then-len-self-clause-fault c =
+    let live = live_count c.self.inside c.args.self.now c.self.view_is in
+    let limit = ap (λ (t : Table). t.limit) c.self.view_is in
+    let number = ap (λ (t : Table). t.made) c.self.view_is in
+    elim c.then-len-self.branch [
+      | then-len-self-via-then-len-self w ↦ rw (too_many_live c.args.self.now c.args.pages c.if-pages-eq0.false (omega arith) (omega (arith, live, limit, w.if-len-self.true))) refl
+      | then-len-self-via-else-len-self+then-self w ↦ rw (too_many_made c.args.self.now c.args.pages c.if-pages-eq0.false (omega arith) (omega (arith, number, w.if-self.true))) refl
+    ]
+
+pub returns-clause-fault : goal.returns-clause-fault
+returns-clause-fault c =
+    let live = live_count c.self.inside c.args.self.now c.self.view_is in
+    let limit = ap (λ (t : Table). t.limit) c.self.view_is in
+    let number = ap (λ (t : Table). t.made) c.self.view_is in
+    rw (no_create_fault c.args.self.now c.args.pages c.if-pages-eq0.false (omega arith) (omega (arith, live, limit)) (omega (arith, number))) refl
+
+pub returns-clause-ok : goal.returns-clause-ok
+returns-clause-ok c =
+    rw c.new-3.ensures (made c.self.inside c.args.self.now c.insert_reserved-place.new.self c.insert_reserved-place.result c.args.pages _ c.self.invariant c.self.view_is (omega arith) (omega arith) (omega arith)
+    c.insert_reserved-place.ensures.was_vacant c.insert_reserved-place.ensures.updates c.insert_reserved-place.ensures.len c.insert_reserved-place.ensures.capacity (rw (c.new.ensures, c.new-2.ensures.items) refl)).created
+
+pub invariant_of-self : goal.invariant_of-self
+invariant_of-self c =
+    (made c.self.inside c.args.self.now c.insert_reserved-place.new.self c.insert_reserved-place.result c.args.pages _ c.self.invariant c.self.view_is (omega arith) (omega arith) (omega arith)
+    c.insert_reserved-place.ensures.was_vacant c.insert_reserved-place.ensures.updates c.insert_reserved-place.ensures.len c.insert_reserved-place.ensures.capacity (rw (c.new.ensures, c.new-2.ensures.items) refl)).sound

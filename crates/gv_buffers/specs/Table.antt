@@ -1,0 +1,164 @@
+-- The live buffers, with their counts and users, and what calls make of them.
+use Rattle.std.specs.Prelude.{◌≡◌, ◌≢◌, ℕ, ◌+◌, ◌-◌, ◌^◌, ◌<◌, ◌≤◌, Bool, not, ◌&&◌, ◌||◌, ◌==◌, nat_lt, nat_le, if◌then◌else◌, List, [], map, length, filter, find, insert, Option, Some, None, IsSome}
+use Rattle.std.specs.List.{All, AllPairs}
+use Rattle.std.specs.Option.{option_map}
+use Rattle.gv_types.specs.Page.{pages_per_buffer}
+use Rattle.gv_types.specs.Limits.{greatest, IsFromOneTo}
+use Rattle.gv_types.specs.declared.mapping.BufferId.{BufferId}
+use Rattle.gv_types.specs.declared.fault.Fault.{Fault}
+use Rattle.gv_types.specs.declared.fault.Fault.TheVariants.{NoBuffer, BadSize, TooManyBuffers, Mapped, Kept, InUse, Conflict}
+use Rattle.gv_buffers.specs.declared.usage.Usage.{Usage}
+use Rattle.gv_buffers.specs.declared.usage.User.{User}
+use Rattle.gv_buffers.specs.Users.{conflict, joined, left, HaveNoConflict}
+
+-- a live buffer: how many mappings of it are in the list and in undo values, and the jobs that use it
+pub record Buffer : Type 0 where
+  pub id : BufferId
+  pub pages : ℕ
+  pub uses : ℕ
+  pub kept : ℕ
+  pub users : List User
+
+-- what contracts see of `Buffers`: the limit of live buffers, how many were ever made, and the live ones
+pub record Table : Type 0 where
+  pub limit : ℕ
+  pub made : ℕ
+  pub live : List Buffer
+
+-- no more buffers than this are ever made
+abbrev pub most_made : ℕ
+most_made = 2 ^ 64 - 1
+
+-- no count of mappings is above this
+abbrev pub most_counted : ℕ
+most_counted = 2 ^ 64 - 1
+
+abbrev pub no_buffers : ℕ → Table
+no_buffers limit = record { limit = limit; made = 0; live = [] }
+
+abbrev pub is_same_id : BufferId → BufferId → Bool
+is_same_id a b = (a.index == b.index) && (a.generation == b.generation)
+
+abbrev pub has_id : BufferId → Buffer → Bool
+has_id id b = is_same_id b.id id
+
+-- the live buffer with this id
+abbrev pub buffer : Table → BufferId → Option Buffer
+buffer t id = find (has_id id) t.live
+
+abbrev pub IsLive : Table → BufferId → Type 0
+IsLive t id = IsSome (buffer t id)
+
+-- how many mappings of a buffer are in the list
+abbrev pub uses : Table → BufferId → Option ℕ
+uses t id = option_map (λ b. b.uses) (buffer t id)
+
+-- how many mappings of a buffer are in undo values
+abbrev pub kept : Table → BufferId → Option ℕ
+kept t id = option_map (λ b. b.kept) (buffer t id)
+
+-- how many pages a buffer has
+abbrev pub pages : Table → BufferId → Option ℕ
+pages t id = option_map (λ b. b.pages) (buffer t id)
+
+-- a new buffer, which nothing uses
+abbrev pub fresh : BufferId → ℕ → Buffer
+fresh id pages = record { id = id; pages = pages; uses = 0; kept = 0; users = [] }
+
+-- why no buffer of this size can be made
+abbrev pub create_fault : Table → ℕ → Option Fault
+create_fault t pages =
+    if (pages == 0) || nat_lt pages_per_buffer pages then Some BadSize
+    else if nat_le t.limit (length t.live) || nat_le most_made t.made then Some TooManyBuffers
+    else None
+
+-- A buffer was made. Its generation is how many were made before it, its index is that of no live buffer, and
+-- it stands among the live ones, which stay as they are.
+pub record IsCreated (old new : Table) (id : BufferId) (pages : ℕ) : Type 0 where
+  pub generation : id.generation ≡ old.made
+  pub free : All (λ b. b.id.index ≢ id.index) old.live
+  pub place : ℕ
+  pub within : place ≤ length old.live
+  pub state : new ≡ record old { made = old.made + 1; live = insert old.live place (fresh id pages) }
+
+-- what names a live buffer: mappings in the list, else mappings in undo values, else jobs
+abbrev pub use_fault : Buffer → Option Fault
+use_fault b =
+    if nat_lt 0 b.uses then Some (Mapped b.uses)
+    else if nat_lt 0 b.kept then Some (Kept b.kept)
+    else if nat_lt 0 (length b.users) then Some (InUse (length b.users))
+    else None
+
+-- why a buffer can't be destroyed, once it is looked up
+abbrev pub destroy_fault_of : Option Buffer → Option Fault
+destroy_fault_of None = Some NoBuffer
+destroy_fault_of (Some b) = use_fault b
+
+abbrev pub destroy_fault : Table → BufferId → Option Fault
+destroy_fault t id = destroy_fault_of (buffer t id)
+
+-- the table without a buffer
+abbrev pub without : BufferId → Table → Table
+without id t = record t { live = filter (λ b. not (has_id id b)) t.live }
+
+-- the change of one buffer, and of no other
+abbrev pub only : BufferId → (Buffer → Buffer) → Buffer → Buffer
+only id change b = if has_id id b then change b else b
+
+-- the table with one buffer changed, and the others as they are
+abbrev pub changed : BufferId → (Buffer → Buffer) → Table → Table
+changed id change t = record t { live = map (only id change) t.live }
+
+-- one more mapping in the list
+abbrev pub counted_in : Buffer → Buffer
+counted_in b = record b { uses = b.uses + 1 }
+
+-- one mapping less in the list
+abbrev pub counted_out : Buffer → Buffer
+counted_out b = record b { uses = b.uses - 1 }
+
+-- one more mapping in undo values
+abbrev pub counted_kept : Buffer → Buffer
+counted_kept b = record b { kept = b.kept + 1 }
+
+-- one mapping less in undo values
+abbrev pub counted_unkept : Buffer → Buffer
+counted_unkept b = record b { kept = b.kept - 1 }
+
+abbrev pub conflict_fault : Option ℕ → Option Fault
+conflict_fault None = None
+conflict_fault (Some job) = Some (Conflict job)
+
+-- why a job can't use a buffer, once it is looked up
+abbrev pub join_fault_of : ℕ → Usage → Option Buffer → Option Fault
+join_fault_of job usage None = Some NoBuffer
+join_fault_of job usage (Some b) = conflict_fault (conflict job usage b.users)
+
+abbrev pub join_fault : Table → BufferId → ℕ → Usage → Option Fault
+join_fault t id job usage = join_fault_of job usage (buffer t id)
+
+-- a buffer that a job joined
+abbrev pub joined_by : ℕ → Usage → Buffer → Buffer
+joined_by job usage b = record b { users = joined job usage b.users }
+
+-- a buffer that a job left
+abbrev pub left_by : ℕ → Buffer → Buffer
+left_by job b = record b { users = left job b.users }
+
+-- the table once a job has left every buffer
+abbrev pub left_everywhere : ℕ → Table → Table
+left_everywhere job t = record t { live = map (left_by job) t.live }
+
+-- what holds of each live buffer
+pub record IsBuffer (made : ℕ) (b : Buffer) : Type 0 where
+  pub made_before : b.id.generation < made
+  pub some_pages : 0 < b.pages
+  pub few_pages : b.pages ≤ pages_per_buffer
+  pub no_conflict : HaveNoConflict b.users
+
+-- what holds of every table of buffers: two live buffers differ in their index, and no two jobs conflict
+pub record IsTable (t : Table) : Type 0 where
+  pub limit : IsFromOneTo greatest.buffers t.limit
+  pub few : length t.live ≤ t.limit
+  pub buffers : All (IsBuffer t.made) t.live
+  pub apart : AllPairs (λ a b. a.id.index < b.id.index) t.live

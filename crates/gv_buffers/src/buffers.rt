@@ -1,0 +1,203 @@
+//! The table of buffers.
+ghost use Rattle.std.specs.Prelude.{◌≡◌, ◌<◌, IfOk, IsOk, IsOkUnless, OnOk, OnErr, MatchOption};
+ghost use Rattle.gv_types.specs.Limits.{greatest, IsFromOneTo};
+
+use crate::places::{Places, forget};
+use crate::slots::{Slot, join_at, leave_all, live_at, make_room};
+use crate::usage::Usage;
+use crate::users;
+use gv_types::{BUFFER_PAGES, BufferId, Fault, Generation};
+use slab::Slab;
+use std::alloc::Global;
+use std::collections::HashMap;
+use std::marker::Model;
+
+// An index has 32 bits.
+const MOST_PLACES: usize = 1 << 32;
+
+/// The live buffers of an address space: how many pages each has, how many mappings name it, and
+/// which running jobs use it. No two jobs use one buffer where either writes it, as the kernel's
+/// Reservation Objects ask. An id that died stays dead when its index is used again.
+#[derive(Drop)]
+pub struct Buffers {
+    alloc: Global,
+    limit: u64,
+    made: u64,
+    slots: Slab<Slot>,
+    places: Places,
+}
+
+impl Model for Buffers {
+    ghost use Rattle.gv_buffers.specs.Table.{Table};
+
+    ghost Value = { Table };
+
+    ghost use Rattle.gv_buffers.specs.Sound.{table_of, IsSound};
+
+    ghost view = { table_of };
+
+    ghost invariant = { IsSound };
+}
+
+impl Buffers {
+    ghost use Rattle.gv_buffers.specs.Table.{no_buffers, uses, kept, pages, IsTable};
+    ghost use Rattle.gv_buffers.specs.Table.{create_fault, destroy_fault, join_fault, IsCreated};
+    ghost use Rattle.gv_buffers.specs.Table.{without, changed, left_everywhere};
+    ghost use Rattle.gv_buffers.specs.Table.{counted_in, counted_out, counted_kept, counted_unkept};
+    ghost use Rattle.gv_buffers.specs.Table.{joined_by, most_counted};
+    ghost use Rattle.std.specs.Option.{IsSomeAnd};
+
+    /// A table of no buffer, with room for `limit` live ones, from 1 to 65,536. `OutOfMemory` where
+    /// the system refuses that room.
+    pub fn new(alloc: Global, limit: u64) -> Result<Buffers, Fault>
+        requires { IsFromOneTo greatest.buffers limit }
+        ensures empty { IfOk result (λ b. b ≡ no_buffers limit) }
+        ensures only_memory { IsOkUnless result Fault.OutOfMemory }
+    {
+        let slots = Slab::with_capacity(alloc, limit as usize)?;
+        // So many places can't be numbered. No limit asks for as many.
+        if slots.capacity() > MOST_PLACES {
+            return Err(Fault::OutOfMemory);
+        }
+        Ok(Buffers {
+            alloc,
+            limit,
+            made: 0,
+            slots,
+            places: HashMap::new(alloc),
+        })
+    }
+
+    /// Makes a buffer of `pages` pages. `BadSize` at 0 pages or over 2^36, and `TooManyBuffers`
+    /// where the limit's buffers are alive or 2^64 - 1 were made. The id's generation is how many
+    /// were made before; its index may be that of a buffer that was destroyed. It takes no memory,
+    /// since `new` made the room.
+    pub fn create(&mut self, pages: u64) -> Result<BufferId, Fault>
+        ensures fault { MatchOption (create_fault self.old pages)
+            (IsOk result) (λ fault. result ≡ Err fault) }
+        ensures ok { IfOk result (λ id. IsCreated self.old self.new id pages) }
+        ensures err { OnErr result (self.new ≡ self.old) }
+    {
+        if pages == 0 || pages > BUFFER_PAGES {
+            return Err(Fault::BadSize);
+        }
+        if self.slots.len() as u64 >= self.limit || self.made == u64::MAX {
+            return Err(Fault::TooManyBuffers);
+        }
+        let generation = self.made;
+        let place = self.slots.insert_reserved(Slot {
+            generation: Generation::new(generation),
+            pages,
+            uses: 0,
+            kept: 0,
+            users: Vec::new(self.alloc),
+        });
+        self.made += 1;
+        Ok(BufferId::new(place as u32, generation))
+    }
+
+    /// Destroys a buffer that nothing names. `NoBuffer` where the id is dead, then `Mapped` where
+    /// mappings of it are in the list, `Kept` where they are in undo values, and `InUse` where jobs
+    /// use it. It takes no memory.
+    pub fn destroy(&mut self, id: BufferId) -> Result<(), Fault>
+        ensures fault { MatchOption (destroy_fault self.old id)
+            (IsOk result) (λ fault. result ≡ Err fault) }
+        ensures ok { OnOk result (self.new ≡ without id self.old) }
+        ensures err { OnErr result (self.new ≡ self.old) }
+    {
+        let place = id.index as usize;
+        let Some(slot) = live_at(&self.slots, id) else {
+            return Err(Fault::NoBuffer);
+        };
+        slot.check_unused()?;
+        self.slots.remove(place);
+        Ok(())
+    }
+
+    /// How many mappings of the buffer are in the list, or None where the id is dead.
+    pub fn uses(&self, id: BufferId) -> Option<u64>
+        ensures value { result ≡ uses self.now id }
+        ensures table { IsTable self.now }
+    {
+        live_at(&self.slots, id).map(|slot| slot.uses)
+    }
+
+    /// How many mappings of the buffer are in undo values, or None where the id is dead.
+    pub fn kept(&self, id: BufferId) -> Option<u64>
+        ensures value { result ≡ kept self.now id }
+        ensures table { IsTable self.now }
+    {
+        live_at(&self.slots, id).map(|slot| slot.kept)
+    }
+
+    /// How many pages the buffer has, or None where the id is dead.
+    pub fn pages(&self, id: BufferId) -> Option<u64>
+        ensures value { result ≡ pages self.now id }
+        ensures table { IsTable self.now }
+    {
+        live_at(&self.slots, id).map(|slot| slot.pages)
+    }
+
+    /// Counts one more mapping in the list. It takes no memory.
+    pub fn count_in(&mut self, id: BufferId)
+        requires { IsSomeAnd (uses self.old id) (λ count. count < most_counted) }
+        ensures { self.new ≡ changed id counted_in self.old }
+    {
+        self.slots[id.index as usize].uses += 1;
+    }
+
+    /// Counts one mapping less in the list. It takes no memory.
+    pub fn count_out(&mut self, id: BufferId)
+        requires { IsSomeAnd (uses self.old id) (λ count. 0 < count) }
+        ensures { self.new ≡ changed id counted_out self.old }
+    {
+        self.slots[id.index as usize].uses -= 1;
+    }
+
+    /// Counts one more mapping in undo values. It takes no memory.
+    pub fn keep(&mut self, id: BufferId)
+        requires { IsSomeAnd (kept self.old id) (λ count. count < most_counted) }
+        ensures { self.new ≡ changed id counted_kept self.old }
+    {
+        self.slots[id.index as usize].kept += 1;
+    }
+
+    /// Counts one mapping less in undo values. It takes no memory.
+    pub fn unkeep(&mut self, id: BufferId)
+        requires { IsSomeAnd (kept self.old id) (λ count. 0 < count) }
+        ensures { self.new ≡ changed id counted_unkept self.old }
+    {
+        self.slots[id.index as usize].kept -= 1;
+    }
+
+    /// Lets a job use a buffer; one that uses it already gets the stronger usage. `NoBuffer` where
+    /// the id is dead, then `Conflict` with the least other job that uses the buffer where one of
+    /// the two writes it, then `OutOfMemory`.
+    pub fn join(&mut self, id: BufferId, job: u64, usage: Usage) -> Result<(), Fault>
+        ensures fault { MatchOption (join_fault self.old id job usage)
+            (IsOkUnless result Fault.OutOfMemory) (λ fault. result ≡ Err fault) }
+        ensures ok { OnOk result (self.new ≡ changed id (joined_by job usage) self.old) }
+        ensures err { OnErr result (self.new ≡ self.old) }
+    {
+        let place = id.index;
+        let Some(slot) = live_at(&self.slots, id) else {
+            return Err(Fault::NoBuffer);
+        };
+        if let Some(job) = users::conflict(&slot.users, job, usage) {
+            return Err(Fault::Conflict { job });
+        }
+        make_room(self.alloc, &mut self.slots, &mut self.places, place, job)?;
+        join_at(&mut self.slots, place, job, usage);
+        Ok(())
+    }
+
+    /// Removes a job from the users of every buffer. It goes to the buffers that the job joined and
+    /// to no other, and takes no memory.
+    pub fn leave(&mut self, job: u64)
+        ensures { self.new ≡ left_everywhere job self.old }
+    {
+        if let Some(noted) = forget(&mut self.places, job) {
+            leave_all(&mut self.slots, &noted, job);
+        }
+    }
+}

@@ -1,0 +1,16 @@
+//! The buffers of an address space: which are alive, how many mappings name each of them, and which
+//! jobs use them.
+#![tactic(auto)]
+
+mod buffers;
+pub mod laws;
+mod places;
+mod slots;
+mod usage;
+mod users;
+
+pub use buffers::Buffers;
+pub use usage::{Usage, User};
+
+#[cfg(test)]
+mod tests;

@@ -1,0 +1,119 @@
+//! The places of live buffers.
+ghost use Rattle.std.specs.Prelude.{◌≡◌, ◌≢◌, ℕ, Contains, IsOk, OnOk, MatchOption};
+ghost use Rattle.std.specs.Option.{option_copied, option_map};
+ghost use Rattle.slab.specs.Slab.{get, ContainsKey};
+ghost use Rattle.gv_buffers.specs.Places.{IsNoted};
+ghost use Rattle.gv_buffers.specs.Slots.{live_at, buffer_at, buffer_in};
+ghost use Rattle.gv_buffers.specs.Slots.{AreNoted, HasRoomFor, IsLeftOrSame};
+ghost use Rattle.gv_buffers.specs.Table.{joined_by, left_by, use_fault};
+
+use crate::places::{Places, note};
+use crate::usage::{Usage, User};
+use crate::users;
+use gv_types::{BufferId, Fault, Generation};
+use slab::Slab;
+use std::alloc::{AllocError, Global};
+
+/// A live buffer at its place.
+#[derive(Drop)]
+pub struct Slot {
+    pub generation: Generation,
+    pub pages: u64,
+    pub uses: u64,
+    pub kept: u64,
+    pub users: Vec<User>,
+}
+
+impl Slot {
+    /// `Mapped`, `Kept` or `InUse`, in this order, where something names the buffer.
+    pub fn check_unused(&self) -> Result<(), Fault>
+        ensures { MatchOption (use_fault (buffer_at 0 self.now))
+            (IsOk result) (λ fault. result ≡ Err fault) }
+    {
+        if self.uses > 0 {
+            return Err(Fault::Mapped { count: self.uses });
+        }
+        if self.kept > 0 {
+            return Err(Fault::Kept { count: self.kept });
+        }
+        if !self.users.is_empty() {
+            return Err(Fault::InUse {
+                jobs: self.users.len() as u64,
+            });
+        }
+        Ok(())
+    }
+}
+
+/// The live buffer with this id.
+pub fn live_at(slots: &Slab<Slot>, id: BufferId) -> Option<&Slot>
+    ensures { option_copied result ≡ live_at slots.now id }
+{
+    let slot = slots.get(id.index as usize)?;
+    if slot.generation == id.generation {
+        Some(slot)
+    } else {
+        None
+    }
+}
+
+/// Makes room for a job among the users of the buffer at a place, and notes the place for the job,
+/// where it is no user yet.
+pub fn make_room(
+    alloc: Global,
+    slots: &mut Slab<Slot>,
+    places: &mut Places,
+    place: u32,
+    job: u64,
+) -> Result<(), AllocError>
+    requires lives { ContainsKey slots.old place }
+    requires noted { AreNoted places.old place (buffer_in slots.old place) }
+    ensures same { (other : ℕ) → buffer_in slots.new other ≡ buffer_in slots.old other }
+    ensures capacity { slots.new.capacity ≡ slots.old.capacity }
+    ensures keeps { (other at : ℕ) → IsNoted places.old other at → IsNoted places.new other at }
+    ensures noted { OnOk result (IsNoted places.new job place) }
+    ensures room { OnOk result (HasRoomFor job (get slots.new place)) }
+{
+    let slot = &mut slots[place as usize];
+    if users::place_of(&slot.users, job).is_some() {
+        return Ok(());
+    }
+    slot.users.reserve(1)?;
+    note(alloc, places, job, place)
+}
+
+/// Lets the job use the buffer at a place, where there is room for it.
+pub fn join_at(slots: &mut Slab<Slot>, place: u32, job: u64, usage: Usage)
+    requires lives { ContainsKey slots.old place }
+    requires room { HasRoomFor job (get slots.old place) }
+    ensures here { buffer_in slots.new place
+        ≡ option_map (joined_by job usage) (buffer_in slots.old place) }
+    ensures others { (key : ℕ) → key ≢ place → get slots.new key ≡ get slots.old key }
+    ensures capacity { slots.new.capacity ≡ slots.old.capacity }
+{
+    users::join(&mut slots[place as usize].users, job, usage);
+}
+
+/// Removes the job from the users of the buffer at one place, if there is one.
+pub fn leave_at(slots: &mut Slab<Slot>, place: u32, job: u64)
+    ensures here { buffer_in slots.new place
+        ≡ option_map (left_by job) (buffer_in slots.old place) }
+    ensures others { (key : ℕ) → key ≢ place → get slots.new key ≡ get slots.old key }
+    ensures capacity { slots.new.capacity ≡ slots.old.capacity }
+{
+    if let Some(slot) = slots.get_mut(place as usize) {
+        users::leave(&mut slot.users, job);
+    }
+}
+
+/// Removes the job from the users of the buffers at some places.
+pub fn leave_all(slots: &mut Slab<Slot>, places: &[u32], job: u64)
+    ensures noted { (place : ℕ) → Contains places.now place
+        → buffer_in slots.new place ≡ option_map (left_by job) (buffer_in slots.old place) }
+    ensures others { (place : ℕ) → IsLeftOrSame job slots.old slots.new place }
+    ensures capacity { slots.new.capacity ≡ slots.old.capacity }
+{
+    for place in places {
+        leave_at(slots, *place, job);
+    }
+}
