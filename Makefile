@@ -20,8 +20,10 @@ run: vmbind
 	@echo '--- vmbind run < examples/first.vmb'
 	@./vmbind run < examples/first.vmb
 
-# The gate: every proof from nothing, the must-fail edits, the tests and the programs.
+# The gate: every proof from nothing, the must-fail edits, the tests and the programs. Before it, what no contract can
+# say: that the functions of the timelines wait for nobody. A function may wait only under a bound of that name.
 test:
+	@! grep -rnw Wait crates/gv_sync/src
 	$(RT) ci
 
 # Outside the gate, since it has no way to refuse memory: the first example with each request for memory refused in

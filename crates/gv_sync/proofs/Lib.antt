@@ -1,0 +1,2 @@
+pub mod Rises
+pub mod Raised

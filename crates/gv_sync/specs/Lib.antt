@@ -1,0 +1,6 @@
+pub mod Marks
+pub mod Rule
+pub mod Seats
+pub mod Sights
+pub mod Raises
+pub mod Laws

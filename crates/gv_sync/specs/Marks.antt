@@ -1,0 +1,39 @@
+-- What one seat knows of the timelines: a list with one mark for each.
+use Rattle.std.specs.Prelude.{◌≡◌, ◌≢◌, ℕ, ◌+◌, ◌≤◌, List, map, max, slice_index_or, slice_set}
+use Rattle.gv_sync.specs.declared.marks.Mark.{Mark}
+
+abbrev pub mark : ℕ → ℕ → ℕ → Mark
+mark seen raised taken = record { seen = seen; raised = raised; taken = taken }
+
+-- the mark of a timeline on which nothing was seen, raised or taken
+abbrev pub fresh_mark : Mark
+fresh_mark = mark 0 0 0
+
+abbrev pub mark_at : List Mark → ℕ → Mark
+mark_at marks timeline = slice_index_or marks timeline fresh_mark
+
+-- the marks after one load of this timeline, which found the number
+abbrev pub marks_after_load : List Mark → ℕ → ℕ → List Mark
+marks_after_load marks timeline number =
+    let old = mark_at marks timeline in
+    slice_set marks timeline (mark number old.raised (old.taken + 1))
+
+-- the marks after one step that raised this timeline to the value, and left the number
+abbrev pub marks_after_raise : List Mark → ℕ → ℕ → ℕ → List Mark
+marks_after_raise marks timeline value number =
+    let old = mark_at marks timeline in
+    slice_set marks timeline (mark number (max old.raised value) (old.taken + 1))
+
+-- what a seat knows that was split off: all that the other saw, with nothing raised or taken
+abbrev pub marks_split_off : List Mark → List Mark
+marks_split_off marks = map (λ (m : Mark). mark m.seen 0 0) marks
+
+-- one step was taken on this timeline, and nothing is known anew of the others
+pub record StepsOnceOn (timeline : ℕ) (old new : List Mark) : Type 0 where
+  pub here : (mark_at new timeline).taken ≡ (mark_at old timeline).taken + 1
+  pub elsewhere : (other : ℕ) → other ≢ timeline → mark_at new other ≡ mark_at old other
+
+-- a number is at least all that was seen and raised
+pub record IsNoLess (old : Mark) (number : ℕ) : Type 0 where
+  pub seen : old.seen ≤ number
+  pub raised : old.raised ≤ number

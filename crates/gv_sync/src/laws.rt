@@ -1,0 +1,21 @@
+//! Laws of timelines, each proved once for all callers.
+ghost use Rattle.gv_sync.specs.Laws.{LoadKeepsRule, NewTimelinesAgree, RaiseKeepsRule};
+ghost use Rattle.gv_sync.specs.Laws.{SplitKeepsRule};
+ghost use Rattle.gv_sync.specs.Laws.{RaisedIsGreatest, RaisedIsReached, RaisedOnceMore};
+
+/// A timeline after a list of raises is the greatest of them, or 0.
+pub fn raises()
+    ensures greatest { RaisedIsGreatest }
+    ensures reached { RaisedIsReached }
+    ensures once_more { RaisedOnceMore }
+{}
+
+/// The seats' rule holds of new timelines, and each kind of step keeps it, whatever the other
+/// threads did: what a seat raised is at most what it has seen, and that at most the number; a
+/// number is 0 or what some seat raised it to. Seats that were dropped count too.
+pub fn steps()
+    ensures new { NewTimelinesAgree }
+    ensures load { LoadKeepsRule }
+    ensures raise { RaiseKeepsRule }
+    ensures split { SplitKeepsRule }
+{}

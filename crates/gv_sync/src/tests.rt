@@ -1,0 +1,109 @@
+ghost use Rattle.std.specs.Prelude.{◌≡◌, ◌≤◌, ◌<◌};
+ghost use Rattle.gv_sync.specs.Seats.{IsSeatOf, count_of};
+
+use crate::{Clock, Lacking, Reached, Seat, Timelines, laws};
+use gv_types::Point;
+use std::test::Fail;
+use std::thread;
+use std::thread::Threads;
+
+const FULL: u64 = 18_446_744_073_709_551_615;
+
+/// How often each of two threads raises.
+const RAISES: u64 = 1_000;
+
+fn at(timeline: u64, value: u64) -> Point
+    ensures timeline { result.timeline ≡ timeline }
+    ensures value { result.value ≡ value }
+{
+    Point { timeline, value }
+}
+
+/// What a look gave: whether it was reached, at which point, and the number seen.
+fn sight(look: Result<Reached, Lacking>) -> (bool, Point, u64) {
+    match look {
+        Ok(reached) => (true, reached.point(), reached.seen()),
+        Err(lacking) => (false, lacking.point(), lacking.have()),
+    }
+}
+
+#[test]
+fn one_thread_on_timelines(rt: HostRuntime) -> Result<(), Fail> {
+    laws::raises();
+    laws::steps();
+    let (timelines, mut seat) = Timelines::new(rt.alloc(), 2)?;
+    assert_eq!(rt; timelines.count(), 2);
+    assert_eq!(rt; timelines.value(&mut seat, 0), 0);
+    assert_eq!(rt; timelines.raise(&mut seat, at(0, 5)), 5);
+    assert_eq!(rt; timelines.raise(&mut seat, at(0, 3)), 5);
+    let reached = timelines.look(&mut seat, &at(0, 5));
+    assert_eq!(rt; sight(reached), (true, at(0, 5), 5));
+    let lacking = timelines.look(&mut seat, &at(0, 6));
+    assert_eq!(rt; sight(lacking), (false, at(0, 6), 5));
+    assert_eq!(rt; timelines.raise(&mut seat, at(1, FULL)), FULL);
+    let mut other = timelines.split(&mut seat)?;
+    assert_eq!(rt; timelines.raise(&mut other, at(0, 9)), 9);
+    assert_eq!(rt; timelines.value(&mut seat, 0), 9);
+    Ok(())
+}
+
+#[test]
+fn one_thread_on_a_clock(rt: HostRuntime) -> Result<(), Fail> {
+    let mut clock = Clock::new(rt.alloc(), 2)?;
+    assert_eq!(rt; clock.count(), 2);
+    assert_eq!(rt; clock.value(0), 0);
+    assert_eq!(rt; clock.raise(at(0, 5)), 5);
+    assert_eq!(rt; clock.raise(at(0, 3)), 5);
+    assert_eq!(rt; sight(clock.look(&at(0, 5))), (true, at(0, 5), 5));
+    assert_eq!(rt; sight(clock.look(&at(0, 6))), (false, at(0, 6), 5));
+    assert_eq!(rt; clock.raise(at(1, FULL)), FULL);
+    assert_eq!(rt; clock.raise(at(0, 9)), 9);
+    assert_eq!(rt; clock.value(0), 9);
+    Ok(())
+}
+
+/// Raises timeline 0 to each second number from the first on. Whether no answer fell.
+fn climb(timelines: &Timelines, mut seat: Seat, first: u64) -> bool
+    requires own { IsSeatOf timelines.now seat }
+    requires some { 0 < count_of timelines.now }
+    requires first { first ≤ 2 }
+{
+    let mut last = 0;
+    let mut rises = true;
+    for k in 0..RAISES {
+        let number = timelines.raise(&mut seat, at(0, first + 2 * k));
+        rises = rises && last <= number;
+        last = number;
+    }
+    rises
+}
+
+/// Two threads raise timeline 0, one to 1, 3, .., 1,999, the other to 2, 4, .., 2,000.
+fn climb_both<R: Threads + Sync>(
+    rt: &R,
+    timelines: &Timelines,
+    odd: Seat,
+    even: Seat,
+) -> (bool, bool)
+    requires odd { IsSeatOf timelines.now odd }
+    requires even { IsSeatOf timelines.now even }
+    requires some { 0 < count_of timelines.now }
+{
+    thread::join(
+        rt,
+        move || climb(timelines, odd, 1),
+        move || climb(timelines, even, 2),
+    )
+}
+
+#[test]
+fn two_threads(rt: HostRuntime) -> Result<(), Fail> {
+    for _ in 0..100u32 {
+        let (timelines, mut seat) = Timelines::new(rt.alloc(), 1)?;
+        let odd = timelines.split(&mut seat)?;
+        let even = timelines.split(&mut seat)?;
+        assert_eq!(rt; climb_both(&rt, &timelines, odd, even), (true, true));
+        assert_eq!(rt; timelines.value(&mut seat, 0), 2_000);
+    }
+    Ok(())
+}

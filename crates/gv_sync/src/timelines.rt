@@ -1,0 +1,230 @@
+//! The timelines that threads share, and the seats with which they step.
+ghost use Rattle.std.specs.Prelude.{◌≡◌, ◌<◌, ◌≤◌, ◌↔◌, All, IfOk, IsOk, length, max};
+ghost use Rattle.gv_types.specs.Limits.{IsFromOneTo};
+ghost use Rattle.gv_sync.specs.Marks.{IsNoLess, StepsOnceOn};
+ghost use Rattle.gv_sync.specs.Seats.{IsSeatOf, after_load, after_raise, count_of, first_seat};
+ghost use Rattle.gv_sync.specs.Seats.{mark_of, most_timelines, split_from};
+ghost use Rattle.gv_sync.specs.Sights.{number_seen, sight_of};
+
+use crate::marks::Mark;
+use crate::sights::{Lacking, Reached, compare};
+use atomic_table::{Play, Split, Table, TableRule};
+use gv_types::Point;
+use std::alloc::{AllocError, Global};
+use std::collections::LinkedList;
+use std::marker::Model;
+
+/// The number of timelines is at most this.
+pub const MAX_TIMELINES: u64 = 64;
+
+const MAX_WORDS: usize = 64;
+
+/// Why timelines or a seat were not made: for want of memory.
+#[derive(Clone, Copy, Debug, PartialEq, Eq)]
+pub enum SyncFault {
+    NotMade,
+}
+
+impl From<AllocError> for SyncFault {
+    fn from(_error: AllocError) -> SyncFault {
+        SyncFault::NotMade
+    }
+}
+
+struct Rule;
+
+impl TableRule<u8, LinkedList<Mark>, usize> for Rule {
+    ghost use Rattle.std.specs.Prelude.{replicate};
+    ghost use Rattle.gv_sync.specs.Marks.{fresh_mark};
+    ghost use Rattle.gv_sync.specs.Rule.{SeatsAgree};
+
+    ghost holds = { SeatsAgree };
+
+    ghost first = { λ count. replicate count fresh_mark };
+}
+
+struct Load;
+
+impl Play<u8, LinkedList<Mark>> for Load {
+    ghost use Rattle.gv_sync.specs.Rule.{Loaded};
+
+    ghost then = { Loaded };
+}
+
+struct Raise;
+
+impl Play<u8, LinkedList<Mark>> for Raise {
+    ghost use Rattle.gv_sync.specs.Rule.{Raised};
+
+    ghost then = { Raised };
+}
+
+struct Share;
+
+impl Split<LinkedList<Mark>> for Share {
+    ghost use Rattle.gv_sync.specs.Marks.{marks_split_off};
+
+    ghost left = { λ marks. marks };
+
+    ghost right = { marks_split_off };
+}
+
+/// Numbers that only rise, each 0 at first. A clause sees which they are, and how many.
+#[derive(Drop)]
+pub struct Timelines {
+    table: Table<u8, LinkedList<Mark>, usize, Rule, Global>,
+}
+
+impl Model for Timelines {
+    ghost use Rattle.std.specs.Prelude.{◌≡◌};
+    ghost use Rattle.atomic_table.specs.Seated.{TableId, table_id_coded};
+    ghost use Rattle.gv_types.specs.Limits.{IsFromOneTo};
+    ghost use Rattle.gv_sync.specs.Seats.{most_timelines};
+
+    ghost Value = { TableId };
+
+    ghost coded = { table_id_coded };
+
+    ghost view = { λ t. t.table.shared.table_id };
+
+    ghost invariant = { λ t. (t.table.shared.key ≡ t.table.shared.table_id.words)
+        × IsFromOneTo most_timelines t.table.shared.key };
+}
+
+/// What one thread knows of the timelines. It has no bytes.
+#[derive(Drop)]
+pub struct Seat {
+    pass: atomic_table::Seat<u8, LinkedList<Mark>>,
+}
+
+impl Model for Seat {
+    ghost use Rattle.std.specs.Prelude.{◌≡◌, length};
+    ghost use Rattle.gv_sync.specs.Seats.{SeatState};
+
+    ghost Value = { SeatState };
+
+    ghost view = { λ s. record { of = s.pass.table_id; marks = s.pass.me.0 } };
+
+    ghost invariant = { λ s. length s.pass.me.0 ≡ s.pass.table_id.words };
+}
+
+impl Timelines {
+    /// So many timelines, from 1 to 64, all at 0, with the first seat.
+    pub fn new(alloc: Global, count: u64) -> Result<(Timelines, Seat), SyncFault>
+        requires { IsFromOneTo most_timelines count }
+        ensures count { IfOk result (λ r. count_of r.0 ≡ count) }
+        ensures seat { IfOk result (λ r. r.1 ≡ first_seat r.0) }
+    {
+        let zeros = [0u64; MAX_WORDS];
+        Timelines::over(alloc, &zeros[..count as usize])
+    }
+
+    #[tactic(auto, using(crate::proofs::Rises::begins))]
+    fn over(alloc: Global, words: &[u64]) -> Result<(Timelines, Seat), SyncFault>
+        requires count { IsFromOneTo most_timelines (length words.now) }
+        requires zero { All (λ n. n ≡ 0) words.now }
+        ensures count { IfOk result (λ r. count_of r.0 ≡ length words.now) }
+        ensures seat { IfOk result (λ r. r.1 ≡ first_seat r.0) }
+    {
+        let (table, pass) = Table::of_words(alloc, words, &words.len())?;
+        Ok((Timelines { table }, Seat { pass }))
+    }
+
+    /// How many timelines there are.
+    pub fn count(&self) -> u64
+        ensures count { result ≡ count_of self.now }
+        ensures limit { IsFromOneTo most_timelines result }
+    {
+        self.table.word_count() as u64
+    }
+
+    /// The number of a timeline, by one load.
+    pub fn value(&self, seat: &mut Seat, timeline: u64) -> u64
+        requires own { IsSeatOf self.now seat.old }
+        requires named { timeline < count_of self.now }
+        ensures step { seat.new ≡ after_load seat.old timeline result }
+        ensures one_step { StepsOnceOn timeline seat.old.marks seat.new.marks }
+        ensures seen { (mark_of seat.new timeline).seen ≡ result }
+        ensures no_less { IsNoLess (mark_of seat.old timeline) result }
+    {
+        self.load(seat, timeline)
+    }
+
+    /// Raises a timeline to the point's value where it is lower, by one fetch_max. Answers the
+    /// number after it.
+    pub fn raise(&self, seat: &mut Seat, point: Point) -> u64
+        requires own { IsSeatOf self.now seat.old }
+        requires named { point.timeline < count_of self.now }
+        ensures step { seat.new ≡ after_raise seat.old point result }
+        ensures one_step { StepsOnceOn point.timeline seat.old.marks seat.new.marks }
+        ensures seen { (mark_of seat.new point.timeline).seen ≡ result }
+        ensures no_less { IsNoLess (mark_of seat.old point.timeline) result }
+        ensures reached { point.value ≤ result }
+    {
+        let found = self.fetch_max(seat, point);
+        found.max(point.value)
+    }
+
+    /// Whether a point is reached, by one load.
+    pub fn look(&self, seat: &mut Seat, point: &Point) -> Result<Reached, Lacking>
+        requires own { IsSeatOf self.now seat.old }
+        requires named { point.now.timeline < count_of self.now }
+        ensures step { seat.new ≡ after_load seat.old point.now.timeline (number_seen result) }
+        ensures one_step { StepsOnceOn point.now.timeline seat.old.marks seat.new.marks }
+        ensures seen { (mark_of seat.new point.now.timeline).seen ≡ number_seen result }
+        ensures no_less { IsNoLess (mark_of seat.old point.now.timeline) (number_seen result) }
+        ensures point { (sight_of result).point ≡ point.now }
+        ensures reached { IsOk result ↔ (point.now.value ≤ number_seen result) }
+    {
+        compare(*point, self.value(seat, point.timeline))
+    }
+
+    /// A seat that has seen as much, and raised and took nothing. It never fails.
+    pub fn split(&self, seat: &mut Seat) -> Result<Seat, SyncFault>
+        requires { IsSeatOf self.now seat.old }
+        ensures ok { IsOk result }
+        ensures kept { seat.new ≡ seat.old }
+        ensures given { IfOk result (λ s. s ≡ split_from seat.old) }
+    {
+        Ok(self.share(seat))
+    }
+
+    // The three kinds of step.
+
+    fn load(&self, seat: &mut Seat, timeline: u64) -> u64
+        requires own { IsSeatOf self.now seat.old }
+        requires named { timeline < count_of self.now }
+        ensures step { seat.new ≡ after_load seat.old timeline result }
+        ensures one_step { StepsOnceOn timeline seat.old.marks seat.new.marks }
+        ensures seen { (mark_of seat.new timeline).seen ≡ result }
+        ensures no_less { IsNoLess (mark_of seat.old timeline) result }
+    {
+        self.table
+            .shared
+            .load::<Load>(&mut seat.pass, timeline as usize)
+    }
+
+    /// Answers the number before the step.
+    fn fetch_max(&self, seat: &mut Seat, point: Point) -> u64
+        requires own { IsSeatOf self.now seat.old }
+        requires named { point.timeline < count_of self.now }
+        ensures step { seat.new ≡ after_raise seat.old point (max result point.value) }
+        ensures one_step { StepsOnceOn point.timeline seat.old.marks seat.new.marks }
+        ensures seen { (mark_of seat.new point.timeline).seen ≡ max result point.value }
+        ensures no_less { IsNoLess (mark_of seat.old point.timeline) result }
+    {
+        let timeline = point.timeline as usize;
+        self.table
+            .shared
+            .fetch_max::<Raise>(&mut seat.pass, timeline, point.value)
+    }
+
+    fn share(&self, seat: &mut Seat) -> Seat
+        requires { IsSeatOf self.now seat.old }
+        ensures kept { seat.new ≡ seat.old }
+        ensures given { result ≡ split_from seat.old }
+    {
+        let pass = self.table.shared.split_seat::<Share>(&mut seat.pass);
+        Seat { pass }
+    }
+}
