@@ -1,5 +1,5 @@
 -- What a mapping says of a page, and what is left of it between two pages.
-use Rattle.std.specs.Prelude.{ℕ, ◌+◌, ◌-◌, ◌≤◌, max, min, if◌then◌else◌, nat_lt, Option, Some, None}
+use Rattle.std.specs.Prelude.{ℕ, false, ◌+◌, ◌-◌, ◌≤◌, max, min, if◌then◌else◌, nat_lt, Option, Some, None}
 use Rattle.gv_types.specs.Page.{backing_pages}
 use Rattle.gv_types.specs.Span.{span, end_of, IsInSpace}
 use Rattle.gv_types.specs.declared.mapping.Backing.{Backing}
@@ -40,3 +40,7 @@ HasSmallPages Zero count = Unit {0}
 -- a mapping's range is in the space, and the pages that stand behind it are numbers that fit
 abbrev pub IsMapping : Mapping → Type 0
 IsMapping m = IsInSpace m.range × HasSmallPages m.backing m.range.count
+
+-- the least mapping, which stands in unused places
+abbrev pub one_page_of_zeros : Mapping
+one_page_of_zeros = record { range = span 0 1; backing = Zero; flags = record { read_only = false } }

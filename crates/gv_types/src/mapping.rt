@@ -47,6 +47,21 @@ pub struct Mapping {
 // Long lists are moved in blocks, so a mapping is kept small.
 const _: () = prove!(size_of::<Mapping>() == 48);
 
+impl Default for Mapping {
+    ghost use Rattle.gv_types.specs.Mapping.{one_page_of_zeros};
+
+    ghost is_default = { λ m. m ≡ one_page_of_zeros };
+
+    /// One page of zeros at page 0: what stands in the unused places of a short list that lies in its value.
+    fn default() -> Mapping {
+        Mapping {
+            range: PageRange::between(0, 1),
+            backing: Backing::Zero,
+            flags: Flags { read_only: false },
+        }
+    }
+}
+
 impl BufferId {
     ghost use Rattle.gv_types.specs.Mapping.{buffer_id};
 
