@@ -14,3 +14,4 @@ pub mod Painted
 pub mod Needs
 pub mod Foresight
 pub mod Edits
+pub mod Likeness

@@ -27,7 +27,7 @@ pub struct PageTable {
 
 impl PageTable {
     ghost use Rattle.gv_table.specs.Table.{IsTree, FitsOutside, gained_by, lost_by, needed_for};
-    ghost use Rattle.gv_table.specs.Table.{tables_by_level};
+    ghost use Rattle.gv_table.specs.Table.{tables_by_level, tables_of};
 
     /// The tree of no mapping: it has no table, and takes no memory.
     pub fn new() -> PageTable
@@ -49,7 +49,8 @@ impl PageTable {
 
     /// How many tables stand at the levels 3, 2, 1 and 0.
     pub fn tables(&self) -> [u64; 4]
-        ensures { result ≡ tables_by_level self.now }
+        ensures standing { result ≡ tables_by_level self.now }
+        ensures wanted { (ms : List Mapping) → IsTree ms self.now → result ≡ tables_of ms }
     {
         [
             count_tables(&self.root, TOP_LEVEL, 3),
