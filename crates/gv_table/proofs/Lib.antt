@@ -15,3 +15,4 @@ pub mod Needs
 pub mod Foresight
 pub mod Edits
 pub mod Likeness
+pub mod Fewness

@@ -6,6 +6,7 @@ use Rattle.gv_table.specs.Levels.{pages_of}
 use Rattle.gv_table.specs.Wanted.{wanted, is_divided}
 use Rattle.gv_table.specs.Tree.{is_table, child, IsTreeOf}
 use Rattle.gv_table.specs.Counts.{gained, tables_at, tables_wanted}
+use Rattle.gv_table.specs.Laws.{TreesGainAlike}
 use Rattle.gv_table.proofs.Sums.{sum_below-same}
 use Rattle.gv_table.proofs.Counts.{gained-other-by}
 use Rattle.gv_table.proofs.Covered.{true-or-false}
@@ -57,3 +58,7 @@ trees-gained ms list (suc level) first one other tree tree' =
           rw (table, table', parts) refl)
       | inr none ↦ gained-other-by list (suc level) first one other none (sym same ∙ none)
     ]
+
+-- the same of whole trees
+pub tables-gained : TreesGainAlike
+tables-gained ms list one other tree tree' = trees-gained ms list 4 0 one.root other.root tree tree'
