@@ -95,7 +95,7 @@ unfolding gained
 gained-parts ms zero first slot some want = absurd (omega arith)
 gained-parts ms (suc level) first slot some want = let lower : suc level - 1 ≡ level = omega arith in rw (want, lower) refl
 
-gained-other-by : (ms : List Mapping) (level first : ℕ) (one other : Slot) → is_table one ≡ false → is_table other ≡ false →
+pub gained-other-by : (ms : List Mapping) (level first : ℕ) (one other : Slot) → is_table one ≡ false → is_table other ≡ false →
     gained ms level first one ≡ gained ms level first other
 unfolding gained
 gained-other-by ms zero first one other a b = refl

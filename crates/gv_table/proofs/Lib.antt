@@ -14,3 +14,5 @@ pub mod Painted
 pub mod Needs
 pub mod Foresight
 pub mod Edits
+pub mod Likeness
+pub mod Fewness

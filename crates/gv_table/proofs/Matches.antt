@@ -44,7 +44,7 @@ match-empty ms (suc level) first laid whole = (
       (match-empty ms level (first + k * pages_of level) laid (undivided-part ms level first k laid below whole)),
 )
 
-match-by : (w : Wanted) (slot : Slot) (Parts : Type 0) → HoldsWanted w slot Parts → is_table slot ≡ is_divided w
+pub match-by : (w : Wanted) (slot : Slot) (Parts : Type 0) → HoldsWanted w slot Parts → is_table slot ≡ is_divided w
 match-by variant.Nothing slot Parts holds = ap is_table holds ∙ is_table-Empty
 match-by (variant.Entry entry) slot Parts holds = ap is_table holds ∙ is_table-Leaf entry
 match-by variant.Table slot Parts holds = holds.0

@@ -1,5 +1,5 @@
 -- Laws of sums over the first few numbers.
-use Rattle.std.proofs.Common.{◌≡◌, ◌≢◌, ℕ, zero, suc, ◌+◌, ◌<◌, ◌≤◌, refl, arith, add-one, sym, ap, ◌⊎◌, inl, inr}
+use Rattle.std.proofs.Common.{◌≡◌, ◌≢◌, ℕ, zero, suc, ◌+◌, ◌*◌, ◌<◌, ◌≤◌, refl, arith, add-one, sym, ap, ◌⊎◌, inl, inr}
 use Rattle.gv_table.specs.Sums.{sum_below}
 
 pub sum_below-none : (f : ℕ → ℕ) → sum_below 0 f ≡ 0
@@ -82,3 +82,16 @@ sum_below-rest (suc n) f i within rest =
           omega (arith, h, e))
       | inr here ↦ ap (λ m. sum_below m f) (sym here)
     ]
+
+product-next : (n p : ℕ) → suc n * p ≡ n * p + p
+product-next n p = grind arith
+
+-- a sum of numbers that are each below a bound
+pub sum_below-few : (n : ℕ) (f : ℕ → ℕ) (p : ℕ) → ((k : ℕ) → k < n → f k + 1 ≤ p) → sum_below n f + n ≤ n * p
+unfolding sum_below
+sum_below-few zero f p few = omega arith
+sum_below-few (suc n) f p few =
+    let h = sum_below-few n f p (λ k below. few k (omega arith)) in
+    let e = few n (omega arith) in
+    let product = product-next n p in
+    omega (arith, h, e, product)

@@ -31,6 +31,14 @@ tables_at target (suc level) slot =
     then one_if (nat_eq target level) + sum_below slots_per_table (λ k. tables_at target level (child slot k))
     else 0
 
+-- how many tables of the tree of the mappings, in the slot at a level and first page, have slots at the target level
+unfoldable pub tables_wanted : List Mapping → ℕ → ℕ → ℕ → ℕ
+tables_wanted ms target zero first = 0
+tables_wanted ms target (suc level) first =
+    if is_divided (wanted ms (suc level) first)
+    then one_if (nat_eq target level) + sum_below slots_per_table (λ k. tables_wanted ms target level (first + k * pages_of level))
+    else 0
+
 -- how many places have a table in the tree of the mappings, and none in the slot
 unfoldable pub gained : List Mapping → ℕ → ℕ → Slot → ℕ
 gained ms zero first slot = 0

@@ -5,7 +5,7 @@ use Rattle.gv_types.specs.declared.mapping.Mapping.{Mapping}
 use Rattle.gv_table.specs.declared.page_table.PageTable.{PageTable}
 use Rattle.gv_table.specs.Levels.{top_level}
 use Rattle.gv_table.specs.Tree.{IsTreeOf, IsTreeOutside}
-use Rattle.gv_table.specs.Counts.{gained, lost, needed, tables_at}
+use Rattle.gv_table.specs.Counts.{gained, lost, needed, tables_at, tables_wanted}
 
 -- the tree is that of the mappings
 abbrev pub IsTree : List Mapping → PageTable → Type 0
@@ -32,3 +32,9 @@ abbrev pub tables_by_level : PageTable → List ℕ
 tables_by_level table =
     tables_at 3 top_level table.root ∷ tables_at 2 top_level table.root ∷
     tables_at 1 top_level table.root ∷ tables_at 0 top_level table.root ∷ []
+
+-- how many tables the tree of the mappings has at the levels 3, 2, 1 and 0
+abbrev pub tables_of : List Mapping → List ℕ
+tables_of ms =
+    tables_wanted ms 3 top_level 0 ∷ tables_wanted ms 2 top_level 0 ∷
+    tables_wanted ms 1 top_level 0 ∷ tables_wanted ms 0 top_level 0 ∷ []

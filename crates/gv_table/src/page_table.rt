@@ -27,7 +27,7 @@ pub struct PageTable {
 
 impl PageTable {
     ghost use Rattle.gv_table.specs.Table.{IsTree, FitsOutside, gained_by, lost_by, needed_for};
-    ghost use Rattle.gv_table.specs.Table.{tables_by_level};
+    ghost use Rattle.gv_table.specs.Table.{tables_by_level, tables_of};
 
     /// The tree of no mapping: it has no table, and takes no memory.
     pub fn new() -> PageTable
@@ -49,7 +49,8 @@ impl PageTable {
 
     /// How many tables stand at the levels 3, 2, 1 and 0.
     pub fn tables(&self) -> [u64; 4]
-        ensures { result ≡ tables_by_level self.now }
+        ensures standing { result ≡ tables_by_level self.now }
+        ensures wanted { (ms : List Mapping) → IsTree ms self.now → result ≡ tables_of ms }
     {
         [
             count_tables(&self.root, TOP_LEVEL, 3),
@@ -85,18 +86,21 @@ impl PageTable {
 
     /// Makes the tree that of the list, where it fits the list outside the range. It takes from the
     /// spares just the tables that the tree gains, puts in just those that it loses, and takes no
-    /// memory. What is in the spares afterwards is enough to paint the list back that the tree was
-    /// of.
-    pub fn paint(&mut self, list: &RangeList, range: PageRange, spares: &mut Spares)
+    /// memory. It answers how many tables the tree lost: so many are needed, and are in the spares,
+    /// to paint the list back that the tree was of.
+    pub fn paint(&mut self, list: &RangeList, range: PageRange, spares: &mut Spares) -> u64
         requires fitted { FitsOutside list.now.mappings range self.old }
         requires enough { gained_by list.now.mappings self.old ≤ spares.old }
+        ensures lost { result ≡ lost_by list.now.mappings self.old }
         ensures tree { IsTree list.now.mappings self.new }
         ensures exchanged { spares.new + gained_by list.now.mappings self.old
             ≡ spares.old + lost_by list.now.mappings self.old }
         ensures back { (ms : List Mapping) → IsLaidOut ms → IsTree ms self.old
             → gained_by ms self.new ≤ spares.new }
+        ensures owed { (ms : List Mapping) → IsLaidOut ms → IsTree ms self.old
+            → gained_by ms self.new ≡ result }
     {
         let near = Near::around(list, range);
-        paint_slot(&mut self.root, TOP_LEVEL, 0, list.mappings(), &near, spares);
+        paint_slot(&mut self.root, TOP_LEVEL, 0, list.mappings(), &near, spares)
     }
 }

@@ -63,7 +63,8 @@ fn divide(slot: Slot, level: usize, spares: &mut Spares) -> Box<[Slot; SLOTS]>
     }
 }
 
-/// Makes a slot that meets the range that of the list's tree, given that it fits outside the range.
+/// Makes a slot that meets the range that of the list's tree, given that it fits outside the range:
+/// how many tables it lost.
 #[cycle(paint)]
 pub fn paint_slot(
     slot: &mut Slot,
@@ -72,7 +73,7 @@ pub fn paint_slot(
     mappings: &[Mapping],
     near: &Near,
     spares: &mut Spares,
-)
+) -> u64
     requires known { level ≤ top_level }
     requires in_space { end_of (slot_pages level first) ≤ PAGES }
     requires laid_out { IsLaidOut mappings.now }
@@ -80,6 +81,7 @@ pub fn paint_slot(
     requires met { IsTrue (meets (slot_pages level first) near.now.range) }
     requires outside { IsTreeOutside mappings.now near.now.range level first slot.old }
     requires enough { gained mappings.now level first slot.old ≤ spares.old }
+    ensures lost { result ≡ lost mappings.now level first slot.old }
     ensures tree { IsTreeOf mappings.now level first slot.new }
     ensures exchanged { spares.new + gained mappings.now level first slot.old
         ≡ spares.old + lost mappings.now level first slot.old }
@@ -87,14 +89,16 @@ pub fn paint_slot(
     match slot_wanted(mappings, near, level, first) {
         Wanted::Nothing => release(slot, level, spares),
         Wanted::Entry(entry) => {
-            release(slot, level, spares);
+            let lost = release(slot, level, spares);
             *slot = Slot::Leaf(entry);
+            lost
         }
         Wanted::Table => {
             let old = mem::replace(slot, Slot::Empty);
             let mut slots = divide(old, level, spares);
-            paint_row(&mut slots, level - 1, first, mappings, near, spares);
+            let lost = paint_row(&mut slots, level - 1, first, mappings, near, spares);
             *slot = Slot::Table(slots);
+            lost
         }
     }
 }
@@ -108,7 +112,7 @@ fn paint_row(
     mappings: &[Mapping],
     near: &Near,
     spares: &mut Spares,
-)
+) -> u64
     requires known { level ≤ root_level }
     requires in_space { first + slots_per_table * pages_of level ≤ PAGES }
     requires laid_out { IsLaidOut mappings.now }
@@ -118,6 +122,7 @@ fn paint_row(
         → IsTreeOutside mappings.now near.now.range level (first + k * pages_of level)
         (slice_index_or slots.old k Empty) }
     requires enough { row_gained mappings.now level first slots.old ≤ spares.old }
+    ensures lost { result ≡ row_lost mappings.now level first slots.old }
     ensures tree { (k : ℕ) → k < slots_per_table → IsTreeOf mappings.now level
         (first + k * pages_of level) (slice_index_or slots.new k Empty) }
     ensures exchanged { spares.new + row_gained mappings.now level first slots.old
@@ -125,8 +130,10 @@ fn paint_row(
 {
     let pages = pages_of(level);
     let (low, high) = slots_met(level, first, near.range);
+    let mut lost = 0;
     for index in low..high {
         let start = first + index as u64 * pages;
-        paint_slot(&mut slots[index], level, start, mappings, near, spares);
+        lost += paint_slot(&mut slots[index], level, start, mappings, near, spares);
     }
+    lost
 }

@@ -1,5 +1,5 @@
 //! Tables that are in no tree.
-ghost use Rattle.std.specs.Prelude.{◌≡◌, ◌+◌, ◌<◌, OnOk, OnErr};
+ghost use Rattle.std.specs.Prelude.{◌≡◌, ◌+◌, ◌<◌, ◌≤◌, OnOk, OnErr};
 ghost use Rattle.gv_table.specs.Chain.{AreEmpty};
 
 use crate::levels::SLOTS;
@@ -40,6 +40,19 @@ impl Spares {
         ensures { result ≡ 0 }
     {
         Spares { first: Slot::Empty }
+    }
+
+    /// Takes `count` tables off, as spares of their own. It takes no memory.
+    pub fn split(&mut self, count: u64) -> Spares
+        requires { count ≤ self.old }
+        ensures count { result ≡ count }
+        ensures rest { self.new + count ≡ self.old }
+    {
+        let mut split = Spares::new();
+        for _ in 0..count {
+            split.put(self.take());
+        }
+        split
     }
 
     /// Adds an empty table.

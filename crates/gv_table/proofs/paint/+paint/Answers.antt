@@ -8,6 +8,7 @@ use Rattle.gv_table.specs.Wanted.{is_divided}
 use Rattle.gv_table.specs.Tree.{IsTreeOf, IsTreeOutside, is_table, child}
 use Rattle.gv_table.specs.Counts.{gained, lost, one_if_not}
 use Rattle.gv_table.proofs.Counts.{gained-parts, lost-parts, gained-same, lost-same}
+use Rattle.gv_table.proofs.Fewness.{row_lost-few}
 use Rattle.gv_table.proofs.Matches.{lost-whole, gained-none}
 use Rattle.gv_table.proofs.PagesOf.{pages_of-below, part-within}
 use Rattle.gv_table.proofs.Painted.{painted-below, painted-above, painted-gained, painted-lost, row-tree, row_gained-zero, row_lost-zero}
@@ -28,11 +29,12 @@ paint_row-loop-index-init t c = record {
       (omega (arith, fits, c.requires.in_space)) apart;
   untouched = λ k above. refl;
   enough = c.requires.enough;
+  counted = omega arith;
   exchanged = omega arith;
 }
 
-pub paint_row-paint_slot-requires : goal.paint_row-paint_slot-requires
-paint_row-paint_slot-requires t c =
+pub paint_row-paint_slot-lost-requires : goal.paint_row-paint_slot-lost-requires
+paint_row-paint_slot-lost-requires t c =
     let i : ℕ = c.loop-index.index in
     let within : c.loop-index.index < length c.loop-index.slots = search rules in
     let below : c.loop-index.index < 512 = omega (arith, c.loop-index-test.true, c.slots_met-low.ensures.within) in
@@ -84,12 +86,12 @@ paint_row-loop-index-preserved t c =
     let start : c.args.first + c.loop-index.index * c.pages_of-pages.result ≡ c.args.first + c.loop-index.index * pages_of c.args.level =
     ap (λ (n : ℕ). c.args.first + c.loop-index.index * n) c.pages_of-pages.ensures.pages in
     let read : slice_index_or row i c.index-slots-index.result ≡ slice_index_or row i Empty = get_or_default row i c.index-slots-index.result Empty within in
-    let after : List Slot = slice_set row i c.paint_slot.new.slot in
+    let after : List Slot = slice_set row i c.paint_slot-lost.new.slot in
     let same : (k : ℕ) → k ≢ i → slice_index_or after k Empty ≡ slice_index_or row k Empty = row-other after row i _ refl in
-    let new : slice_index_or after i Empty ≡ c.paint_slot.new.slot = row-here after row i _ refl within in
+    let new : slice_index_or after i Empty ≡ c.paint_slot-lost.new.slot = row-here after row i _ refl within in
     let here : IsTreeOf ms c.args.level (c.args.first + i * pages_of c.args.level) (slice_index_or after i Empty) =
     subst (λ (n : ℕ). IsTreeOf ms c.args.level n (slice_index_or after i Empty)) start
-    (subst (λ (s : Slot). IsTreeOf ms c.args.level (c.args.first + i * c.pages_of-pages.result) s) (sym new) c.paint_slot.ensures.tree) in
+    (subst (λ (s : Slot). IsTreeOf ms c.args.level (c.args.first + i * c.pages_of-pages.result) s) (sym new) c.paint_slot-lost.ensures.tree) in
     let g1 = ap (λ (s : Slot). gained ms c.args.level (c.args.first + i * c.pages_of-pages.result) s) read in
     let g2 = ap (λ (n : ℕ). gained ms c.args.level n (slice_index_or row i Empty)) start in
     let l1 = ap (λ (s : Slot). lost ms c.args.level (c.args.first + i * c.pages_of-pages.result) s) read in
@@ -99,15 +101,40 @@ paint_row-loop-index-preserved t c =
     record {
       painted = painted-below ms c.args.level c.args.first i c.args.slots.now row after same inv.untouched c.requires.laid_out here inv.painted;
       untouched = painted-above ms c.args.level c.args.first i c.args.slots.now row after same inv.untouched c.requires.laid_out here;
-      enough = omega (arith, g1, g2, l1, l2, g, l, inv.enough, c.paint_slot.ensures.exchanged);
-      exchanged = omega (arith, g1, g2, l1, l2, g, l, inv.exchanged, c.paint_slot.ensures.exchanged);
+      enough = omega (arith, g1, g2, l1, l2, g, l, inv.enough, c.paint_slot-lost.ensures.exchanged);
+      counted = omega (arith, l1, l2, l, inv.counted, c.paint_slot-lost.ensures.lost);
+      exchanged = omega (arith, g1, g2, l1, l2, g, l, inv.exchanged, c.paint_slot-lost.ensures.exchanged);
     }
+
+pub paint_row-overflow_add-lost : goal.paint_row-overflow_add-lost
+paint_row-overflow_add-lost t c =
+    let ms = c.args.mappings.now in
+    let i : ℕ = c.loop-index.index in
+    let row = c.loop-index.slots in
+    let within : c.loop-index.index < length c.loop-index.slots = search rules in
+    let below : c.loop-index.index < 512 = omega (arith, c.loop-index-test.true, c.slots_met-low.ensures.within) in
+    let start : c.args.first + c.loop-index.index * c.pages_of-pages.result ≡ c.args.first + c.loop-index.index * pages_of c.args.level =
+    ap (λ (n : ℕ). c.args.first + c.loop-index.index * n) c.pages_of-pages.ensures.pages in
+    let read : slice_index_or row i c.index-slots-index.result ≡ slice_index_or row i Empty = get_or_default row i c.index-slots-index.result Empty within in
+    let l1 = ap (λ (s : Slot). lost ms c.args.level (c.args.first + i * c.pages_of-pages.result) s) read in
+    let l2 = ap (λ (n : ℕ). lost ms c.args.level n (slice_index_or row i Empty)) start in
+    let part = sum_below-at 512 (λ (k : ℕ). lost ms c.args.level (c.args.first + k * pages_of c.args.level) (slice_index_or row k Empty)) i below in
+    let few = row_lost-few ms c.args.level c.args.first c.args.slots.now in
+    omega (arith, l1, l2, part, few, c.requires.in_space, c.loop-index.invariant.counted, c.paint_slot-lost.ensures.lost)
 
 pub paint_row-returns-clause-tree : goal.paint_row-returns-clause-tree
 paint_row-returns-clause-tree t c =
     row-tree c.args.mappings.now c.args.near.now.range c.args.level c.args.first c.loop-index.index c.args.slots.now c.loop-index.slots c.requires.laid_out c.requires.in_space
     c.loop-index.invariant.painted c.loop-index.invariant.untouched c.requires.outside
     (λ k from below. c.slots_met-low.ensures.behind k (omega (arith, c.loop-index-test.false)) below)
+
+pub paint_row-returns-clause-lost : goal.paint_row-returns-clause-lost
+paint_row-returns-clause-lost t c =
+    let tree = row-tree c.args.mappings.now c.args.near.now.range c.args.level c.args.first c.loop-index.index c.args.slots.now c.loop-index.slots c.requires.laid_out c.requires.in_space
+    c.loop-index.invariant.painted c.loop-index.invariant.untouched c.requires.outside
+    (λ k from below. c.slots_met-low.ensures.behind k (omega (arith, c.loop-index-test.false)) below) in
+    let l = row_lost-zero c.args.mappings.now c.args.level c.args.first c.loop-index.slots c.requires.laid_out tree in
+    omega (arith, l, c.loop-index.invariant.counted)
 
 pub paint_row-returns-clause-exchanged : goal.paint_row-returns-clause-exchanged
 paint_row-returns-clause-exchanged t c =
@@ -132,8 +159,8 @@ pub paint_slot-overflow_sub-level : goal.paint_slot-overflow_sub-level
 paint_slot-overflow_sub-level t c =
     let some = table-above _ c.args.level c.args.first (sym c.slot_wanted.ensures ∙ c.in-Table.is) in omega (arith, some)
 
-pub paint_slot-paint_row-requires : goal.paint_slot-paint_row-requires
-paint_slot-paint_row-requires t c =
+pub paint_slot-paint_row-lost-requires : goal.paint_slot-paint_row-lost-requires
+paint_slot-paint_row-lost-requires t c =
     let ms = c.args.mappings.now in
     let want = sym c.slot_wanted.ensures ∙ c.in-Table.is in
     let some = table-above ms c.args.level c.args.first want in
@@ -181,6 +208,11 @@ paint_slot-paint_row-requires t c =
 pub paint_slot-returns-in-Nothing-clause-tree : goal.paint_slot-returns-in-Nothing-clause-tree
 paint_slot-returns-in-Nothing-clause-tree t c = IsTreeOf-nothing _ c.args.level c.args.first _ (sym c.slot_wanted.ensures ∙ c.in-Nothing.is) c.release.ensures.emptied
 
+pub paint_slot-returns-in-Nothing-clause-lost : goal.paint_slot-returns-in-Nothing-clause-lost
+paint_slot-returns-in-Nothing-clause-lost t c =
+    let none : is_divided _ ≡ false = ap is_divided (sym c.slot_wanted.ensures ∙ c.in-Nothing.is) in
+    c.release.ensures.count ∙ sym (lost-whole c.args.mappings.now c.args.level c.args.first c.args.slot.now c.requires.laid_out none)
+
 pub paint_slot-returns-in-Nothing-clause-exchanged : goal.paint_slot-returns-in-Nothing-clause-exchanged
 paint_slot-returns-in-Nothing-clause-exchanged t c =
     let none : is_divided _ ≡ false = ap is_divided (sym c.slot_wanted.ensures ∙ c.in-Nothing.is) in
@@ -191,17 +223,39 @@ paint_slot-returns-in-Nothing-clause-exchanged t c =
 pub paint_slot-returns-in-Entry-clause-tree : goal.paint_slot-returns-in-Entry-clause-tree
 paint_slot-returns-in-Entry-clause-tree t c = IsTreeOf-leaf _ c.args.level c.args.first c.in-Entry.entry _ (sym c.slot_wanted.ensures ∙ c.in-Entry.is) refl
 
+pub paint_slot-returns-in-Entry-clause-lost : goal.paint_slot-returns-in-Entry-clause-lost
+paint_slot-returns-in-Entry-clause-lost t c =
+    let none : is_divided _ ≡ false = ap is_divided (sym c.slot_wanted.ensures ∙ c.in-Entry.is) in
+    c.release-lost.ensures.count ∙ sym (lost-whole c.args.mappings.now c.args.level c.args.first c.args.slot.now c.requires.laid_out none)
+
 pub paint_slot-returns-in-Entry-clause-exchanged : goal.paint_slot-returns-in-Entry-clause-exchanged
 paint_slot-returns-in-Entry-clause-exchanged t c =
     let none : is_divided _ ≡ false = ap is_divided (sym c.slot_wanted.ensures ∙ c.in-Entry.is) in
     let g = gained-none c.args.mappings.now c.args.level c.args.first c.args.slot.now none in
     let l = lost-whole c.args.mappings.now c.args.level c.args.first c.args.slot.now c.requires.laid_out none in
-    omega (arith, g, l, c.release-in-Entry.ensures.put)
+    omega (arith, g, l, c.release-lost.ensures.put)
 
 pub paint_slot-returns-in-Table-clause-tree : goal.paint_slot-returns-in-Table-clause-tree
 paint_slot-returns-in-Table-clause-tree t c =
     let want = sym c.slot_wanted.ensures ∙ c.in-Table.is in
-    IsTreeOf-table _ c.args.level c.args.first _ (table-above _ c.args.level c.args.first want) want c.paint_row.ensures.tree
+    IsTreeOf-table _ c.args.level c.args.first _ (table-above _ c.args.level c.args.first want) want c.paint_row-lost.ensures.tree
+
+pub paint_slot-returns-in-Table-clause-lost : goal.paint_slot-returns-in-Table-clause-lost
+paint_slot-returns-in-Table-clause-lost t c =
+    let ms = c.args.mappings.now in
+    let want = sym c.slot_wanted.ensures ∙ c.in-Table.is in
+    let some = table-above ms c.args.level c.args.first want in
+    let first-of : (k : ℕ) → slice_index_or c.deref_mut.result.now k Empty ≡ slice_index_or c.divide-slots.result.value k Empty =
+    λ k. ap (λ (l : List Slot). slice_index_or l k Empty) c.deref_mut.ensures.value in
+    let old = c.replace-old.ensures.value in
+    let losses = sum_below-same 512
+    (λ k. lost ms (c.args.level - 1) (c.args.first + k * pages_of (c.args.level - 1)) (slice_index_or c.deref_mut.result.now k Empty))
+    (λ k. lost ms (c.args.level - 1) (c.args.first + k * pages_of (c.args.level - 1)) (child c.args.slot.now k))
+    (λ k below. ap (λ (s : Slot). lost ms (c.args.level - 1) (c.args.first + k * pages_of (c.args.level - 1)) s) (first-of k) ∙
+    sym (lost-same ms (c.args.level - 1) (c.args.first + k * pages_of (c.args.level - 1)) _ _ (c.divide-slots.ensures.tables k below)) ∙
+    ap (λ (s : Slot). lost ms (c.args.level - 1) (c.args.first + k * pages_of (c.args.level - 1)) (child s k)) old) in
+    let loss = lost-parts ms c.args.level c.args.first c.args.slot.now some want in
+    omega (arith, losses, loss, c.paint_row-lost.ensures.lost)
 
 pub paint_slot-returns-in-Table-clause-exchanged : goal.paint_slot-returns-in-Table-clause-exchanged
 paint_slot-returns-in-Table-clause-exchanged t c =
@@ -226,4 +280,4 @@ paint_slot-returns-in-Table-clause-exchanged t c =
     let gain = gained-parts ms c.args.level c.args.first c.args.slot.now some want in
     let loss = lost-parts ms c.args.level c.args.first c.args.slot.now some want in
     let one = ap (λ (s : Slot). one_if_not (is_table s)) old in
-    omega (arith, gains, losses, gain, loss, one, c.divide-slots.ensures.taken, c.paint_row.ensures.exchanged)
+    omega (arith, gains, losses, gain, loss, one, c.divide-slots.ensures.taken, c.paint_row-lost.ensures.exchanged)

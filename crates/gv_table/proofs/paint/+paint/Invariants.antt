@@ -17,6 +17,9 @@ invariant-paint_row-loop-index l = record {
   painted : (k : ℕ) → k < l.index → IsTreeOf l.mappings l.level (l.first + k * pages_of l.level) (slice_index_or l.slots k Empty);
   untouched : (k : ℕ) → l.index ≤ k → slice_index_or l.slots k Empty ≡ slice_index_or l.initial.slots k Empty;
   enough : sum_below 512 (λ k. gained l.mappings l.level (l.first + k * pages_of l.level) (slice_index_or l.slots k Empty)) ≤ l.spares;
+  counted :
+      l.lost + sum_below 512 (λ k. lost l.mappings l.level (l.first + k * pages_of l.level) (slice_index_or l.slots k Empty)) ≡
+      l.initial.lost + sum_below 512 (λ k. lost l.mappings l.level (l.first + k * pages_of l.level) (slice_index_or l.initial.slots k Empty));
   exchanged :
       l.spares + sum_below 512 (λ k. gained l.mappings l.level (l.first + k * pages_of l.level) (slice_index_or l.initial.slots k Empty)) +
       sum_below 512 (λ k. lost l.mappings l.level (l.first + k * pages_of l.level) (slice_index_or l.slots k Empty)) ≡

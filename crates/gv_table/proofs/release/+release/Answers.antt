@@ -7,8 +7,14 @@ use Rattle.gv_table.specs.Counts.{tables_in}
 use Rattle.gv_table.proofs.Counts.{tables_in-zero, tables_in-other, tables_in-Table}
 use Rattle.gv_table.proofs.Rows.{row-below, row-above, row-read}
 use Rattle.gv_table.proofs.Slots.{is_table-Empty, is_table-Leaf}
-use Rattle.gv_table.proofs.Sums.{sum_below-none, sum_below-more}
+use Rattle.gv_table.proofs.Sums.{sum_below-none, sum_below-more, sum_below-part, sum_below-few}
+use Rattle.gv_table.specs.Levels.{pages_of}
+use Rattle.gv_table.proofs.Fewness.{tables_in-few}
+use Rattle.gv_table.proofs.PagesOf.{pages_of-bound}
 use Rattle.gv_table.proofs.release.+release.Goals as goal
+
+pub returns-then-level-eq0-clause-count : goal.returns-then-level-eq0-clause-count
+returns-then-level-eq0-clause-count t c = rw c.if-level-eq0.true (sym (tables_in-zero c.args.slot.now))
 
 pub returns-then-level-eq0-clause-put : goal.returns-then-level-eq0-clause-put
 returns-then-level-eq0-clause-put t c = rw c.if-level-eq0.true (let e = tables_in-zero c.args.slot.now in omega (arith, e))
@@ -17,6 +23,7 @@ pub loop-index-init : goal.loop-index-init
 loop-index-init t c = record {
   below = λ k below. absurd (omega arith);
   above = λ k above. refl;
+  counted = (let e = sum_below-none (λ k. tables_in (c.args.level - 1) (slice_index_or c.in-Table.slots.value k Empty)) in omega (arith, e));
   put = (let e = sum_below-none (λ k. tables_in (c.args.level - 1) (slice_index_or c.in-Table.slots.value k Empty)) in omega (arith, e));
 }
 
@@ -30,10 +37,33 @@ loop-index-preserved t c =
     let more = sum_below-more c.loop-index.index f in
     let within' : c.loop-index.index < length c.loop-index.slots.value = rw (← c.deref_mut.ensures.value) within in
     record {
-      below = rw c.deref_mut.ensures.value (row-below (λ k s. s ≡ Empty) c.loop-index.slots.value c.loop-index.index _ within' c.release.ensures.emptied c.loop-index.invariant.below);
+      below = rw c.deref_mut.ensures.value (row-below (λ k s. s ≡ Empty) c.loop-index.slots.value c.loop-index.index _ within' c.release-count.ensures.emptied c.loop-index.invariant.below);
       above = rw c.deref_mut.ensures.value (row-above c.loop-index.slots.value c.in-Table.slots.value c.loop-index.index _ c.loop-index.invariant.above);
-      put = omega (arith, more, one, c.loop-index.invariant.put, c.release.ensures.put);
+      counted = omega (arith, more, one, c.loop-index.invariant.counted, c.release-count.ensures.count);
+      put = omega (arith, more, one, c.loop-index.invariant.put, c.release-count.ensures.put);
     }
+
+pub overflow_add-count : goal.overflow_add-count
+overflow_add-count t c =
+    let within : c.loop-index.index < length c.deref_mut.result.now = search rules in
+    let read = row-read c.deref_mut.result.now c.loop-index.slots.value c.in-Table.slots.value c.loop-index.index c.index-deref_mut-index.result
+    c.deref_mut.ensures.value within c.loop-index.invariant.above in
+    let f : ℕ → ℕ = λ k. tables_in (c.args.level - 1) (slice_index_or c.in-Table.slots.value k Empty) in
+    let one = ap (λ (s : Slot). tables_in (c.args.level - 1) s) read in
+    let part = sum_below-part 512 f c.loop-index.index (omega arith) in
+    let few = sum_below-few 512 f (pages_of (c.args.level - 1)) (λ k below. tables_in-few (c.args.level - 1) (slice_index_or c.in-Table.slots.value k Empty)) in
+    let all = pages_of-bound (c.args.level - 1) (omega (arith, c.requires)) in
+    omega (arith, one, part, few, all, c.loop-index.invariant.counted, c.release-count.ensures.count)
+
+pub returns-after-loop-index-clause-count : goal.returns-after-loop-index-clause-count
+returns-after-loop-index-clause-count t c =
+    let f : ℕ → ℕ = λ k. tables_in (c.args.level - 1) (slice_index_or c.in-Table.slots.value k Empty) in
+    let table : Table c.in-Table.slots ≡ c.args.slot.now = sym c.in-Table.is ∙ c.replace.ensures.value in
+    let whole = tables_in-Table c.args.level c.in-Table.slots (omega arith) in
+    let all : tables_in c.args.level c.args.slot.now ≡ 1 + sum_below 512 f = ap (λ (s : Slot). tables_in c.args.level s) (sym table) ∙ whole in
+    let end : c.loop-index.index ≡ 512 = omega arith in
+    let sums = ap (λ (n : ℕ). sum_below n f) end in
+    omega (arith, all, sums, c.loop-index.invariant.counted)
 
 pub returns-after-loop-index-clause-put : goal.returns-after-loop-index-clause-put
 returns-after-loop-index-clause-put t c =
@@ -52,4 +82,4 @@ returns-in-Empty t c =
       | inr p ↦ ap is_table (sym c.replace.ensures.value ∙ p.1) ∙ is_table-Leaf p.0
     ] in
     let none = tables_in-other c.args.level c.args.slot.now other in
-    record { emptied = c.replace.ensures.after; put = omega (arith, none) }
+    record { count = sym none; emptied = c.replace.ensures.after; put = omega (arith, none) }

@@ -11,5 +11,6 @@ abbrev pub invariant-loop-index : goal.invariant-loop-index
 invariant-loop-index l = record {
   below : (k : ℕ) → k < l.index → slice_index_or l.slots.value k Empty ≡ Empty;
   above : (k : ℕ) → l.index ≤ k → slice_index_or l.slots.value k Empty ≡ slice_index_or l.initial.slots.value k Empty;
+  counted : l.count ≡ l.initial.count + sum_below l.index (λ k. tables_in (l.level - 1) (slice_index_or l.initial.slots.value k Empty));
   put : l.spares ≡ l.initial.spares + sum_below l.index (λ k. tables_in (l.level - 1) (slice_index_or l.initial.slots.value k Empty));
 }

@@ -23,3 +23,11 @@ returns-clause-back c = λ ms laid tree.
     (subst (λ (xs : List Mapping). IsTreeOf xs 4 0 c.paint_slot.new.slot) c.mappings.ensures.value c.paint_slot.ensures.tree)) in
     let exchanged = rw c.mappings.ensures.value at c.paint_slot.ensures.exchanged in
     omega (arith, same, exchanged, c.requires.enough)
+
+pub returns-clause-owed : goal.returns-clause-owed
+returns-clause-owed c = λ ms laid tree.
+    let same = gained-lost ms c.args.list.now.mappings 4 0 c.args.self.now.root c.paint_slot.new.slot
+    (tree-match ms 4 0 c.args.self.now.root laid tree) (tree-match c.args.list.now.mappings 4 0 c.paint_slot.new.slot c.mappings.ensures.laid_out
+    (subst (λ (xs : List Mapping). IsTreeOf xs 4 0 c.paint_slot.new.slot) c.mappings.ensures.value c.paint_slot.ensures.tree)) in
+    let lost = rw c.mappings.ensures.value at c.paint_slot.ensures.lost in
+    omega (arith, same, lost)

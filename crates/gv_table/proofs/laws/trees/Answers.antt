@@ -1,0 +1,5 @@
+use Rattle.gv_table.proofs.Likeness.{tables-gained}
+use Rattle.gv_table.proofs.laws.trees.Goals as goal
+
+pub returns : goal.returns
+returns c = tables-gained
