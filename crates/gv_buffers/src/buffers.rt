@@ -77,6 +77,7 @@ impl Buffers {
             (IsOk result) (λ fault. result ≡ Err fault) }
         ensures ok { IfOk result (λ id. IsCreated self.old self.new id pages) }
         ensures err { OnErr result (self.new ≡ self.old) }
+        ensures table { OnOk result (IsTable self.new) }
     {
         if pages == 0 || pages > BUFFER_PAGES {
             return Err(Fault::BadSize);
@@ -178,6 +179,7 @@ impl Buffers {
             (IsOkUnless result Fault.OutOfMemory) (λ fault. result ≡ Err fault) }
         ensures ok { OnOk result (self.new ≡ changed id (joined_by job usage) self.old) }
         ensures err { OnErr result (self.new ≡ self.old) }
+        ensures table { IsTable self.new }
     {
         let place = id.index;
         let Some(slot) = live_at(&self.slots, id) else {
@@ -194,7 +196,8 @@ impl Buffers {
     /// Removes a job from the users of every buffer. It goes to the buffers that the job joined and
     /// to no other, and takes no memory.
     pub fn leave(&mut self, job: u64)
-        ensures { self.new ≡ left_everywhere job self.old }
+        ensures value { self.new ≡ left_everywhere job self.old }
+        ensures table { IsTable self.new }
     {
         if let Some(noted) = forget(&mut self.places, job) {
             leave_all(&mut self.slots, &noted, job);

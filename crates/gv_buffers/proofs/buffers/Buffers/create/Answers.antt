@@ -1,6 +1,6 @@
 use Rattle.std.proofs.Common.{arith, refl, ap}
 use Rattle.gv_buffers.specs.Table.{Table}
-use Rattle.gv_buffers.proofs.Tables.{live_count}
+use Rattle.gv_buffers.proofs.Tables.{is_table, live_count}
 use Rattle.gv_buffers.proofs.Making.{no_create_fault, too_many_live, too_many_made, made}
 use Rattle.gv_buffers.proofs.buffers.Buffers.create.Goals as goal
 use Rattle.gv_buffers.proofs.buffers.Buffers.create.Goals.{then-len-self-via-then-len-self, then-len-self-via-else-len-self+then-self}
@@ -31,3 +31,8 @@ pub invariant_of-self : goal.invariant_of-self
 invariant_of-self c =
     (made c.self.inside c.args.self.now c.insert_reserved-place.new.self c.insert_reserved-place.result c.args.pages _ c.self.invariant c.self.view_is (omega arith) (omega arith) (omega arith)
     c.insert_reserved-place.ensures.was_vacant c.insert_reserved-place.ensures.updates c.insert_reserved-place.ensures.len c.insert_reserved-place.ensures.capacity (rw (c.new.ensures, c.new-2.ensures.items) refl)).sound
+
+pub returns-clause-table : goal.returns-clause-table
+returns-clause-table c =
+    is_table _ _ ((made c.self.inside c.args.self.now c.insert_reserved-place.new.self c.insert_reserved-place.result c.args.pages _ c.self.invariant c.self.view_is (omega arith) (omega arith) (omega arith)
+    c.insert_reserved-place.ensures.was_vacant c.insert_reserved-place.ensures.updates c.insert_reserved-place.ensures.len c.insert_reserved-place.ensures.capacity (rw (c.new.ensures, c.new-2.ensures.items) refl)).sound) refl

@@ -4,7 +4,7 @@ use Rattle.std.proofs.lemmas.Result.{err_from_is_err_and}
 use Rattle.gv_buffers.specs.Users.{conflict}
 use Rattle.gv_buffers.specs.Slots.{buffer_at, live_at}
 use Rattle.gv_buffers.specs.Table.{join_fault_of, joined_by}
-use Rattle.gv_buffers.proofs.Tables.{found_buffer, missed_buffer}
+use Rattle.gv_buffers.proofs.Tables.{is_table, found_buffer, missed_buffer}
 use Rattle.gv_buffers.proofs.Using.{unchanged, joined_table}
 use Rattle.gv_buffers.proofs.buffers.Buffers.join.Goals as goal
 
@@ -74,3 +74,29 @@ returns-clause-ok c =
     (c.join_at.ensures.here ∙ ap (option_map (joined_by c.args.job c.args.usage)) (room.same c.args.id.index))
     (λ (place : ℕ) (apart : place ≢ c.args.id.index). ap (option_map (buffer_at place)) (c.join_at.ensures.others place apart) ∙ room.same place)
     room.keeps room.noted).table
+
+pub returns-in_default-clause-table : goal.returns-in_default-clause-table
+returns-in_default-clause-table c = is_table c.self.inside c.args.self.now c.self.invariant c.self.view_is
+
+pub returns-in-Some-conflict-clause-table : goal.returns-in-Some-conflict-clause-table
+returns-in-Some-conflict-clause-table c = is_table c.self.inside c.args.self.now c.self.invariant c.self.view_is
+
+pub returns-in_err-make_room-clause-table : goal.returns-in_err-make_room-clause-table
+returns-in_err-make_room-clause-table c =
+    is_table _ _
+    (unchanged c.self.inside c.args.self.now c.make_room.new.slots c.make_room.new.places c.self.invariant c.self.view_is
+    c.in_err-make_room.ensures.capacity c.in_err-make_room.ensures.same c.in_err-make_room.ensures.keeps).sound refl
+
+pub returns-clause-table : goal.returns-clause-table
+returns-clause-table c =
+    let slot = c.in-Some.slot.now in
+    let found : live_at c.self.inside.slots c.args.id ≡ Some c.in-Some.slot.now = rw c.in-Some.is at (sym c.live_at.ensures) in
+    let meets_none : conflict c.args.job c.args.usage slot.users.items ≡ None =
+    ap (conflict c.args.job c.args.usage) (sym c.deref.ensures.value) ∙ sym c.conflict.ensures ∙ c.in_default-conflict.is in
+    let room = c.in_ok-make_room.ensures in
+    is_table _ _
+    (joined_table c.self.inside c.args.self.now c.join_at.new.slots c.make_room.new.places c.args.id slot c.args.job c.args.usage c.self.invariant c.self.view_is found meets_none
+    (c.join_at.ensures.capacity ∙ room.capacity)
+    (c.join_at.ensures.here ∙ ap (option_map (joined_by c.args.job c.args.usage)) (room.same c.args.id.index))
+    (λ (place : ℕ) (apart : place ≢ c.args.id.index). ap (option_map (buffer_at place)) (c.join_at.ensures.others place apart) ∙ room.same place)
+    room.keeps room.noted).sound refl
