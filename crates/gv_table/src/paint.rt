@@ -42,7 +42,8 @@ fn spread(slots: &mut [Slot; SLOTS], entry: &Entry, pages: u64)
     }
 }
 
-/// The table of a slot, or a spare one with the parts of what the slot held.
+/// The table of a slot, or a spare one with the parts of what the slot held, which the tally then
+/// counts.
 fn divide(slot: Slot, level: usize, spares: &mut Spares, tally: &mut Tally) -> Box<[Slot; SLOTS]>
     requires some { 0 < level }
     requires known { level ≤ top_level }

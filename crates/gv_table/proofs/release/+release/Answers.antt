@@ -1,16 +1,16 @@
 use Rattle.std.proofs.Common.{rules, arith, ◌≡◌, ◌+◌, ◌<◌, ◌∙◌, sym, ap, ℕ, ◌-◌, length, false, slice_index_or, inl, inr, refl}
 use Rattle.gv_table.specs.declared.slot.Slot.{Slot}
 use Rattle.gv_table.specs.declared.slot.Slot.TheVariants.{Empty, Table}
+use Rattle.gv_table.specs.Levels.{pages_of}
 use Rattle.gv_table.specs.Sums.{sum_below}
 use Rattle.gv_table.specs.Tree.{is_table}
 use Rattle.gv_table.specs.Counts.{tables_in, tables_at}
 use Rattle.gv_table.proofs.Counts.{tables_in-zero, tables_in-other, tables_in-Table, tables_at-low, tables_at-other, tables_at-Table, one_if-here}
+use Rattle.gv_table.proofs.Fewness.{tables_in-few}
+use Rattle.gv_table.proofs.PagesOf.{pages_of-bound}
 use Rattle.gv_table.proofs.Rows.{row-below, row-above, row-read}
 use Rattle.gv_table.proofs.Slots.{is_table-Empty, is_table-Leaf}
 use Rattle.gv_table.proofs.Sums.{sum_below-none, sum_below-more, sum_below-part, sum_below-few}
-use Rattle.gv_table.specs.Levels.{pages_of}
-use Rattle.gv_table.proofs.Fewness.{tables_in-few}
-use Rattle.gv_table.proofs.PagesOf.{pages_of-bound}
 use Rattle.gv_table.proofs.release.+release.Goals as goal
 
 pub returns-then-level-eq0-clause-count : goal.returns-then-level-eq0-clause-count
