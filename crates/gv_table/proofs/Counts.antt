@@ -8,7 +8,7 @@ use Rattle.gv_table.specs.Wanted.{wanted}
 use Rattle.gv_table.specs.declared.slot.Slot.{Slot}
 use Rattle.gv_table.specs.declared.slot.Slot.TheVariants.{Empty, Table}
 use Rattle.gv_table.specs.Tree.{is_table, child}
-use Rattle.gv_table.specs.Counts.{tables_in, tables_at, gained, lost, one_if, one_if_not, HasSameTables}
+use Rattle.gv_table.specs.Counts.{tables_in, tables_at, gained, lost, one_if, one_if_not, one_if_new, HasSameTables}
 use Rattle.gv_table.specs.Sums.{sum_below}
 use Rattle.gv_table.proofs.Sums.{sum_below-same, sum_below-zeros}
 use Rattle.gv_table.proofs.Slots.{is_table-Table, child-Table, is_table-Empty, child-other}
@@ -138,3 +138,35 @@ lost-parts ms (suc level) first slot some want =
     let lower : suc level - 1 ≡ level = omega arith in
     rw (want, lower) (lost-by (is_table slot) (sum_below 512 (λ k. lost ms level (first + k * pages_of level) (child slot k)))
     (λ other. sum_below-zeros 512 (λ k. lost ms level (first + k * pages_of level) (child slot k)) (λ k below. ap (λ (s : Slot). lost ms level (first + k * pages_of level) s) (child-other slot k other) ∙ lost-other ms level (first + k * pages_of level) Empty is_table-Empty)))
+
+-- slots with the same tables have as many at each level
+pub tables_at-same : (target level : ℕ) (one other : Slot) → HasSameTables one other → tables_at target level one ≡ tables_at target level other
+tables_at-same target level one other same =
+    elim same [
+      | inl e ↦ ap (λ (s : Slot). tables_at target level s) e
+      | inr p ↦ tables_at-other target level one p.0 ∙ sym (tables_at-other target level other p.1)
+    ]
+
+new-by : (b : Bool) (target level n : ℕ) → (b ≡ false → n ≡ 0) →
+    (if b then one_if (nat_eq target level) + n else 0) + one_if_new target level b ≡ one_if (nat_eq target level) + n
+new-by true target level n none = omega arith
+new-by false target level n none = let e = none refl in omega (arith, e)
+
+-- a slot made a table has that one and those of its parts
+pub tables_at-parts : (target level : ℕ) (slot : Slot) → 0 < level →
+    tables_at target level slot + one_if_new target (level - 1) (is_table slot) ≡
+    one_if (nat_eq target (level - 1)) + sum_below 512 (λ k. tables_at target (level - 1) (child slot k))
+unfolding tables_at
+tables_at-parts target zero slot some = absurd (omega arith)
+tables_at-parts target (suc level) slot some =
+    let lower : suc level - 1 ≡ level = omega arith in
+    rw lower (new-by (is_table slot) target level (sum_below 512 (λ k. tables_at target level (child slot k)))
+    (λ other. sum_below-zeros 512 (λ k. tables_at target level (child slot k))
+    (λ k below. ap (λ (s : Slot). tables_at target level s) (child-other slot k other) ∙ tables_at-other target level Empty is_table-Empty)))
+
+pub one_if-small : (b : Bool) → one_if b ≤ 1
+one_if-small true = omega arith
+one_if-small false = omega arith
+
+pub one_if-here : (level : ℕ) → one_if (nat_eq level level) ≡ 1
+one_if-here level = ap one_if (eq-true level level refl)

@@ -1,5 +1,5 @@
 -- A slot has fewer tables than pages.
-use Rattle.std.proofs.Common.{◌≡◌, ℕ, zero, suc, ◌+◌, ◌*◌, ◌≤◌, Bool, true, false, List, slice_index_or, arith, if◌then◌else◌}
+use Rattle.std.proofs.Common.{◌≡◌, ℕ, zero, suc, ◌+◌, ◌*◌, ◌≤◌, Bool, true, false, nat_eq, List, slice_index_or, arith, if◌then◌else◌}
 use Rattle.gv_types.specs.declared.mapping.Mapping.{Mapping}
 use Rattle.gv_table.specs.declared.slot.Slot.{Slot}
 use Rattle.gv_table.specs.declared.slot.Slot.TheVariants.{Empty}
@@ -7,8 +7,9 @@ use Rattle.gv_table.specs.Levels.{pages_of}
 use Rattle.gv_table.specs.Sums.{sum_below}
 use Rattle.gv_table.specs.Wanted.{wanted, is_divided}
 use Rattle.gv_table.specs.Tree.{is_table, child}
-use Rattle.gv_table.specs.Counts.{tables_in, lost, row_lost, one_if_not}
+use Rattle.gv_table.specs.Counts.{tables_in, tables_at, lost, row_lost, one_if, one_if_not}
 use Rattle.gv_table.proofs.Sums.{sum_below-few}
+use Rattle.gv_table.proofs.Counts.{one_if-small}
 use Rattle.gv_table.proofs.Needs.{one_if_not-small}
 use Rattle.gv_table.proofs.PagesOf.{pages_of-more, pages_of-some}
 
@@ -38,3 +39,12 @@ pub row_lost-few : (ms : List Mapping) (level first : ℕ) (row : List Slot) →
 row_lost-few ms level first row =
     sum_below-few 512 (λ k. lost ms level (first + k * pages_of level) (slice_index_or row k Empty)) (pages_of level)
     (λ k below. lost-few ms level (first + k * pages_of level) (slice_index_or row k Empty))
+
+pub tables_at-few : (target level : ℕ) (slot : Slot) → tables_at target level slot + 1 ≤ pages_of level
+unfolding tables_at
+tables_at-few target zero slot = pages_of-some 0
+tables_at-few target (suc level) slot =
+    few-by (is_table slot) (one_if (nat_eq target level)) (sum_below 512 (λ k. tables_at target level (child slot k))) (pages_of level) (pages_of (suc level))
+    (one_if-small (nat_eq target level))
+    (sum_below-few 512 (λ k. tables_at target level (child slot k)) (pages_of level) (λ k below. tables_at-few target level (child slot k)))
+    (pages_of-more level)

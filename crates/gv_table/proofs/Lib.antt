@@ -16,3 +16,4 @@ pub mod Foresight
 pub mod Edits
 pub mod Likeness
 pub mod Fewness
+pub mod Tallies

@@ -95,3 +95,18 @@ sum_below-few (suc n) f p few =
     let e = few n (omega arith) in
     let product = product-next n p in
     omega (arith, h, e, product)
+
+-- the same with one of them raised to the bound
+pub sum_below-few-but : (n : ℕ) (f : ℕ → ℕ) (p i : ℕ) → i < n → ((k : ℕ) → k < n → f k + 1 ≤ p) → sum_below n f + n + p ≤ n * p + 1 + f i
+unfolding sum_below
+sum_below-few-but zero f p i below few = absurd (omega arith)
+sum_below-few-but (suc n) f p i below few =
+    let product = product-next n p in
+    elim (split i n below) [
+      | inl less ↦ (let h = sum_below-few-but n f p i less (λ k smaller. few k (omega arith)) in
+          let e = few n (omega arith) in
+          omega (arith, h, e, product))
+      | inr here ↦ (let h = sum_below-few n f p (λ k smaller. few k (omega arith)) in
+          let a = ap f here in
+          omega (arith, h, a, product))
+    ]

@@ -1,7 +1,9 @@
 -- How many tables a slot holds, gains and loses.
-use Rattle.std.specs.Prelude.{◌≡◌, ◌⊎◌, ℕ, zero, suc, ◌+◌, ◌*◌, Bool, true, false, not, ◌&&◌, ◌||◌, nat_eq, List, slice_index_or, if◌then◌else◌}
+use Rattle.std.specs.Prelude.{◌≡◌, ◌⊎◌, ℕ, zero, suc, ◌+◌, ◌*◌, ◌≤◌, Bool, true, false, not, ◌&&◌, ◌||◌, nat_eq, List, slice_index_or, if◌then◌else◌}
 use Rattle.gv_types.specs.Span.{Span, meets, lies_in}
 use Rattle.gv_types.specs.declared.mapping.Mapping.{Mapping}
+use Rattle.gv_types.specs.Page.{PAGES}
+use Rattle.gv_table.specs.declared.tally.Tally.{Tally}
 use Rattle.gv_table.specs.declared.slot.Slot.{Slot}
 use Rattle.gv_table.specs.declared.slot.Slot.TheVariants.{Empty}
 use Rattle.gv_table.specs.Levels.{slots_per_table, pages_of, slot_pages}
@@ -30,6 +32,29 @@ tables_at target (suc level) slot =
     if is_table slot
     then one_if (nat_eq target level) + sum_below slots_per_table (λ k. tables_at target level (child slot k))
     else 0
+
+-- how many tables of a row of slots have slots at the target level
+abbrev pub row_tables_at : ℕ → ℕ → List Slot → ℕ
+row_tables_at target level row = sum_below slots_per_table (λ k. tables_at target level (slice_index_or row k Empty))
+
+-- one for a table with slots at a level, where the target level is that one and there was no table yet
+abbrev pub one_if_new : ℕ → ℕ → Bool → ℕ
+one_if_new target level true = 0
+one_if_new target level false = one_if (nat_eq target level)
+
+-- how many tables a tally has at a level
+abbrev pub count_at : Tally → ℕ → ℕ
+count_at tally target = slice_index_or tally.counts target 0
+
+-- a tally has the tables of the slot, and at each level no more others than there are pages outside the slot
+pub record IsPartOf (tally : Tally) (level : ℕ) (slot : Slot) : Type 0 where
+  pub counted : (target : ℕ) → tables_at target level slot ≤ count_at tally target
+  pub room : (target : ℕ) → count_at tally target + pages_of level ≤ PAGES + tables_at target level slot
+
+-- the same of a row of slots, with room for the table that it is in
+pub record IsRowOf (tally : Tally) (level : ℕ) (row : List Slot) : Type 0 where
+  pub counted : (target : ℕ) → row_tables_at target level row ≤ count_at tally target
+  pub room : (target : ℕ) → count_at tally target + slots_per_table * pages_of level ≤ PAGES + 1 + row_tables_at target level row
 
 -- how many tables of the tree of the mappings, in the slot at a level and first page, have slots at the target level
 unfoldable pub tables_wanted : List Mapping → ℕ → ℕ → ℕ → ℕ

@@ -2,7 +2,6 @@
 //! 512 pages and of 262,144 pages.
 #![tactic(auto)]
 
-mod count;
 pub mod laws;
 mod levels;
 mod near;
@@ -12,6 +11,7 @@ mod release;
 mod slot;
 mod spare;
 mod spares;
+mod tally;
 mod walk;
 mod wanted;
 

@@ -1,18 +1,20 @@
 //! The tree of tables.
-ghost use Rattle.std.specs.Prelude.{◌≡◌, ◌≤◌, ◌+◌, List, [], IfOk, IfErr};
+ghost use Rattle.std.specs.Prelude.{◌≡◌, ◌≤◌, ◌+◌, ℕ, List, [], IfOk, IfErr};
 ghost use Rattle.gv_types.specs.declared.fault.Fault.TheVariants.{OutOfMemory};
 ghost use Rattle.gv_types.specs.declared.mapping.Mapping.{Mapping};
 ghost use Rattle.gv_types.specs.Span.{end_of};
 ghost use Rattle.gv_ranges.specs.List.{at, IsLaidOut};
 ghost use Rattle.gv_ranges.specs.Edit.{clipped};
+ghost use Rattle.gv_table.specs.Levels.{top_level};
+ghost use Rattle.gv_table.specs.Counts.{tables_at, count_at};
 
-use crate::count::count_tables;
 use crate::levels::TOP_LEVEL;
 use crate::near::Near;
 use crate::paint::paint_slot;
 use crate::slot::Slot;
 use crate::spare::needed_in;
 use crate::spares::Spares;
+use crate::tally::Tally;
 use crate::walk::walk_slot;
 use gv_ranges::RangeList;
 use gv_types::{Entry, Fault, Mapping, PageRange, SPACE_PAGES};
@@ -23,6 +25,8 @@ use std::alloc::Global;
 #[derive(Drop)]
 pub struct PageTable {
     root: Slot,
+    tally: Tally,
+    ghost counted: { (target : ℕ) → count_at tally target ≡ tables_at target top_level root },
 }
 
 impl PageTable {
@@ -33,7 +37,10 @@ impl PageTable {
     pub fn new() -> PageTable
         ensures { IsTree [] result }
     {
-        PageTable { root: Slot::Empty }
+        PageTable {
+            root: Slot::Empty,
+            tally: Tally::new(),
+        }
     }
 
     /// What a page holds: at most four steps from table to table. None past the end of the address
@@ -47,17 +54,12 @@ impl PageTable {
         walk_slot(&self.root, TOP_LEVEL, 0, page)
     }
 
-    /// How many tables stand at the levels 3, 2, 1 and 0.
+    /// How many tables stand at the levels 3, 2, 1 and 0. The numbers are kept: nothing is walked.
     pub fn tables(&self) -> [u64; 4]
         ensures standing { result ≡ tables_by_level self.now }
         ensures wanted { (ms : List Mapping) → IsTree ms self.now → result ≡ tables_of ms }
     {
-        [
-            count_tables(&self.root, TOP_LEVEL, 3),
-            count_tables(&self.root, TOP_LEVEL, 2),
-            count_tables(&self.root, TOP_LEVEL, 1),
-            count_tables(&self.root, TOP_LEVEL, 0),
-        ]
+        self.tally.descending()
     }
 
     /// Empty tables for a paint after which the list holds these pieces in the range: enough for
@@ -101,6 +103,14 @@ impl PageTable {
             → gained_by ms self.new ≡ result }
     {
         let near = Near::around(list, range);
-        paint_slot(&mut self.root, TOP_LEVEL, 0, list.mappings(), &near, spares)
+        paint_slot(
+            &mut self.root,
+            TOP_LEVEL,
+            0,
+            list.mappings(),
+            &near,
+            spares,
+            &mut self.tally,
+        )
     }
 }

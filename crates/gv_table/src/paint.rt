@@ -12,7 +12,9 @@ ghost use Rattle.gv_table.specs.Near.{IsNear};
 ghost use Rattle.gv_table.specs.Reads.{entry_after};
 ghost use Rattle.gv_table.specs.Tree.{IsTreeOf, IsTreeOutside, is_table, child};
 ghost use Rattle.gv_table.specs.Counts.{gained, lost, row_gained, row_lost};
-ghost use Rattle.gv_table.specs.Counts.{one_if_not, HasSameTables};
+ghost use Rattle.gv_table.specs.Counts.{one_if_not, one_if_new, HasSameTables};
+ghost use Rattle.gv_table.specs.Counts.{tables_at, row_tables_at, count_at};
+ghost use Rattle.gv_table.specs.Counts.{IsPartOf, IsRowOf};
 ghost use Rattle.gv_types.specs.Mapping.{HasSmallPages};
 
 use crate::levels::{SLOTS, pages_of, slots_met};
@@ -20,6 +22,7 @@ use crate::near::Near;
 use crate::release::release;
 use crate::slot::Slot;
 use crate::spares::Spares;
+use crate::tally::Tally;
 use crate::walk::entry_after;
 use crate::wanted::{Wanted, slot_wanted};
 use gv_types::{Entry, Mapping};
@@ -39,11 +42,13 @@ fn spread(slots: &mut [Slot; SLOTS], entry: &Entry, pages: u64)
     }
 }
 
-/// The table of a slot, or a spare one with the parts of what the slot held.
-fn divide(slot: Slot, level: usize, spares: &mut Spares) -> Box<[Slot; SLOTS]>
+/// The table of a slot, or a spare one with the parts of what the slot held, which the tally then
+/// counts.
+fn divide(slot: Slot, level: usize, spares: &mut Spares, tally: &mut Tally) -> Box<[Slot; SLOTS]>
     requires some { 0 < level }
     requires known { level ≤ top_level }
     requires enough { one_if_not (is_table slot) ≤ spares.old }
+    requires part { IsPartOf tally.old level slot }
     ensures parts { (ms : List Mapping) (first : ℕ) → IsLaidOut ms → IsTreeOf ms level first slot
         → (k : ℕ) → k < slots_per_table
         → IsTreeOf ms (level - 1) (first + k * pages_of (level - 1))
@@ -51,11 +56,17 @@ fn divide(slot: Slot, level: usize, spares: &mut Spares) -> Box<[Slot; SLOTS]>
     ensures tables { (k : ℕ) → k < slots_per_table
         → HasSameTables (child slot k) (slice_index_or result.value k Empty) }
     ensures taken { spares.new + one_if_not (is_table slot) ≡ spares.old }
+    ensures counted { (target : ℕ) → count_at tally.new target
+        ≡ count_at tally.old target + one_if_new target (level - 1) (is_table slot) }
 {
     match slot {
         Slot::Table(slots) => slots,
-        Slot::Empty => spares.take(),
+        Slot::Empty => {
+            tally.raise(level - 1);
+            spares.take()
+        }
         Slot::Leaf(entry) => {
+            tally.raise(level - 1);
             let mut slots = spares.take();
             spread(&mut slots, &entry, pages_of(level - 1));
             slots
@@ -73,6 +84,7 @@ pub fn paint_slot(
     mappings: &[Mapping],
     near: &Near,
     spares: &mut Spares,
+    tally: &mut Tally,
 ) -> u64
     requires known { level ≤ top_level }
     requires in_space { end_of (slot_pages level first) ≤ PAGES }
@@ -81,22 +93,25 @@ pub fn paint_slot(
     requires met { IsTrue (meets (slot_pages level first) near.now.range) }
     requires outside { IsTreeOutside mappings.now near.now.range level first slot.old }
     requires enough { gained mappings.now level first slot.old ≤ spares.old }
+    requires part { IsPartOf tally.old level slot.old }
     ensures lost { result ≡ lost mappings.now level first slot.old }
     ensures tree { IsTreeOf mappings.now level first slot.new }
     ensures exchanged { spares.new + gained mappings.now level first slot.old
         ≡ spares.old + lost mappings.now level first slot.old }
+    ensures counted { (target : ℕ) → count_at tally.new target + tables_at target level slot.old
+        ≡ count_at tally.old target + tables_at target level slot.new }
 {
     match slot_wanted(mappings, near, level, first) {
-        Wanted::Nothing => release(slot, level, spares),
+        Wanted::Nothing => release(slot, level, spares, tally),
         Wanted::Entry(entry) => {
-            let lost = release(slot, level, spares);
+            let lost = release(slot, level, spares, tally);
             *slot = Slot::Leaf(entry);
             lost
         }
         Wanted::Table => {
             let old = mem::replace(slot, Slot::Empty);
-            let mut slots = divide(old, level, spares);
-            let lost = paint_row(&mut slots, level - 1, first, mappings, near, spares);
+            let mut slots = divide(old, level, spares, tally);
+            let lost = paint_row(&mut slots, level - 1, first, mappings, near, spares, tally);
             *slot = Slot::Table(slots);
             lost
         }
@@ -112,6 +127,7 @@ fn paint_row(
     mappings: &[Mapping],
     near: &Near,
     spares: &mut Spares,
+    tally: &mut Tally,
 ) -> u64
     requires known { level ≤ root_level }
     requires in_space { first + slots_per_table * pages_of level ≤ PAGES }
@@ -122,18 +138,29 @@ fn paint_row(
         → IsTreeOutside mappings.now near.now.range level (first + k * pages_of level)
         (slice_index_or slots.old k Empty) }
     requires enough { row_gained mappings.now level first slots.old ≤ spares.old }
+    requires part { IsRowOf tally.old level slots.old }
     ensures lost { result ≡ row_lost mappings.now level first slots.old }
     ensures tree { (k : ℕ) → k < slots_per_table → IsTreeOf mappings.now level
         (first + k * pages_of level) (slice_index_or slots.new k Empty) }
     ensures exchanged { spares.new + row_gained mappings.now level first slots.old
         ≡ spares.old + row_lost mappings.now level first slots.old }
+    ensures counted { (target : ℕ) → count_at tally.new target + row_tables_at target level slots.old
+        ≡ count_at tally.old target + row_tables_at target level slots.new }
 {
     let pages = pages_of(level);
     let (low, high) = slots_met(level, first, near.range);
     let mut lost = 0;
     for index in low..high {
         let start = first + index as u64 * pages;
-        lost += paint_slot(&mut slots[index], level, start, mappings, near, spares);
+        lost += paint_slot(
+            &mut slots[index],
+            level,
+            start,
+            mappings,
+            near,
+            spares,
+            tally,
+        );
     }
     lost
 }

@@ -1,20 +1,24 @@
 //! A slot given up.
-ghost use Rattle.std.specs.Prelude.{◌≡◌, ◌≤◌, ◌+◌};
+ghost use Rattle.std.specs.Prelude.{◌≡◌, ◌≤◌, ◌+◌, ℕ};
 ghost use Rattle.gv_table.specs.declared.slot.Slot.TheVariants.{Empty};
 ghost use Rattle.gv_table.specs.Levels.{top_level};
-ghost use Rattle.gv_table.specs.Counts.{tables_in};
+ghost use Rattle.gv_table.specs.Counts.{tables_in, tables_at, count_at};
 
 use crate::levels::SLOTS;
 use crate::slot::Slot;
 use crate::spares::Spares;
+use crate::tally::Tally;
 use std::mem;
 
-/// Empties a slot, and puts its tables to the spares: how many they were.
-pub fn release(slot: &mut Slot, level: usize, spares: &mut Spares) -> u64
-    requires { level ≤ top_level }
+/// Empties a slot, takes its tables off the tally, and puts them to the spares: how many they were.
+pub fn release(slot: &mut Slot, level: usize, spares: &mut Spares, tally: &mut Tally) -> u64
+    requires known { level ≤ top_level }
+    requires counted { (target : ℕ) → tables_at target level slot.old ≤ count_at tally.old target }
     ensures count { result ≡ tables_in level slot.old }
     ensures emptied { slot.new ≡ Empty }
     ensures put { spares.new ≡ spares.old + tables_in level slot.old }
+    ensures counted { (target : ℕ) → count_at tally.new target + tables_at target level slot.old
+        ≡ count_at tally.old target }
 {
     if level == 0 {
         *slot = Slot::Empty;
@@ -24,9 +28,10 @@ pub fn release(slot: &mut Slot, level: usize, spares: &mut Spares) -> u64
         Slot::Table(mut slots) => {
             let mut count = 1;
             for index in 0..SLOTS {
-                count += release(&mut slots[index], level - 1, spares);
+                count += release(&mut slots[index], level - 1, spares, tally);
             }
             spares.put(slots);
+            tally.lower(level - 1);
             count
         }
         Slot::Empty | Slot::Leaf(_) => 0,

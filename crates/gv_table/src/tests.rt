@@ -5,6 +5,7 @@ ghost use Rattle.gv_types.specs.Operation.{IsPageOp, own_mapping, range_of};
 ghost use Rattle.gv_types.specs.declared.mapping.Mapping.{Mapping};
 ghost use Rattle.gv_ranges.specs.List.{IsLaidOut};
 ghost use Rattle.gv_ranges.specs.Edit.{clipped, edited};
+ghost use Rattle.gv_table.specs.Reads.{AreAlikeOutside};
 ghost use Rattle.gv_table.specs.Table.{IsTree, FitsOutside, gained_by};
 
 use crate::{PageTable, Spares, laws};
@@ -63,34 +64,74 @@ fn spares_for(alloc: Global, table: &PageTable, op: &PageOp) -> Result<Spares, F
     }
 }
 
-/// Changes the list by the operation, and the tree with it.
+/// Paints the tree to the new list, back to the old one with just the tables that it lost, and to
+/// the new one again: how many it lost at first.
+fn sway(
+    table: &mut PageTable,
+    old: &RangeList,
+    new: &RangeList,
+    range: PageRange,
+    spares: &mut Spares,
+) -> Result<u64, Fail>
+    requires old { IsLaidOut old.now.mappings }
+    requires new { IsLaidOut new.now.mappings }
+    requires alike { AreAlikeOutside range old.now.mappings new.now.mappings }
+    requires tree { IsTree old.now.mappings table.old }
+    requires enough { gained_by new.now.mappings table.old ≤ spares.old }
+    ensures { OnOk result (IsTree new.now.mappings table.new) }
+{
+    let before = table.tables();
+    let lost = table.paint(new, range, spares);
+    let after = table.tables();
+    let mut kept = spares.split(lost);
+    table.paint(old, range, &mut kept);
+    let back = table.tables();
+    table.paint(new, range, &mut kept);
+    (before == back)
+        .then_some(())
+        .ok_or("the tables as before")?;
+    (after == table.tables())
+        .then_some(())
+        .ok_or("the tables as after")?;
+    Ok(lost)
+}
+
+/// Changes the list and its twin by the operation, and the tree with them: how many tables it lost.
 fn apply(
     alloc: Global,
     list: &mut RangeList,
+    twin: &mut RangeList,
     table: &mut PageTable,
     op: Option<PageOp>,
-) -> Result<(), Fail>
+) -> Result<u64, Fail>
     requires operation { IfSome op IsPageOp }
+    requires twins { twin.old.mappings ≡ list.old.mappings }
     requires tree { IsTree list.old.mappings table.old }
-    ensures { IsTree list.new.mappings table.new }
+    ensures twins { OnOk result (twin.new.mappings ≡ list.new.mappings) }
+    ensures tree { OnOk result (IsTree list.new.mappings table.new) }
 {
     let op = op.ok_or("an operation")?;
     let mut spares = spares_for(alloc, table, &op)?;
     edit(list, &op)?;
-    table.paint(list, op.range(), &mut spares);
-    Ok(())
+    let lost = sway(table, twin, list, op.range(), &mut spares)?;
+    edit(twin, &op)?;
+    Ok(lost)
 }
 
 #[test]
 fn one_large_mapping(rt: HostRuntime) -> Result<(), Fail> {
     laws::replaces();
+    laws::trees();
     let mut list = RangeList::new(rt.alloc());
+    let mut twin = RangeList::new(rt.alloc());
     let mut table = PageTable::new();
     let none = Spares::new();
     drop(none);
-    apply(rt.alloc(), &mut list, &mut table, map(0, 262_144, 0))?;
+    let op = map(0, 262_144, 0);
+    apply(rt.alloc(), &mut list, &mut twin, &mut table, op)?;
     assert_eq!(rt; table.tables(), [1, 1, 0, 0]);
-    apply(rt.alloc(), &mut list, &mut table, unmap(0, 1))?;
+    let op = unmap(0, 1);
+    apply(rt.alloc(), &mut list, &mut twin, &mut table, op)?;
     assert_eq!(rt; table.tables(), [1, 1, 1, 1]);
     assert!(rt; table.walk(0).is_none());
     let entry = table.walk(262_143).ok_or("an entry")?;
@@ -106,22 +147,24 @@ fn one_large_mapping(rt: HostRuntime) -> Result<(), Fail> {
 #[test]
 fn tables_come_and_go(rt: HostRuntime) -> Result<(), Fail> {
     let mut list = RangeList::new(rt.alloc());
+    let mut twin = RangeList::new(rt.alloc());
     let mut table = PageTable::new();
-    for (is_map, first, count, wanted) in [
-        (true, 0, 65_536, [1, 1, 1, 0]),
-        (false, 0, 65_536, [0, 0, 0, 0]),
-        (true, 0x1ff, 2, [1, 1, 1, 2]),
-        (false, 0x1ff, 2, [0, 0, 0, 0]),
-        (true, 0, 512, [1, 1, 1, 0]),
-        (false, 7, 1, [1, 1, 1, 1]),
-        (true, 0, 512, [1, 1, 1, 0]),
+    for (is_map, first, count, lost, wanted) in [
+        (true, 0, 65_536, 0, [1, 1, 1, 0]),
+        (false, 0, 65_536, 3, [0, 0, 0, 0]),
+        (true, 0x1ff, 2, 0, [1, 1, 1, 2]),
+        (false, 0x1ff, 2, 5, [0, 0, 0, 0]),
+        (true, 0, 512, 0, [1, 1, 1, 0]),
+        (false, 7, 1, 0, [1, 1, 1, 1]),
+        (true, 0, 512, 1, [1, 1, 1, 0]),
     ] {
         let op = if is_map {
             map(first, count, 0)
         } else {
             unmap(first, count)
         };
-        apply(rt.alloc(), &mut list, &mut table, op)?;
+        let seen = apply(rt.alloc(), &mut list, &mut twin, &mut table, op)?;
+        assert_eq!(rt; seen, lost);
         assert_eq!(rt; table.tables(), wanted);
     }
     Ok(())

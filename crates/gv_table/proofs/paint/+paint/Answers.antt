@@ -2,17 +2,19 @@ use Rattle.std.proofs.Common.{rules, arith, ◌≡◌, ◌≢◌, ◌+◌, ◌*�
 use Rattle.std.proofs.lemmas.List.{get_or_default}
 use Rattle.gv_types.specs.Span.{span, meets}
 use Rattle.gv_table.specs.declared.slot.Slot.{Slot}
-use Rattle.gv_table.specs.declared.slot.Slot.TheVariants.{Empty}
+use Rattle.gv_table.specs.declared.slot.Slot.TheVariants.{Empty, Leaf}
 use Rattle.gv_table.specs.Levels.{pages_of, slot_pages}
 use Rattle.gv_table.specs.Wanted.{is_divided}
 use Rattle.gv_table.specs.Tree.{IsTreeOf, IsTreeOutside, is_table, child}
-use Rattle.gv_table.specs.Counts.{gained, lost, one_if_not}
-use Rattle.gv_table.proofs.Counts.{gained-parts, lost-parts, gained-same, lost-same}
+use Rattle.gv_table.specs.Counts.{gained, lost, one_if_not, one_if_new, tables_at, count_at, IsPartOf}
+use Rattle.gv_table.proofs.Counts.{gained-parts, lost-parts, gained-same, lost-same, tables_at-other, tables_at-same}
 use Rattle.gv_table.proofs.Fewness.{row_lost-few}
 use Rattle.gv_table.proofs.Matches.{lost-whole, gained-none}
 use Rattle.gv_table.proofs.PagesOf.{pages_of-below, part-within}
 use Rattle.gv_table.proofs.Painted.{painted-below, painted-above, painted-gained, painted-lost, row-tree, row_gained-zero, row_lost-zero}
 use Rattle.gv_table.proofs.Rows.{row-other, row-here}
+use Rattle.gv_table.proofs.Slots.{is_table-Empty, is_table-Leaf}
+use Rattle.gv_table.proofs.Tallies.{divided-row, divided-counted, row-part, row-counted}
 use Rattle.gv_table.proofs.Spans.{meets-before}
 use Rattle.gv_table.proofs.Sums.{sum_below-at, sum_below-same}
 use Rattle.gv_table.proofs.Trees.{IsTreeOf-nothing, IsTreeOf-leaf, IsTreeOf-table, outside-apart}
@@ -30,6 +32,7 @@ paint_row-loop-index-init t c = record {
   untouched = λ k above. refl;
   enough = c.requires.enough;
   counted = omega arith;
+  standing = λ target. refl;
   exchanged = omega arith;
 }
 
@@ -66,7 +69,11 @@ paint_row-paint_slot-lost-requires t c =
                   subst (λ (n : ℕ). IsTreeOutside c.args.mappings.now c.args.near.now.range c.args.level n (slice_index_or c.loop-index.slots c.loop-index.index c.index-slots-index.result)) (sym start)
                       (subst (λ (s : Slot). IsTreeOutside c.args.mappings.now c.args.near.now.range c.args.level (c.args.first + c.loop-index.index * pages_of c.args.level) s) (sym read)
                       (c.requires.outside c.loop-index.index below)),
-                  omega (arith, here, part, c.loop-index.invariant.enough),
+                  (
+                    omega (arith, here, part, c.loop-index.invariant.enough),
+                    subst (λ (s : Slot). IsPartOf c.loop-index.tally c.args.level s) (sym slot)
+                        (row-part c.args.tally.now c.loop-index.tally c.args.level c.loop-index.index c.args.slots.now c.loop-index.slots below c.requires.part c.loop-index.invariant.standing),
+                  ),
                 ),
               ),
             ),
@@ -103,6 +110,12 @@ paint_row-loop-index-preserved t c =
       untouched = painted-above ms c.args.level c.args.first i c.args.slots.now row after same inv.untouched c.requires.laid_out here;
       enough = omega (arith, g1, g2, l1, l2, g, l, inv.enough, c.paint_slot-lost.ensures.exchanged);
       counted = omega (arith, l1, l2, l, inv.counted, c.paint_slot-lost.ensures.lost);
+      standing = row-counted c.args.tally.now c.loop-index.tally c.paint_slot-lost.new.tally c.args.level i c.args.slots.now row after below same inv.standing
+          (λ target.
+          let old = ap (λ (s : Slot). tables_at target c.args.level s) read in
+          let end = ap (λ (s : Slot). tables_at target c.args.level s) new in
+          let painted = c.paint_slot-lost.ensures.counted target in
+          omega (arith, old, end, painted));
       exchanged = omega (arith, g1, g2, l1, l2, g, l, inv.exchanged, c.paint_slot-lost.ensures.exchanged);
     }
 
@@ -135,6 +148,9 @@ paint_row-returns-clause-lost t c =
     (λ k from below. c.slots_met-low.ensures.behind k (omega (arith, c.loop-index-test.false)) below) in
     let l = row_lost-zero c.args.mappings.now c.args.level c.args.first c.loop-index.slots c.requires.laid_out tree in
     omega (arith, l, c.loop-index.invariant.counted)
+
+pub paint_row-returns-clause-counted : goal.paint_row-returns-clause-counted
+paint_row-returns-clause-counted t c = c.loop-index.invariant.standing
 
 pub paint_row-returns-clause-exchanged : goal.paint_row-returns-clause-exchanged
 paint_row-returns-clause-exchanged t c =
@@ -196,7 +212,15 @@ paint_slot-paint_row-lost-requires t c =
                     tree = subst (λ (s : Slot). IsTreeOf c.requires.outside.earlier (c.args.level - 1) (c.args.first + k * pages_of (c.args.level - 1)) s) (sym (first-of k))
                         (c.divide-slots.ensures.parts c.requires.outside.earlier c.args.first c.requires.outside.laid_out tree k below);
                   },
-                  omega (arith, gains, gain, one, c.divide-slots.ensures.taken, c.requires.enough),
+                  (
+                    omega (arith, gains, gain, one, c.divide-slots.ensures.taken, c.requires.enough),
+                    divided-row c.args.tally.now c.divide-slots.new.tally c.args.level c.args.slot.now c.deref_mut.result.now some c.requires.part
+                        (λ target. c.divide-slots.ensures.counted target ∙
+                        ap (λ (s : Slot). count_at c.args.tally.now target + one_if_new target (c.args.level - 1) (is_table s)) old)
+                        (λ target k below. ap (λ (s : Slot). tables_at target (c.args.level - 1) s) (first-of k) ∙
+                        sym (tables_at-same target (c.args.level - 1) _ _ (c.divide-slots.ensures.tables k below)) ∙
+                        ap (λ (s : Slot). tables_at target (c.args.level - 1) (child s k)) old),
+                  ),
                 ),
               ),
             ),
@@ -212,6 +236,33 @@ pub paint_slot-returns-in-Nothing-clause-lost : goal.paint_slot-returns-in-Nothi
 paint_slot-returns-in-Nothing-clause-lost t c =
     let none : is_divided _ ≡ false = ap is_divided (sym c.slot_wanted.ensures ∙ c.in-Nothing.is) in
     c.release.ensures.count ∙ sym (lost-whole c.args.mappings.now c.args.level c.args.first c.args.slot.now c.requires.laid_out none)
+
+pub paint_slot-returns-in-Nothing-clause-counted : goal.paint_slot-returns-in-Nothing-clause-counted
+paint_slot-returns-in-Nothing-clause-counted t c = λ target.
+    let none = tables_at-other target c.args.level c.release.new.slot (ap is_table c.release.ensures.emptied ∙ is_table-Empty) in
+    let given = c.release.ensures.counted target in
+    omega (arith, none, given)
+
+pub paint_slot-returns-in-Entry-clause-counted : goal.paint_slot-returns-in-Entry-clause-counted
+paint_slot-returns-in-Entry-clause-counted t c = λ target.
+    let none = tables_at-other target c.args.level (Leaf c.in-Entry.entry) (is_table-Leaf c.in-Entry.entry) in
+    let given = c.release-lost.ensures.counted target in
+    omega (arith, none, given)
+
+pub paint_slot-returns-in-Table-clause-counted : goal.paint_slot-returns-in-Table-clause-counted
+paint_slot-returns-in-Table-clause-counted t c =
+    let want = sym c.slot_wanted.ensures ∙ c.in-Table.is in
+    let some = table-above c.args.mappings.now c.args.level c.args.first want in
+    let first-of : (k : ℕ) → slice_index_or c.deref_mut.result.now k Empty ≡ slice_index_or c.divide-slots.result.value k Empty =
+    λ k. ap (λ (l : List Slot). slice_index_or l k Empty) c.deref_mut.ensures.value in
+    let old = c.replace-old.ensures.value in
+    divided-counted c.args.tally.now c.divide-slots.new.tally c.paint_row-lost.new.tally c.args.level c.args.slot.now c.deref_mut.result.now _ some
+    (λ target. c.divide-slots.ensures.counted target ∙
+    ap (λ (s : Slot). count_at c.args.tally.now target + one_if_new target (c.args.level - 1) (is_table s)) old)
+    (λ target k below. ap (λ (s : Slot). tables_at target (c.args.level - 1) s) (first-of k) ∙
+    sym (tables_at-same target (c.args.level - 1) _ _ (c.divide-slots.ensures.tables k below)) ∙
+    ap (λ (s : Slot). tables_at target (c.args.level - 1) (child s k)) old)
+    c.paint_row-lost.ensures.counted
 
 pub paint_slot-returns-in-Nothing-clause-exchanged : goal.paint_slot-returns-in-Nothing-clause-exchanged
 paint_slot-returns-in-Nothing-clause-exchanged t c =

@@ -3,7 +3,7 @@ use Rattle.gv_table.specs.declared.slot.Slot.TheVariants.{Empty}
 use Rattle.gv_table.specs.Levels.{pages_of}
 use Rattle.gv_table.specs.Sums.{sum_below}
 use Rattle.gv_table.specs.Tree.{IsTreeOf}
-use Rattle.gv_table.specs.Counts.{gained, lost}
+use Rattle.gv_table.specs.Counts.{gained, lost, row_tables_at, count_at}
 use Rattle.gv_table.proofs.paint.+paint.Given as goal
 
 abbrev pub decreases-paint_slot : goal.decreases-paint_slot
@@ -20,6 +20,8 @@ invariant-paint_row-loop-index l = record {
   counted :
       l.lost + sum_below 512 (λ k. lost l.mappings l.level (l.first + k * pages_of l.level) (slice_index_or l.slots k Empty)) ≡
       l.initial.lost + sum_below 512 (λ k. lost l.mappings l.level (l.first + k * pages_of l.level) (slice_index_or l.initial.slots k Empty));
+  standing : (target : ℕ) →
+      count_at l.tally target + row_tables_at target l.level l.initial.slots ≡ count_at l.initial.tally target + row_tables_at target l.level l.slots;
   exchanged :
       l.spares + sum_below 512 (λ k. gained l.mappings l.level (l.first + k * pages_of l.level) (slice_index_or l.initial.slots k Empty)) +
       sum_below 512 (λ k. lost l.mappings l.level (l.first + k * pages_of l.level) (slice_index_or l.slots k Empty)) ≡

@@ -5,9 +5,10 @@ use Rattle.gv_table.specs.declared.slot.Slot.TheVariants.{Empty, Leaf}
 use Rattle.gv_table.specs.Levels.{pages_of}
 use Rattle.gv_table.specs.Reads.{entry_after}
 use Rattle.gv_table.specs.Tree.{is_table, child, IsTreeOf}
-use Rattle.gv_table.specs.Counts.{one_if_not}
+use Rattle.gv_table.specs.Counts.{one_if_not, one_if_new}
 use Rattle.gv_table.proofs.PagesOf.{pages_of-below, pages_of-bound}
 use Rattle.gv_table.proofs.Slots.{is_table-Table, is_table-Empty, is_table-Leaf, child-Table, child-other}
+use Rattle.gv_table.proofs.Tallies.{part-room}
 use Rattle.gv_table.proofs.Trees.{read-parts, empty-parts, leaf-parts, leaf-small}
 use Rattle.gv_table.proofs.paint.divide.Goals as goal
 
@@ -69,3 +70,27 @@ returns-in-Leaf-clause-tables c = λ k below.
 pub returns-in-Leaf-clause-taken : goal.returns-in-Leaf-clause-taken
 returns-in-Leaf-clause-taken c =
     let e = ap one_if_not (ap is_table c.in-Leaf.is ∙ is_table-Leaf c.in-Leaf.entry) in omega (arith, e, c.take-slots.ensures.fewer)
+
+pub raise-requires-clause-room : goal.raise-requires-clause-room
+raise-requires-clause-room c =
+    part-room c.args.tally.now c.args.level (c.args.level - 1) c.args.slot c.requires.part (ap is_table c.in-Empty.is ∙ is_table-Empty)
+
+pub raise-requires-in-Leaf-clause-room : goal.raise-requires-in-Leaf-clause-room
+raise-requires-in-Leaf-clause-room c =
+    part-room c.args.tally.now c.args.level (c.args.level - 1) c.args.slot c.requires.part (ap is_table c.in-Leaf.is ∙ is_table-Leaf c.in-Leaf.entry)
+
+pub returns-in-Table-clause-counted : goal.returns-in-Table-clause-counted
+returns-in-Table-clause-counted c = λ target.
+    let e = ap (one_if_new target (c.args.level - 1)) (ap is_table c.in-Table.is ∙ is_table-Table c.in-Table.slots) in omega (arith, e)
+
+pub returns-in-Empty-clause-counted : goal.returns-in-Empty-clause-counted
+returns-in-Empty-clause-counted c = λ target.
+    let e = ap (one_if_new target (c.args.level - 1)) (ap is_table c.in-Empty.is ∙ is_table-Empty) in
+    let made = c.raise.ensures target in
+    omega (arith, e, made)
+
+pub returns-in-Leaf-clause-counted : goal.returns-in-Leaf-clause-counted
+returns-in-Leaf-clause-counted c = λ target.
+    let e = ap (one_if_new target (c.args.level - 1)) (ap is_table c.in-Leaf.is ∙ is_table-Leaf c.in-Leaf.entry) in
+    let made = c.raise-in-Leaf.ensures target in
+    omega (arith, e, made)

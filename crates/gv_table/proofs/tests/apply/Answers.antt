@@ -4,6 +4,7 @@ use Rattle.gv_types.specs.Span.{Span}
 use Rattle.gv_types.specs.Operation.{range_of, IsPageOp}
 use Rattle.gv_types.specs.declared.mapping.Mapping.{Mapping}
 use Rattle.gv_types.specs.declared.operation.PageOp.{PageOp}
+use Rattle.gv_ranges.specs.List.{IsLaidOut}
 use Rattle.gv_ranges.specs.Edit.{edited}
 use Rattle.gv_ranges.proofs.Changes.{laid_out-edited}
 use Rattle.gv_table.specs.Reads.{AreAlikeOutside}
@@ -11,21 +12,25 @@ use Rattle.gv_table.specs.Table.{FitsOutside, gained_by}
 use Rattle.gv_table.proofs.Edits.{edited-alike, edited-own}
 use Rattle.gv_table.proofs.tests.apply.Goals as goal
 
-pub paint-requires-clause-fitted : goal.paint-requires-clause-fitted
-paint-requires-clause-fitted c =
-    let after : c.edit.new.list.mappings ≡ edited c.args.list.now.mappings c.in_ok-op.op = c.in_ok-edit.ensures.ok in
-    let laid = c.edit.ensures.laid_out in
-    let alike = edited-alike c.args.list.now.mappings c.in_ok-op.op laid in
-    record {
-      earlier = c.args.list.now.mappings;
-      laid_out = laid;
-      alike = subst (λ (s : Span). AreAlikeOutside s c.args.list.now.mappings c.edit.new.list.mappings) (sym c.range.ensures)
-          (subst (λ (ms : List Mapping). AreAlikeOutside (range_of c.in_ok-op.op) c.args.list.now.mappings ms) (sym after) alike);
-      tree = c.requires.tree;
-    }
+pub sway-requires-clause-new : goal.sway-requires-clause-new
+sway-requires-clause-new c =
+    let op = c.in_ok-op.op in
+    let is : IsPageOp op = subst (λ (o : Option PageOp). IfSome o IsPageOp) c.in_ok-op.ensures.ok_part c.requires.operation in
+    let after : c.edit.new.list.mappings ≡ edited c.args.list.now.mappings op = c.in_ok-edit.ensures.ok in
+    subst IsLaidOut (sym after) (laid_out-edited c.args.list.now.mappings op c.edit.ensures.laid_out is)
 
-pub paint-requires-clause-enough : goal.paint-requires-clause-enough
-paint-requires-clause-enough c =
+pub sway-requires-clause-alike : goal.sway-requires-clause-alike
+sway-requires-clause-alike c =
+    let before = c.args.list.now.mappings in
+    let op = c.in_ok-op.op in
+    let after : c.edit.new.list.mappings ≡ edited before op = c.in_ok-edit.ensures.ok in
+    let alike = edited-alike before op c.edit.ensures.laid_out in
+    subst (λ (ms : List Mapping). AreAlikeOutside c.range.result ms c.edit.new.list.mappings) (sym c.requires.twins)
+    (subst (λ (s : Span). AreAlikeOutside s before c.edit.new.list.mappings) (sym c.range.ensures)
+    (subst (λ (ms : List Mapping). AreAlikeOutside (range_of op) before ms) (sym after) alike))
+
+pub sway-requires-clause-enough : goal.sway-requires-clause-enough
+sway-requires-clause-enough c =
     let before = c.args.list.now.mappings in
     let op = c.in_ok-op.op in
     let is : IsPageOp op = subst (λ (o : Option PageOp). IfSome o IsPageOp) c.in_ok-op.ensures.ok_part c.requires.operation in

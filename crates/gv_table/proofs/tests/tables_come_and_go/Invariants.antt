@@ -1,5 +1,9 @@
+use Rattle.std.proofs.Common.{◌≡◌}
 use Rattle.gv_table.specs.Table.{IsTree}
 use Rattle.gv_table.proofs.tests.tables_come_and_go.Given as goal
 
 abbrev pub invariant-loop-is_map : goal.invariant-loop-is_map
-invariant-loop-is_map g l = IsTree l.list.mappings l.table
+invariant-loop-is_map g l = record {
+  twins : l.twin.mappings ≡ l.list.mappings;
+  tree : IsTree l.list.mappings l.table;
+}

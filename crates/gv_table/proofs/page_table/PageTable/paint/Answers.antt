@@ -16,6 +16,14 @@ paint_slot-requires-clause-met c =
     let some = c.around-near.ensures.in_space in
     rw c.around-near.ensures.range (meets-from (slot_pages 4 0) c.args.range (omega (arith, some)) (omega (arith, all, some)))
 
+pub paint_slot-requires-clause-part : goal.paint_slot-requires-clause-part
+paint_slot-requires-clause-part c =
+    let all = pages_of-four in
+    record {
+      counted = λ target. let e = c.args.self.now.counted target in omega (arith, e);
+      room = λ target. let e = c.args.self.now.counted target in omega (arith, all, e);
+    }
+
 pub returns-clause-back : goal.returns-clause-back
 returns-clause-back c = λ ms laid tree.
     let same = gained-lost ms c.args.list.now.mappings 4 0 c.args.self.now.root c.paint_slot.new.slot
