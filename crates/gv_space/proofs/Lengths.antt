@@ -1,0 +1,70 @@
+-- How long a list is once a range of it was restored.
+use Rattle.std.proofs.Common.{◌≡◌, ℕ, ◌+◌, ◌-◌, ◌<◌, ◌≤◌, ◌∙◌, ◌++◌, List, [], ◌∷◌, max, min, take, drop, length, true, false, ltb, ⊎_elim, refl, arith, ap, suc}
+use Rattle.std.proofs.lemmas.Bool.{lt-ltb, le-ltb, cases_lt, and_left, and_right, and_from}
+use Rattle.std.proofs.lemmas.List.{length-append, length-take-le, length-drop}
+use Rattle.std.specs.List.{splice}
+use Rattle.std.specs.Option.{option_to_list}
+use Rattle.gv_types.specs.Page.{PAGES}
+use Rattle.gv_types.specs.Span.{Span, end_of, meets, IsInSpace}
+use Rattle.gv_types.specs.Mapping.{IsMapping}
+use Rattle.gv_types.specs.declared.mapping.Mapping.{Mapping}
+use Rattle.gv_ranges.specs.List.{IsLaidOut, IsLaidOutFrom, IsMeetingRun, run}
+use Rattle.gv_ranges.specs.Edit.{clipped, restored}
+use Rattle.gv_ranges.proofs.Changes.{restored_run_in_place}
+use Rattle.gv_ranges.proofs.Meeting.{filter_meets}
+use Rattle.gv_space.specs.Verdict.{count_met}
+use Rattle.gv_space.specs.Ready.{IsMeeting}
+use Rattle.gv_space.specs.declared.meeting.Meeting.{Meeting}
+
+-- a mapping has a piece in a range exactly where it meets it
+pub length-clipped : (range : Span) (low : ℕ) (ms : List Mapping) → IsInSpace range → IsLaidOutFrom low ms →
+    length (clipped range.first (end_of range) ms) ≡ count_met ms range
+length-clipped range low [] in_space laid = refl
+length-clipped range low (m ∷ ms) in_space laid =
+    let rest : length (clipped range.first (end_of range) ms) ≡ count_met ms range = length-clipped range (end_of m.range) ms in_space laid.2 in
+    let is : IsMapping m = laid.1 in
+    ⊎_elim
+    (λ (some : max range.first m.range.first < min (end_of range) (end_of m.range)).
+    let left : ltb (max range.first m.range.first) (min (end_of range) (end_of m.range)) ≡ true = lt-ltb _ _ some in
+    let met : meets m.range range ≡ true = and_from _ _ (lt-ltb m.range.first (end_of range) (omega arith)) (lt-ltb range.first (end_of m.range) (omega arith)) in
+    rw (left, met) (ap suc rest))
+    (λ (none : min (end_of range) (end_of m.range) ≤ max range.first m.range.first).
+    let gone : ltb (max range.first m.range.first) (min (end_of range) (end_of m.range)) ≡ false = le-ltb _ _ none in
+    let apart : meets m.range range ≡ false =
+    ⊎_elim
+    (λ (before : m.range.first < end_of range). and_right (ltb m.range.first (end_of range)) _ (le-ltb range.first (end_of m.range) (omega (arith, is.0, in_space))))
+    (λ (behind : end_of range ≤ m.range.first). and_left _ (ltb range.first (end_of m.range)) (le-ltb m.range.first (end_of range) behind))
+    (cases_lt m.range.first (end_of range)) in
+    rw (gone, apart) rest)
+    (cases_lt (max range.first m.range.first) (min (end_of range) (end_of m.range)))
+
+pub length-run : (ms : List Mapping) (place count : ℕ) → place + count ≤ length ms → length (run ms place count) ≡ count
+length-run ms place count within = length-take-le count (drop place ms) (omega (arith, length-drop place ms))
+
+-- how many mappings meet a range is how long their run is
+pub count_met-run : (ms : List Mapping) (range : Span) (place count : ℕ) → IsMeetingRun ms range place count → count_met ms range ≡ count
+count_met-run ms range place count met =
+    ap (λ (l : List Mapping). length l) (filter_meets ms range place count met) ∙ length-run ms place count met.within
+
+-- how long a list is whose run gave way to others
+pub length-splice : (ms pieces : List Mapping) (place count : ℕ) → place + count ≤ length ms →
+    length (splice ms place (place + count) pieces) + count ≡ length ms + length pieces
+length-splice ms pieces place count within =
+    let front : length (take place ms) ≡ place = length-take-le place ms (omega arith) in
+    let back : length (drop (place + count) ms) ≡ length ms - (place + count) = length-drop (place + count) ms in
+    rw (length-append (take place ms) (pieces ++ drop (place + count) ms), length-append pieces (drop (place + count) ms), front, back) (omega arith)
+
+-- the run gives way to its rests and what is put in
+pub length-restored : (ms saved : List Mapping) (range : Span) (meeting : Meeting) → IsLaidOut ms → IsLaidOut saved → IsInSpace range →
+    IsMeeting ms range meeting →
+    length (restored ms range saved) ≡
+    length ms - meeting.count + (length (option_to_list meeting.before) + length (option_to_list meeting.behind)) + count_met saved range
+length-restored ms saved range meeting laid saved_laid in_space is =
+    let here : List Mapping = run ms meeting.place meeting.count in
+    let inside : length (clipped range.first (end_of range) saved) ≡ count_met saved range = length-clipped range 0 saved in_space saved_laid in
+    let pieces : length (restored here range saved) ≡ length (option_to_list meeting.before) + count_met saved range + length (option_to_list meeting.behind) =
+    length-append (clipped 0 range.first here ++ clipped range.first (end_of range) saved) (clipped (end_of range) PAGES here) ∙
+    rw (length-append (clipped 0 range.first here) (clipped range.first (end_of range) saved), inside, is.before, is.behind) refl in
+    let spliced : length (restored ms range saved) + meeting.count ≡ length ms + length (restored here range saved) =
+    rw (restored_run_in_place ms saved range meeting.place meeting.count laid is.met) (length-splice ms (restored here range saved) meeting.place meeting.count is.met.within) in
+    omega (arith, spliced, pieces, is.met.within)

@@ -1,0 +1,106 @@
+-- All that a change needs is there once its room was made.
+use Rattle.std.proofs.Common.{◌≡◌, ℕ, ◌+◌, ◌<◌, ◌≤◌, ◌++◌, List, Some, None, length, arith, refl, sym, subst, ap, ⊎_elim, ◌∙◌}
+use Rattle.std.specs.List.{All, splice}
+use Rattle.std.specs.Option.{option_to_list}
+use Rattle.std.proofs.lemmas.Bool.{cases_lt}
+use Rattle.gv_types.specs.Span.{Span, end_of}
+use Rattle.gv_types.specs.Mapping.{IsMapping}
+use Rattle.gv_types.specs.declared.fault.Fault.TheVariants.{TooManyMappings}
+use Rattle.gv_types.specs.declared.mapping.Mapping.{Mapping}
+use Rattle.gv_ranges.specs.List.{IsLaidOut, IsMeetingRun, Ranges, run}
+use Rattle.gv_ranges.specs.Edit.{LieIn, clipped, replaced, restored}
+use Rattle.gv_ranges.proofs.Kept.{All-clipped}
+use Rattle.gv_ranges.proofs.Order.{laid_out-clipped, laid_out-replaced, lie_in-clipped}
+use Rattle.gv_ranges.proofs.Replaced.{all_mappings}
+use Rattle.gv_table.specs.Reads.{AreAlikeOutside}
+use Rattle.gv_table.specs.Table.{IsTree, gained_by}
+use Rattle.gv_table.specs.declared.page_table.PageTable.{PageTable}
+use Rattle.gv_table.proofs.Edits.{replaced-alike, replaced-pieces}
+use Rattle.gv_space.specs.State.{AddressSpace, IsSpace, IsPlaced, most_held}
+use Rattle.gv_space.specs.Undo.{UndoValue, IsUndoOf}
+use Rattle.gv_space.specs.Change.{IsChanged}
+use Rattle.gv_space.specs.Ready.{IsMeeting, IsReady}
+use Rattle.gv_space.specs.Verdict.{count_met, limit_fault}
+use Rattle.gv_space.specs.declared.meeting.Meeting.{Meeting}
+use Rattle.gv_space.proofs.Lengths.{length-run, count_met-run}
+use Rattle.gv_space.proofs.Limits.{too_long, held_too_much}
+use Rattle.gv_space.proofs.Exchanges.{after_is}
+use Rattle.gv_space.proofs.Spaces.{IsSpace-room}
+use Rattle.gv_space.proofs.Placed.{placed_pieces}
+
+-- a change that meets no fault stays within the limits
+pub limits_kept : (s : AddressSpace) (range : Span) (ms : List Mapping) → limit_fault s range ms ≡ None →
+    (length ms ≤ s.limits.mappings) × (s.held + count_met s.mappings range ≤ most_held)
+limits_kept s range ms none = (
+  ⊎_elim
+      (λ (more : s.limits.mappings < length ms). let wrong : Some TooManyMappings ≡ None = sym (too_long s range ms more) ∙ none in absurd cc)
+      (λ (few : length ms ≤ s.limits.mappings). few)
+      (cases_lt s.limits.mappings (length ms)),
+  ⊎_elim
+      (λ (more : most_held < s.held + count_met s.mappings range). let wrong : Some TooManyMappings ≡ None = sym (held_too_much s range ms more) ∙ none in absurd cc)
+      (λ (few : s.held + count_met s.mappings range ≤ most_held). few)
+      (cases_lt most_held (s.held + count_met s.mappings range)),
+)
+
+module _ (s : AddressSpace) (range : Span) (saved : List Mapping) (space : IsSpace s) (saved_laid : IsLaidOut saved) where
+  -- what the saved mappings have in the range
+  abbrev pub inside : List Mapping
+  inside = clipped range.first (end_of range) saved
+
+  pub inside_sorted : IsLaidOut inside
+  inside_sorted = laid_out-clipped range.first (end_of range) 0 0 saved saved_laid (omega arith)
+
+  pub inside_placed : All (IsPlaced s.area s.buffers) saved → All (IsPlaced s.area s.buffers) inside
+  inside_placed placed =
+      let mappings : All IsMapping saved = all_mappings saved 0 saved_laid in
+      All-clipped (IsPlaced s.area s.buffers) range.first (end_of range) saved
+      (λ k d below n is. placed_pieces s.area s.buffers range.first (end_of range) _ n (mappings k d below) (placed k d below) is)
+
+  pub ready_from : (list : Ranges) (meeting : Meeting) (taken pieces : List Mapping) (spares more : ℕ) → All (IsPlaced s.area s.buffers) saved →
+      IsMeeting s.mappings range meeting → taken ≡ run s.mappings meeting.place meeting.count →
+      pieces ≡ option_to_list meeting.before ++ inside ++ option_to_list meeting.behind →
+      list.mappings ≡ s.mappings → length list.mappings + more ≤ list.room → length pieces ≤ length taken + more →
+      limit_fault s range (restored s.mappings range saved) ≡ None →
+      ((ms : List Mapping) (table : PageTable) → IsLaidOut ms → AreAlikeOutside range s.mappings ms → clipped range.first (end_of range) ms ≡ inside → IsTree s.mappings table → gained_by ms table ≤ spares) →
+      IsReady inside (record s { mappings = list.mappings; room = list.room }) range meeting.place taken pieces spares
+  ready_from list meeting taken pieces spares more placed is taken_is pieces_is same room fits none enough =
+      let lie : LieIn range inside = lie_in-clipped range saved in
+      let limits = limits_kept s range (restored s.mappings range saved) none in
+      let long : length taken ≡ meeting.count = ap (λ (l : List Mapping). length l) taken_is ∙ length-run s.mappings meeting.place meeting.count is.met.within in
+      let met : count_met s.mappings range ≡ meeting.count = count_met-run s.mappings range meeting.place meeting.count is.met in
+      let ready : IsReady inside (record s { room = list.room }) range meeting.place taken pieces spares = record {
+        sorted = inside_sorted;
+        lie = lie;
+        placed = inside_placed placed;
+        met = subst (λ (n : ℕ). IsMeetingRun s.mappings range meeting.place n) (sym long) is.met;
+        taken_is = subst (λ (n : ℕ). taken ≡ run s.mappings meeting.place n) (sym long) taken_is;
+        pieces_are = pieces_is ∙ rw (is.before, is.behind, taken_is) refl;
+        room = omega (arith, ap (λ (l : List Mapping). length l) same, room, fits);
+        old_room = omega (arith, ap (λ (l : List Mapping). length l) same, room);
+        few = limits.0;
+        few_held = omega (arith, limits.1, long, met);
+        enough = λ table tree. enough (replaced s.mappings range inside) table (laid_out-replaced s.mappings range inside space.laid_out inside_sorted lie)
+            (replaced-alike s.mappings inside range space.laid_out lie) (replaced-pieces s.mappings inside range space.laid_out inside_sorted lie) tree;
+      } in
+      subst (λ (ms : List Mapping). IsReady inside (record s { mappings = ms; room = list.room }) range meeting.place taken pieces spares) (sym same) ready
+
+-- What room was made before a change is the change's own.
+pub changed_before : (s : AddressSpace) (list : Ranges) (new : AddressSpace) (within : List Mapping) (range : Span) (place : ℕ) (taken pieces : List Mapping) (spares : ℕ) (u : UndoValue) →
+    IsSpace s → list.mappings ≡ s.mappings → s.room ≤ list.room →
+    IsReady within (record s { mappings = list.mappings; room = list.room }) range place taken pieces spares →
+    IsChanged (record s { mappings = list.mappings; room = list.room }) new (splice list.mappings place (place + length taken) pieces) u →
+    IsChanged s new (replaced s.mappings range within) u
+changed_before s list new within range place taken pieces spares u space same room ready is =
+    let old : AddressSpace = record s { mappings = list.mappings; room = list.room } in
+    let old_space : IsSpace old = subst (λ (ms : List Mapping). IsSpace (record s { mappings = ms; room = list.room })) (sym same) (IsSpace-room s list.room space) in
+    let list_is : splice list.mappings place (place + length taken) pieces ≡ replaced s.mappings range within =
+    after_is within old range place taken pieces spares old_space ready ∙ ap (λ (ms : List Mapping). replaced ms range within) same in
+    let is' : IsChanged old new (replaced s.mappings range within) u = subst (λ (ms : List Mapping). IsChanged old new ms u) list_is is in
+    record {
+      state = is'.state;
+      room = omega (arith, room, is'.room);
+      undo = subst (λ (ms : List Mapping). IsUndoOf ms new.mappings u) same is'.undo;
+      fits = is'.fits;
+      saved = λ others saved. is'.saved others (record { placed = saved.placed; kept = saved.kept; held = saved.held });
+      back = is'.back ∙ ap (λ (ms : List Mapping). record s { mappings = ms; room = new.room }) same;
+    }

@@ -1,0 +1,37 @@
+-- What a space says of a page after an operation.
+use Rattle.std.proofs.Common.{◌≡◌, ℕ, List, arith, refl, subst, ap, ◌∙◌}
+use Rattle.gv_types.specs.Page.{IsPage}
+use Rattle.gv_types.specs.Span.{Span, end_of}
+use Rattle.gv_types.specs.Operation.{range_of, own_mapping, after, IsPageOp}
+use Rattle.gv_types.specs.declared.mapping.Mapping.{Mapping}
+use Rattle.gv_types.specs.declared.operation.PageOp.{PageOp}
+use Rattle.gv_types.specs.declared.operation.PageOp.TheVariants.{Map, Unmap}
+use Rattle.gv_ranges.specs.List.{at}
+use Rattle.gv_ranges.specs.Edit.{clipped, replaced, edited, restored}
+use Rattle.gv_ranges.proofs.Clip.{clip_whole}
+use Rattle.gv_ranges.proofs.Changes.{at-edited}
+use Rattle.gv_space.specs.State.{AddressSpace}
+use Rattle.gv_space.specs.Undo.{UndoValue}
+use Rattle.gv_space.specs.Change.{IsChanged}
+
+-- an operation's own mapping lies in its range whole
+pub clipped-own : (op : PageOp) → IsPageOp op → clipped (range_of op).first (end_of (range_of op)) (own_mapping op) ≡ own_mapping op
+clipped-own (Map range backing flags) is =
+    rw (clip_whole range.first (end_of range) (record { range = range; backing = backing; flags = flags }) is.0 (omega arith) (omega arith)) refl
+clipped-own (Unmap range) is = refl
+
+-- to edit a list is to restore the operation's own mapping in its range
+pub restored-own : (ms : List Mapping) (op : PageOp) → IsPageOp op → restored ms (range_of op) (own_mapping op) ≡ edited ms op
+restored-own ms op is = ap (λ (own : List Mapping). replaced ms (range_of op) own) (clipped-own op is)
+
+module _ (old new : AddressSpace) (op asked : PageOp) (range : Span) (own : List Mapping) (u : UndoValue) (is : IsPageOp op) (same : op ≡ asked) (range_is : range ≡ range_of op) (own_is : own ≡ own_mapping op) where
+  edits : restored old.mappings range own ≡ edited old.mappings asked
+  edits = rw (range_is, own_is, ← same) (restored-own old.mappings op is)
+
+  pub edited_by : IsChanged old new (restored old.mappings range own) u → IsChanged old new (edited old.mappings asked) u
+  edited_by changed = subst (λ (ms : List Mapping). IsChanged old new ms u) edits changed
+
+  pub says_after : IsChanged old new (restored old.mappings range own) u → (page : ℕ) → IsPage page → at new.mappings page ≡ after asked (at old.mappings) page
+  says_after changed page in_space =
+      let now : new.mappings ≡ edited old.mappings asked = ap (λ (s : AddressSpace). s.mappings) changed.state ∙ edits in
+      rw now (at-edited old.mappings asked page in_space)

@@ -1,0 +1,18 @@
+use Rattle.std.proofs.Common.{◌≡◌, ℕ, Result, Ok, Err, sym, subst, OnOk, OnErr}
+use Rattle.std.specs.Prelude.{IfOk}
+use Rattle.gv_types.specs.declared.fault.Fault.{Fault}
+use Rattle.gv_types.specs.declared.mapping.BufferId.{BufferId}
+use Rattle.gv_buffers.specs.Table.{Table, IsCreated, IsTable}
+use Rattle.gv_space.specs.State.{AddressSpace, IsSpace}
+use Rattle.gv_space.specs.Inside.{space_of}
+use Rattle.gv_space.proofs.Spaces.{IsSpace-made}
+use Rattle.gv_space.proofs.space.Space.create.Goals as goal
+
+after : (r : Result BufferId Fault) (s : AddressSpace) (new : Table) (pages : ℕ) → IsSpace s → IfOk r (λ id. IsCreated s.buffers new id pages) → OnOk r (IsTable new) → OnErr r (new ≡ s.buffers) →
+    IsSpace (record s { buffers = new })
+after (Ok id) s new pages space made table same = IsSpace-made s new id pages made table space
+after (Err fault) s new pages space made table same = subst (λ (t : Table). IsSpace (record s { buffers = t })) (sym same) space
+
+pub invariant_of-self : goal.invariant_of-self
+invariant_of-self c =
+    after c.create.result (space_of c.self.inside) c.create.new.self c.args.pages c.self.invariant c.create.ensures.ok c.create.ensures.table c.create.ensures.err

@@ -1,0 +1,20 @@
+use Rattle.std.proofs.Common.{◌≡◌, Result, Ok, Err, refl, sym, subst, OnOk, OnErr}
+use Rattle.std.specs.Prelude.{IsOk, MatchOption}
+use Rattle.gv_types.specs.declared.fault.Fault.{Fault}
+use Rattle.gv_types.specs.declared.mapping.BufferId.{BufferId}
+use Rattle.gv_buffers.specs.Table.{Table, without, destroy_fault}
+use Rattle.gv_space.specs.State.{AddressSpace, IsSpace}
+use Rattle.gv_space.specs.Inside.{space_of}
+use Rattle.gv_space.proofs.Faults.{no_fault}
+use Rattle.gv_space.proofs.Spaces.{IsSpace-destroyed}
+use Rattle.gv_space.proofs.space.Space.destroy.Goals as goal
+
+after : {X : Type 0} (r : Result X Fault) (s : AddressSpace) (new : Table) (id : BufferId) → IsSpace s → MatchOption (destroy_fault s.buffers id) (IsOk r) (λ f. r ≡ Err f) →
+    OnOk r (new ≡ without id s.buffers) → OnErr r (new ≡ s.buffers) → IsSpace (record s { buffers = new })
+after (Ok x) s new id space fault ok same =
+    subst (λ (t : Table). IsSpace (record s { buffers = t })) (sym ok) (IsSpace-destroyed s id (no_fault (destroy_fault s.buffers id) (Ok x) x fault refl) space)
+after (Err f) s new id space fault ok same = subst (λ (t : Table). IsSpace (record s { buffers = t })) (sym same) space
+
+pub invariant_of-self : goal.invariant_of-self
+invariant_of-self c =
+    after c.destroy.result (space_of c.self.inside) c.destroy.new.self c.args.id c.self.invariant c.destroy.ensures.fault c.destroy.ensures.ok c.destroy.ensures.err

@@ -1,0 +1,12 @@
+use Rattle.std.proofs.Common.{sym, subst}
+use Rattle.gv_buffers.specs.Table.{Table, IsTable}
+use Rattle.gv_space.specs.State.{AddressSpace, IsSpace}
+use Rattle.gv_space.specs.Inside.{space_of}
+use Rattle.gv_space.proofs.Spaces.{IsSpace-left}
+use Rattle.gv_space.proofs.space.Space.leave.Goals as goal
+
+pub invariant_of-self : goal.invariant_of-self
+invariant_of-self c =
+    let s : AddressSpace = space_of c.self.inside in
+    subst (λ (t : Table). IsSpace (record s { buffers = t })) (sym c.leave.ensures.value)
+    (IsSpace-left s c.args.job (subst IsTable c.leave.ensures.value c.leave.ensures.table) c.self.invariant)

@@ -1,0 +1,40 @@
+-- How many mappings name each buffer, and how the counts of buffers move with them.
+use Rattle.std.specs.Prelude.{ℕ, ◌+◌, ◌-◌, Bool, false, List, map, filter, length}
+use Rattle.gv_types.specs.declared.mapping.Backing.{Backing}
+use Rattle.gv_types.specs.declared.mapping.Backing.TheVariants.{Buffer as BufferPages, Zero}
+use Rattle.gv_types.specs.declared.mapping.BufferId.{BufferId}
+use Rattle.gv_types.specs.declared.mapping.Mapping.{Mapping}
+use Rattle.gv_buffers.specs.Table.{Table, Buffer, is_same_id}
+
+-- a buffer stands behind the pages
+abbrev pub is_of : BufferId → Backing → Bool
+is_of id (BufferPages other page) = is_same_id other id
+is_of id Zero = false
+
+-- how many of the mappings are of a buffer
+abbrev pub count_of : BufferId → List Mapping → ℕ
+count_of id ms = length (filter (λ m. is_of id m.backing) ms)
+
+-- the table with each buffer changed by how many of the mappings are of it
+abbrev pub by_count : (Buffer → ℕ → Buffer) → List Mapping → Table → Table
+by_count change ms t = record t { live = map (λ b. change b (count_of b.id ms)) t.live }
+
+-- so many mappings in the list
+abbrev pub counted : Buffer → ℕ → Buffer
+counted b count = record b { uses = count }
+
+-- so many mappings more in the list
+abbrev pub more_used : Buffer → ℕ → Buffer
+more_used b count = record b { uses = b.uses + count }
+
+-- so many mappings less in the list
+abbrev pub less_used : Buffer → ℕ → Buffer
+less_used b count = record b { uses = b.uses - count }
+
+-- so many mappings more in undo values
+abbrev pub more_kept : Buffer → ℕ → Buffer
+more_kept b count = record b { kept = b.kept + count }
+
+-- so many mappings less in undo values
+abbrev pub less_kept : Buffer → ℕ → Buffer
+less_kept b count = record b { kept = b.kept - count }

@@ -1,0 +1,17 @@
+-- What an address space keeps of its parts. No public clause cites this module.
+use Rattle.gv_space.specs.State.{AddressSpace, IsSpace}
+use Rattle.gv_space.specs.declared.space.Space.TheInside.{Inside}
+
+abbrev pub space_of : Inside → AddressSpace
+space_of s =
+    record {
+      area = s.bounds;
+      limits = s.limits;
+      mappings = s.painted.mappings;
+      room = s.painted.room;
+      buffers = s.buffers;
+      held = s.held;
+    }
+
+abbrev pub IsSound : Inside → Type 0
+IsSound s = IsSpace (space_of s)

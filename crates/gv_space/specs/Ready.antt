@@ -1,0 +1,34 @@
+-- What a change of the list needs before it is made. No public clause cites this module.
+use Rattle.std.specs.Prelude.{◌≡◌, ℕ, ◌+◌, ◌≤◌, List, length}
+use Rattle.std.specs.List.{All}
+use Rattle.std.specs.Option.{option_to_list}
+use Rattle.gv_types.specs.Page.{PAGES}
+use Rattle.gv_types.specs.Span.{Span, end_of}
+use Rattle.gv_types.specs.declared.mapping.Mapping.{Mapping}
+use Rattle.gv_ranges.specs.List.{IsLaidOut, IsMeetingRun, run}
+use Rattle.gv_ranges.specs.Edit.{LieIn, clipped, replaced}
+use Rattle.gv_table.specs.declared.page_table.PageTable.{PageTable}
+use Rattle.gv_table.specs.Table.{IsTree, gained_by}
+use Rattle.gv_space.specs.State.{AddressSpace, IsPlaced, most_held}
+use Rattle.gv_space.specs.declared.meeting.Meeting.{Meeting}
+
+-- the run of a list that meets a range, and the rests of it on both sides
+pub record IsMeeting (ms : List Mapping) (range : Span) (meeting : Meeting) : Type 0 where
+  pub met : IsMeetingRun ms range meeting.place meeting.count
+  pub before : option_to_list meeting.before ≡ clipped 0 range.first (run ms meeting.place meeting.count)
+  pub behind : option_to_list meeting.behind ≡ clipped (end_of range) PAGES (run ms meeting.place meeting.count)
+
+-- The run that meets a range is to give way to the pieces inside it and the rests on both sides. There is room for them,
+-- no limit is passed, and the spare tables are enough.
+pub record IsReady (inside : List Mapping) (s : AddressSpace) (range : Span) (place : ℕ) (taken pieces : List Mapping) (spares : ℕ) : Type 0 where
+  pub sorted : IsLaidOut inside
+  pub lie : LieIn range inside
+  pub placed : All (IsPlaced s.area s.buffers) inside
+  pub met : IsMeetingRun s.mappings range place (length taken)
+  pub taken_is : taken ≡ run s.mappings place (length taken)
+  pub pieces_are : pieces ≡ replaced taken range inside
+  pub room : length s.mappings + length pieces ≤ s.room + length taken
+  pub old_room : length s.mappings ≤ s.room
+  pub few : length (replaced s.mappings range inside) ≤ s.limits.mappings
+  pub few_held : s.held + length taken ≤ most_held
+  pub enough : (table : PageTable) → IsTree s.mappings table → gained_by (replaced s.mappings range inside) table ≤ spares

@@ -1,0 +1,57 @@
+-- What an undo value holds, and when it fits.
+use Rattle.std.specs.Prelude.{◌≡◌, ℕ, ◌-◌, ◌≤◌, ◌++◌, List, length}
+use Rattle.gv_types.specs.Span.{Span}
+use Rattle.gv_types.specs.declared.mapping.Mapping.{Mapping}
+use Rattle.gv_ranges.specs.List.{IsLaidOut, IsMeetingRun, run}
+use Rattle.gv_ranges.specs.Edit.{Undo, LieIn, replaced, undone}
+use Rattle.gv_table.specs.declared.page_table.PageTable.{PageTable}
+use Rattle.gv_table.specs.Table.{IsTree, gained_by}
+use Rattle.gv_space.specs.Counts.{by_count, counted, less_kept}
+use Rattle.gv_space.specs.State.{AddressSpace, AreSaved}
+
+-- what contracts see of an `OpUndo`: the change of the list, the range that it was made in, and how many tables that
+-- left the tree it owns
+pub record UndoValue : Type 0 where
+  pub change : Undo
+  pub range : Span
+  pub tables : ℕ
+
+-- Some pieces were put in the range of the old list, which made it the new one. The undo value has just the run of the
+-- old list that met the range, at its place, and how many mappings stand for it now; and just the tables that the tree
+-- of the old list has more than that of the new one.
+pub record IsUndoOf (old new : List Mapping) (u : UndoValue) : Type 0 where
+  pub laid_out : IsLaidOut old
+  pub pieces : List Mapping
+  pub sorted : IsLaidOut pieces
+  pub lie : LieIn u.range pieces
+  pub made : new ≡ replaced old u.range pieces
+  pub met : IsMeetingRun old u.range u.change.place (length u.change.taken)
+  pub taken : u.change.taken ≡ run old u.change.place (length u.change.taken)
+  pub put_in : u.change.put_in ≡ length (replaced u.change.taken u.range pieces)
+  pub tables : (table : PageTable) → IsTree new table → gained_by old table ≡ u.tables
+
+-- these mappings are among those that undo values hold
+pub record Holds (s : AddressSpace) (ms : List Mapping) : Type 0 where
+  pub others : List Mapping
+  pub are_saved : AreSaved s (ms ++ others)
+
+-- the list is the one that the change left, there is room for the one before it, and its mappings are counted
+pub record Fits (s : AddressSpace) (u : UndoValue) : Type 0 where
+  pub undo : IsUndoOf (undone s.mappings u.change) s.mappings u
+  pub few : length (undone s.mappings u.change) ≤ s.limits.mappings
+  pub room : length (undone s.mappings u.change) ≤ s.room
+  pub holds : Holds s u.change.taken
+
+-- the space once an undo value's mappings are given up: they are kept no longer
+abbrev pub released : AddressSpace → List Mapping → AddressSpace
+released s taken = record s { buffers = by_count less_kept taken s.buffers; held = s.held - length taken }
+
+-- the space once a change is undone: the list before it, counted anew, and what was taken out is kept no longer
+abbrev pub reverted : AddressSpace → UndoValue → AddressSpace
+reverted s u =
+    let before = undone s.mappings u.change in
+    record s {
+      mappings = before;
+      buffers = by_count counted before (by_count less_kept u.change.taken s.buffers);
+      held = s.held - length u.change.taken;
+    }

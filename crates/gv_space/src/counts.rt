@@ -1,0 +1,93 @@
+//! The counts of buffers, moved with the mappings. A mapping of zeros counts nothing, and nothing
+//! here takes memory.
+ghost use Rattle.std.specs.Prelude.{◌≡◌, ◌+◌, ◌≤◌};
+ghost use Rattle.std.specs.List.{All};
+ghost use Rattle.gv_buffers.specs.Table.{most_counted};
+ghost use Rattle.gv_space.specs.Counts.{by_count, count_of};
+ghost use Rattle.gv_space.specs.Counts.{more_used, less_used, more_kept, less_kept};
+ghost use Rattle.gv_space.specs.Live.{IsLiveBacking};
+
+use gv_buffers::Buffers;
+use gv_types::{Backing, Mapping};
+
+/// Counts mappings that come into the list, each in its buffer.
+pub fn count_in(buffers: &mut Buffers, mappings: &[Mapping])
+    requires live { All (λ m. IsLiveBacking buffers.old m.backing) mappings.now }
+    requires room { All (λ b. b.uses + count_of b.id mappings.now ≤ most_counted) buffers.old.live }
+    ensures { buffers.new ≡ by_count more_used mappings.now buffers.old }
+{
+    for mapping in mappings {
+        if let Backing::Buffer { id, .. } = mapping.backing {
+            buffers.count_in(id);
+        }
+    }
+}
+
+/// Counts out mappings that leave the list.
+pub fn count_out(buffers: &mut Buffers, mappings: &[Mapping])
+    requires live { All (λ m. IsLiveBacking buffers.old m.backing) mappings.now }
+    requires counted { All (λ b. count_of b.id mappings.now ≤ b.uses) buffers.old.live }
+    ensures { buffers.new ≡ by_count less_used mappings.now buffers.old }
+{
+    for mapping in mappings {
+        if let Backing::Buffer { id, .. } = mapping.backing {
+            buffers.count_out(id);
+        }
+    }
+}
+
+/// Counts mappings that come into an undo value, each in its buffer.
+pub fn keep(buffers: &mut Buffers, mappings: &[Mapping])
+    requires live { All (λ m. IsLiveBacking buffers.old m.backing) mappings.now }
+    requires room { All (λ b. b.kept + count_of b.id mappings.now ≤ most_counted) buffers.old.live }
+    ensures { buffers.new ≡ by_count more_kept mappings.now buffers.old }
+{
+    for mapping in mappings {
+        if let Backing::Buffer { id, .. } = mapping.backing {
+            buffers.keep(id);
+        }
+    }
+}
+
+/// Counts out mappings that leave an undo value.
+pub fn unkeep(buffers: &mut Buffers, mappings: &[Mapping])
+    requires live { All (λ m. IsLiveBacking buffers.old m.backing) mappings.now }
+    requires counted { All (λ b. count_of b.id mappings.now ≤ b.kept) buffers.old.live }
+    ensures { buffers.new ≡ by_count less_kept mappings.now buffers.old }
+{
+    for mapping in mappings {
+        if let Backing::Buffer { id, .. } = mapping.backing {
+            buffers.unkeep(id);
+        }
+    }
+}
+
+/// Counts a run of the list that gives way to `pieces` and comes into an undo value.
+pub fn exchange(buffers: &mut Buffers, taken: &[Mapping], pieces: &[Mapping])
+    requires taken { All (λ m. IsLiveBacking buffers.old m.backing) taken.now }
+    requires pieces { All (λ m. IsLiveBacking buffers.old m.backing) pieces.now }
+    requires keeps { All (λ b. b.kept + count_of b.id taken.now ≤ most_counted) buffers.old.live }
+    requires room { All (λ b. b.uses + count_of b.id pieces.now ≤ most_counted) buffers.old.live }
+    requires counted { All (λ b. count_of b.id taken.now ≤ b.uses) buffers.old.live }
+    ensures { buffers.new ≡ by_count less_used taken.now
+        (by_count more_used pieces.now (by_count more_kept taken.now buffers.old)) }
+{
+    keep(buffers, taken);
+    count_in(buffers, pieces);
+    count_out(buffers, taken);
+}
+
+/// Counts a run that comes back out of an undo value into the list, where `pieces` give way to it.
+pub fn exchange_back(buffers: &mut Buffers, pieces: &[Mapping], taken: &[Mapping])
+    requires taken { All (λ m. IsLiveBacking buffers.old m.backing) taken.now }
+    requires pieces { All (λ m. IsLiveBacking buffers.old m.backing) pieces.now }
+    requires kept { All (λ b. count_of b.id taken.now ≤ b.kept) buffers.old.live }
+    requires room { All (λ b. b.uses + count_of b.id taken.now ≤ most_counted) buffers.old.live }
+    requires counted { All (λ b. count_of b.id pieces.now ≤ b.uses) buffers.old.live }
+    ensures { buffers.new ≡ by_count less_used pieces.now
+        (by_count more_used taken.now (by_count less_kept taken.now buffers.old)) }
+{
+    unkeep(buffers, taken);
+    count_in(buffers, taken);
+    count_out(buffers, pieces);
+}

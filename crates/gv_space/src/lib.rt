@@ -1,0 +1,14 @@
+//! An address space: the list of mappings, its page table and the buffers, changed together by one operation, and undo
+//! values that take a change back.
+#![tactic(auto)]
+
+mod counts;
+mod meeting;
+mod painted;
+mod pieces;
+mod space;
+mod undo;
+mod verdict;
+
+pub use space::Space;
+pub use undo::OpUndo;

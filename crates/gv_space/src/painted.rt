@@ -1,0 +1,127 @@
+//! The list of mappings with its page table.
+ghost use Rattle.std.specs.Prelude.{◌≡◌, ◌+◌, ◌≤◌, [], length, List, IfOk, IsOkUnless, OnOk};
+ghost use Rattle.std.specs.List.{splice};
+ghost use Rattle.gv_types.specs.Span.{end_of};
+ghost use Rattle.gv_types.specs.declared.mapping.Mapping.{Mapping};
+ghost use Rattle.gv_ranges.specs.List.{at, IsLaidOut, IsUnchanged};
+ghost use Rattle.gv_ranges.specs.Edit.{clipped};
+ghost use Rattle.gv_table.specs.Reads.{AreAlikeOutside};
+ghost use Rattle.gv_table.specs.Table.{IsTree, gained_by, tables_of};
+ghost use Rattle.gv_table.specs.declared.page_table.PageTable.{PageTable};
+
+use gv_ranges::RangeList;
+use gv_table::{PageTable, Spares};
+use gv_types::{Entry, Fault, Mapping, OutOfMemory, PageRange};
+use std::alloc::Global;
+use std::marker::Model;
+
+/// The list of mappings and the page table, which is always that of the list.
+#[derive(Drop)]
+pub struct PaintedList {
+    list: RangeList,
+    table: PageTable,
+}
+
+impl Model for PaintedList {
+    ghost use Rattle.gv_ranges.specs.List.{Ranges};
+    ghost use Rattle.gv_table.specs.Table.{IsTree};
+
+    ghost Value = { Ranges };
+
+    ghost view = { λ p. p.list };
+
+    ghost invariant = { λ p. IsTree p.list.mappings p.table };
+}
+
+impl PaintedList {
+    /// No mapping and no table. It takes no memory.
+    pub fn new(alloc: Global) -> PaintedList
+        ensures mappings { result.mappings ≡ [] }
+        ensures room { result.room ≡ 0 }
+    {
+        PaintedList {
+            list: RangeList::new(alloc),
+            table: PageTable::new(),
+        }
+    }
+
+    /// The list of mappings.
+    pub fn list(&self) -> &RangeList
+        ensures { result.now ≡ self.now }
+    {
+        &self.list
+    }
+
+    /// What the page holds, by the page table.
+    pub fn walk(&self, page: u64) -> Option<Entry>
+        ensures { result ≡ at self.now.mappings page }
+    {
+        let _mappings = self.list.mappings();
+        self.table.walk(page)
+    }
+
+    /// How many tables stand at the levels 3, 2, 1 and 0.
+    pub fn tables(&self) -> [u64; 4]
+        ensures { result ≡ tables_of self.now.mappings }
+    {
+        self.table.tables()
+    }
+
+    /// Makes room for `more` mappings beside those in the list.
+    pub fn reserve(&mut self, more: usize) -> Result<(), OutOfMemory>
+        ensures unchanged { IsUnchanged self.old self.new }
+        ensures ok { OnOk result (length self.new.mappings + more ≤ self.new.room) }
+    {
+        self.list.reserve(more)
+    }
+
+    /// Empty tables, enough for any list that is like this one outside the range and has the pieces in it.
+    pub fn spare(
+        &self,
+        alloc: Global,
+        range: PageRange,
+        pieces: &[Mapping],
+    ) -> Result<Spares, Fault>
+        requires { IsLaidOut pieces.now }
+        ensures enough { IfOk result (λ spares. (ms : List Mapping) (table : PageTable) → IsLaidOut ms
+            → AreAlikeOutside range self.now.mappings ms
+            → clipped range.first (end_of range) ms ≡ pieces.now
+            → IsTree self.now.mappings table → gained_by ms table ≤ spares) }
+        ensures err { IsOkUnless result Fault.OutOfMemory }
+    {
+        let _mappings = self.list.mappings();
+        self.table.spare(alloc, range, pieces)
+    }
+
+    /// Replaces `out_count` mappings from `place` on by `pieces`, and paints the range. The list has to stay as it is
+    /// outside the range. It answers the tables that left the tree: just those that the old list needs to be painted
+    /// back. It takes no memory.
+    pub fn replace(
+        &mut self,
+        range: PageRange,
+        place: usize,
+        out_count: usize,
+        pieces: &[Mapping],
+        spares: Spares,
+    ) -> Spares
+        requires within { place + out_count ≤ length self.old.mappings }
+        requires room { length self.old.mappings + length pieces.now ≤ self.old.room + out_count }
+        requires laid_out { IsLaidOut
+            (splice self.old.mappings place (place + out_count) pieces.now) }
+        requires alike { AreAlikeOutside range self.old.mappings
+            (splice self.old.mappings place (place + out_count) pieces.now) }
+        requires enough { (table : PageTable) → IsTree self.old.mappings table
+            → gained_by (splice self.old.mappings place (place + out_count) pieces.now) table ≤ spares }
+        ensures mappings { self.new.mappings
+            ≡ splice self.old.mappings place (place + out_count) pieces.now }
+        ensures room { self.new.room ≡ self.old.room }
+        ensures tables { (table : PageTable) → IsTree self.new.mappings table
+            → gained_by self.old.mappings table ≡ result }
+    {
+        let mut spares = spares;
+        let _mappings = self.list.mappings();
+        self.list.splice(place, out_count, pieces);
+        let lost = self.table.paint(&self.list, range, &mut spares);
+        spares.split(lost)
+    }
+}

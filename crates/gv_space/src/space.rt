@@ -1,0 +1,371 @@
+//! The address space.
+ghost use Rattle.std.specs.Prelude.{◌≡◌, ◌+◌, ◌++◌, if◌then◌else◌, ℕ, List, length};
+ghost use Rattle.std.specs.Prelude.{IfOk, IsOk, IsOkUnless, OnOk, OnErr, MatchOption};
+ghost use Rattle.std.specs.List.{All, splice};
+ghost use Rattle.gv_types.specs.Page.{IsPage};
+ghost use Rattle.gv_types.specs.Span.{covers};
+ghost use Rattle.gv_types.specs.Operation.{in_pages, own_mapping, range_of, after, IsPageOp};
+ghost use Rattle.gv_types.specs.declared.mapping.Mapping.{Mapping};
+
+use crate::counts;
+use crate::meeting::Meeting;
+use crate::painted::PaintedList;
+use crate::pieces::{Pieces, clip_to_range, count_in_range, with_rests};
+use crate::undo::OpUndo;
+use crate::verdict::check_buffer;
+use gv_buffers::{Buffers, Usage};
+use gv_split::Step;
+use gv_table::Spares;
+use gv_types::{Backing, Bounds, BufferId, Entry, Fault, Limits, Mapping, Op, PageOp, PageRange};
+use smallvec::SmallVec;
+use std::alloc::Global;
+use std::marker::Model;
+
+/// Undo values of one space hold at most so many mappings.
+const MAX_HELD: u64 = 1 << 62;
+
+/// One GPU address space: a list of mappings as a `drm_gpuvm` of DRM GPUVM keeps it, the page table that is always the
+/// list's, and the buffers, whose counts of mappings are always right. One operation edits all three; its undo value
+/// restores all three and takes no memory.
+#[derive(Drop)]
+pub struct Space {
+    bounds: Bounds,
+    limits: Limits,
+    painted: PaintedList,
+    buffers: Buffers,
+    held: u64,
+}
+
+impl Model for Space {
+    ghost use Rattle.gv_space.specs.State.{AddressSpace};
+    ghost use Rattle.gv_space.specs.Inside.{space_of, IsSound};
+
+    ghost Value = { AddressSpace };
+
+    ghost view = { space_of };
+
+    ghost invariant = { IsSound };
+}
+
+impl Space {
+    ghost use Rattle.gv_types.specs.Bounds.{IsAllowed};
+    ghost use Rattle.gv_ranges.specs.List.{at, IsLaidOut};
+    ghost use Rattle.gv_ranges.specs.Edit.{edited, restored, undone};
+    ghost use Rattle.gv_split.specs.Steps.{steps};
+    ghost use Rattle.gv_buffers.specs.Table.{uses, kept, pages, create_fault, destroy_fault, join_fault};
+    ghost use Rattle.gv_buffers.specs.Table.{without, changed, joined_by, left_everywhere, IsCreated};
+    ghost use Rattle.gv_table.specs.Table.{tables_of};
+    ghost use Rattle.gv_space.specs.State.{new_space, AreSaved, IsPlaced, IsSpace, IsUnchanged};
+    ghost use Rattle.gv_space.specs.Verdict.{operation_fault, limit_fault, apply_fault};
+    ghost use Rattle.gv_space.specs.Undo.{Holds, Fits, IsUndoOf, released, reverted};
+    ghost use Rattle.gv_space.specs.Change.{IsChanged};
+    ghost use Rattle.gv_space.specs.Ready.{IsMeeting, IsReady};
+
+    /// A space of no mapping and no buffer. `OutOfMemory` where the system refuses the room of the limit's buffers.
+    pub fn new(alloc: Global, bounds: Bounds, limits: Limits) -> Result<Space, Fault>
+        ensures ok { IfOk result (λ s. s ≡ new_space bounds limits) }
+        ensures only_memory { IsOkUnless result Fault.OutOfMemory }
+    {
+        let buffers = Buffers::new(alloc, limits.buffers())?;
+        Ok(Space {
+            bounds,
+            limits,
+            painted: PaintedList::new(alloc),
+            buffers,
+            held: 0,
+        })
+    }
+
+    /// The mappings, in ascending order.
+    pub fn mappings(&self) -> &[Mapping]
+        ensures value { result.now ≡ self.now.mappings }
+        ensures space { IsSpace self.now }
+    {
+        self.painted.list().mappings()
+    }
+
+    /// What the page holds, by the list: one binary search. None past the end of the address space.
+    pub fn find(&self, page: u64) -> Option<Entry>
+        ensures { result ≡ at self.now.mappings page }
+    {
+        self.painted.list().at(page)
+    }
+
+    /// What the page holds, by the page table: at most four steps. None past the end of the address space.
+    pub fn walk(&self, page: u64) -> Option<Entry>
+        ensures { result ≡ at self.now.mappings page }
+    {
+        self.painted.walk(page)
+    }
+
+    /// How many tables stand at the levels 3, 2, 1 and 0.
+    pub fn tables(&self) -> [u64; 4]
+        ensures { result ≡ tables_of self.now.mappings }
+    {
+        self.painted.tables()
+    }
+
+    /// How many mappings of the buffer are in the list, or None where the id is dead.
+    pub fn uses(&self, id: BufferId) -> Option<u64>
+        ensures { result ≡ uses self.now.buffers id }
+    {
+        self.buffers.uses(id)
+    }
+
+    /// How many mappings of the buffer are in undo values, or None where the id is dead.
+    pub fn kept(&self, id: BufferId) -> Option<u64>
+        ensures { result ≡ kept self.now.buffers id }
+    {
+        self.buffers.kept(id)
+    }
+
+    /// How many pages the buffer has, or None where the id is dead.
+    pub fn pages(&self, id: BufferId) -> Option<u64>
+        ensures { result ≡ pages self.now.buffers id }
+    {
+        self.buffers.pages(id)
+    }
+
+    /// The split steps of an operation, as DRM GPUVM plans them; nothing changes. The faults are the first of `check`, then
+    /// `NoBuffer` and `OutOfBuffer`, then `OutOfMemory`. The limit of mappings is not asked.
+    pub fn plan(&self, alloc: Global, op: &Op) -> Result<Vec<Step>, Fault>
+        ensures fault { MatchOption (operation_fault self.now op.now)
+            (IsOkUnless result Fault.OutOfMemory) (λ fault. result ≡ Err fault) }
+        ensures steps { IfOk result (λ list. list.items ≡ steps self.now.mappings (in_pages op.now)) }
+        ensures placed { IfOk result (λ _.
+            All (IsPlaced self.now.area self.now.buffers) (own_mapping (in_pages op.now))) }
+    {
+        // The borrow checker proves the call only where the function names the types inside the steps.
+        let _backing = Backing::Zero;
+        let op = match self.check(op) {
+            Ok(op) => op,
+            Err(fault) => return Err(fault),
+        };
+        gv_split::plan(alloc, self.painted.list(), &op)
+    }
+
+    /// Applies an operation, given in bytes. The mappings that meet its range give way to their rests, and a map's mapping
+    /// is added; nothing is joined. The faults are the first of `check`, then `NoBuffer`, `OutOfBuffer` (the offset plus the
+    /// length is past the buffer's end), `TooManyMappings` (the list would pass its limit, or undo values would hold over
+    /// 2^62 mappings), then `OutOfMemory`. All growth comes before the first change.
+    pub fn apply(&mut self, alloc: Global, op: &Op) -> Result<OpUndo, Fault>
+        ensures fault { MatchOption (apply_fault self.old op.now)
+            (IsOkUnless result Fault.OutOfMemory) (λ fault. result ≡ Err fault) }
+        ensures changed { IfOk result (λ undo.
+            IsChanged self.old self.new (edited self.old.mappings (in_pages op.now)) undo) }
+        ensures range { IfOk result (λ undo. undo.range ≡ range_of (in_pages op.now)) }
+        ensures says { IfOk result (λ _. (page : ℕ) → IsPage page
+            → at self.new.mappings page ≡ after (in_pages op.now) (at self.old.mappings) page) }
+        ensures undone { IfOk result (λ undo. undone self.new.mappings undo.change ≡ self.old.mappings) }
+        ensures unchanged { OnErr result (IsUnchanged self.old self.new) }
+    {
+        let op = match self.check(op) {
+            Ok(op) => op,
+            Err(fault) => return Err(fault),
+        };
+        match op.own_mapping() {
+            Some(own) => self.change(alloc, op.range(), &[own]),
+            None => self.change(alloc, op.range(), &[]),
+        }
+    }
+
+    /// Puts back what older changes took out in a range: cuts the range out, as an unmap does, and puts in the undo value's
+    /// mappings, clipped to the range and not joined. `TooManyMappings` as for `apply`, then `OutOfMemory`. All growth comes
+    /// before the first change.
+    pub fn restore(
+        &mut self,
+        alloc: Global,
+        range: PageRange,
+        saved: &OpUndo,
+    ) -> Result<OpUndo, Fault>
+        requires { Holds self.old saved.now.change.taken }
+        ensures fault { MatchOption (limit_fault self.old range (restored self.old.mappings range saved.now.change.taken))
+            (IsOkUnless result Fault.OutOfMemory) (λ fault. result ≡ Err fault) }
+        ensures changed { IfOk result (λ undo. IsChanged self.old self.new
+            (restored self.old.mappings range saved.now.change.taken) undo) }
+        ensures range { IfOk result (λ undo. undo.range ≡ range) }
+        ensures says { IfOk result (λ _. (page : ℕ) → IsPage page → at self.new.mappings page
+            ≡ (if covers range page then at saved.now.change.taken page else at self.old.mappings page)) }
+        ensures undone { IfOk result (λ undo. undone self.new.mappings undo.change ≡ self.old.mappings) }
+        ensures unchanged { OnErr result (IsUnchanged self.old self.new) }
+    {
+        self.change(alloc, range, saved.taken.as_slice())
+    }
+
+    /// Takes a change back: the run that it put in gives way to the mappings that it took out, and the list is what it was,
+    /// boundaries included, as are the page table and the counts. It takes no memory. The list has to be the one that the
+    /// change left.
+    pub fn revert(&mut self, undo: OpUndo)
+        requires { Fits self.old undo }
+        ensures state { self.new ≡ reverted self.old undo }
+        ensures undone { (before : List Mapping)
+            → IsUndoOf before self.old.mappings undo → self.new.mappings ≡ before }
+        ensures saved { (others : List Mapping)
+            → AreSaved self.old (undo.change.taken ++ others) → AreSaved self.new others }
+    {
+        let OpUndo {
+            place,
+            put_in,
+            range,
+            taken,
+            tables,
+        } = undo;
+        let pieces = &self.painted.list().mappings()[place..place + put_in];
+        counts::exchange_back(&mut self.buffers, pieces, taken.as_slice());
+        let _lost = self
+            .painted
+            .replace(range, place, put_in, taken.as_slice(), tables);
+        self.held -= taken.len() as u64;
+    }
+
+    /// Gives up the mappings that an undo value keeps: the change stays. It takes no memory.
+    pub fn release(&mut self, undo: OpUndo)
+        requires { Holds self.old undo.change.taken }
+        ensures state { self.new ≡ released self.old undo.change.taken }
+        ensures saved { (others : List Mapping)
+            → AreSaved self.old (undo.change.taken ++ others) → AreSaved self.new others }
+    {
+        let OpUndo {
+            place: _,
+            put_in: _,
+            range: _,
+            taken,
+            tables: _,
+        } = undo;
+        counts::unkeep(&mut self.buffers, taken.as_slice());
+        self.held -= taken.len() as u64;
+    }
+
+    /// Makes a buffer of `pages` pages. `BadSize` at 0 pages or over 2^36, and `TooManyBuffers` where the limit's buffers are
+    /// alive or 2^64 - 1 were made.
+    pub fn create(&mut self, pages: u64) -> Result<BufferId, Fault>
+        ensures fault { MatchOption (create_fault self.old.buffers pages)
+            (IsOk result) (λ fault. result ≡ Err fault) }
+        ensures ok { IfOk result (λ id. IsCreated self.old.buffers self.new.buffers id pages) }
+        ensures rest { self.new ≡ record self.old { buffers = self.new.buffers } }
+        ensures err { OnErr result (self.new ≡ self.old) }
+    {
+        self.buffers.create(pages)
+    }
+
+    /// Destroys a buffer that nothing names. `NoBuffer` where the id is dead, then `Mapped` where mappings of it are in the
+    /// list, `Kept` where they are in undo values, and `InUse` where jobs use it. It takes no memory.
+    pub fn destroy(&mut self, id: BufferId) -> Result<(), Fault>
+        ensures fault { MatchOption (destroy_fault self.old.buffers id)
+            (IsOk result) (λ fault. result ≡ Err fault) }
+        ensures ok { OnOk result (self.new ≡ record self.old { buffers = without id self.old.buffers }) }
+        ensures err { OnErr result (self.new ≡ self.old) }
+    {
+        self.buffers.destroy(id)
+    }
+
+    /// Lets a job use a buffer, as the kernel's Reservation Objects do; one that uses it already gets the stronger usage.
+    /// `NoBuffer` where the id is dead, then `Conflict` with the least other job that uses the buffer where one of the two
+    /// writes it, then `OutOfMemory`.
+    pub fn join(&mut self, id: BufferId, job: u64, usage: Usage) -> Result<(), Fault>
+        ensures fault { MatchOption (join_fault self.old.buffers id job usage)
+            (IsOkUnless result Fault.OutOfMemory) (λ fault. result ≡ Err fault) }
+        ensures ok { OnOk result
+            (self.new ≡ record self.old { buffers = changed id (joined_by job usage) self.old.buffers }) }
+        ensures err { OnErr result (self.new ≡ self.old) }
+    {
+        self.buffers.join(id, job, usage)
+    }
+
+    /// Removes a job from the users of every buffer. It takes no memory.
+    pub fn leave(&mut self, job: u64)
+        ensures { self.new ≡ record self.old { buffers = left_everywhere job self.old.buffers } }
+    {
+        self.buffers.leave(job);
+    }
+
+    /// The operation in pages, or its first fault: those of `check` in their order, then of its buffer.
+    fn check(&self, op: &Op) -> Result<PageOp, Fault>
+        ensures fault { MatchOption (operation_fault self.now op.now) (IsOk result) (λ fault. result ≡ Err fault) }
+        ensures same { IfOk result (λ p. p ≡ in_pages op.now) }
+        ensures allowed { IfOk result (IsAllowed self.now.area) }
+        ensures page_op { IfOk result IsPageOp }
+        ensures placed { IfOk result (λ p. All (IsPlaced self.now.area self.now.buffers) (own_mapping p)) }
+    {
+        let op = self.bounds.check(op)?;
+        check_buffer(&self.buffers, &op)?;
+        Ok(op)
+    }
+
+    /// `TooManyMappings` where the list would pass its limit, or undo values would hold too much, once the saved mappings
+    /// stand in the range.
+    fn check_limits(
+        &self,
+        range: PageRange,
+        meeting: &Meeting,
+        saved: &[Mapping],
+    ) -> Result<(), Fault>
+        requires laid_out { IsLaidOut saved.now }
+        requires meeting { IsMeeting self.now.mappings range meeting.now }
+        ensures { MatchOption (limit_fault self.now range (restored self.now.mappings range saved.now))
+            (IsOk result) (λ fault. result ≡ Err fault) }
+    {
+        let inside = count_in_range(saved, range);
+        let after = self.mappings().len() - meeting.count + meeting.count_rests() + inside;
+        if after as u64 > self.limits.mappings() || self.held + meeting.count as u64 > MAX_HELD {
+            return Err(Fault::TooManyMappings);
+        }
+        Ok(())
+    }
+
+    /// The range is cut out, and what the saved mappings have in it is put in.
+    fn change(
+        &mut self,
+        alloc: Global,
+        range: PageRange,
+        saved: &[Mapping],
+    ) -> Result<OpUndo, Fault>
+        requires laid_out { IsLaidOut saved.now }
+        requires placed { All (IsPlaced self.old.area self.old.buffers) saved.now }
+        ensures fault { MatchOption (limit_fault self.old range (restored self.old.mappings range saved.now))
+            (IsOkUnless result Fault.OutOfMemory) (λ fault. result ≡ Err fault) }
+        ensures changed { IfOk result (λ undo.
+            IsChanged self.old self.new (restored self.old.mappings range saved.now) undo) }
+        ensures range { IfOk result (λ undo. undo.range ≡ range) }
+        ensures unchanged { OnErr result (IsUnchanged self.old self.new) }
+    {
+        let meeting = Meeting::of(self.painted.list(), range);
+        self.check_limits(range, &meeting, saved)?;
+        let place = meeting.place;
+        let run = &self.mappings()[place..place + meeting.count];
+        let taken = SmallVec::from_slice(alloc, run)?;
+        let inside = clip_to_range(alloc, saved, range)?;
+        let pieces = with_rests(alloc, &meeting, inside.as_slice())?;
+        let spares = self.painted.spare(alloc, range, inside.as_slice())?;
+        self.painted
+            .reserve(pieces.len().saturating_sub(taken.len()))?;
+        Ok(self.exchange(range, place, taken, pieces.as_slice(), spares))
+    }
+
+    /// The change, for which all room is there.
+    fn exchange(
+        &mut self,
+        range: PageRange,
+        place: usize,
+        taken: Pieces,
+        pieces: &[Mapping],
+        spares: Spares,
+    ) -> OpUndo
+        requires { (inside : List Mapping) × IsReady inside self.old range place taken.items pieces.now spares }
+        ensures changed { IsChanged self.old self.new
+            (splice self.old.mappings place (place + length taken.items) pieces.now) result }
+        ensures range { result.range ≡ range }
+    {
+        let count = taken.len();
+        counts::exchange(&mut self.buffers, taken.as_slice(), pieces);
+        let tables = self.painted.replace(range, place, count, pieces, spares);
+        self.held += count as u64;
+        OpUndo {
+            place,
+            put_in: pieces.len(),
+            range,
+            taken,
+            tables,
+        }
+    }
+}

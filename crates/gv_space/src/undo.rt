@@ -1,0 +1,32 @@
+//! Undo values.
+use crate::pieces::Pieces;
+use gv_table::Spares;
+use gv_types::PageRange;
+use std::marker::Model;
+
+/// How one change of an address space is taken back. It owns the mappings that the change took out, with their place and
+/// how many mappings stand for them now, the range that was changed, and the tables that left the page table, so taking the
+/// change back takes no memory. It has to be spent, by `Space::revert` or `Space::release`: it is not `Drop`, so a program
+/// that lets one go is refused.
+pub struct OpUndo {
+    pub(crate) place: usize,
+    pub(crate) put_in: usize,
+    pub(crate) range: PageRange,
+    pub(crate) taken: Pieces,
+    pub(crate) tables: Spares,
+}
+
+impl Model for OpUndo {
+    ghost use Rattle.gv_ranges.specs.List.{IsLaidOut};
+    ghost use Rattle.gv_space.specs.Undo.{UndoValue};
+
+    ghost Value = { UndoValue };
+
+    ghost view = { λ u. record {
+      change = record { place = u.place; put_in = u.put_in; taken = u.taken.items };
+      range = u.range;
+      tables = u.tables;
+    } };
+
+    ghost invariant = { λ u. IsLaidOut u.taken.items };
+}
