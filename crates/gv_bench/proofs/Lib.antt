@@ -1,0 +1,3 @@
+mod Further
+mod Plain
+mod Unwinding

@@ -1,96 +1,157 @@
 //! What is done to the lists.
-ghost use Rattle.std.specs.Prelude.{IfSome};
-ghost use Rattle.gv_types.specs.Operation.{IsPageOp};
+ghost use Rattle.std.specs.Prelude.{◌^◌, ◌<◌, ◌≤◌};
 
-use gv_ranges::RangeList;
-use gv_types::{Backing, BufferId, Flags, OutOfMemory, PageOp, PageRange};
-use std::alloc::Global;
+use crate::random::Random;
+use gv_types::{BufferId, Flags, Op, PAGE_BYTES};
+use std::alloc::{AllocError, Global};
 
-/// Each mapping has two pages and one page between it and the next, so none touches another.
-const STRIDE: u32 = 3;
+/// How many operations a workload has.
+pub const OPERATIONS: u32 = 2_000;
 
-/// A map of `count` pages of one buffer, from its page on that the address has.
-fn map(first: u32, count: u32) -> Option<PageOp>
-    ensures { IfSome result IsPageOp }
-{
-    let range = PageRange::new(u64::from(first), u64::from(count))?;
-    Some(PageOp::Map {
-        range,
-        backing: Backing::Buffer {
-            id: BufferId::new(0, 0),
-            page: u64::from(first),
-        },
-        flags: Flags { read_only: false },
-    })
+/// From the start of one mapping to the next, in units, before the operations.
+const STRIDE: u64 = 16;
+
+/// How many units a mapping has then: half of them are free.
+const MAPPED: u64 = 8;
+
+/// How many units the churn is confined to.
+const WINDOW: u64 = 512;
+
+/// What kind of operations there are. All but the appends leave about as many mappings as there were: a range makes two
+/// boundaries, and covers as many on average.
+#[derive(Clone, Copy, PartialEq, Eq)]
+pub enum Workload {
+    /// Maps and unmaps of up to 29 pages anywhere in the list.
+    Random,
+    /// Maps of up to 61 pages over one another, in the middle of the list.
+    Churn,
+    /// Maps and unmaps as at random, but in units of 512 pages: up to 14,848 pages.
+    Sparse,
+    /// Maps of 8 pages behind the list.
+    Append,
 }
 
-fn unmap(first: u32, count: u32) -> Option<PageOp>
-    ensures { IfSome result IsPageOp }
-{
-    let range = PageRange::new(u64::from(first), u64::from(count))?;
-    Some(PageOp::Unmap { range })
-}
+impl Workload {
+    /// Every workload.
+    pub const ALL: [Workload; 4] = [
+        Workload::Random,
+        Workload::Churn,
+        Workload::Sparse,
+        Workload::Append,
+    ];
 
-fn edit(list: &mut RangeList, op: Option<PageOp>) -> Result<(), OutOfMemory>
-    requires { IfSome op IsPageOp }
-{
-    match op {
-        Some(op) => list.edit(&op),
-        None => Ok(()),
-    }
-}
-
-/// A list of so many mappings, built by edits that append.
-pub fn append(alloc: Global, size: u32) -> Result<RangeList, OutOfMemory> {
-    let mut list = RangeList::new(alloc);
-    for place in 0..size {
-        edit(&mut list, map(place.wrapping_mul(STRIDE), 2))?;
-    }
-    Ok(list)
-}
-
-/// So many edits of the mapping in the middle: its first page goes, and comes back as a mapping of its own.
-pub fn churn(list: &mut RangeList, size: u32, edits: u32) -> Result<(), OutOfMemory> {
-    let middle = (size / 2).wrapping_mul(STRIDE);
-    for turn in 0..edits {
-        let op = if turn % 2 == 0 {
-            unmap(middle, 1)
-        } else {
-            map(middle, 1)
-        };
-        edit(list, op)?;
-    }
-    Ok(())
-}
-
-/// So many look-ups, spread over the list by a linear congruence. How many pages held something.
-pub fn look_up(list: &RangeList, size: u32, look_ups: u32) -> u32 {
-    let pages = size.wrapping_mul(STRIDE).max(1);
-    let mut seed: u32 = 1;
-    let mut found: u32 = 0;
-    for _ in 0..look_ups {
-        seed = seed.wrapping_mul(1_664_525).wrapping_add(1_013_904_223);
-        if list.at(u64::from(seed % pages)).is_some() {
-            found = found.wrapping_add(1);
+    /// Its printed name.
+    pub fn name(self) -> &'static str {
+        match self {
+            Workload::Random => "random",
+            Workload::Churn => "churn",
+            Workload::Sparse => "sparse",
+            Workload::Append => "append",
         }
     }
-    found
 }
 
-/// A number of the whole list.
-pub fn checksum(list: &RangeList) -> u64 {
-    let mut sum: u64 = 0;
-    for mapping in list.mappings() {
-        let page = match mapping.backing {
-            Backing::Buffer { page, .. } => page,
-            Backing::Zero => 0,
-        };
-        sum = sum
-            .wrapping_mul(31)
-            .wrapping_add(mapping.range.first())
-            .wrapping_mul(31)
-            .wrapping_add(mapping.range.count())
-            .wrapping_add(page);
+/// A workload on a list of `size` mappings, which are all of one buffer.
+#[derive(Clone, Copy)]
+pub struct Plan {
+    pub workload: Workload,
+    pub size: u32,
+    pub buffer: BufferId,
+}
+
+impl Plan {
+    /// Maps that make the list, none of which touches another.
+    pub fn start(&self, alloc: Global) -> Result<Vec<Op>, AllocError> {
+        let mut ops = Vec::with_capacity(alloc, self.size as usize)?;
+        for place in 0..self.size {
+            ops.push(self.map(u64::from(place) * STRIDE, MAPPED))?;
+        }
+        Ok(ops)
     }
-    sum
+
+    /// The operations.
+    pub fn operations(&self, alloc: Global) -> Result<Vec<Op>, AllocError> {
+        let mut random = Random::new(u64::from(self.size));
+        let mut ops = Vec::with_capacity(alloc, OPERATIONS as usize)?;
+        for turn in 0..OPERATIONS {
+            ops.push(self.operation(&mut random, turn))?;
+        }
+        Ok(ops)
+    }
+
+    /// Pages to look up, spread over the list.
+    pub fn pages(&self, alloc: Global, count: u32) -> Result<Vec<u64>, AllocError> {
+        let mut random = Random::new(u64::from(self.size));
+        let units = u64::from(self.size) * STRIDE;
+        let mut pages = Vec::with_capacity(alloc, count as usize)?;
+        for _ in 0..count {
+            let unit = random.below(units.max(1));
+            pages.push(unit * self.unit() + random.below(self.unit()))?;
+        }
+        Ok(pages)
+    }
+
+    /// The operation that comes after `turn` others.
+    fn operation(&self, random: &mut Random, turn: u32) -> Op {
+        let units = u64::from(self.size) * STRIDE;
+        match self.workload {
+            Workload::Random | Workload::Sparse => {
+                let first = random.below(units.max(1));
+                let count = 1 + random.below(29);
+                if random.below(2) == 0 {
+                    self.map(first, count)
+                } else {
+                    self.unmap(first, count)
+                }
+            }
+            Workload::Churn => {
+                let first = units.saturating_sub(WINDOW) / 2 + random.below(WINDOW);
+                self.map(first, 1 + random.below(61))
+            }
+            Workload::Append => self.map(units + u64::from(turn) * STRIDE, MAPPED),
+        }
+    }
+
+    /// A map of units to as many of the buffer, from the same byte on.
+    fn map(&self, first: u64, count: u64) -> Op
+        requires first { first < 2 ^ 40 }
+        requires count { count < 2 ^ 40 }
+    {
+        let addr = self.bytes(first);
+        Op::Map {
+            addr,
+            len: self.bytes(count),
+            buffer: self.buffer,
+            offset: addr,
+            flags: Flags { read_only: false },
+        }
+    }
+
+    fn unmap(&self, first: u64, count: u64) -> Op
+        requires first { first < 2 ^ 40 }
+        requires count { count < 2 ^ 40 }
+    {
+        Op::Unmap {
+            addr: self.bytes(first),
+            len: self.bytes(count),
+        }
+    }
+
+    /// So many units in bytes.
+    fn bytes(&self, units: u64) -> u64
+        requires { units < 2 ^ 40 }
+    {
+        units * self.unit() * PAGE_BYTES
+    }
+
+    /// How many pages a unit has.
+    fn unit(&self) -> u64
+        ensures some { 0 < result }
+        ensures few { result ≤ 512 }
+    {
+        match self.workload {
+            Workload::Sparse => 512,
+            Workload::Random | Workload::Churn | Workload::Append => 1,
+        }
+    }
 }

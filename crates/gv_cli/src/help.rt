@@ -15,6 +15,10 @@ The lines of a script:
       multiples of 4096. First line only.
   buffer NAME PAGES
       Makes a buffer of PAGES pages of 4096 bytes.
+  destroy NAME
+      Destroys a buffer that no mapping in the list or in an undo value names. Its name stays taken.
+  uses NAME
+      Prints how many mappings of a buffer are in the list and are kept in undo values.
   bind OPERATION
       Changes the mappings. Answers 'accepted N', or 'refused 0 FAULT' and changes nothing.
   plan OPERATION
@@ -22,7 +26,9 @@ The lines of a script:
   map
       Prints the mappings.
   at ADDR
-      Prints what an address reaches.
+      Prints what an address reaches, by the page table.
+  tables
+      Prints how many tables the page table has at its levels 3, 2, 1 and 0.
 
 An OPERATION is one of:
   map ADDR LEN NAME OFFSET [ro]

@@ -8,7 +8,7 @@ use Rattle.gv_lines.specs.declared.keyword.Keyword.TheVariants as keyword
 use Rattle.gv_lines.specs.declared.line.Operation.{Operation}
 use Rattle.gv_lines.specs.declared.line.Operation.TheVariants as operation
 use Rattle.gv_lines.specs.declared.line.Line.{Line}
-use Rattle.gv_lines.specs.declared.line.Line.TheVariants.{Silent, Space, Buffer, Bind, Plan, Map, At}
+use Rattle.gv_lines.specs.declared.line.Line.TheVariants.{Silent, Space, Buffer, Destroy, Uses, Bind, Plan, Map, At, Tables}
 
 infixl 10 ◌>>=◌
 abbrev pub ◌>>=◌ : {A B : Type 0} → Option A → (A → Option B) → Option B
@@ -75,6 +75,18 @@ buffer_line words = do
   pages ← first_number name.1
   ended pages.1 (Buffer name.0 pages.0)
 
+-- destroy NAME
+abbrev pub destroy_line : List (List ℕ) → Option Line
+destroy_line words = do
+  name ← first_name words
+  ended name.1 (Destroy name.0)
+
+-- uses NAME
+abbrev pub uses_line : List (List ℕ) → Option Line
+uses_line words = do
+  name ← first_name words
+  ended name.1 (Uses name.0)
+
 -- bind OPERATION
 abbrev pub bind_line : List (List ℕ) → Option Line
 bind_line words = do
@@ -97,25 +109,35 @@ at_line words = do
   addr ← first_number words
   ended addr.1 (At addr.0)
 
+-- tables
+abbrev pub tables_line : List (List ℕ) → Option Line
+tables_line words = ended words Tables
+
 -- the keyword that a word is
 abbrev pub keyword_of : List ℕ → Option Keyword
 keyword_of word =
     if bytes_eq word (codes "space") then Some keyword.Space
     else if bytes_eq word (codes "buffer") then Some keyword.Buffer
+    else if bytes_eq word (codes "destroy") then Some keyword.Destroy
+    else if bytes_eq word (codes "uses") then Some keyword.Uses
     else if bytes_eq word (codes "bind") then Some keyword.Bind
     else if bytes_eq word (codes "plan") then Some keyword.Plan
     else if bytes_eq word (codes "map") then Some keyword.Map
     else if bytes_eq word (codes "at") then Some keyword.At
+    else if bytes_eq word (codes "tables") then Some keyword.Tables
     else None
 
 -- a line that begins with this keyword, by the words behind it
 abbrev pub line_of : Keyword → List (List ℕ) → Option Line
 line_of keyword.Space = space_line
 line_of keyword.Buffer = buffer_line
+line_of keyword.Destroy = destroy_line
+line_of keyword.Uses = uses_line
 line_of keyword.Bind = bind_line
 line_of keyword.Plan = plan_line
 line_of keyword.Map = map_line
 line_of keyword.At = at_line
+line_of keyword.Tables = tables_line
 
 -- a line by its words
 abbrev pub worded : List (List ℕ) → Option Line

@@ -7,10 +7,13 @@ ghost use Rattle.gv_lines.specs.Grammar.{keyword_of};
 pub enum Keyword {
     Space,
     Buffer,
+    Destroy,
+    Uses,
     Bind,
     Plan,
     Map,
     At,
+    Tables,
 }
 
 impl Keyword {
@@ -21,10 +24,13 @@ impl Keyword {
         match word {
             b"space" => Some(Keyword::Space),
             b"buffer" => Some(Keyword::Buffer),
+            b"destroy" => Some(Keyword::Destroy),
+            b"uses" => Some(Keyword::Uses),
             b"bind" => Some(Keyword::Bind),
             b"plan" => Some(Keyword::Plan),
             b"map" => Some(Keyword::Map),
             b"at" => Some(Keyword::At),
+            b"tables" => Some(Keyword::Tables),
             _ => None,
         }
     }

@@ -4,8 +4,8 @@ ghost use Rattle.std.specs.List.{list_all};
 ghost use Rattle.std.specs.Char.{is_ascii};
 ghost use Rattle.gv_lines.specs.Grammar.{parsed, said, worded, operation_of, read_only_end};
 ghost use Rattle.gv_lines.specs.Grammar.{map_operation, zero_operation, unmap_operation};
-ghost use Rattle.gv_lines.specs.Grammar.{space_line, buffer_line, bind_line, plan_line};
-ghost use Rattle.gv_lines.specs.Grammar.{map_line, at_line};
+ghost use Rattle.gv_lines.specs.Grammar.{space_line, buffer_line, destroy_line, uses_line};
+ghost use Rattle.gv_lines.specs.Grammar.{bind_line, plan_line, map_line, at_line, tables_line};
 
 use super::keyword::Keyword;
 use super::name::Name;
@@ -55,6 +55,14 @@ pub enum Line {
         name: Name,
         pages: u64,
     },
+    /// `destroy NAME`: the buffer goes.
+    Destroy {
+        name: Name,
+    },
+    /// `uses NAME`: how many mappings of the buffer there are.
+    Uses {
+        name: Name,
+    },
     /// `bind OPERATION`: the operation is carried out.
     Bind {
         operation: Operation,
@@ -69,6 +77,8 @@ pub enum Line {
     At {
         addr: u64,
     },
+    /// `tables`: how many tables the page table has.
+    Tables,
 }
 
 /// What a line says, given without its line end, or `None` for a line that is not of the language.
@@ -100,10 +110,13 @@ fn words_line(mut words: Words<'_>) -> Option<Line>
     match Keyword::from_word(words.take_word()?)? {
         Keyword::Space => space_line(words),
         Keyword::Buffer => buffer_line(words),
+        Keyword::Destroy => destroy_line(words),
+        Keyword::Uses => uses_line(words),
         Keyword::Bind => bind_line(words),
         Keyword::Plan => plan_line(words),
         Keyword::Map => map_line(words),
         Keyword::At => at_line(words),
+        Keyword::Tables => tables_line(words),
     }
 }
 
@@ -128,6 +141,20 @@ fn buffer_line(mut words: Words<'_>) -> Option<Line>
     let name = words.take_name()?;
     let pages = words.take_number()?;
     words.is_done().then_some(Line::Buffer { name, pages })
+}
+
+fn destroy_line(mut words: Words<'_>) -> Option<Line>
+    ensures { result ≡ destroy_line words.entry }
+{
+    let name = words.take_name()?;
+    words.is_done().then_some(Line::Destroy { name })
+}
+
+fn uses_line(mut words: Words<'_>) -> Option<Line>
+    ensures { result ≡ uses_line words.entry }
+{
+    let name = words.take_name()?;
+    words.is_done().then_some(Line::Uses { name })
 }
 
 fn bind_line(words: Words<'_>) -> Option<Line>
@@ -155,6 +182,12 @@ fn at_line(mut words: Words<'_>) -> Option<Line>
 {
     let addr = words.take_number()?;
     words.is_done().then_some(Line::At { addr })
+}
+
+fn tables_line(words: Words<'_>) -> Option<Line>
+    ensures { result ≡ tables_line words.entry }
+{
+    words.is_done().then_some(Line::Tables)
 }
 
 fn any_operation(mut words: Words<'_>) -> Option<Operation>

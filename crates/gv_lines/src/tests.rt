@@ -8,10 +8,18 @@ fn name(text: &[u8]) -> Result<Name, &'static str> {
 
 #[test]
 fn reads_plain_lines(rt: HostRuntime) -> Result<(), Fail> {
-    let rows: [(&[u8], Line); 11] = [
+    let rows: [(&[u8], Line); 14] = [
         (b"", Line::Silent),
         (b"# any text", Line::Silent),
         (b"map", Line::Map),
+        (b"tables", Line::Tables),
+        (b"destroy b", Line::Destroy { name: name(b"b")? }),
+        (
+            b"uses ring_0",
+            Line::Uses {
+                name: name(b"ring_0")?,
+            },
+        ),
         (b"at 0", Line::At { addr: 0 }),
         (b"at 18446744073709551615", Line::At { addr: u64::MAX }),
         (b"at 0xffffffffffffffff", Line::At { addr: u64::MAX }),
@@ -118,7 +126,7 @@ fn reads_operations(rt: HostRuntime) -> Result<(), Fail> {
 
 #[test]
 fn refuses_other_lines(rt: HostRuntime) {
-    let rows: [&[u8]; 29] = [
+    let rows: [&[u8]; 35] = [
         b"at 18446744073709551616",
         b"at 0x00000000000000000",
         b"at 0x",
@@ -129,6 +137,12 @@ fn refuses_other_lines(rt: HostRuntime) {
         b"at -1",
         b"at",
         b"at 1 2",
+        b"destroy",
+        b"destroy zero",
+        b"destroy b c",
+        b"uses",
+        b"uses b 1",
+        b"tables 0",
         b"buffer a_34567890123456z 1",
         b"buffer zero 1",
         b"buffer B 1",

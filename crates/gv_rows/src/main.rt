@@ -11,7 +11,7 @@ use std::process::ExitCode;
 use std::rt::Files;
 use std::{fs, io};
 
-const EXAMPLES: [&str; 4] = ["first", "replace", "keep", "bounds"];
+const EXAMPLES: [&str; 5] = ["first", "replace", "keep", "bounds", "tables"];
 
 fn main(rt: HostRuntime) -> io::Result<ExitCode> {
     let mut all_same = true;

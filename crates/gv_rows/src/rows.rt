@@ -8,7 +8,7 @@ pub struct Row {
     pub bad_line: Option<u64>,
 }
 
-pub const ROWS: [Row; 22] = [
+pub const ROWS: [Row; 32] = [
     Row {
         name: "empty_script",
         script: b"",
@@ -17,20 +17,20 @@ pub const ROWS: [Row; 22] = [
     },
     Row {
         name: "one_map",
-        script: b"buffer b 4\nbind map 0x0 0x4000 b 0x0\nmap\n",
-        replies: b"ok\naccepted 0\n0000000000000000 0000000000004000 b 0000000000000000 rw\n",
+        script: b"buffer b 4\nbind map 0x0 0x4000 b 0x0\nmap\ntables\n",
+        replies: b"ok\naccepted 0\n0000000000000000 0000000000004000 b 0000000000000000 rw\n1 1 1 1\n",
         bad_line: None,
     },
     Row {
         name: "hole_leaves_two_rests",
-        script: b"buffer b 4\nbind map 0x0 0x4000 b 0x0\nplan unmap 0x1000 0x1000\nbind unmap 0x1000 0x1000\nmap\n",
-        replies: b"ok\naccepted 0\nremap 0000000000000000 0000000000004000 b 0000000000000000 rw prev 0000000000000000 0000000000001000 b 0000000000000000 rw next 0000000000002000 0000000000004000 b 0000000000002000 rw\naccepted 1\n0000000000000000 0000000000001000 b 0000000000000000 rw\n0000000000002000 0000000000004000 b 0000000000002000 rw\n",
+        script: b"buffer b 4\nbind map 0x0 0x4000 b 0x0\nplan unmap 0x1000 0x1000\nbind unmap 0x1000 0x1000\nmap\nuses b\n",
+        replies: b"ok\naccepted 0\nremap 0000000000000000 0000000000004000 b 0000000000000000 rw prev 0000000000000000 0000000000001000 b 0000000000000000 rw next 0000000000002000 0000000000004000 b 0000000000002000 rw\naccepted 1\n0000000000000000 0000000000001000 b 0000000000000000 rw\n0000000000002000 0000000000004000 b 0000000000002000 rw\nuses 2 kept 1\n",
         bad_line: None,
     },
     Row {
         name: "same_map_is_kept",
-        script: b"buffer b 4\nbind map 0x0 0x4000 b 0x0\nplan map 0x0 0x4000 b 0x0\nplan map 0x0 0x4000 b 0x0 ro\nbind map 0x0 0x4000 b 0x0\n",
-        replies: b"ok\naccepted 0\nunmap 0000000000000000 0000000000004000 b 0000000000000000 rw keep\nmap 0000000000000000 0000000000004000 b 0000000000000000 rw\nunmap 0000000000000000 0000000000004000 b 0000000000000000 rw\nmap 0000000000000000 0000000000004000 b 0000000000000000 ro\naccepted 1\n",
+        script: b"buffer b 4\nbind map 0x0 0x4000 b 0x0\nplan map 0x0 0x4000 b 0x0\nplan map 0x0 0x4000 b 0x0 ro\nbind map 0x0 0x4000 b 0x0\nuses b\n",
+        replies: b"ok\naccepted 0\nunmap 0000000000000000 0000000000004000 b 0000000000000000 rw keep\nmap 0000000000000000 0000000000004000 b 0000000000000000 rw\nunmap 0000000000000000 0000000000004000 b 0000000000000000 rw\nmap 0000000000000000 0000000000004000 b 0000000000000000 ro\naccepted 1\nuses 1 kept 1\n",
         bad_line: None,
     },
     Row {
@@ -141,10 +141,70 @@ pub const ROWS: [Row; 22] = [
         replies: b"accepted 0\naccepted 1\nempty\n",
         bad_line: None,
     },
+    Row {
+        name: "large_leaf_broken",
+        script: b"buffer b 512\nbind map 0x0 0x200000 b 0x0\ntables\nbind unmap 0x1000 0x1000\ntables\n",
+        replies: b"ok\naccepted 0\n1 1 1 0\naccepted 1\n1 1 1 1\n",
+        bad_line: None,
+    },
+    Row {
+        name: "longest_operation",
+        script: b"bind zero 0x0 0x10001000\nbind zero 0x0 0x10000000\ntables\n",
+        replies: b"refused 0 TooLong\naccepted 0\n1 1 1 0\n",
+        bad_line: None,
+    },
+    Row {
+        name: "buffers_with_generations",
+        script: b"buffer b 4\ndestroy b\ndestroy b\nuses b\nbind map 0x0 0x1000 b 0x0\nbuffer c 4\nbind map 0x0 0x4000 c 0x0\ndestroy c\nbind unmap 0x1000 0x1000\nuses c\n",
+        replies: b"ok\nok\nrefused NoBuffer\nrefused NoBuffer\nrefused 0 NoBuffer\nok\naccepted 0\nrefused Mapped 1\naccepted 1\nuses 2 kept 1\n",
+        bad_line: None,
+    },
+    Row {
+        name: "tables_come_and_go",
+        script: b"buffer b 65536\nbind map 0x0 0x10000000 b 0x0\ntables\nbind unmap 0x0 0x10000000\ntables\nbind map 0x1ff000 0x2000 b 0x0\ntables\nbind unmap 0x1ff000 0x2000\nbind map 0x7ffffff000 0x2000 b 0x0\ntables\n",
+        replies: b"ok\naccepted 0\n1 1 1 0\naccepted 1\n0 0 0 0\naccepted 2\n1 1 1 2\naccepted 3\naccepted 4\n1 2 2 2\n",
+        bad_line: None,
+    },
+    Row {
+        name: "leaves_where_one_mapping_covers",
+        script: b"buffer b 1024\nbind map 0x1000 0x200000 b 0x0\ntables\nbind map 0x0 0x1000 b 0x300000\ntables\nbind map 0x200000 0x200000 b 0x0\ntables\nbind map 0x0 0x200000 b 0x1000\ntables\n",
+        replies: b"ok\naccepted 0\n1 1 1 2\naccepted 1\n1 1 1 2\naccepted 2\n1 1 1 1\naccepted 3\n1 1 1 0\n",
+        bad_line: None,
+    },
+    Row {
+        name: "dead_buffer_before_its_end",
+        script: b"buffer b 1\ndestroy b\nbind map 0x0 0x2000 b 0x1000\nplan map 0x0 0x1000 b 0x0\nbind map 0x0 0x0 b 0x0\n",
+        replies: b"ok\nok\nrefused 0 NoBuffer\nrefused NoBuffer\nrefused 0 Empty\n",
+        bad_line: None,
+    },
+    Row {
+        name: "undo_values_keep_a_buffer",
+        script: b"buffer b 1\nbind map 0x0 0x1000 b 0x0\nbind unmap 0x0 0x1000\nuses b\ndestroy b\n",
+        replies: b"ok\naccepted 0\naccepted 1\nuses 0 kept 1\nrefused Kept 1\n",
+        bad_line: None,
+    },
+    Row {
+        name: "index_used_again",
+        script: b"buffer a 4\nbuffer b 4\ndestroy a\nbuffer c 8\nbind map 0x0 0x1000 c 0x7000\nbind map 0x1000 0x1000 b 0x0\nmap\nuses a\nuses c\nbind map 0x0 0x1000 a 0x0\n",
+        replies: b"ok\nok\nok\nok\naccepted 0\naccepted 1\n0000000000000000 0000000000001000 c 0000000000007000 rw\n0000000000001000 0000000000002000 b 0000000000000000 rw\nrefused NoBuffer\nuses 1 kept 0\nrefused 0 NoBuffer\n",
+        bad_line: None,
+    },
+    Row {
+        name: "destroyed_name_stays_declared",
+        script: b"buffer b 4\ndestroy b\nbuffer b 4\n",
+        replies: b"ok\nok\n",
+        bad_line: Some(3),
+    },
+    Row {
+        name: "name_not_declared",
+        script: b"tables\ndestroy b\n",
+        replies: b"0 0 0 0\n",
+        bad_line: Some(2),
+    },
 ];
 
 /// What makes a line bad, with the line. Each stands between a `buffer` line and a `map` line.
-pub const BAD_LINES: [(&str, &[u8]); 22] = [
+pub const BAD_LINES: [(&str, &[u8]); 27] = [
     ("space at the end", b"map "),
     ("two spaces", b"bind  map 0x0 0x1000 b 0x0"),
     ("leading zero", b"at 01"),
@@ -153,7 +213,12 @@ pub const BAD_LINES: [(&str, &[u8]); 22] = [
     ("a number of 2^64", b"at 18446744073709551616"),
     ("zero as a name", b"buffer zero 1"),
     ("a name declared twice", b"buffer b 1"),
-    ("a line that is none", b"uses c"),
+    ("a line that is none", b"free b"),
+    ("uses of a name that is not declared", b"uses c"),
+    ("a destroy of a name that is not declared", b"destroy c"),
+    ("a destroy of two names", b"destroy b b"),
+    ("uses of no name", b"uses"),
+    ("tables with a word", b"tables 1"),
     ("carriage return", b"map\r"),
     ("a name that is not declared", b"bind map 0x0 0x1000 c 0x0"),
     ("a name of 17 letters", b"buffer abcdefghijklmnopq 1"),

@@ -8,7 +8,7 @@ use std::process::Abort;
 use std::test::Fail;
 
 const HOLE: &[u8] =
-    b"buffer b 4\nbind map 0x0 0x4000 b 0x0\nplan unmap 0x1000 0x1000\nbind unmap 0x1000 0x1000\nmap\n";
+    b"buffer b 4\nbind map 0x0 0x4000 b 0x0\nplan unmap 0x1000 0x1000\nbind unmap 0x1000 0x1000\nmap\nuses b\n";
 
 /// Runs the script over memory, and asserts what it comes to.
 fn expect(
@@ -62,7 +62,7 @@ fn bad_lines_end_the_script(rt: HostRuntime) -> Result<(), Fail> {
 fn prefixes_end_at_their_last_line(rt: HostRuntime) -> Result<(), Fail> {
     let mut whole = MemorySink::new(rt.alloc());
     run_script(rt.alloc(), &mut MemorySource::new(HOLE), &mut whole)?;
-    let replies = [0, 1, 2, 3, 4, 6];
+    let replies = [0, 1, 2, 3, 4, 6, 7];
     for len in 0..HOLE.len() {
         let prefix = &HOLE[..len];
         let lines = prefix.iter().filter(|byte| **byte == b'\n').count();
@@ -167,17 +167,19 @@ fn as_many_buffers_as_may_live(rt: HostRuntime) -> Result<(), Fail> {
             push_names(&mut script, char::from(first), char::from(second))?;
         }
     }
+    script.push_str("destroy aa0\nbuffer z 1\nuses z\nbuffer y 1\n")?;
     let mut source = MemorySource::new(script.as_bytes());
     let mut sink = MemorySink::new(rt.alloc());
     run_script(rt.alloc(), &mut source, &mut sink)?;
     let refused = b"refused TooManyBuffers\n";
+    let last = b"ok\nok\nuses 0 kept 0\nrefused TooManyBuffers\n";
     let granted = 65_536 * b"ok\n".len();
     let lines = 26 * 26 * 98;
     assert_eq!(rt;
         sink.bytes().len(),
-        granted + (lines - 65_536) * refused.len()
+        granted + (lines - 65_536) * refused.len() + last.len()
     );
-    assert!(rt; sink.bytes().ends_with(refused));
+    assert!(rt; sink.bytes().ends_with(last));
     Ok(())
 }
 

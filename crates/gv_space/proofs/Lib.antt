@@ -17,3 +17,4 @@ pub mod Rooms
 pub mod Lives
 pub mod Jobs
 pub mod Spaces
+pub mod Unchanged

@@ -12,3 +12,6 @@ mod verdict;
 
 pub use space::Space;
 pub use undo::OpUndo;
+
+#[cfg(test)]
+mod tests;

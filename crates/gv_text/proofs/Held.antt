@@ -17,66 +17,61 @@ use Rattle.gv_ranges.proofs.Kept.{clip_is_piece, HoldsOfPieces, All-edited}
 use Rattle.gv_ranges.proofs.Replaced.{all_mappings}
 use Rattle.gv_split.specs.Steps.{step_of, steps, is_kept}
 use Rattle.gv_split.specs.declared.step.Step.TheVariants.{Unmap, Remap, Map}
-use Rattle.gv_text.specs.State.{Declared, LieInside, IsHeld}
+use Rattle.gv_text.specs.State.{LieInside, IsHeld}
 use Rattle.gv_text.specs.Reply.{IsHeldRest, IsHeldStep, IsHeldEntry}
 
-some_and : {X : Type 0} (o : Option X) (P Q : X → Type 0) → ((x : X) → P x → Q x) → IsSomeAnd o P → IsSomeAnd o Q
-some_and (Some x) P Q weaker is = weaker x is
-some_and None P Q weaker is = is
-
 -- fewer pages, further on, lie inside too
-pub lie_inside-advanced : (buffers : Declared) (b : Backing) (on count whole : ℕ) → on + count ≤ whole →
-    LieInside buffers b whole → LieInside buffers (advanced b on) count
-lie_inside-advanced buffers (Buffer id page) on count whole fits inside =
-    some_and _ (λ buffer. page + whole ≤ buffer.1) (λ buffer. page + on + count ≤ buffer.1) (λ buffer less. omega arith) inside
-lie_inside-advanced buffers Zero on count whole fits inside = tt
+pub lie_inside-advanced : (names : List (List ℕ)) (b : Backing) (on count whole : ℕ) → on + count ≤ whole →
+    LieInside names b whole → LieInside names (advanced b on) count
+lie_inside-advanced names (Buffer id page) on count whole fits inside = (inside.0, omega (arith, inside.1))
+lie_inside-advanced names Zero on count whole fits inside = tt
 
-pub held_pieces : (buffers : Declared) → HoldsOfPieces (IsHeld buffers)
-held_pieces buffers low high m n is held clipped =
+pub held_pieces : (names : List (List ℕ)) → HoldsOfPieces (IsHeld names)
+held_pieces names low high m n is held clipped =
     let piece = clip_is_piece low high m n clipped in
     let some : max low m.range.first < min high (end_of m.range) = piece.0 in
-    rw piece.1 (lie_inside-advanced buffers m.backing (max low m.range.first - m.range.first) (min high (end_of m.range) - max low m.range.first) m.range.count (omega arith) held)
+    rw piece.1 (lie_inside-advanced names m.backing (max low m.range.first - m.range.first) (min high (end_of m.range) - max low m.range.first) m.range.count (omega arith) held)
 
-pub held_edited : (buffers : Declared) (ms : List Mapping) (op : PageOp) → IsLaidOut ms →
-    All (IsHeld buffers) ms → All (IsHeld buffers) (own_mapping op) → All (IsHeld buffers) (edited ms op)
-held_edited buffers ms op laid held own =
-    All-edited (IsHeld buffers) ms op (held_pieces buffers) (all_mappings ms 0 laid) held own
+pub held_edited : (names : List (List ℕ)) (ms : List Mapping) (op : PageOp) → IsLaidOut ms →
+    All (IsHeld names) ms → All (IsHeld names) (own_mapping op) → All (IsHeld names) (edited ms op)
+held_edited names ms op laid held own =
+    All-edited (IsHeld names) ms op (held_pieces names) (all_mappings ms 0 laid) held own
 
 -- what an address reaches
-pub held_entry : (buffers : Declared) (ms : List Mapping) (page : ℕ) → All (IsHeld buffers) ms → IsHeldEntry buffers (at ms page)
-held_entry buffers [] page held = tt
-held_entry buffers (m ∷ ms) page held =
-    let rest : IsHeldEntry buffers (at ms page) = held_entry buffers ms page (All-tail (IsHeld buffers) m ms held) in
-    let here : IsHeld buffers m = All-head (IsHeld buffers) m ms held in
-    (elim (covers m.range page) as (λ b. covers m.range page ≡ b → IsHeldEntry buffers (cond b (Some (part m page)) (at ms page))) [
+pub held_entry : (names : List (List ℕ)) (ms : List Mapping) (page : ℕ) → All (IsHeld names) ms → IsHeldEntry names (at ms page)
+held_entry names [] page held = tt
+held_entry names (m ∷ ms) page held =
+    let rest : IsHeldEntry names (at ms page) = held_entry names ms page (All-tail (IsHeld names) m ms held) in
+    let here : IsHeld names m = All-head (IsHeld names) m ms held in
+    (elim (covers m.range page) as (λ b. covers m.range page ≡ b → IsHeldEntry names (cond b (Some (part m page)) (at ms page))) [
       | true ↦ λ is.
           let within : page - m.range.first + 1 ≤ m.range.count = grind (arith, nat_tests) in
-          lie_inside-advanced buffers m.backing (page - m.range.first) 1 m.range.count within here
+          lie_inside-advanced names m.backing (page - m.range.first) 1 m.range.count within here
       | false ↦ λ is. rest
     ]) refl
 
-held_rest : (buffers : Declared) (low high : ℕ) (m : Mapping) → IsMapping m → IsHeld buffers m → IsHeldRest buffers (clip low high m)
-held_rest buffers low high m is held =
-    (elim (clip low high m) as (λ o. clip low high m ≡ o → IsHeldRest buffers o)
-    [ Some n ↦ λ clipped. held_pieces buffers low high m n is held clipped | None ↦ λ clipped. tt ]) refl
+held_rest : (names : List (List ℕ)) (low high : ℕ) (m : Mapping) → IsMapping m → IsHeld names m → IsHeldRest names (clip low high m)
+held_rest names low high m is held =
+    (elim (clip low high m) as (λ o. clip low high m ≡ o → IsHeldRest names o)
+    [ Some n ↦ λ clipped. held_pieces names low high m n is held clipped | None ↦ λ clipped. tt ]) refl
 
-held_step : (buffers : Declared) (op : PageOp) (m : Mapping) → IsMapping m → IsHeld buffers m → IsHeldStep buffers (step_of op m)
-held_step buffers op m is held =
-    (elim (lies_in m.range (range_of op)) as (λ b. IsHeldStep buffers (cond b (Unmap m (is_kept op m)) (Remap m (clip 0 (range_of op).first m) (clip (end_of (range_of op)) PAGES m) (is_kept op m)))) [
+held_step : (names : List (List ℕ)) (op : PageOp) (m : Mapping) → IsMapping m → IsHeld names m → IsHeldStep names (step_of op m)
+held_step names op m is held =
+    (elim (lies_in m.range (range_of op)) as (λ b. IsHeldStep names (cond b (Unmap m (is_kept op m)) (Remap m (clip 0 (range_of op).first m) (clip (end_of (range_of op)) PAGES m) (is_kept op m)))) [
       | true ↦ held
-      | false ↦ (held, held_rest buffers 0 (range_of op).first m is held, held_rest buffers (end_of (range_of op)) PAGES m is held)
+      | false ↦ (held, held_rest names 0 (range_of op).first m is held, held_rest names (end_of (range_of op)) PAGES m is held)
     ])
 
-own_step : (buffers : Declared) (op : PageOp) → All (IsHeld buffers) (own_mapping op) → All (IsHeldStep buffers) (map Map (own_mapping op))
-own_step buffers op own = All-map (IsHeldStep buffers) Map (own_mapping op) own
+own_step : (names : List (List ℕ)) (op : PageOp) → All (IsHeld names) (own_mapping op) → All (IsHeldStep names) (map Map (own_mapping op))
+own_step names op own = All-map (IsHeldStep names) Map (own_mapping op) own
 
 -- the mappings of an operation's steps
-pub held_steps : (buffers : Declared) (ms : List Mapping) (op : PageOp) → IsLaidOut ms →
-    All (IsHeld buffers) ms → All (IsHeld buffers) (own_mapping op) → All (IsHeldStep buffers) (steps ms op)
-held_steps buffers ms op laid held own =
-    let each : All (λ (m : Mapping). IsHeldStep buffers (step_of op m)) ms =
-    λ k d below. held_step buffers op _ (all_mappings ms 0 laid k d below) (held k d below) in
-    let met : All (λ (m : Mapping). IsHeldStep buffers (step_of op m)) (filter (λ m. meets m.range (range_of op)) ms) =
-    All-filter (λ (m : Mapping). meets m.range (range_of op)) (λ (m : Mapping). IsHeldStep buffers (step_of op m)) ms each in
-    All-append (IsHeldStep buffers) (map (step_of op) (filter (λ m. meets m.range (range_of op)) ms)) (map Map (own_mapping op))
-    (All-map (IsHeldStep buffers) (step_of op) (filter (λ m. meets m.range (range_of op)) ms) met) (own_step buffers op own)
+pub held_steps : (names : List (List ℕ)) (ms : List Mapping) (op : PageOp) → IsLaidOut ms →
+    All (IsHeld names) ms → All (IsHeld names) (own_mapping op) → All (IsHeldStep names) (steps ms op)
+held_steps names ms op laid held own =
+    let each : All (λ (m : Mapping). IsHeldStep names (step_of op m)) ms =
+    λ k d below. held_step names op _ (all_mappings ms 0 laid k d below) (held k d below) in
+    let met : All (λ (m : Mapping). IsHeldStep names (step_of op m)) (filter (λ m. meets m.range (range_of op)) ms) =
+    All-filter (λ (m : Mapping). meets m.range (range_of op)) (λ (m : Mapping). IsHeldStep names (step_of op m)) ms each in
+    All-append (IsHeldStep names) (map (step_of op) (filter (λ m. meets m.range (range_of op)) ms)) (map Map (own_mapping op))
+    (All-map (IsHeldStep names) (step_of op) (filter (λ m. meets m.range (range_of op)) ms) met) (own_step names op own)

@@ -1,5 +1,9 @@
 pub mod State
+pub mod Renamed
 pub mod Reply
 pub mod Answer
+pub mod Calls
+pub mod Work
+pub mod Desk
 pub mod Reading
 pub mod Script

@@ -1,50 +1,81 @@
-//! The mappings of a script, with the operations that made them.
-ghost use Rattle.std.specs.Prelude.{◌≡◌, [], length, OnOk, OnErr};
-ghost use Rattle.gv_types.specs.Operation.{IsPageOp};
+//! The address space of a script, with the operations that changed it.
+ghost use Rattle.std.specs.Prelude.{◌≡◌, ◌+◌, [], length, IsOk, IsOkUnless, IfOk, OnOk, OnErr, MatchOption};
+ghost use Rattle.gv_types.specs.Operation.{in_pages};
 
 use crate::history::History;
-use gv_ranges::RangeList;
-use gv_types::{OutOfMemory, PageOp};
+use gv_space::{OpUndo, Space};
+use gv_types::{Bounds, BufferId, Fault, Limits, Op, OutOfMemory};
 use std::alloc::Global;
 use std::marker::Model;
 
-/// The list of mappings, and the operations that were accepted.
-#[derive(Drop)]
+/// The address space, the operations that were accepted, and their undo values, which have to be given up: `close` does.
 pub struct Bindings {
-    list: RangeList,
+    space: Space,
     accepted: History,
+    undos: Vec<OpUndo>,
 }
 
 impl Model for Bindings {
-    ghost use Rattle.gv_text.specs.State.{Bound, IsBound};
+    ghost use Rattle.gv_text.specs.Work.{Work, IsWork, taken_by};
 
-    ghost Value = { Bound };
+    ghost Value = { Work };
 
-    ghost view = { λ b. record { mappings = b.list.mappings; accepted = b.accepted.operations } };
+    ghost view = { λ b. record {
+      space = b.space;
+      accepted = b.accepted.operations;
+      taken = taken_by b.undos.items;
+    } };
 
-    ghost invariant = { λ b. IsBound
-        (record { mappings = b.list.mappings; accepted = b.accepted.operations }) };
+    ghost invariant = { λ b. IsWork (record {
+      space = b.space;
+      accepted = b.accepted.operations;
+      taken = taken_by b.undos.items;
+    }) };
 }
 
 impl Bindings {
-    ghost use Rattle.gv_text.specs.State.{IsBound, with_operation};
+    ghost use Rattle.gv_buffers.specs.Table.{create_fault, destroy_fault, without, IsCreated};
+    ghost use Rattle.gv_space.specs.State.{IsSpace};
+    ghost use Rattle.gv_space.specs.Verdict.{apply_fault};
+    ghost use Rattle.gv_text.specs.Work.{IsWork, new_work, with_room, worked};
 
-    pub fn new(alloc: Global) -> Self
-        ensures mappings { result.mappings ≡ [] }
-        ensures accepted { result.accepted ≡ [] }
+    pub fn new(alloc: Global, bounds: Bounds) -> Result<Self, OutOfMemory>
+        ensures { IfOk result (λ b. b ≡ new_work bounds) }
     {
-        Bindings {
-            list: RangeList::new(alloc),
-            accepted: History::new(alloc),
+        match Space::new(alloc, bounds, Limits::full()) {
+            Ok(space) => Ok(Bindings {
+                space,
+                accepted: History::new(alloc),
+                undos: Vec::new(alloc),
+            }),
+            Err(_) => Err(OutOfMemory),
         }
     }
 
-    /// The list of mappings.
-    pub fn list(&self) -> &RangeList
-        ensures mappings { result.now.mappings ≡ self.now.mappings }
-        ensures bound { IsBound self.now }
+    /// Sets the bounds, where nothing is done.
+    pub fn set_bounds(&mut self, alloc: Global, bounds: Bounds) -> Result<(), OutOfMemory>
+        requires accepted { self.old.accepted ≡ [] }
+        requires taken { self.old.taken ≡ [] }
+        ensures ok { OnOk result (self.new ≡ new_work bounds) }
+        ensures err { OnErr result (self.new ≡ self.old) }
     {
-        &self.list
+        match Space::new(alloc, bounds, Limits::full()) {
+            Ok(space) => {
+                self.space = space;
+                Ok(())
+            }
+            Err(_) => Err(OutOfMemory),
+        }
+    }
+
+    /// The address space.
+    pub fn space(&self) -> &Space
+        ensures value { result.now ≡ self.now.space }
+        ensures space { IsSpace self.now.space }
+        ensures work { IsWork self.now }
+    {
+        let _mappings = self.space.mappings();
+        &self.space
     }
 
     /// How many operations were accepted.
@@ -54,16 +85,61 @@ impl Bindings {
         self.accepted.len()
     }
 
-    /// Edits the list by the operation. All growth comes before the first change.
-    pub fn bind(&mut self, op: PageOp) -> Result<(), OutOfMemory>
-        requires { IsPageOp op }
-        ensures ok { OnOk result (self.new ≡ with_operation self.old op) }
+    /// Makes a buffer.
+    pub fn create(&mut self, pages: u64) -> Result<BufferId, Fault>
+        ensures fault { MatchOption (create_fault self.old.space.buffers pages)
+            (IsOk result) (λ fault. result ≡ Err fault) }
+        ensures ok { IfOk result (λ id. IsCreated self.old.space.buffers self.new.space.buffers id pages) }
+        ensures rest { self.new ≡ record self.old { space = record self.old.space { buffers = self.new.space.buffers } } }
         ensures err { OnErr result (self.new ≡ self.old) }
-        ensures was_bound { IsBound self.old }
     {
-        self.accepted.reserve()?;
-        self.list.edit(&op)?;
-        self.accepted.push(op);
-        Ok(())
+        self.space.create(pages)
+    }
+
+    /// Destroys a buffer that nothing names.
+    pub fn destroy(&mut self, id: BufferId) -> Result<(), Fault>
+        ensures fault { MatchOption (destroy_fault self.old.space.buffers id)
+            (IsOk result) (λ fault. result ≡ Err fault) }
+        ensures ok { OnOk result (self.new ≡ record self.old {
+          space = record self.old.space { buffers = without id self.old.space.buffers };
+        }) }
+        ensures err { OnErr result (self.new ≡ self.old) }
+    {
+        self.space.destroy(id)
+    }
+
+    /// Applies an operation, and keeps it with its undo value. There is room for both before the change; where there is
+    /// none, the change is taken back, so that the first fault is the answer.
+    pub fn apply(&mut self, alloc: Global, op: &Op) -> Result<(), Fault>
+        ensures fault { MatchOption (apply_fault self.old.space op.now)
+            (IsOkUnless result Fault.OutOfMemory) (λ fault. result ≡ Err fault) }
+        ensures ok { OnOk result (self.new ≡ with_room self.new.space.room (worked self.old (in_pages op.now))) }
+        ensures err { OnErr result (self.new ≡ with_room self.new.space.room self.old) }
+    {
+        let room = (self.accepted.reserve(), self.undos.reserve(1));
+        let undo = match self.space.apply(alloc, op) {
+            Ok(undo) => undo,
+            Err(fault) => return Err(fault),
+        };
+        if let (Ok(()), Ok(())) = room {
+            self.accepted.push(*op);
+            self.undos.push_reserved(undo);
+            return Ok(());
+        }
+        self.space.revert(undo);
+        Err(Fault::OutOfMemory)
+    }
+
+    /// Gives up the undo values, newest first. It takes no memory.
+    pub fn close(self) {
+        let Bindings {
+            mut space,
+            accepted: _accepted,
+            mut undos,
+        } = self;
+        while let Some(undo) = undos.pop() {
+            space.release(undo);
+        }
+        undos.destroy_empty();
     }
 }

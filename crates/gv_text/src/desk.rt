@@ -1,302 +1,209 @@
-//! What the lines of a script do.
-ghost use Rattle.std.specs.Prelude.{◌≡◌, ◌≢◌, ◌++◌, Bool, false, true, None, Some, OnOk, IfOk, string_bytes};
-ghost use Rattle.gv_types.specs.Bounds.{is_aligned};
-ghost use Rattle.gv_types.specs.Operation.{IsPageOp};
-ghost use Rattle.gv_split.specs.Steps.{steps};
-ghost use Rattle.gv_text.specs.Reply.{lines_reply, step_text};
-ghost use Rattle.gv_text.specs.Answer.{Told, answer, answer_if, ran, named, verdict, passes_end};
-ghost use Rattle.gv_text.specs.Answer.{asked_area, bind_answer_if};
-ghost use Rattle.gv_text.specs.declared.desk.LineFault.TheVariants as line_fault;
+//! What stands between two lines of a script.
+ghost use Rattle.std.specs.Prelude.{◌≡◌, true, false, IfOk, OnOk, MatchOption, IfSome, IsSome, None, map, option_map};
+ghost use Rattle.gv_types.specs.Operation.{in_pages};
+ghost use Rattle.gv_text.specs.State.{Declared, texts, place_of, names_of};
+ghost use Rattle.gv_text.specs.Renamed.{renamed_bytes, IsOperationOf};
+ghost use Rattle.gv_text.specs.Desk.{ids_of, AreNumbered};
+ghost use Rattle.gv_text.specs.Answer.{named};
 
 use crate::bindings::Bindings;
-use crate::buffers::Buffers;
-use crate::reply::{write_mappings, write_place, write_steps};
-use gv_lines::{Line, Name, Operation, parse_line};
-use gv_split::plan;
-use gv_types::{Backing, Bounds, Fault, Flags, Op, OutOfMemory, PAGE_BYTES, PageOp};
-use std::alloc::{AllocError, Global};
-use std::fmt::Write;
+use crate::names::Names;
+use gv_lines::{Name, Operation};
+use gv_split::Step;
+use gv_types::{Bounds, BufferId, Entry, Fault, Flags, Mapping, Op, OutOfMemory};
+use std::alloc::Global;
 use std::marker::Model;
 
-/// Why a line was not run.
-#[derive(Clone, Copy, Debug, PartialEq, Eq)]
-pub enum LineFault {
-    /// The line is not of the language, or not at this place, or names what is not declared, or declares what is.
-    Bad,
-    OutOfMemory,
-}
-
-impl From<AllocError> for LineFault {
-    ghost from_gives = { λ _ e. e ≡ line_fault.OutOfMemory };
-
-    fn from(_error: AllocError) -> LineFault {
-        LineFault::OutOfMemory
-    }
-}
-
-impl From<OutOfMemory> for LineFault {
-    ghost from_gives = { λ _ e. e ≡ line_fault.OutOfMemory };
-
-    fn from(_error: OutOfMemory) -> LineFault {
-        LineFault::OutOfMemory
-    }
-}
-
-/// The bounds, the buffers and the mappings of a script.
-#[derive(Drop)]
+/// The bounds, the buffers, the mappings and the accepted operations of a script. Contracts see each buffer by the place
+/// of its name, whatever id the address space gave it. It has to be closed: it is not `Drop`.
 pub struct Desk {
     begun: bool,
-    bounds: Bounds,
-    buffers: Buffers,
     bindings: Bindings,
+    names: Names,
 }
 
 impl Model for Desk {
-    ghost use Rattle.std.specs.List.{All};
-    ghost use Rattle.gv_text.specs.State.{State, IsHeld};
+    ghost use Rattle.gv_text.specs.State.{State};
+    ghost use Rattle.gv_text.specs.Desk.{state_of, IsSound};
 
     ghost Value = { State };
 
-    ghost view = { λ d. record { begun = d.begun; area = d.bounds; buffers = d.buffers; bound = d.bindings } };
+    ghost view = { state_of };
 
-    ghost invariant = { λ d. All (IsHeld d.buffers) d.bindings.mappings };
+    ghost invariant = { IsSound };
 }
 
 impl Desk {
     ghost use Rattle.std.specs.List.{All};
-    ghost use Rattle.gv_types.specs.Operation.{own_mapping};
-    ghost use Rattle.gv_text.specs.State.{start, IsHeld};
+    ghost use Rattle.gv_ranges.specs.List.{at};
+    ghost use Rattle.gv_table.specs.Table.{tables_of};
+    ghost use Rattle.gv_text.specs.State.{start, IsHeld, IsBound};
+    ghost use Rattle.gv_text.specs.Renamed.{renamed_mapping, renamed_entry};
+    ghost use Rattle.gv_text.specs.Reply.{IsHeldEntry};
+    ghost use Rattle.gv_text.specs.Answer.{begun, uses_at};
+    ghost use Rattle.gv_text.specs.Calls.{AnswersNamed, Declares, Destroys, Binds, Plans};
 
     /// Nothing is declared and nothing mapped, and the space is all pages.
-    pub fn new(alloc: Global) -> Self
-        ensures { result ≡ start }
+    pub fn new(alloc: Global) -> Result<Self, OutOfMemory>
+        ensures { IfOk result (λ desk. desk ≡ start) }
     {
-        Desk {
-            begun: false,
-            bounds: Bounds::whole(),
-            buffers: Buffers::new(alloc),
-            bindings: Bindings::new(alloc),
+        match Bindings::new(alloc, Bounds::whole()) {
+            Ok(bindings) => Ok(Desk {
+                begun: false,
+                bindings,
+                names: Names::new(alloc),
+            }),
+            Err(error) => Err(error),
         }
     }
 
-    /// Runs a line as it stands in a script, and writes its reply.
-    pub fn run_text(
-        &mut self,
-        alloc: Global,
-        text: &[u8],
-        out: &mut String,
-    ) -> Result<(), LineFault>
-        ensures done { OnOk result
-            ((lacks : Bool) × Told (ran lacks self.old text.now) out.old out.new self.new) }
-        ensures bad { result ≡ Err LineFault.Bad → ran false self.old text.now ≡ None }
+    /// Whether a line has run that is neither empty nor a comment.
+    pub fn has_begun(&self) -> bool
+        ensures { result ≡ self.now.begun }
     {
-        match parse_line(text) {
-            Some(line) => self.run(alloc, line, out),
-            None => Err(LineFault::Bad),
-        }
+        self.begun
     }
 
-    /// Runs a line, and writes its reply.
-    fn run(&mut self, alloc: Global, line: Line, out: &mut String) -> Result<(), LineFault>
-        ensures done { OnOk result
-            ((lacks : Bool) × Told (answer_if lacks self.old line) out.old out.new self.new) }
-        ensures bad { result ≡ Err LineFault.Bad → answer self.old line ≡ None }
+    /// Such a line runs.
+    pub fn begin(&mut self)
+        ensures { self.new ≡ begun self.old }
     {
-        match line {
-            Line::Silent => Ok(()),
-            Line::Space {
-                start,
-                len,
-                reserved_start,
-                reserved_len,
-            } => self.space(start, len, reserved_start, reserved_len, out),
-            Line::Buffer { name, pages } => self.buffer(name, pages, out),
-            Line::Bind { operation } => self.bind(&operation, out),
-            Line::Plan { operation } => self.plan(alloc, &operation, out),
-            Line::Map => self.map(out),
-            Line::At { addr } => self.at(addr, out),
-        }
+        self.begun = true;
     }
 
-    /// Sets the bounds, in bytes, where no other line has run.
-    fn space(
-        &mut self,
-        start: u64,
-        len: u64,
-        reserved_start: u64,
-        reserved_len: u64,
-        out: &mut String,
-    ) -> Result<(), LineFault>
-        ensures done { OnOk result (Told (answer self.old
-            (Line.Space start len reserved_start reserved_len)) out.old out.new self.new) }
-        ensures bad { result ≡ Err LineFault.Bad →
-            answer self.old (Line.Space start len reserved_start reserved_len) ≡ None }
+    /// Sets the bounds, where no line has run.
+    pub fn set_bounds(&mut self, alloc: Global, bounds: Bounds) -> Result<(), OutOfMemory>
+        requires { self.old.begun ≡ false }
+        ensures { OnOk result (self.new ≡ record self.old { begun = true; area = bounds }) }
     {
-        if self.begun {
-            return Err(LineFault::Bad);
-        }
-        let Some(bounds) = asked_bounds(start, len, reserved_start, reserved_len) else {
-            return Err(LineFault::Bad);
-        };
-        out.push_str("ok\n")?;
-        self.bounds = bounds;
+        self.bindings.set_bounds(alloc, bounds)?;
         self.begun = true;
         Ok(())
     }
 
-    /// Declares a buffer, unless its name is declared already or its size is refused.
-    fn buffer(&mut self, name: Name, pages: u64, out: &mut String) -> Result<(), LineFault>
-        ensures done { OnOk result
-            (Told (answer self.old (Line.Buffer name pages)) out.old out.new self.new) }
-        ensures bad { result ≡ Err LineFault.Bad → answer self.old (Line.Buffer name pages) ≡ None }
+    /// The names of the declared buffers.
+    pub fn names(&self) -> &Names
+        ensures { texts result.now.entries ≡ names_of self.now.buffers }
     {
-        if self.buffers.id_of(&name).is_some() {
-            return Err(LineFault::Bad);
-        }
-        match self.buffers.refusal(pages) {
-            Some(fault) => writeln!(out, "refused {fault}")?,
-            None => {
-                self.buffers.declare(name, pages)?;
-                out.push_str("ok\n")?;
-            }
-        }
-        self.begun = true;
-        Ok(())
+        &self.names
     }
 
-    /// Edits the mappings by an operation, or refuses it.
-    fn bind(&mut self, operation: &Operation, out: &mut String) -> Result<(), LineFault>
-        ensures done { OnOk result ((lacks : Bool) ×
-            Told (answer_if lacks self.old (Line.Bind operation.now)) out.old out.new self.new) }
-        ensures bad { result ≡ Err LineFault.Bad → answer self.old (Line.Bind operation.now) ≡ None }
+    /// Declares a buffer: None where its name is declared already. `BadSize`, then `TooManyBuffers`; `OutOfMemory` where
+    /// there is no room for the name.
+    pub fn declare(&mut self, name: Name, pages: u64) -> Option<Result<(), Fault>>
+        requires { self.old.begun ≡ true }
+        ensures { MatchOption result (IsSome (place_of self.old.buffers name))
+            (λ r. (place_of self.old.buffers name ≡ None) × Declares self.old name pages r self.new) }
     {
-        let Some(op) = named(&self.buffers, operation) else {
-            return Err(LineFault::Bad);
+        if self.names.id_of(&name).is_some() {
+            return None;
+        }
+        let _space = self.bindings.space();
+        if self.names.reserve().is_err() {
+            return Some(Err(Fault::OutOfMemory));
+        }
+        let id = match self.bindings.create(pages) {
+            Ok(id) => id,
+            Err(fault) => return Some(Err(fault)),
         };
-        self.begun = true;
-        match self.verdict(&op) {
-            Ok(op) => Ok(self.accept(op, out)?),
-            Err(fault) => Ok(writeln!(out, "refused 0 {fault}")?),
-        }
+        self.names.declare(name, id);
+        Some(Ok(()))
     }
 
-    /// Writes the split steps of an operation, or why it would be refused.
-    fn plan(
-        &mut self,
-        alloc: Global,
-        operation: &Operation,
-        out: &mut String,
-    ) -> Result<(), LineFault>
-        ensures done { OnOk result
-            (Told (answer self.old (Line.Plan operation.now)) out.old out.new self.new) }
-        ensures bad { result ≡ Err LineFault.Bad → answer self.old (Line.Plan operation.now) ≡ None }
+    /// Destroys a buffer, whose name stays declared: None where it is not. `NoBuffer`, then `Mapped`, then `Kept`.
+    pub fn destroy(&mut self, name: &Name) -> Option<Result<(), Fault>>
+        ensures { AnswersNamed (place_of self.old.buffers name.now) result
+            (λ place r. Destroys self.old place r self.new) }
     {
-        let Some(op) = named(&self.buffers, operation) else {
-            return Err(LineFault::Bad);
+        let Some(id) = self.names.id_of(name) else {
+            return None;
         };
-        self.begun = true;
-        match self.verdict(&op) {
-            Ok(op) => self.write_plan(alloc, &op, out),
-            Err(fault) => Ok(writeln!(out, "refused {fault}")?),
-        }
+        let _space = self.bindings.space();
+        Some(self.bindings.destroy(id))
     }
 
-    /// Writes the split steps of an operation that is not refused.
-    fn write_plan(&self, alloc: Global, op: &PageOp, out: &mut String) -> Result<(), LineFault>
-        requires page_op { IsPageOp op.now }
-        requires held { All (IsHeld self.now.buffers) (own_mapping op.now) }
-        ensures done { OnOk result (string_bytes out.new ≡ string_bytes out.old
-            ++ lines_reply (step_text self.now.buffers) (steps self.now.bound.mappings op.now)) }
-        ensures bad { result ≢ Err LineFault.Bad }
+    /// How many mappings of a buffer are in the list and in undo values, unless it is destroyed: None where its name is not
+    /// declared.
+    pub fn uses(&self, name: &Name) -> Option<Option<(u64, u64)>>
+        ensures { AnswersNamed (place_of self.now.buffers name.now) result (λ place r. r ≡ uses_at self.now place) }
     {
-        let Ok(steps) = plan(alloc, self.bindings.list(), op) else {
-            return Err(LineFault::OutOfMemory);
+        let Some(id) = self.names.id_of(name) else {
+            return None;
         };
-        Ok(write_steps(out, &self.buffers, &steps)?)
+        let space = self.bindings.space();
+        let same = id;
+        Some(space.uses(id).zip(space.kept(same)))
     }
 
-    /// Writes the list of mappings.
-    fn map(&mut self, out: &mut String) -> Result<(), LineFault>
-        ensures done { OnOk result (Told (answer self.old Line.Map) out.old out.new self.new) }
-        ensures bad { result ≢ Err LineFault.Bad }
+    /// Applies an operation, and answers the number of its entry: None where its buffer's name is not declared. The faults
+    /// are those of `check` in their order, then `NoBuffer`, `OutOfBuffer` and `TooManyMappings`, then `OutOfMemory`.
+    pub fn bind(&mut self, alloc: Global, operation: &Operation) -> Option<Result<usize, Fault>>
+        requires { self.old.begun ≡ true }
+        ensures { AnswersNamed (named self.old.buffers operation.now) result (λ op r. Binds self.old op r self.new) }
     {
-        write_mappings(out, &self.buffers, self.bindings.list().mappings())?;
-        self.begun = true;
-        Ok(())
-    }
-
-    /// Writes what an address, in bytes, reaches.
-    fn at(&mut self, addr: u64, out: &mut String) -> Result<(), LineFault>
-        ensures done { OnOk result (Told (answer self.old (Line.At addr)) out.old out.new self.new) }
-        ensures bad { result ≢ Err LineFault.Bad }
-    {
-        let entry = self.bindings.list().at(addr / PAGE_BYTES);
-        write_place(out, &self.buffers, entry, addr % PAGE_BYTES)?;
-        self.begun = true;
-        Ok(())
-    }
-
-    /// The operation in pages, or its first fault: those of `check` in their order, then `OutOfBuffer`.
-    fn verdict(&self, op: &Op) -> Result<PageOp, Fault>
-        ensures value { result ≡ verdict self.now op.now }
-        ensures page_op { IfOk result IsPageOp }
-        ensures held { IfOk result (λ op. All (IsHeld self.now.buffers) (own_mapping op)) }
-    {
-        let op = self.bounds.check(op)?;
-        if passes_end(&self.buffers, &op) {
-            return Err(Fault::OutOfBuffer);
-        }
-        Ok(op)
-    }
-
-    /// Edits the mappings by an operation, and writes its entry's number. Where memory for it is refused, it writes
-    /// that, and the mappings stay.
-    fn accept(&mut self, op: PageOp, out: &mut String) -> Result<(), AllocError>
-        requires page_op { IsPageOp op }
-        requires held { All (IsHeld self.old.buffers) (own_mapping op) }
-        requires begun { self.old.begun ≡ true }
-        ensures { OnOk result
-            ((lacks : Bool) × Told (Some (bind_answer_if lacks self.old op)) out.old out.new self.new) }
-    {
+        let Some(op) = named(&self.names, operation) else {
+            return None;
+        };
+        let _space = self.bindings.space();
         let number = self.bindings.count();
-        match self.bindings.bind(op) {
-            Ok(()) => writeln!(out, "accepted {number}"),
-            Err(OutOfMemory) => {
-                let fault = Fault::OutOfMemory;
-                writeln!(out, "refused 0 {fault}")
-            }
+        if let Err(fault) = self.bindings.apply(alloc, &op) {
+            return Some(Err(fault));
         }
+        Some(Ok(number))
     }
-}
 
-/// The bounds in bytes. None where a number is no multiple of a page, or there are no such bounds.
-fn asked_bounds(start: u64, len: u64, reserved_start: u64, reserved_len: u64) -> Option<Bounds>
-    ensures { result ≡ asked_area start len reserved_start reserved_len }
-{
-    let aligned = is_aligned(start)
-        && is_aligned(len)
-        && is_aligned(reserved_start)
-        && is_aligned(reserved_len);
-    if !aligned {
-        return None;
+    /// The split steps of an operation: None where its buffer's name is not declared. The faults are those of `check` in
+    /// their order, then `NoBuffer` and `OutOfBuffer`, then `OutOfMemory`.
+    pub fn plan(&self, alloc: Global, operation: &Operation) -> Option<Result<Vec<Step>, Fault>>
+        ensures { AnswersNamed (named self.now.buffers operation.now) result (λ op r. Plans self.now op r) }
+    {
+        let Some(op) = named(&self.names, operation) else {
+            return None;
+        };
+        Some(self.bindings.space().plan(alloc, &op))
     }
-    Bounds::new(
-        start / PAGE_BYTES,
-        len / PAGE_BYTES,
-        reserved_start / PAGE_BYTES,
-        reserved_len / PAGE_BYTES,
-    )
-}
 
-fn is_aligned(bytes: u64) -> bool
-    ensures { result ≡ is_aligned bytes }
-{
-    bytes % PAGE_BYTES == 0
+    /// The list of mappings.
+    pub fn mappings(&self) -> &[Mapping]
+        ensures value { map renamed_mapping result.now ≡ self.now.bound.mappings }
+        ensures held { All (IsHeld (names_of self.now.buffers)) result.now }
+        ensures bound { IsBound self.now.bound }
+    {
+        self.bindings.space().mappings()
+    }
+
+    /// What the page holds, by the page table.
+    pub fn walk(&self, page: u64) -> Option<Entry>
+        ensures value { option_map renamed_entry result ≡ at self.now.bound.mappings page }
+        ensures held { IsHeldEntry (names_of self.now.buffers) result }
+    {
+        self.bindings.space().walk(page)
+    }
+
+    /// How many tables stand at the levels 3, 2, 1 and 0.
+    pub fn tables(&self) -> [u64; 4]
+        ensures { result ≡ tables_of self.now.bound.mappings }
+    {
+        self.bindings.space().tables()
+    }
+
+    /// Gives up all undo values. It takes no memory.
+    pub fn close(self) {
+        let Desk {
+            begun: _begun,
+            bindings,
+            names: _names,
+        } = self;
+        bindings.close();
+    }
 }
 
 /// The operation in bytes, with its buffer's id. None where the buffer's name is not declared.
-fn named(buffers: &Buffers, operation: &Operation) -> Option<Op>
-    ensures { result ≡ named buffers.now operation.now }
+fn named(names: &Names, operation: &Operation) -> Option<Op>
+    requires { AreNumbered (ids_of names.now.entries) }
+    ensures value { (buffers : Declared) → names_of buffers ≡ texts names.now.entries →
+        option_map renamed_bytes result ≡ named buffers operation.now }
+    ensures declared { IfSome result (λ op. IsOperationOf (ids_of names.now.entries) (in_pages op)) }
 {
     match operation {
         Operation::Map {
@@ -308,7 +215,7 @@ fn named(buffers: &Buffers, operation: &Operation) -> Option<Op>
         } => Some(Op::Map {
             addr: *addr,
             len: *len,
-            buffer: buffers.id_of(buffer)?,
+            buffer: names.id_of(buffer)?,
             offset: *offset,
             flags: Flags {
                 read_only: *read_only,
@@ -329,24 +236,5 @@ fn named(buffers: &Buffers, operation: &Operation) -> Option<Op>
             addr: *addr,
             len: *len,
         }),
-    }
-}
-
-/// Whether the operation maps pages past the end of its buffer.
-fn passes_end(buffers: &Buffers, op: &PageOp) -> bool
-    requires { IsPageOp op.now }
-    ensures { result ≡ passes_end buffers.now op.now }
-{
-    let PageOp::Map {
-        range,
-        backing: Backing::Buffer { id, page },
-        ..
-    } = *op
-    else {
-        return false;
-    };
-    match buffers.get(id) {
-        Some((_, size)) => size < page + range.count(),
-        None => 0 < page + range.count(),
     }
 }

@@ -1,24 +1,26 @@
 //! The operations that a script's requests have applied.
 ghost use Rattle.std.specs.Prelude.{◌≡◌, ◌∷◌, ◌<◌, [], length, OnOk};
+ghost use Rattle.gv_types.specs.Operation.{in_pages};
 
-use gv_types::{Backing, OutOfMemory, PageOp};
+use gv_types::{Op, OutOfMemory};
 use std::alloc::Global;
 use std::marker::Model;
 
-/// The accepted operations. Contracts see them newest first, as one looks back.
+/// The accepted operations, in bytes. Contracts see them in pages and newest first, as one looks back.
 #[derive(Drop)]
 pub struct History {
-    oldest_first: Vec<PageOp>,
+    oldest_first: Vec<Op>,
 }
 
 impl Model for History {
-    ghost use Rattle.std.specs.Prelude.{reverse, vec_len, vec_capacity, ◌-◌};
+    ghost use Rattle.std.specs.Prelude.{map, reverse, vec_len, vec_capacity, ◌-◌};
+    ghost use Rattle.gv_types.specs.Operation.{in_pages};
     ghost use Rattle.gv_text.specs.State.{Past};
 
     ghost Value = { Past };
 
     ghost view = { λ h. record {
-      operations = reverse h.oldest_first.items;
+      operations = map in_pages (reverse h.oldest_first.items);
       room = vec_capacity h.oldest_first - vec_len h.oldest_first;
     } };
 }
@@ -44,29 +46,15 @@ impl History {
         ensures operations { self.new.operations ≡ self.old.operations }
         ensures ok { OnOk result (0 < self.new.room) }
     {
-        // The borrow checker proves a call on such a vector only where the function names the types inside its
-        // elements.
-        let _backing = Backing::Zero;
         self.oldest_first.reserve(1)?;
         Ok(())
     }
 
     /// Adds the newest. It takes no memory.
-    pub fn push(&mut self, op: PageOp)
+    pub fn push(&mut self, op: Op)
         requires { 0 < self.old.room }
-        ensures { self.new.operations ≡ op ∷ self.old.operations }
+        ensures { self.new.operations ≡ in_pages op ∷ self.old.operations }
     {
-        match op {
-            PageOp::Map {
-                range,
-                backing,
-                flags,
-            } => self.oldest_first.push_reserved(PageOp::Map {
-                range,
-                backing,
-                flags,
-            }),
-            PageOp::Unmap { range } => self.oldest_first.push_reserved(PageOp::Unmap { range }),
-        }
+        self.oldest_first.push_reserved(op);
     }
 }

@@ -2,14 +2,15 @@
 #![tactic(auto)]
 
 mod bindings;
-mod buffers;
 mod desk;
 mod device;
 mod fault;
 mod history;
 mod memory;
+mod names;
 mod output;
 mod reply;
+mod run;
 mod script;
 mod standard;
 mod transfer;

@@ -2,11 +2,11 @@
 ghost use Rattle.std.specs.Prelude.{◌≡◌, ◌+◌, ◌*◌, ◌≤◌, ◌<◌, ◌++◌, OnOk, string_bytes};
 ghost use Rattle.std.specs.List.{All};
 ghost use Rattle.gv_types.specs.Page.{bytes_per_page};
-ghost use Rattle.gv_text.specs.State.{LieInside, IsHeld};
+ghost use Rattle.gv_text.specs.State.{texts, LieInside, IsHeld};
 ghost use Rattle.gv_text.specs.Reply.{target_text, mapping_text, rest_text, step_text, flags_text, keep_text};
 ghost use Rattle.gv_text.specs.Reply.{lines_reply, place_reply, IsHeldRest, IsHeldStep, IsHeldEntry};
 
-use crate::buffers::Buffers;
+use crate::names::Names;
 use gv_lines::Hex;
 use gv_split::Step;
 use gv_types::{Backing, Entry, Flags, Mapping, PAGE_BYTES};
@@ -28,17 +28,17 @@ fn keep_word(keep: bool) -> &'static str
 /// Writes what an address reaches, `rest` bytes into its page.
 fn write_target(
     out: &mut String,
-    buffers: &Buffers,
+    names: &Names,
     backing: Backing,
     rest: u64,
 ) -> Result<(), AllocError>
-    requires inside { LieInside buffers.now backing 1 }
+    requires inside { LieInside (texts names.now.entries) backing 1 }
     requires in_page { rest < bytes_per_page }
-    ensures { OnOk result (string_bytes out.new ≡ string_bytes out.old ++ target_text buffers.now backing rest) }
+    ensures { OnOk result (string_bytes out.new ≡ string_bytes out.old ++ target_text (texts names.now.entries) backing rest) }
 {
     match backing {
         Backing::Buffer { id, page } => {
-            let Some((name, _)) = buffers.get(id) else {
+            let Some(name) = names.name_of(id) else {
                 unreachable!()
             };
             let byte = Hex(page * PAGE_BYTES + rest);
@@ -49,38 +49,38 @@ fn write_target(
 }
 
 /// Writes a mapping: its first byte, the byte past its end, what stands behind it, and its flags.
-fn write_mapping(out: &mut String, buffers: &Buffers, mapping: &Mapping) -> Result<(), AllocError>
-    requires { IsHeld buffers.now mapping.now }
-    ensures { OnOk result (string_bytes out.new ≡ string_bytes out.old ++ mapping_text buffers.now mapping.now) }
+fn write_mapping(out: &mut String, names: &Names, mapping: &Mapping) -> Result<(), AllocError>
+    requires { IsHeld (texts names.now.entries) mapping.now }
+    ensures { OnOk result (string_bytes out.new ≡ string_bytes out.old ++ mapping_text (texts names.now.entries) mapping.now) }
 {
     let first = Hex(mapping.range.first() * PAGE_BYTES);
     let end = Hex(mapping.range.end() * PAGE_BYTES);
     write!(out, "{first} {end} ")?;
-    write_target(out, buffers, mapping.backing, 0)?;
+    write_target(out, names, mapping.backing, 0)?;
     out.push_str(" ")?;
     out.push_str(flags_word(mapping.flags))
 }
 
 /// Writes what is left of a mapping, or that nothing is.
-fn write_rest(out: &mut String, buffers: &Buffers, rest: &Option<Mapping>) -> Result<(), AllocError>
-    requires { IsHeldRest buffers.now rest.now }
-    ensures { OnOk result (string_bytes out.new ≡ string_bytes out.old ++ rest_text buffers.now rest.now) }
+fn write_rest(out: &mut String, names: &Names, rest: &Option<Mapping>) -> Result<(), AllocError>
+    requires { IsHeldRest (texts names.now.entries) rest.now }
+    ensures { OnOk result (string_bytes out.new ≡ string_bytes out.old ++ rest_text (texts names.now.entries) rest.now) }
 {
     match rest {
-        Some(mapping) => write_mapping(out, buffers, mapping),
+        Some(mapping) => write_mapping(out, names, mapping),
         None => out.push_str("none"),
     }
 }
 
 /// Writes a split step.
-fn write_step(out: &mut String, buffers: &Buffers, step: &Step) -> Result<(), AllocError>
-    requires { IsHeldStep buffers.now step.now }
-    ensures { OnOk result (string_bytes out.new ≡ string_bytes out.old ++ step_text buffers.now step.now) }
+fn write_step(out: &mut String, names: &Names, step: &Step) -> Result<(), AllocError>
+    requires { IsHeldStep (texts names.now.entries) step.now }
+    ensures { OnOk result (string_bytes out.new ≡ string_bytes out.old ++ step_text (texts names.now.entries) step.now) }
 {
     match step {
         Step::Unmap { mapping, keep } => {
             out.push_str("unmap ")?;
-            write_mapping(out, buffers, mapping)?;
+            write_mapping(out, names, mapping)?;
             out.push_str(keep_word(*keep))
         }
         Step::Remap {
@@ -90,16 +90,16 @@ fn write_step(out: &mut String, buffers: &Buffers, step: &Step) -> Result<(), Al
             keep,
         } => {
             out.push_str("remap ")?;
-            write_mapping(out, buffers, mapping)?;
+            write_mapping(out, names, mapping)?;
             out.push_str(" prev ")?;
-            write_rest(out, buffers, prev)?;
+            write_rest(out, names, prev)?;
             out.push_str(" next ")?;
-            write_rest(out, buffers, next)?;
+            write_rest(out, names, next)?;
             out.push_str(keep_word(*keep))
         }
         Step::Map { mapping } => {
             out.push_str("map ")?;
-            write_mapping(out, buffers, mapping)
+            write_mapping(out, names, mapping)
         }
     }
 }
@@ -107,34 +107,34 @@ fn write_step(out: &mut String, buffers: &Buffers, step: &Step) -> Result<(), Al
 /// Writes each mapping on a line of its own.
 pub fn write_mappings(
     out: &mut String,
-    buffers: &Buffers,
+    names: &Names,
     mappings: &[Mapping],
 ) -> Result<(), AllocError>
-    requires { All (IsHeld buffers.now) mappings.now }
+    requires { All (IsHeld (texts names.now.entries)) mappings.now }
     ensures { OnOk result (string_bytes out.new ≡
-        string_bytes out.old ++ lines_reply (mapping_text buffers.now) mappings.now) }
+        string_bytes out.old ++ lines_reply (mapping_text (texts names.now.entries)) mappings.now) }
 {
     if mappings.is_empty() {
         return out.push_str("empty\n");
     }
     for mapping in mappings {
-        write_mapping(out, buffers, mapping)?;
+        write_mapping(out, names, mapping)?;
         out.push_str("\n")?;
     }
     Ok(())
 }
 
 /// Writes each step on a line of its own.
-pub fn write_steps(out: &mut String, buffers: &Buffers, steps: &[Step]) -> Result<(), AllocError>
-    requires { All (IsHeldStep buffers.now) steps.now }
+pub fn write_steps(out: &mut String, names: &Names, steps: &[Step]) -> Result<(), AllocError>
+    requires { All (IsHeldStep (texts names.now.entries)) steps.now }
     ensures { OnOk result (string_bytes out.new ≡
-        string_bytes out.old ++ lines_reply (step_text buffers.now) steps.now) }
+        string_bytes out.old ++ lines_reply (step_text (texts names.now.entries)) steps.now) }
 {
     if steps.is_empty() {
         return out.push_str("empty\n");
     }
     for step in steps {
-        write_step(out, buffers, step)?;
+        write_step(out, names, step)?;
         out.push_str("\n")?;
     }
     Ok(())
@@ -143,18 +143,18 @@ pub fn write_steps(out: &mut String, buffers: &Buffers, steps: &[Step]) -> Resul
 /// Writes what an address reaches, `rest` bytes into its page.
 pub fn write_place(
     out: &mut String,
-    buffers: &Buffers,
+    names: &Names,
     entry: Option<Entry>,
     rest: u64,
 ) -> Result<(), AllocError>
-    requires held { IsHeldEntry buffers.now entry }
+    requires held { IsHeldEntry (texts names.now.entries) entry }
     requires in_page { rest < bytes_per_page }
-    ensures { OnOk result (string_bytes out.new ≡ string_bytes out.old ++ place_reply buffers.now rest entry) }
+    ensures { OnOk result (string_bytes out.new ≡ string_bytes out.old ++ place_reply (texts names.now.entries) rest entry) }
 {
     let Some(entry) = entry else {
         return out.push_str("none\n");
     };
-    write_target(out, buffers, entry.backing, rest)?;
+    write_target(out, names, entry.backing, rest)?;
     let flags = flags_word(entry.flags);
     writeln!(out, " {flags}")
 }

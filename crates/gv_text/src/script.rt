@@ -2,14 +2,17 @@
 ghost use Rattle.std.specs.Prelude.{◌≡◌, ◌<◌, ◌≤◌, ℕ, List, [], length, OnOk, IfSome, true};
 ghost use Rattle.std.specs.Io.KnownBytes.{Appends, append_known};
 ghost use Rattle.gv_text.specs.Reading.{script_limit};
+ghost use Rattle.gv_text.specs.State.{start};
 ghost use Rattle.gv_text.specs.Script.{IsRun, StopsAt, IsStart, Ends, LineEnds};
 
-use crate::desk::{Desk, LineFault};
+use crate::desk::Desk;
 use crate::device::{Sink, Source};
 use crate::fault::ScriptFault;
 use crate::output::Output;
+use crate::run::{LineFault, run_text};
 use crate::transfer::read_script;
 use gv_lines::split_once;
+use gv_types::OutOfMemory;
 use std::alloc::Global;
 
 /// Reads a whole script, then runs its lines one after another and writes the reply of each.
@@ -53,7 +56,7 @@ pub fn run_script<R: Source, W: Sink>(
     outcome
 }
 
-/// Runs the lines of a script.
+/// Runs the lines of a script on a desk of their own.
 fn run_lines<W: Sink>(
     alloc: Global,
     script: &[u8],
@@ -65,12 +68,34 @@ fn run_lines<W: Sink>(
     ensures { Ends script.now (W.written writer.old) (append_known (W.written writer.new) output.new)
         (W.failed writer.new) result }
 {
-    let mut desk = Desk::new(alloc);
+    let mut desk = match Desk::new(alloc) {
+        Ok(desk) => desk,
+        Err(OutOfMemory) => return Err(ScriptFault::OutOfMemory),
+    };
+    let outcome = run_each(alloc, &mut desk, script, output, writer);
+    desk.close();
+    outcome
+}
+
+/// Runs the lines of a script one after another.
+fn run_each<W: Sink>(
+    alloc: Global,
+    desk: &mut Desk,
+    script: &[u8],
+    output: &mut Output,
+    writer: &mut W,
+) -> Result<(), ScriptFault>
+    requires short { length script.now ≤ script_limit }
+    requires start { desk.old ≡ start }
+    requires fresh { output.old ≡ [] }
+    ensures { Ends script.now (W.written writer.old) (append_known (W.written writer.new) output.new)
+        (W.failed writer.new) result }
+{
     let mut reply = String::new(alloc);
     let mut rest = script;
     let mut done: u64 = 0;
     while let Some((line, after)) = split_once(rest, b'\n') {
-        let ran = run_line(alloc, &mut desk, line, done + 1, &mut reply, output, writer);
+        let ran = run_line(alloc, desk, line, done + 1, &mut reply, output, writer);
         if let Err(fault) = ran {
             return Err(fault);
         }
@@ -98,7 +123,7 @@ fn run_line<W: Sink>(
         (append_known (W.written writer.new) output.new) (W.failed writer.new) result }
 {
     reply.clear();
-    match desk.run_text(alloc, line, reply) {
+    match run_text(alloc, desk, line, reply) {
         Ok(()) => Ok(output.push(writer, reply.as_bytes())?),
         Err(LineFault::Bad) => Err(ScriptFault::BadLine { line: number }),
         Err(LineFault::OutOfMemory) => Err(ScriptFault::OutOfMemory),

@@ -1,47 +1,5 @@
-use Rattle.std.proofs.Common.{◌≡◌, ◌++◌, ◌+◌, [], arith, refl}
-use Rattle.std.proofs.KnownBytes.{Appends-trans}
-use Rattle.gv_lines.proofs.Parts.{parts_some}
-use Rattle.gv_text.specs.Script.{one_if}
-use Rattle.gv_text.proofs.Front.{front_more}
-use Rattle.gv_text.proofs.Outcomes.{outcome_of_run}
-use Rattle.gv_text.proofs.Ends.{line_ends, stops_at, empty_from}
+use Rattle.gv_text.proofs.Front.{nothing_ran}
 use Rattle.gv_text.proofs.script.run_lines.Goals as goal
 
 pub returns-in-Err : goal.returns-in-Err
-returns-in-Err g c =
-    let front = rw c.in-Some.ensures.parts at c.loop-line.invariant.front in
-    line_ends (Unit {0}) (Unit {0}) _ _ _ _ _ _ _ c.run_line-ran.new.desk _ _ _ _ _ c.requires.short front (parts_some 10 c.in-Some.after.now) c.loop-line.invariant.wrote c.in-Err.ensures
-
-pub loop-line-preserved : goal.loop-line-preserved
-loop-line-preserved g c =
-    let front = rw c.in-Some.ensures.parts at c.loop-line.invariant.front in
-    let ran = c.in_default-ran.ensures in
-    record {
-      text = c.loop-line.invariant.text ++ ran.1;
-      refusals = c.loop-line.invariant.refusals + one_if ran.0;
-      front = front_more _ _ _ _ _ _ _ _ _ _ front ran.2;
-      wrote = Appends-trans _ _ _ _ _ c.loop-line.invariant.wrote ran.3;
-      left = omega (arith, c.in-Some.ensures.shorter);
-    }
-
-pub returns-then-is_empty : goal.returns-then-is_empty
-returns-then-is_empty g c =
-    let none : c.loop-line.rest.now ≡ [] = empty_from c.loop-line.rest.now c.if-is_empty.ensures in
-    let front = rw (c.in_default.ensures.parts, none) at c.loop-line.invariant.front in (
-      c.loop-line.invariant.text,
-      record {
-        short = c.requires.short;
-        count = c.loop-line.done;
-        refusals = c.loop-line.invariant.refusals;
-        now = c.loop-line.desk;
-        front = front;
-        ample = outcome_of_run _ _ _ _ _ front;
-      },
-      c.loop-line.invariant.wrote,
-    )
-
-pub returns : goal.returns
-returns g c =
-    let front = rw c.in_default.ensures.parts at c.loop-line.invariant.front in
-    let some : c.loop-line.rest.now ≡ [] → ⊥ = λ none. let is = rw none at c.if-is_empty.ensures in cc in
-    (c.loop-line.invariant.text, stops_at _ _ c.loop-line.rest.now [] _ _ _ _ c.requires.short front some refl, c.loop-line.invariant.wrote)
+returns-in-Err g c = nothing_ran c.args.script.now (g.W.Sink.written c.args.writer.now) c.args.output.now c.requires.fresh

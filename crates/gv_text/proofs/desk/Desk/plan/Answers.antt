@@ -1,18 +1,17 @@
-use Rattle.std.proofs.lemmas.Result.{on_ok_weaker}
-use Rattle.gv_text.specs.State.{State}
-use Rattle.gv_text.proofs.Tells.{tells_refused_plan, tells_plan}
+use Rattle.std.proofs.Common.{sym}
+use Rattle.gv_text.proofs.Places.{names_of-declared, answers_none, answers_some}
+use Rattle.gv_text.proofs.Planning.{plans}
 use Rattle.gv_text.proofs.desk.Desk.plan.Goals as goal
 
-pub returns-in-Ok-clause-done : goal.returns-in-Ok-clause-done
-returns-in-Ok-clause-done c =
-    let s : State = record { begun = c.self.inside.begun; area = c.self.inside.bounds; buffers = c.self.inside.buffers; bound = c.self.inside.bindings } in
-    rw (← c.self.view_is)
-    (on_ok_weaker c.write_plan.result
-    (λ bytes. tells_plan s c.args.operation.now c.in-Some.op c.in-Ok.op c.args.out.now c.write_plan.new.out c.in-Some.ensures c.in-Ok.ensures.value bytes)
-    c.write_plan.ensures.done)
+pub returns-in_default : goal.returns-in_default
+returns-in_default c =
+    let d = c.self.inside in
+    rw (← c.self.view_is) (answers_none _ _ (sym (c.in_default.ensures.value _ (names_of-declared d.bindings.space.buffers d.names.entries))))
 
-pub returns-in_ok-writeln-in-Err-clause-done : goal.returns-in_ok-writeln-in-Err-clause-done
-returns-in_ok-writeln-in-Err-clause-done c =
-    let s : State = record { begun = c.self.inside.begun; area = c.self.inside.bounds; buffers = c.self.inside.buffers; bound = c.self.inside.bindings } in
+pub returns : goal.returns
+returns c =
+    let d = c.self.inside in
     rw (← c.self.view_is)
-    (tells_refused_plan s c.args.operation.now c.in-Some.op c.in-Err.fault c.args.out.now c.writeln.new.self c.in-Some.ensures c.in-Err.ensures.value c.in_ok-writeln-in-Err.ensures.bytes)
+    (answers_some _ _ _ _ (sym (c.in-Some.ensures.value _ (names_of-declared d.bindings.space.buffers d.names.entries))) (
+    plans d.begun d.bindings d.names.entries c.in-Some.op c.plan.result c.space.ensures.space c.self.invariant.declared c.in-Some.ensures.declared
+    (rw c.space.ensures.value at c.plan.ensures.fault) (rw c.space.ensures.value at c.plan.ensures.steps) (rw c.space.ensures.value at c.plan.ensures.placed)))

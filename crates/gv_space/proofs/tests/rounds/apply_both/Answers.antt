@@ -1,0 +1,13 @@
+use Rattle.std.proofs.Common.{◌++◌}
+use Rattle.gv_space.proofs.Saved.{AreSaved-released}
+use Rattle.gv_space.proofs.tests.rounds.apply_both.Goals as goal
+
+pub returns-in-Ok-clause-held : goal.returns-in-Ok-clause-held
+returns-in-Ok-clause-held g c =
+    let first = c.in_ok-first.ensures.changed.fits.holds in
+    let older = c.in_ok-first.first.change.taken ++ first.others in
+    record {
+      others = first.others;
+      are_saved = AreSaved-released c.apply-2.new.self c.in-Ok.second.change.taken older
+          (c.in-Ok.ensures.changed.saved older first.are_saved);
+    }

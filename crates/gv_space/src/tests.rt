@@ -1,0 +1,9 @@
+mod buffers;
+mod faults;
+mod fixtures;
+mod model;
+mod refusals;
+mod restores;
+mod rounds;
+mod rows;
+mod tables;

@@ -1,0 +1,99 @@
+-- The steps of an operation with their buffers renamed, where equal generations mean equal buffers.
+use Rattle.std.proofs.Common.{◌≡◌, ℕ, List, [], ◌∷◌, ◌++◌, map, filter, true, false, cond, ◌&&◌, eqb, Some, option_map, slice_get, inl, inr, refl, sym, ap, ◌∙◌}
+use Rattle.std.proofs.lemmas.Bool.{cases_Bool, eqb-true, eq-eqb, and_right}
+use Rattle.std.proofs.lemmas.Option.{same_Some}
+use Rattle.std.proofs.lemmas.List.{map-append}
+use Rattle.std.proofs.lemmas.List.Elements.{All-head, All-tail, All-filter}
+use Rattle.gv_types.specs.Page.{PAGES}
+use Rattle.gv_types.specs.Span.{end_of, meets, lies_in}
+use Rattle.gv_types.specs.Mapping.{clip}
+use Rattle.gv_types.specs.Operation.{range_of, own_mapping}
+use Rattle.gv_types.specs.declared.mapping.Backing.{Backing}
+use Rattle.gv_types.specs.declared.mapping.Backing.TheVariants.{Buffer, Zero}
+use Rattle.gv_types.specs.declared.mapping.BufferId.{BufferId}
+use Rattle.gv_types.specs.declared.mapping.Mapping.{Mapping}
+use Rattle.gv_types.specs.declared.operation.PageOp.{PageOp}
+use Rattle.gv_types.specs.declared.operation.PageOp.TheVariants.{Map as MapOp, Unmap as UnmapOp}
+use Rattle.gv_split.specs.Steps.{same_flags, continues, is_kept, step_of, steps}
+use Rattle.gv_split.specs.declared.step.Step.TheVariants.{Unmap, Remap, Map}
+use Rattle.gv_text.specs.Renamed.{renamed_backing, renamed_mapping, renamed_op, renamed_step, IsOf, IsBackedOf, AreOf, IsOperationOf}
+use Rattle.gv_text.proofs.Renamed.{clip-renamed, range_of-renamed}
+use Rattle.gv_text.proofs.RenamedLists.{met-renamed}
+
+-- two buffers of one generation are the same
+pub same_generation : (ids : List BufferId) (a b : BufferId) → IsOf ids a → IsOf ids b → a.generation ≡ b.generation → a ≡ b
+same_generation ids a b is is' same =
+    let found : slice_get ids a.generation ≡ Some b = rw same is' in
+    same_Some a b (sym is ∙ found)
+
+-- so a test of their names is one of their generations
+pub same_id-renamed : (ids : List BufferId) (a b : BufferId) → IsOf ids a → IsOf ids b →
+    (eqb a.generation b.generation && eqb a.generation b.generation) ≡ (eqb a.index b.index && eqb a.generation b.generation)
+same_id-renamed ids a b is is' =
+    elim (cases_Bool (eqb a.generation b.generation)) [
+      | inl same ↦ (
+          let one : a ≡ b = same_generation ids a b is is' (eqb-true _ _ same) in
+          let index : eqb a.index b.index ≡ true = eq-eqb _ _ (ap (λ (id : BufferId). id.index) one) in
+          rw (same, index) refl)
+      | inr other ↦ rw (other, and_right (eqb a.index b.index) false refl) refl
+    ]
+
+continues-renamed : (ids : List BufferId) (b old : Backing) (first old_first : ℕ) → IsBackedOf ids b → IsBackedOf ids old →
+    continues (renamed_backing b) first (renamed_backing old) old_first ≡ continues b first old old_first
+continues-renamed ids (Buffer id page) (Buffer old_id old_page) first old_first is is' = rw (same_id-renamed ids id old_id is is') refl
+continues-renamed ids (Buffer id page) Zero first old_first is is' = refl
+continues-renamed ids Zero old first old_first is is' = refl
+
+-- whether a mapping's pages may stay
+pub is_kept-renamed : (ids : List BufferId) (op : PageOp) (m : Mapping) → IsOperationOf ids op → IsBackedOf ids m.backing →
+    is_kept (renamed_op op) (renamed_mapping m) ≡ is_kept op m
+is_kept-renamed ids (MapOp range backing flags) m is is' =
+    ap (λ b. b && same_flags flags m.flags) (continues-renamed ids backing m.backing range.first m.range.first is is')
+is_kept-renamed ids (UnmapOp range) m is is' = refl
+
+pub step_of-renamed : (ids : List BufferId) (op : PageOp) (m : Mapping) → IsOperationOf ids op → IsBackedOf ids m.backing →
+    step_of (renamed_op op) (renamed_mapping m) ≡ renamed_step (step_of op m)
+step_of-renamed ids op m is is' =
+    rw (
+      is_kept-renamed ids op m is is',
+      range_of-renamed op,
+      clip-renamed 0 (range_of op).first m,
+      clip-renamed (end_of (range_of op)) PAGES m,
+    )
+    (elim (lies_in m.range (range_of op)) as (λ b.
+    cond b (Unmap (renamed_mapping m) (is_kept op m))
+    (Remap (renamed_mapping m) (option_map renamed_mapping (clip 0 (range_of op).first m)) (option_map renamed_mapping (clip (end_of (range_of op)) PAGES m)) (is_kept op m))
+    ≡ renamed_step (cond b (Unmap m (is_kept op m)) (Remap m (clip 0 (range_of op).first m) (clip (end_of (range_of op)) PAGES m) (is_kept op m))))
+    [ true ↦ refl | false ↦ refl ])
+
+own_step-renamed : (op : PageOp) → map Map (own_mapping (renamed_op op)) ≡ map renamed_step (map Map (own_mapping op))
+own_step-renamed (MapOp range backing flags) = refl
+own_step-renamed (UnmapOp range) = refl
+
+cons_same : {X : Type 0} {x y : X} {xs ys : List X} → x ≡ y → xs ≡ ys → x ∷ xs ≡ y ∷ ys
+cons_same first rest = cc
+
+append_same : {X : Type 0} {xs ys xs' ys' : List X} → xs ≡ xs' → ys ≡ ys' → xs ++ ys ≡ xs' ++ ys'
+append_same left right = cc
+
+steps_of_run-renamed : (ids : List BufferId) (op : PageOp) (ms : List Mapping) → IsOperationOf ids op → AreOf ids ms →
+    map (step_of (renamed_op op)) (map renamed_mapping ms) ≡ map renamed_step (map (step_of op) ms)
+steps_of_run-renamed ids op [] is are = refl
+steps_of_run-renamed ids op (m ∷ ms) is are =
+    let here : step_of (renamed_op op) (renamed_mapping m) ≡ renamed_step (step_of op m) =
+    step_of-renamed ids op m is (All-head (λ (n : Mapping). IsBackedOf ids n.backing) m ms are) in
+    let rest : map (step_of (renamed_op op)) (map renamed_mapping ms) ≡ map renamed_step (map (step_of op) ms) =
+    steps_of_run-renamed ids op ms is (All-tail (λ (n : Mapping). IsBackedOf ids n.backing) m ms are) in
+    cons_same here rest
+
+-- the steps by which an operation changes a list
+pub steps-renamed : (ids : List BufferId) (ms : List Mapping) (op : PageOp) → AreOf ids ms → IsOperationOf ids op →
+    steps (map renamed_mapping ms) (renamed_op op) ≡ map renamed_step (steps ms op)
+steps-renamed ids ms op are is =
+    let run : List Mapping = filter (λ m. meets m.range (range_of op)) ms in
+    let met : filter (λ m. meets m.range (range_of (renamed_op op))) (map renamed_mapping ms) ≡ map renamed_mapping (filter (λ m. meets m.range (range_of op)) ms) =
+    rw (range_of-renamed op) (met-renamed ms (range_of op)) in
+    let each : map (step_of (renamed_op op)) (map renamed_mapping run) ≡ map renamed_step (map (step_of op) run) =
+    steps_of_run-renamed ids op run is (All-filter (λ (m : Mapping). meets m.range (range_of op)) (λ (m : Mapping). IsBackedOf ids m.backing) ms are) in
+    append_same (ap (map (step_of (renamed_op op))) met ∙ each) (own_step-renamed op)
+    ∙ sym (map-append renamed_step (map (step_of op) run) (map Map (own_mapping op)))
