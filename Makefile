@@ -26,13 +26,18 @@ test:
 	@! grep -rnw Wait crates/gv_sync/src
 	$(RT) ci
 
-# Outside the gate, since it has no way to refuse memory: the first example with each request for memory refused in
-# turn, the first, the second and so on. A run that asks for less than N times ends as it does with ample memory.
+# Outside the gate, since it has no way to refuse memory: each request for memory refused in turn, the first, the second
+# and so on, to the first example and to those tests of the space that are made for it. A run that asks for less than N
+# times ends as it does with ample memory.
 LAST ?= 40
 refuse-memory:
 	@cd $(PROGRAM) && for n in $$(seq 1 $(LAST)); do \
-		echo "== request $$n refused"; \
+		echo "== the first example, request $$n refused"; \
 		$(RT) try --fail-alloc $$n -- run < ../../examples/first.vmb 2>&1 | tail -n 12; \
+	done
+	@cd crates/gv_space && for n in $$(seq 1 $(LAST)); do \
+		echo "== the space, request $$n refused"; \
+		$(RT) try --test --fail-alloc $$n 2>&1 | grep 'refusals::'; \
 	done
 
 # Times of edits and look-ups. The figures are of this machine.
