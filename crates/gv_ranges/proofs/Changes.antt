@@ -4,11 +4,11 @@ use Rattle.std.proofs.lemmas.Bool.{le-leb, leb-true, ltb-true, and_from, and_par
 use Rattle.std.proofs.lemmas.List.Elements.{All-nil, All-cons}
 use Rattle.std.specs.Prelude.{IsTrue}
 use Rattle.std.specs.List.{splice}
-use Rattle.gv_types.specs.Span.{Span, end_of, covers, lies_in}
+use Rattle.gv_types.specs.Span.{Span, span, end_of, covers, lies_in}
 use Rattle.gv_types.specs.Operation.{range_of, own_mapping, own_part, after, view, IsPageOp}
 use Rattle.gv_types.specs.declared.mapping.Mapping.{Mapping}
 use Rattle.gv_types.specs.declared.operation.PageOp.{PageOp}
-use Rattle.gv_types.specs.declared.operation.PageOp.TheVariants.{Map, Unmap}
+use Rattle.gv_types.specs.declared.operation.PageOp.TheVariants.{Map, Unmap, UnmapBuffer}
 use Rattle.gv_ranges.specs.List.{at, IsLaidOut, IsMeetingRun, run}
 use Rattle.gv_ranges.specs.Edit.{clipped, edited, edited_by_all, LieIn}
 use Rattle.gv_ranges.specs.Laws.{EditedListSays, EditedListIsViewed, EditedListIsLaidOut, EditedRunInPlace, UndoneEditIsOld, RestoredListSays, RestoredListIsLaidOut, RestoredRunInPlace, UndoneRestoreIsOld}
@@ -26,10 +26,12 @@ own_lies_in (Map range backing flags) =
     All-cons (λ (m : Mapping). IsTrue (lies_in m.range range)) (record { range = range; backing = backing; flags = flags }) []
     (and_from _ _ (le-leb range.first range.first (omega arith)) (le-leb (end_of range) (end_of range) (omega arith))) (All-nil (λ (m : Mapping). IsTrue (lies_in m.range range)))
 own_lies_in (Unmap range) = All-nil (λ (m : Mapping). IsTrue (lies_in m.range range))
+own_lies_in (UnmapBuffer buffer) = All-nil (λ (m : Mapping). IsTrue (lies_in m.range (span 0 0)))
 
 own_laid_out : (op : PageOp) → IsPageOp op → IsLaidOut (own_mapping op)
 own_laid_out (Map range backing flags) is = (omega arith, is, tt)
 own_laid_out (Unmap range) is = tt
+own_laid_out (UnmapBuffer buffer) is = absurd is
 
 -- an operation's own mapping says of a page that it covers what the operation says
 at-own : (op : PageOp) (ms : List Mapping) (page : ℕ) →
@@ -38,6 +40,7 @@ at-own (Map range backing flags) ms page =
     elim (covers range page) as (λ b. cond b (cond b (own_part (Map range backing flags) page) None) (at ms page) ≡ cond b (own_part (Map range backing flags) page) (at ms page))
     [ true ↦ refl | false ↦ refl ]
 at-own (Unmap range) ms page = refl
+at-own (UnmapBuffer buffer) ms page = refl
 
 pub at-edited : EditedListSays
 at-edited ms op page in_space =

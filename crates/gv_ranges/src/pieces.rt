@@ -4,7 +4,7 @@ ghost use Rattle.std.specs.List.{All};
 ghost use Rattle.std.specs.Option.{option_to_list};
 ghost use Rattle.gv_types.specs.Page.{PAGES};
 ghost use Rattle.gv_types.specs.Span.{meets, end_of};
-ghost use Rattle.gv_types.specs.Operation.{range_of};
+ghost use Rattle.gv_types.specs.Operation.{range_of, IsPageOp};
 ghost use Rattle.gv_ranges.specs.List.{IsLaidOut};
 ghost use Rattle.gv_ranges.specs.Edit.{edited, clipped, most_pieces};
 
@@ -79,6 +79,7 @@ impl fmt::Debug for Pieces {
 /// the operation's own mapping, and the rest of its last mapping, each where there is one. As in
 /// the split that DRM GPUVM plans, no piece is joined to a neighbour.
 pub fn replacement(run: &[Mapping], op: &PageOp) -> Pieces
+    requires op { IsPageOp op.now }
     requires laid_out { IsLaidOut run.now }
     requires meeting { All (λ m. IsTrue (meets m.range (range_of op.now))) run.now }
     ensures items { result.items ≡ edited run.now op.now }

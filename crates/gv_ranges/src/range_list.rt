@@ -1,5 +1,5 @@
 //! The list of mappings of an address space, sorted and disjoint.
-ghost use Rattle.std.specs.Prelude.{◌≡◌, ◌+◌, ◌<◌, ◌≤◌, [], length, OnOk, OnErr};
+ghost use Rattle.std.specs.Prelude.{◌≡◌, ◌+◌, ◌*◌, ◌<◌, ◌≤◌, [], length, max, OnOk, OnErr};
 
 use crate::pieces::replacement;
 use crate::replace::replace_run;
@@ -52,14 +52,25 @@ impl RangeList {
 
     /// Makes room for `more` mappings beside those in the list. Where the room has to grow it at
     /// least doubles, so a list of n mappings that was built by edits was moved for growth about
-    /// log n times. `OutOfMemory` where the system refuses the memory, and only where that room was
-    /// missing.
+    /// log n times; it asks for the double, or for what is needed where that is more. `OutOfMemory`
+    /// where the system refuses the memory, and only where that room was missing.
     pub fn reserve(&mut self, more: usize) -> Result<(), OutOfMemory>
         ensures unchanged { IsUnchanged self.old self.new }
         ensures ok { OnOk result (length self.new.mappings + more ≤ self.new.room) }
         ensures err { OnErr result (self.old.room < length self.old.mappings + more) }
+        ensures enough { length self.old.mappings + more ≤ self.old.room
+            → self.new.room ≡ self.old.room }
+        ensures double_or_need { self.new.room
+            ≤ max (2 * self.old.room) (length self.old.mappings + more) }
     {
-        Ok(self.mappings.reserve(more)?)
+        let len = self.mappings.len();
+        let room = self.mappings.capacity();
+        if more <= room - len {
+            return Ok(());
+        }
+        let need = len.checked_add(more).ok_or(OutOfMemory)?;
+        let wanted = need.max(room.saturating_mul(2));
+        Ok(self.mappings.reserve_exact(wanted - len)?)
     }
 
     /// What the page holds, if anything. One binary search.

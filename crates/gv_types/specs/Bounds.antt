@@ -1,12 +1,13 @@
 -- Which operations an address space allows.
-use Rattle.std.specs.Prelude.{◌≡◌, ℕ, ◌%◌, ◌≤◌, Bool, true, false, not, ◌&&◌, ◌==◌, nat_lt, if◌then◌else◌, Option, Some, None, Result, Ok, Err}
-use Rattle.gv_types.specs.Page.{PAGES, bytes_per_page, pages_per_operation}
+use Rattle.std.specs.Prelude.{◌≡◌, ℕ, ◌%◌, Bool, true, false, not, ◌&&◌, ◌==◌, if◌then◌else◌, Option, Some, None, Result, Ok, Err}
+use Rattle.gv_types.specs.Page.{PAGES, bytes_per_page}
 use Rattle.gv_types.specs.Span.{Span, span, meets, lies_in, is_in_space}
-use Rattle.gv_types.specs.Operation.{addr_of, len_of, offset_of, in_pages, range_of}
+use Rattle.gv_types.specs.Operation.{addr_of, len_of, offset_of, has_range, in_pages, range_of}
 use Rattle.gv_types.specs.declared.fault.Fault.{Fault}
-use Rattle.gv_types.specs.declared.fault.Fault.TheVariants.{Unaligned, Empty, OutOfSpace, Reserved, TooLong}
+use Rattle.gv_types.specs.declared.fault.Fault.TheVariants.{Unaligned, Empty, OutOfSpace, Reserved}
 use Rattle.gv_types.specs.declared.operation.Op.{Op}
 use Rattle.gv_types.specs.declared.operation.PageOp.{PageOp}
+use Rattle.gv_types.specs.declared.operation.PageOp.TheVariants.{Map, Unmap, UnmapBuffer}
 
 -- the pages of an address space, and a region of them that is reserved
 pub record Area : Type 0 where
@@ -36,15 +37,15 @@ meets_region (Some region) s = meets s region
 abbrev pub is_aligned : ℕ → Bool
 is_aligned bytes = bytes % bytes_per_page == 0
 
--- the first fault of an operation, in their order
+-- the first fault of an operation, in their order; an unmap of a whole buffer names no pages, and has none
 abbrev pub first_fault : Area → Op → Option Fault
 first_fault a op =
     let range = range_of (in_pages op) in
-    if not (is_aligned (addr_of op) && is_aligned (len_of op) && is_aligned (offset_of op)) then Some Unaligned
+    if not (has_range op) then None
+    else if not (is_aligned (addr_of op) && is_aligned (len_of op) && is_aligned (offset_of op)) then Some Unaligned
     else if len_of op == 0 then Some Empty
     else if not (lies_in range a.space) then Some OutOfSpace
     else if meets_region a.reserved range then Some Reserved
-    else if nat_lt pages_per_operation range.count then Some TooLong
     else None
 
 abbrev pub unless_fault : Option Fault → PageOp → Result PageOp Fault
@@ -55,8 +56,13 @@ unless_fault (Some fault) op = Err fault
 abbrev pub checked : Area → Op → Result PageOp Fault
 checked a op = unless_fault (first_fault a op) (in_pages op)
 
--- an operation lies in the space and off the reserved region, and is no longer than one may be
-pub record IsAllowed (a : Area) (op : PageOp) : Type 0 where
-  pub in_space : lies_in (range_of op) a.space ≡ true
-  pub off_region : meets_region a.reserved (range_of op) ≡ false
-  pub short : (range_of op).count ≤ pages_per_operation
+-- pages lie in the space and off the reserved region
+pub record LieInArea (a : Area) (range : Span) : Type 0 where
+  pub in_space : lies_in range a.space ≡ true
+  pub off_region : meets_region a.reserved range ≡ false
+
+-- so do the pages that an operation names, if it names any
+abbrev pub IsAllowed : Area → PageOp → Type 0
+IsAllowed a (Map range backing flags) = LieInArea a range
+IsAllowed a (Unmap range) = LieInArea a range
+IsAllowed a (UnmapBuffer buffer) = Unit {0}

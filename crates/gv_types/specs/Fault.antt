@@ -1,7 +1,7 @@
 -- What a fault is called, and the number that it carries.
 use Rattle.std.specs.Prelude.{ℕ, List, ◌++◌, Option, Some, None, codes, decimal}
 use Rattle.gv_types.specs.declared.fault.Fault.{Fault}
-use Rattle.gv_types.specs.declared.fault.Fault.TheVariants.{Unaligned, Empty, OutOfSpace, Reserved, TooLong, NoBuffer, OutOfBuffer, BadSize, TooManyBuffers, Mapped, Kept, InUse, Conflict, TooManyMappings, TooManyOps, JournalFull, NoEntry, NotABind, Withdrawn, Touched, OutOfTurn, QueueSpent, Unmapped, WriteToReadOnly, QueueFull, TooManyJobs, TooManyAccesses, NoJob, QueueGone, OutOfMemory}
+use Rattle.gv_types.specs.declared.fault.Fault.TheVariants.{Unaligned, Empty, OutOfSpace, Reserved, NoBuffer, OutOfBuffer, BadSize, TooManyBuffers, Mapped, Kept, InUse, Conflict, TooManyMappings, TooManyOps, JournalFull, NoEntry, NotABind, Withdrawn, Touched, OutOfTurn, QueueSpent, Unmapped, WriteToReadOnly, QueueFull, TooManyJobs, TooManyAccesses, NoJob, QueueGone, OutOfMemory}
 
 -- its printed name
 abbrev pub name_of : Fault → List ℕ
@@ -9,7 +9,6 @@ name_of Unaligned = codes "Unaligned"
 name_of Empty = codes "Empty"
 name_of OutOfSpace = codes "OutOfSpace"
 name_of Reserved = codes "Reserved"
-name_of TooLong = codes "TooLong"
 name_of NoBuffer = codes "NoBuffer"
 name_of OutOfBuffer = codes "OutOfBuffer"
 name_of BadSize = codes "BadSize"
@@ -42,7 +41,6 @@ number_of Unaligned = 1
 number_of Empty = 2
 number_of OutOfSpace = 3
 number_of Reserved = 4
-number_of TooLong = 5
 number_of NoBuffer = 6
 number_of OutOfBuffer = 7
 number_of BadSize = 8
@@ -75,7 +73,6 @@ carried_by Unaligned = None
 carried_by Empty = None
 carried_by OutOfSpace = None
 carried_by Reserved = None
-carried_by TooLong = None
 carried_by NoBuffer = None
 carried_by OutOfBuffer = None
 carried_by BadSize = None

@@ -3,7 +3,7 @@ use Rattle.std.specs.Prelude.{ℕ, ◌^◌, ◌<◌}
 
 -- how many pages the address space has
 abbrev pub PAGES : ℕ
-PAGES = 2 ^ 36
+PAGES = 2 ^ 45
 
 -- a page of the address space
 abbrev pub IsPage : ℕ → Type 0
@@ -12,10 +12,6 @@ IsPage page = page < PAGES
 -- how many bytes a page has
 abbrev pub bytes_per_page : ℕ
 bytes_per_page = 4096
-
--- how many pages one operation may have
-abbrev pub pages_per_operation : ℕ
-pages_per_operation = 65536
 
 -- how many pages a buffer may have
 abbrev pub pages_per_buffer : ℕ

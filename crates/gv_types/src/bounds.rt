@@ -1,15 +1,13 @@
 //! The pages that operations may touch.
-ghost use Rattle.std.specs.Prelude.{◌≡◌, ◌&&◌, IfOk};
-ghost use Rattle.gv_types.specs.Operation.{addr_of, len_of, offset_of, in_pages, IsPageOp};
-ghost use Rattle.gv_types.specs.Bounds.{area, whole_area, checked, IsAllowed, is_aligned, meets_region};
+ghost use Rattle.std.specs.Prelude.{◌≡◌, ◌&&◌, IfOk, IsTrue};
+ghost use Rattle.gv_types.specs.Operation.{addr_of, len_of, offset_of, has_range, in_pages};
+ghost use Rattle.gv_types.specs.Operation.{range_of, IsPageOp, IsChecked};
+ghost use Rattle.gv_types.specs.Bounds.{area, whole_area, checked, IsAllowed, LieInArea, is_aligned, meets_region};
 
 use crate::fault::Fault;
 use crate::operation::{Op, PAGE_BYTES, PageOp};
 use crate::page_range::{PageRange, SPACE_PAGES};
 use std::marker::Model;
-
-/// How many pages one operation may have.
-pub const OPERATION_PAGES: u64 = 65_536;
 
 /// The pages of an address space, and a region of them that is reserved, as the region that DRM GPUVM keeps for
 /// the kernel. An empty region is none, wherever it was said to begin.
@@ -65,11 +63,25 @@ impl Bounds {
 
     /// The operation in pages, or its first fault in this order: `Unaligned` (its address, length or offset is no
     /// multiple of 4,096 bytes), `Empty` (its length is 0), `OutOfSpace` (a page is outside the space), `Reserved`
-    /// (a page is reserved), `TooLong` (over 65,536 pages). It takes no memory.
+    /// (a page is reserved). An unmap of a whole buffer names no pages, and is always answered. It takes no memory.
     pub fn check(&self, op: &Op) -> Result<PageOp, Fault>
         ensures value { result ≡ checked self.now op.now }
         ensures same { IfOk result (λ p. p ≡ in_pages op.now) }
         ensures allowed { IfOk result (IsAllowed self.now) }
+        ensures page_op { IfOk result IsChecked }
+    {
+        match *op {
+            Op::UnmapBuffer { buffer } => Ok(PageOp::UnmapBuffer { buffer }),
+            Op::Map { .. } | Op::MapZero { .. } | Op::Unmap { .. } => self.check_pages(op),
+        }
+    }
+
+    /// The same for an operation that names its pages.
+    fn check_pages(&self, op: &Op) -> Result<PageOp, Fault>
+        requires { IsTrue (has_range op.now) }
+        ensures value { result ≡ checked self.now op.now }
+        ensures same { IfOk result (λ p. p ≡ in_pages op.now) }
+        ensures allowed { IfOk result (λ p. LieInArea self.now (range_of p)) }
         ensures page_op { IfOk result IsPageOp }
     {
         if !is_aligned(op) {
@@ -86,9 +98,6 @@ impl Bounds {
         let range = PageRange::between(first, end);
         if self.is_reserved(range) {
             return Err(Fault::Reserved);
-        }
-        if range.count() > OPERATION_PAGES {
-            return Err(Fault::TooLong);
         }
         Ok(op.on_pages(range))
     }

@@ -17,8 +17,6 @@ pub enum Fault {
     OutOfSpace,
     /// A page is in the reserved region.
     Reserved,
-    /// Over 65,536 pages in one operation.
-    TooLong,
     /// The buffer was never made, or is destroyed.
     NoBuffer,
     /// The offset plus the length is past the buffer's end.
@@ -81,7 +79,6 @@ impl Fault {
             Fault::Empty => "Empty",
             Fault::OutOfSpace => "OutOfSpace",
             Fault::Reserved => "Reserved",
-            Fault::TooLong => "TooLong",
             Fault::NoBuffer => "NoBuffer",
             Fault::OutOfBuffer => "OutOfBuffer",
             Fault::BadSize => "BadSize",
@@ -119,7 +116,6 @@ impl Fault {
             Fault::Empty => 2,
             Fault::OutOfSpace => 3,
             Fault::Reserved => 4,
-            Fault::TooLong => 5,
             Fault::NoBuffer => 6,
             Fault::OutOfBuffer => 7,
             Fault::BadSize => 8,

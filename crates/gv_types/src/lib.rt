@@ -10,7 +10,7 @@ mod operation;
 mod page_range;
 mod request;
 
-pub use bounds::{Bounds, OPERATION_PAGES};
+pub use bounds::Bounds;
 pub use fault::{Fault, OutOfMemory};
 pub use generation::Generation;
 pub use limits::{Limits, MAX_BUFFERS, MAX_ITEMS, MAX_MAPPINGS, MAX_TOLD};

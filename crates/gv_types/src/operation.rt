@@ -1,5 +1,5 @@
 //! What a request asks for, in bytes and in pages.
-ghost use Rattle.std.specs.Prelude.{◌≡◌};
+ghost use Rattle.std.specs.Prelude.{◌≡◌, IsTrue};
 
 use crate::mapping::{Backing, BufferId, Flags, Mapping};
 use crate::page_range::PageRange;
@@ -8,7 +8,7 @@ use crate::page_range::PageRange;
 pub const PAGE_BYTES: u64 = 4096;
 
 /// An operation as a caller states it: addresses, lengths and offsets are in bytes. The operations of a bind call
-/// of Asynchronous VM_BIND: map a buffer, map without a buffer, unmap.
+/// of Asynchronous VM_BIND: map a buffer, map without a buffer, unmap, unmap all that is mapped of a buffer.
 #[derive(Clone, Copy, Debug, PartialEq, Eq)]
 pub enum Op {
     Map {
@@ -27,43 +27,50 @@ pub enum Op {
         addr: u64,
         len: u64,
     },
+    UnmapBuffer {
+        buffer: BufferId,
+    },
 }
 
 impl Op {
     ghost use Rattle.gv_types.specs.Span.{IsInSpace};
-    ghost use Rattle.gv_types.specs.Operation.{addr_of, len_of, offset_of, in_pages, range_of, IsPageOp};
+    ghost use Rattle.gv_types.specs.Operation.{addr_of, len_of, offset_of, has_range};
+    ghost use Rattle.gv_types.specs.Operation.{in_pages, range_of, IsPageOp};
 
-    /// Its first byte.
+    /// Its first byte, and 0 where it names no pages.
     pub fn addr(&self) -> u64
         ensures { result ≡ addr_of self.now }
     {
         match *self {
             Op::Map { addr, .. } | Op::MapZero { addr, .. } | Op::Unmap { addr, .. } => addr,
+            Op::UnmapBuffer { .. } => 0,
         }
     }
 
-    /// How many bytes it covers.
+    /// How many bytes it covers, and 0 where it names no pages.
     pub fn len(&self) -> u64
         ensures { result ≡ len_of self.now }
     {
         match *self {
             Op::Map { len, .. } | Op::MapZero { len, .. } | Op::Unmap { len, .. } => len,
+            Op::UnmapBuffer { .. } => 0,
         }
     }
 
-    /// The byte of the buffer that it begins at, and 0 without a buffer.
+    /// The byte of the buffer that it begins at, and 0 where it maps no buffer.
     pub fn offset(&self) -> u64
         ensures { result ≡ offset_of self.now }
     {
         match *self {
             Op::Map { offset, .. } => offset,
-            Op::MapZero { .. } | Op::Unmap { .. } => 0,
+            Op::MapZero { .. } | Op::Unmap { .. } | Op::UnmapBuffer { .. } => 0,
         }
     }
 
     /// The operation on these pages, which have to be those that its bytes are in.
     pub(crate) fn on_pages(&self, range: PageRange) -> PageOp
         requires same { range ≡ range_of (in_pages self.now) }
+        requires ranged { IsTrue (has_range self.now) }
         requires in_space { IsInSpace range }
         ensures value { result ≡ in_pages self.now }
         ensures page_op { IsPageOp result }
@@ -88,6 +95,7 @@ impl Op {
                 flags,
             },
             Op::Unmap { .. } => PageOp::Unmap { range },
+            Op::UnmapBuffer { .. } => unreachable!(),
         }
     }
 }
@@ -103,19 +111,24 @@ pub enum PageOp {
     Unmap {
         range: PageRange,
     },
+    UnmapBuffer {
+        buffer: BufferId,
+    },
 }
 
 impl PageOp {
     ghost use Rattle.std.specs.Option.{option_to_list};
-    ghost use Rattle.gv_types.specs.Operation.{range_of, own_mapping};
+    ghost use Rattle.gv_types.specs.Operation.{range_of, own_mapping, IsPageOp};
 
-    /// The pages that the operation covers.
+    /// The pages that the operation covers. An unmap of a whole buffer names none.
     pub fn range(&self) -> PageRange
+        requires { IsPageOp self.now }
         ensures { result ≡ range_of self.now }
     {
         match *self {
             PageOp::Map { range, .. } => range,
             PageOp::Unmap { range } => range,
+            PageOp::UnmapBuffer { .. } => unreachable!(),
         }
     }
 
@@ -133,7 +146,7 @@ impl PageOp {
                 backing,
                 flags,
             }),
-            PageOp::Unmap { .. } => None,
+            PageOp::Unmap { .. } | PageOp::UnmapBuffer { .. } => None,
         }
     }
 }

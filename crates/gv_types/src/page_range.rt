@@ -3,8 +3,8 @@ ghost use Rattle.std.specs.Prelude.{◌≡◌, ◌<◌, ◌≤◌, ◌↔◌, Is
 
 use std::marker::Model;
 
-/// How many pages the address space has: addresses have 48 bits.
-pub const SPACE_PAGES: u64 = 1 << 36;
+/// How many pages the address space has: addresses have 57 bits.
+pub const SPACE_PAGES: u64 = 1 << 45;
 
 /// A run of pages: at least one, and none past the end of the address space. The region of the address space
 /// that a mapping or an operation of DRM GPUVM covers, counted in pages of 4,096 bytes.
