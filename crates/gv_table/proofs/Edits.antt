@@ -4,13 +4,13 @@ use Rattle.std.specs.List.{All}
 use Rattle.std.proofs.lemmas.List.{append-nil}
 use Rattle.std.proofs.lemmas.List.Elements.{All-nil, All-cons, All-head, All-tail, filter_map-append}
 use Rattle.gv_types.specs.Page.{PAGES}
-use Rattle.gv_types.specs.Span.{Span, end_of, IsInSpace, lies_in}
+use Rattle.gv_types.specs.Span.{Span, span, end_of, IsInSpace, lies_in}
 use Rattle.gv_types.specs.Mapping.{clip, piece, IsMapping}
 use Rattle.gv_types.specs.declared.mapping.Mapping.{Mapping}
 use Rattle.gv_ranges.specs.List.{IsLaidOut, IsLaidOutFrom}
 use Rattle.gv_types.specs.Operation.{range_of, own_mapping, IsPageOp}
 use Rattle.gv_types.specs.declared.operation.PageOp.{PageOp}
-use Rattle.gv_types.specs.declared.operation.PageOp.TheVariants.{Map, Unmap}
+use Rattle.gv_types.specs.declared.operation.PageOp.TheVariants.{Map, Unmap, UnmapBuffer}
 use Rattle.gv_ranges.specs.Edit.{LieIn, clipped, replaced, edited}
 use Rattle.gv_ranges.proofs.Clip.{clip_whole}
 use Rattle.gv_ranges.proofs.Kept.{clip_is_piece, All-clipped}
@@ -96,10 +96,12 @@ replaced-pieces ms pieces range laid sorted lie = inside ms pieces range laid li
 pub own-lies : (op : PageOp) → LieIn (range_of op) (own_mapping op)
 own-lies (Map range backing flags) = All-cons (λ (m : Mapping). IsTrue (lies_in m.range range)) _ [] (lies-from range range (omega arith) (omega arith)) (All-nil (λ (m : Mapping). IsTrue (lies_in m.range range)))
 own-lies (Unmap range) = All-nil (λ (m : Mapping). IsTrue (lies_in m.range range))
+own-lies (UnmapBuffer buffer) = All-nil (λ (m : Mapping). IsTrue (lies_in m.range (span 0 0)))
 
 pub own-laid : (op : PageOp) → IsPageOp op → IsLaidOut (own_mapping op)
 own-laid (Map range backing flags) is = (omega arith, is, tt)
 own-laid (Unmap range) is = tt
+own-laid (UnmapBuffer buffer) is = absurd is
 
 -- an edited list is the same outside the operation's range, and has its own mapping inside
 pub edited-alike : (ms : List Mapping) (op : PageOp) → IsLaidOut ms → AreAlikeOutside (range_of op) ms (edited ms op)

@@ -61,4 +61,4 @@ trees-gained ms list (suc level) first one other tree tree' =
 
 -- the same of whole trees
 pub tables-gained : TreesGainAlike
-tables-gained ms list one other tree tree' = trees-gained ms list 4 0 one.root other.root tree tree'
+tables-gained ms list one other tree tree' = trees-gained ms list 5 0 one.root other.root tree tree'

@@ -7,18 +7,19 @@ pub pages_of-zero : pages_of 0 ≡ 1
 unfolding pages_of
 pages_of-zero = refl
 
-pub pages_of-four : pages_of 4 ≡ PAGES
+pub pages_of-top : pages_of 5 ≡ PAGES
 unfolding pages_of
-pages_of-four = refl
+pages_of-top = refl
 
-pub pages_of-bound : (level : ℕ) → level ≤ 4 → pages_of level ≤ PAGES
+pub pages_of-bound : (level : ℕ) → level ≤ 5 → pages_of level ≤ PAGES
 unfolding pages_of
 pages_of-bound zero few = lit≤ tt
 pages_of-bound (suc zero) few = lit≤ tt
 pages_of-bound (suc (suc zero)) few = lit≤ tt
 pages_of-bound (suc (suc (suc zero))) few = lit≤ tt
 pages_of-bound (suc (suc (suc (suc zero)))) few = lit≤ tt
-pages_of-bound (suc (suc (suc (suc (suc level))))) few = absurd (omega arith)
+pages_of-bound (suc (suc (suc (suc (suc zero))))) few = lit≤ tt
+pages_of-bound (suc (suc (suc (suc (suc (suc level)))))) few = absurd (omega arith)
 
 pub pages_of-more : (level : ℕ) → pages_of (suc level) ≡ 512 * pages_of level
 unfolding pages_of

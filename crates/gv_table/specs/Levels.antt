@@ -8,7 +8,7 @@ slots_per_table = 512
 
 -- the level of the slots of the root
 abbrev pub root_level : ℕ
-root_level = 3
+root_level = 4
 
 -- the level of the slot that the root fills: a table with slots at a level fills a slot one level higher
 abbrev pub top_level : ℕ

@@ -27,14 +27,14 @@ lost_by ms table = lost ms top_level 0 table.root
 abbrev pub needed_for : List Mapping → Span → PageTable → ℕ
 needed_for pieces range table = needed pieces range top_level 0 table.root
 
--- how many tables stand at the levels 3, 2, 1 and 0
+-- how many tables stand at the levels 4, 3, 2, 1 and 0
 abbrev pub tables_by_level : PageTable → List ℕ
 tables_by_level table =
-    tables_at 3 top_level table.root ∷ tables_at 2 top_level table.root ∷
+    tables_at 4 top_level table.root ∷ tables_at 3 top_level table.root ∷ tables_at 2 top_level table.root ∷
     tables_at 1 top_level table.root ∷ tables_at 0 top_level table.root ∷ []
 
--- how many tables the tree of the mappings has at the levels 3, 2, 1 and 0
+-- how many tables the tree of the mappings has at the levels 4, 3, 2, 1 and 0
 abbrev pub tables_of : List Mapping → List ℕ
 tables_of ms =
-    tables_wanted ms 3 top_level 0 ∷ tables_wanted ms 2 top_level 0 ∷
+    tables_wanted ms 4 top_level 0 ∷ tables_wanted ms 3 top_level 0 ∷ tables_wanted ms 2 top_level 0 ∷
     tables_wanted ms 1 top_level 0 ∷ tables_wanted ms 0 top_level 0 ∷ []

@@ -11,7 +11,7 @@ use gv_types::PageRange;
 pub const SLOTS: usize = 512;
 
 /// The level of the slots of the root.
-pub const ROOT_LEVEL: usize = 3;
+pub const ROOT_LEVEL: usize = 4;
 
 /// The level of the slot that the root fills.
 pub const TOP_LEVEL: usize = ROOT_LEVEL + 1;
@@ -31,7 +31,8 @@ pub fn pages_of(level: usize) -> u64
         1 => 512,
         2 => 262_144,
         3 => 134_217_728,
-        _ => 68_719_476_736,
+        4 => 68_719_476_736,
+        _ => 35_184_372_088_832,
     }
 }
 

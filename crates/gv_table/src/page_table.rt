@@ -1,5 +1,5 @@
 //! The tree of tables.
-ghost use Rattle.std.specs.Prelude.{◌≡◌, ◌≤◌, ◌+◌, ℕ, List, [], IfOk, IfErr};
+ghost use Rattle.std.specs.Prelude.{◌≡◌, ◌≤◌, ◌<◌, ◌+◌, ℕ, List, [], IfOk, IfErr, OnErr};
 ghost use Rattle.gv_types.specs.declared.fault.Fault.TheVariants.{OutOfMemory};
 ghost use Rattle.gv_types.specs.declared.mapping.Mapping.{Mapping};
 ghost use Rattle.gv_types.specs.Span.{end_of};
@@ -43,7 +43,7 @@ impl PageTable {
         }
     }
 
-    /// What a page holds: at most four steps from table to table. None past the end of the address
+    /// What a page holds: at most five steps from table to table. None past the end of the address
     /// space.
     pub fn walk(&self, page: u64) -> Option<Entry>
         ensures { (ms : List Mapping) → IsLaidOut ms → IsTree ms self.now → result ≡ at ms page }
@@ -54,8 +54,8 @@ impl PageTable {
         walk_slot(&self.root, TOP_LEVEL, 0, page)
     }
 
-    /// How many tables stand at the levels 3, 2, 1 and 0. The numbers are kept: nothing is walked.
-    pub fn tables(&self) -> [u64; 4]
+    /// How many tables stand at the levels 4, 3, 2, 1 and 0. The numbers are kept: nothing is walked.
+    pub fn tables(&self) -> [u64; 5]
         ensures standing { result ≡ tables_by_level self.now }
         ensures wanted { (ms : List Mapping) → IsTree ms self.now → result ≡ tables_of ms }
     {
@@ -64,7 +64,7 @@ impl PageTable {
 
     /// Empty tables for a paint after which the list holds these pieces in the range: enough for
     /// each list that is like the one of this tree outside the range. `OutOfMemory` where the
-    /// system refuses the memory for one.
+    /// system refuses the memory for one, so only where some are needed.
     pub fn spare(
         &self,
         alloc: Global,
@@ -77,6 +77,7 @@ impl PageTable {
             → FitsOutside ms range self.now
             → clipped range.first (end_of range) ms ≡ pieces.now → gained_by ms self.now ≤ spares) }
         ensures err { IfErr result (λ fault. fault ≡ OutOfMemory) }
+        ensures some_needed { OnErr result (0 < needed_for pieces.now range self.now) }
     {
         let near = Near::whole(pieces, range);
         let mut spares = Spares::new();

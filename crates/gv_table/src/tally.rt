@@ -42,12 +42,12 @@ impl Tally {
         self.counts[level] -= 1;
     }
 
-    /// The counts at the levels 3, 2, 1 and 0.
+    /// The counts at the levels 4, 3, 2, 1 and 0.
     pub fn descending(&self) -> [u64; TOP_LEVEL]
-        ensures { result ≡ count_at self.now 3 ∷ count_at self.now 2 ∷ count_at self.now 1
-            ∷ count_at self.now 0 ∷ [] }
+        ensures { result ≡ count_at self.now 4 ∷ count_at self.now 3 ∷ count_at self.now 2
+            ∷ count_at self.now 1 ∷ count_at self.now 0 ∷ [] }
     {
-        let [zero, one, two, three] = self.counts;
-        [three, two, one, zero]
+        let [zero, one, two, three, four] = self.counts;
+        [four, three, two, one, zero]
     }
 }

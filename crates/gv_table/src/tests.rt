@@ -129,10 +129,10 @@ fn one_large_mapping(rt: HostRuntime) -> Result<(), Fail> {
     drop(none);
     let op = map(0, 262_144, 0);
     apply(rt.alloc(), &mut list, &mut twin, &mut table, op)?;
-    assert_eq!(rt; table.tables(), [1, 1, 0, 0]);
+    assert_eq!(rt; table.tables(), [1, 1, 1, 0, 0]);
     let op = unmap(0, 1);
     apply(rt.alloc(), &mut list, &mut twin, &mut table, op)?;
-    assert_eq!(rt; table.tables(), [1, 1, 1, 1]);
+    assert_eq!(rt; table.tables(), [1, 1, 1, 1, 1]);
     assert!(rt; table.walk(0).is_none());
     let entry = table.walk(262_143).ok_or("an entry")?;
     let wanted = Backing::Buffer {
@@ -150,13 +150,15 @@ fn tables_come_and_go(rt: HostRuntime) -> Result<(), Fail> {
     let mut twin = RangeList::new(rt.alloc());
     let mut table = PageTable::new();
     for (is_map, first, count, lost, wanted) in [
-        (true, 0, 65_536, 0, [1, 1, 1, 0]),
-        (false, 0, 65_536, 3, [0, 0, 0, 0]),
-        (true, 0x1ff, 2, 0, [1, 1, 1, 2]),
-        (false, 0x1ff, 2, 5, [0, 0, 0, 0]),
-        (true, 0, 512, 0, [1, 1, 1, 0]),
-        (false, 7, 1, 0, [1, 1, 1, 1]),
-        (true, 0, 512, 1, [1, 1, 1, 0]),
+        (true, 0, 65_536, 0, [1, 1, 1, 1, 0]),
+        (false, 0, 65_536, 4, [0, 0, 0, 0, 0]),
+        (true, 0x1ff, 2, 0, [1, 1, 1, 1, 2]),
+        (false, 0x1ff, 2, 6, [0, 0, 0, 0, 0]),
+        (true, 0, 512, 0, [1, 1, 1, 1, 0]),
+        (false, 7, 1, 0, [1, 1, 1, 1, 1]),
+        (true, 0, 512, 1, [1, 1, 1, 1, 0]),
+        (true, (1 << 45) - 1, 1, 0, [1, 2, 2, 2, 1]),
+        (false, 0, 1 << 37, 3, [1, 1, 1, 1, 1]),
     ] {
         let op = if is_map {
             map(first, count, 0)
@@ -167,5 +169,29 @@ fn tables_come_and_go(rt: HostRuntime) -> Result<(), Fail> {
         assert_eq!(rt; seen, lost);
         assert_eq!(rt; table.tables(), wanted);
     }
+    Ok(())
+}
+
+/// More tables than a drop that calls itself for each could give back on a test's stack.
+const LONG_CHAIN: u64 = 30_000;
+
+#[test]
+fn long_chain_of_spares(rt: HostRuntime) -> Result<(), Fail> {
+    let mut spares = Spares::new();
+    for _ in 0..LONG_CHAIN {
+        spares.grow(rt.alloc())?;
+    }
+    let kept = spares.split(LONG_CHAIN / 2);
+    drop(spares);
+    drop(kept);
+    Ok(())
+}
+
+#[test]
+fn nothing_is_spared_for_nothing(rt: HostRuntime) -> Result<(), Fail> {
+    let table = PageTable::new();
+    let range = PageRange::new(0, 1 << 45).ok_or("a range")?;
+    let spares = table.spare(rt.alloc(), range, &[])?;
+    drop(spares);
     Ok(())
 }

@@ -18,6 +18,10 @@ pub returns-in-3-clause-pages : goal.returns-in-3-clause-pages
 unfolding pages_of
 returns-in-3-clause-pages c = rw c.in-3.is refl
 
+pub returns-in-4-clause-pages : goal.returns-in-4-clause-pages
+unfolding pages_of
+returns-in-4-clause-pages c = rw c.in-4.is refl
+
 pub returns-in_default-clause-pages : goal.returns-in_default-clause-pages
 unfolding pages_of
-returns-in_default-clause-pages c = let four : c.args.level ≡ 4 = omega arith in rw four refl
+returns-in_default-clause-pages c = let five : c.args.level ≡ 5 = omega arith in rw five refl

@@ -7,7 +7,7 @@ use Rattle.gv_table.proofs.Trees.{IsTreeOf-nothing}
 use Rattle.gv_table.proofs.page_table.PageTable.new.Goals as goal
 
 pub returns : goal.returns
-returns c = IsTreeOf-nothing [] 4 0 Empty (wanted-nothing [] 4 0 refl) refl
+returns c = IsTreeOf-nothing [] 5 0 Empty (wanted-nothing [] 5 0 refl) refl
 
 pub invariant_of-result : goal.invariant_of-result
-invariant_of-result c = record { counted = λ target. c.new.ensures target ∙ sym (tables_at-other target 4 Empty is_table-Empty) }
+invariant_of-result c = record { counted = λ target. c.new.ensures target ∙ sym (tables_at-other target 5 Empty is_table-Empty) }

@@ -3,22 +3,22 @@ use Rattle.gv_types.specs.declared.mapping.Mapping.{Mapping}
 use Rattle.gv_table.specs.Tree.{IsTreeOf}
 use Rattle.gv_table.specs.Levels.{slot_pages}
 use Rattle.gv_table.proofs.Matches.{tree-match, gained-lost}
-use Rattle.gv_table.proofs.PagesOf.{pages_of-four}
+use Rattle.gv_table.proofs.PagesOf.{pages_of-top}
 use Rattle.gv_table.proofs.Spans.{meets-from}
 use Rattle.gv_table.proofs.page_table.PageTable.paint.Goals as goal
 
 pub paint_slot-requires-clause-in_space : goal.paint_slot-requires-clause-in_space
-paint_slot-requires-clause-in_space c = let all = pages_of-four in omega (arith, all)
+paint_slot-requires-clause-in_space c = let all = pages_of-top in omega (arith, all)
 
 pub paint_slot-requires-clause-met : goal.paint_slot-requires-clause-met
 paint_slot-requires-clause-met c =
-    let all = pages_of-four in
+    let all = pages_of-top in
     let some = c.around-near.ensures.in_space in
-    rw c.around-near.ensures.range (meets-from (slot_pages 4 0) c.args.range (omega (arith, some)) (omega (arith, all, some)))
+    rw c.around-near.ensures.range (meets-from (slot_pages 5 0) c.args.range (omega (arith, some)) (omega (arith, all, some)))
 
 pub paint_slot-requires-clause-part : goal.paint_slot-requires-clause-part
 paint_slot-requires-clause-part c =
-    let all = pages_of-four in
+    let all = pages_of-top in
     record {
       counted = λ target. let e = c.args.self.now.counted target in omega (arith, e);
       room = λ target. let e = c.args.self.now.counted target in omega (arith, all, e);
@@ -26,16 +26,16 @@ paint_slot-requires-clause-part c =
 
 pub returns-clause-back : goal.returns-clause-back
 returns-clause-back c = λ ms laid tree.
-    let same = gained-lost ms c.args.list.now.mappings 4 0 c.args.self.now.root c.paint_slot.new.slot
-    (tree-match ms 4 0 c.args.self.now.root laid tree) (tree-match c.args.list.now.mappings 4 0 c.paint_slot.new.slot c.mappings.ensures.laid_out
-    (subst (λ (xs : List Mapping). IsTreeOf xs 4 0 c.paint_slot.new.slot) c.mappings.ensures.value c.paint_slot.ensures.tree)) in
+    let same = gained-lost ms c.args.list.now.mappings 5 0 c.args.self.now.root c.paint_slot.new.slot
+    (tree-match ms 5 0 c.args.self.now.root laid tree) (tree-match c.args.list.now.mappings 5 0 c.paint_slot.new.slot c.mappings.ensures.laid_out
+    (subst (λ (xs : List Mapping). IsTreeOf xs 5 0 c.paint_slot.new.slot) c.mappings.ensures.value c.paint_slot.ensures.tree)) in
     let exchanged = rw c.mappings.ensures.value at c.paint_slot.ensures.exchanged in
     omega (arith, same, exchanged, c.requires.enough)
 
 pub returns-clause-owed : goal.returns-clause-owed
 returns-clause-owed c = λ ms laid tree.
-    let same = gained-lost ms c.args.list.now.mappings 4 0 c.args.self.now.root c.paint_slot.new.slot
-    (tree-match ms 4 0 c.args.self.now.root laid tree) (tree-match c.args.list.now.mappings 4 0 c.paint_slot.new.slot c.mappings.ensures.laid_out
-    (subst (λ (xs : List Mapping). IsTreeOf xs 4 0 c.paint_slot.new.slot) c.mappings.ensures.value c.paint_slot.ensures.tree)) in
+    let same = gained-lost ms c.args.list.now.mappings 5 0 c.args.self.now.root c.paint_slot.new.slot
+    (tree-match ms 5 0 c.args.self.now.root laid tree) (tree-match c.args.list.now.mappings 5 0 c.paint_slot.new.slot c.mappings.ensures.laid_out
+    (subst (λ (xs : List Mapping). IsTreeOf xs 5 0 c.paint_slot.new.slot) c.mappings.ensures.value c.paint_slot.ensures.tree)) in
     let lost = rw c.mappings.ensures.value at c.paint_slot.ensures.lost in
     omega (arith, same, lost)
