@@ -1,9 +1,10 @@
 -- Worked examples of steps.
 use Rattle.std.specs.Prelude.{◌≡◌, true, false, Some, None, [], ◌∷◌}
+use Rattle.gv_types.specs.Mapping.{buffer_id}
 use Rattle.gv_types.specs.declared.mapping.Backing.TheVariants.{Zero}
 use Rattle.gv_ranges.specs.Examples.{a, b, of, fixed, map_at, unmap_at}
 use Rattle.gv_types.specs.Span.{span}
-use Rattle.gv_types.specs.declared.operation.PageOp.TheVariants.{Map as MapOp}
+use Rattle.gv_types.specs.declared.operation.PageOp.TheVariants.{Map as MapOp, UnmapBuffer}
 use Rattle.gv_split.specs.declared.step.Step.TheVariants.{Unmap, Remap, Map}
 use Rattle.gv_split.specs.Steps.{steps}
 
@@ -37,3 +38,11 @@ PartOfMapIsKept =
 -- pages of zeros are never kept
 abbrev pub ZerosAreNotKept : Type 0
 ZerosAreNotKept = steps (of 0 4 Zero ∷ []) (map_at 0 4 Zero) ≡ Unmap (of 0 4 Zero) false ∷ Map (of 0 4 Zero) ∷ []
+
+-- an unmap of a whole buffer takes out each of its mappings as it is, and leaves those of another buffer and of a buffer
+-- that was made in its place
+abbrev pub UnmapOfBuffer : Type 0
+UnmapOfBuffer =
+    (steps (of 0 2 (a 0) ∷ of 2 2 (b 0) ∷ fixed 4 1 (a 9) ∷ of 6 1 Zero ∷ []) (UnmapBuffer (buffer_id 0 0))
+    ≡ Unmap (of 0 2 (a 0)) false ∷ Unmap (fixed 4 1 (a 9)) false ∷ [])
+    × (steps (of 0 2 (a 0) ∷ []) (UnmapBuffer (buffer_id 0 1)) ≡ [])

@@ -1,9 +1,9 @@
 //! The steps by which an operation changes a list of mappings.
-ghost use Rattle.std.specs.Prelude.{◌≡◌, ◌++◌, map, IfOk, IfErr};
+ghost use Rattle.std.specs.Prelude.{◌≡◌, false, ◌+◌, ◌<◌, ◌++◌, map, filter, length, IfOk, IfErr, OnErr};
 ghost use Rattle.std.specs.List.{All};
 
 use gv_ranges::RangeList;
-use gv_types::{Backing, Fault, Mapping, PageOp, SPACE_PAGES};
+use gv_types::{Backing, BufferId, Fault, Mapping, PageOp, SPACE_PAGES};
 use std::alloc::Global;
 
 /// One step of an operation: what DRM GPUVM hands to its driver for a map or an unmap request.
@@ -11,7 +11,8 @@ use std::alloc::Global;
 /// The steps of an operation ascend by page, and the operation's own map comes last. No piece is
 /// joined to a neighbour. `keep` is set exactly where the operation is a map, the mapping has the
 /// same buffer and equal flags, and the pages of the buffer continue: page by page the operation
-/// maps what the mapping held, so page table entries of it may stay.
+/// maps what the mapping held, so page table entries of it may stay. An unmap of a whole buffer has a
+/// step `Unmap` for each of its mappings.
 #[derive(Clone, Copy, Debug, PartialEq, Eq)]
 pub enum Step {
     /// The mapping lies in the operation's range, and goes.
@@ -35,9 +36,10 @@ pub enum Step {
     },
 }
 
-ghost use Rattle.gv_types.specs.Mapping.{IsMapping};
-ghost use Rattle.gv_types.specs.Operation.{own_mapping, IsPageOp};
-ghost use Rattle.gv_split.specs.Steps.{is_kept, step_of, steps};
+ghost use Rattle.gv_types.specs.Mapping.{is_of, IsMapping};
+ghost use Rattle.gv_types.specs.Operation.{own_mapping, range_of, IsPageOp, IsChecked};
+ghost use Rattle.gv_types.specs.Span.{meets};
+ghost use Rattle.gv_split.specs.Steps.{is_kept, step_in, steps};
 
 /// Whether the operation maps the pages of the mapping's buffer again where they were, with equal
 /// flags.
@@ -67,10 +69,10 @@ fn is_kept(op: &PageOp, mapping: &Mapping) -> bool
 }
 
 /// The step for a mapping that meets the operation's range.
-fn step_of(op: &PageOp, mapping: &Mapping) -> Step
+fn step_in(op: &PageOp, mapping: &Mapping) -> Step
     requires mapping { IsMapping mapping.now }
     requires op { IsPageOp op.now }
-    ensures { result ≡ step_of op.now mapping.now }
+    ensures { result ≡ step_in op.now mapping.now }
 {
     let keep = is_kept(op, mapping);
     let range = op.range();
@@ -94,25 +96,76 @@ fn steps_of_run(alloc: Global, run: &[Mapping], op: &PageOp) -> Result<Vec<Step>
     requires mappings { All IsMapping run.now }
     requires op { IsPageOp op.now }
     ensures ok { IfOk result (λ answer.
-        answer.items ≡ map (step_of op.now) run.now ++ map Step.Map (own_mapping op.now)) }
+        answer.items ≡ map (step_in op.now) run.now ++ map Step.Map (own_mapping op.now)) }
     ensures err { IfErr result (λ fault. fault ≡ Fault.OutOfMemory) }
+    ensures some { OnErr result (0 < length run.now + length (own_mapping op.now)) }
 {
-    let mut answer = Vec::with_capacity(alloc, run.len() + 1)?;
+    let own = op.own_mapping();
+    let mut answer = Vec::with_capacity(alloc, run.len() + usize::from(own.is_some()))?;
     for mapping in run {
-        answer.push_reserved(step_of(op, mapping));
+        answer.push_reserved(step_in(op, mapping));
     }
-    if let Some(mapping) = op.own_mapping() {
+    if let Some(mapping) = own {
         answer.push_reserved(Step::Map { mapping });
     }
     Ok(answer)
 }
 
+/// How many of the mappings are of the buffer.
+fn count_of_buffer(mappings: &[Mapping], buffer: BufferId) -> usize
+    ensures { result ≡ length (filter (λ m. is_of buffer m.backing) mappings.now) }
+{
+    mappings.iter().filter(|m| m.backing.is_of(buffer)).count()
+}
+
+/// The steps for the mappings of a buffer, all of which go.
+fn steps_of_buffer(
+    alloc: Global,
+    mappings: &[Mapping],
+    buffer: BufferId,
+) -> Result<Vec<Step>, Fault>
+    ensures ok { IfOk result (λ answer.
+        answer.items ≡ map (λ m. Step.Unmap m false) (filter (λ m. is_of buffer m.backing) mappings.now)) }
+    ensures err { IfErr result (λ fault. fault ≡ Fault.OutOfMemory) }
+    ensures some { OnErr result (0 < length (filter (λ m. is_of buffer m.backing) mappings.now)) }
+{
+    if count_of_buffer(mappings, buffer) == 0 {
+        return Ok(Vec::new(alloc));
+    }
+    let answer = mappings
+        .iter()
+        .filter(|m| m.backing.is_of(buffer))
+        .map(|m| Step::Unmap {
+            mapping: *m,
+            keep: false,
+        })
+        .collect(alloc)?;
+    Ok(answer)
+}
+
 /// The steps by which the operation changes the list, in ascending order. `OutOfMemory` where the
-/// system refuses the memory for them.
+/// system refuses the memory for them, so only where there are steps.
 pub fn plan(alloc: Global, list: &RangeList, op: &PageOp) -> Result<Vec<Step>, Fault>
-    requires { IsPageOp op.now }
+    requires { IsChecked op.now }
     ensures ok { IfOk result (λ answer. answer.items ≡ steps list.now.mappings op.now) }
     ensures err { IfErr result (λ fault. fault ≡ Fault.OutOfMemory) }
+    ensures some { OnErr result (0 < length (steps list.now.mappings op.now)) }
+{
+    match *op {
+        PageOp::UnmapBuffer { buffer } => steps_of_buffer(alloc, list.mappings(), buffer),
+        PageOp::Map { .. } | PageOp::Unmap { .. } => plan_range(alloc, list, op),
+    }
+}
+
+/// The same for an operation that names its pages.
+fn plan_range(alloc: Global, list: &RangeList, op: &PageOp) -> Result<Vec<Step>, Fault>
+    requires { IsPageOp op.now }
+    ensures ok { IfOk result (λ answer. answer.items
+        ≡ map (step_in op.now) (filter (λ m. meets m.range (range_of op.now)) list.now.mappings)
+        ++ map Step.Map (own_mapping op.now)) }
+    ensures err { IfErr result (λ fault. fault ≡ Fault.OutOfMemory) }
+    ensures some { OnErr result (0 < length (filter (λ m. meets m.range (range_of op.now)) list.now.mappings)
+        + length (own_mapping op.now)) }
 {
     let (place, count) = list.overlapping(op.range());
     let run = &list.mappings()[place..place + count];

@@ -5,6 +5,7 @@ ghost use Rattle.gv_types.specs.Operation.{IsPageOp};
 ghost use Rattle.gv_ranges.specs.List.{IsLaidOut};
 ghost use Rattle.gv_split.specs.Examples.{HoleLeavesBothRests, MapOverThree, SameMapIsKept};
 ghost use Rattle.gv_split.specs.Examples.{PartOfMapIsKept, ZerosAreNotKept};
+ghost use Rattle.gv_split.specs.Examples.{UnmapOfBuffer};
 
 use crate::{Step, plan};
 use gv_ranges::RangeList;
@@ -19,6 +20,7 @@ fn examples()
     ensures kept { SameMapIsKept }
     ensures part_kept { PartOfMapIsKept }
     ensures zeros { ZerosAreNotKept }
+    ensures buffer { UnmapOfBuffer }
 {}
 
 /// `count` pages of a buffer from its page `page` on, at the page `first`.
@@ -123,5 +125,32 @@ fn same_map_is_kept(rt: HostRuntime) -> Result<(), Fail> {
         assert_eq!(rt; steps.len(), 2);
         assert_eq!(rt; steps[0], gone);
     }
+    Ok(())
+}
+
+#[test]
+fn all_mappings_of_a_buffer_go(rt: HostRuntime) -> Result<(), Fail> {
+    let low = mapping(0, 2, 1, 0).ok_or("low")?;
+    let other = mapping(2, 2, 2, 2).ok_or("other")?;
+    let high = mapping(4, 2, 1, 9).ok_or("high")?;
+    let list = list_of(rt.alloc(), &[low, other, high])?;
+    for (index, generation, count) in [(1, 1, 2), (2, 1, 1), (1, 2, 0), (3, 1, 0)] {
+        let buffer = BufferId::new(index, generation);
+        let steps = plan(rt.alloc(), &list, &PageOp::UnmapBuffer { buffer })?;
+        assert_eq!(rt; steps.len(), count);
+    }
+    let buffer = BufferId::new(1, 1);
+    let steps = plan(rt.alloc(), &list, &PageOp::UnmapBuffer { buffer })?;
+    let wanted = [
+        Step::Unmap {
+            mapping: mapping(0, 2, 1, 0).ok_or("low")?,
+            keep: false,
+        },
+        Step::Unmap {
+            mapping: mapping(4, 2, 1, 9).ok_or("high")?,
+            keep: false,
+        },
+    ];
+    assert_eq!(rt; steps.as_slice(), wanted.as_slice());
     Ok(())
 }

@@ -1,5 +1,5 @@
 -- What a mapping says of a page, and what is left of it between two pages.
-use Rattle.std.specs.Prelude.{ℕ, false, ◌+◌, ◌-◌, ◌≤◌, max, min, if◌then◌else◌, nat_lt, Option, Some, None}
+use Rattle.std.specs.Prelude.{ℕ, Bool, false, ◌&&◌, ◌==◌, ◌+◌, ◌-◌, ◌≤◌, max, min, if◌then◌else◌, nat_lt, Option, Some, None}
 use Rattle.gv_types.specs.Page.{backing_pages}
 use Rattle.gv_types.specs.Span.{span, end_of, IsInSpace}
 use Rattle.gv_types.specs.declared.mapping.Backing.{Backing}
@@ -10,6 +10,15 @@ use Rattle.gv_types.specs.declared.mapping.Mapping.{Mapping}
 
 abbrev pub buffer_id : ℕ → ℕ → BufferId
 buffer_id index generation = record { index = index; generation = generation }
+
+-- the same buffer, and not one that was made in its place
+abbrev pub is_same_id : BufferId → BufferId → Bool
+is_same_id a b = (a.index == b.index) && (a.generation == b.generation)
+
+-- a buffer stands behind the pages
+abbrev pub is_of : BufferId → Backing → Bool
+is_of id (Buffer other page) = is_same_id other id
+is_of id Zero = false
 
 -- the same backing, `pages` further on
 abbrev pub advanced : Backing → ℕ → Backing

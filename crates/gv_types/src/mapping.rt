@@ -77,7 +77,17 @@ impl BufferId {
 }
 
 impl Backing {
-    ghost use Rattle.gv_types.specs.Mapping.{advanced, HasSmallPages};
+    ghost use Rattle.gv_types.specs.Mapping.{advanced, is_of, HasSmallPages};
+
+    /// Whether the buffer stands behind the pages.
+    pub fn is_of(self, buffer: BufferId) -> bool
+        ensures { result ≡ is_of buffer self }
+    {
+        match self {
+            Backing::Buffer { id, .. } => id == buffer,
+            Backing::Zero => false,
+        }
+    }
 
     /// The same backing, `pages` further on.
     pub fn advanced(self, pages: u64) -> Backing
