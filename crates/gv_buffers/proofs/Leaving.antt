@@ -14,7 +14,6 @@ use Rattle.gv_buffers.specs.Slots.{buffer_at, buffer_in, IsLeftOrSame}
 pub record HaveLeft (job : ℕ) (old new : Slab Slot) (places : List ℕ) : Type 0 where
   pub noted : (place : ℕ) → Contains places place → buffer_in new place ≡ option_map (left_by job) (buffer_in old place)
   pub others : (place : ℕ) → IsLeftOrSame job old new place
-  pub capacity : new.capacity ≡ old.capacity
 
 pub left-left : (job : ℕ) (users : List User) → left job (left job users) ≡ left job users
 left-left job [] = refl
@@ -30,8 +29,8 @@ left_by-left_by job (Some b) = rw left-left refl
 -- one more place
 pub HaveLeft-more : (job : ℕ) (old mid new : Slab Slot) (places : List ℕ) (place : ℕ) → HaveLeft job old mid places →
     buffer_in new place ≡ option_map (left_by job) (buffer_in mid place) →
-    ((key : ℕ) → key ≢ place → get new key ≡ get mid key) → new.capacity ≡ mid.capacity → HaveLeft job old new (places ++ place ∷ [])
-HaveLeft-more job old mid new places place before here others capacity =
+    ((key : ℕ) → key ≢ place → get new key ≡ get mid key) → HaveLeft job old new (places ++ place ∷ [])
+HaveLeft-more job old mid new places place before here others =
     let at_place : buffer_in new place ≡ option_map (left_by job) (buffer_in old place) =
     ⊎_elim (λ e. here ∙ ap (option_map (left_by job)) e ∙ left_by-left_by job (buffer_in old place))
     (λ e. here ∙ ap (option_map (left_by job)) e) (before.others place) in
@@ -43,5 +42,4 @@ HaveLeft-more job old mid new places place before here others capacity =
       others = λ key. ⊎_elim (λ (e : key ≡ place). inl (rw e at_place))
           (λ (apart : key ≢ place). ⊎_elim (λ e. inl (elsewhere key apart ∙ e)) (λ e. inr (elsewhere key apart ∙ e)) (before.others key))
           (cases_eq key place);
-      capacity = capacity ∙ before.capacity;
     }

@@ -7,3 +7,5 @@ pub mod Rooms
 pub mod Making
 pub mod Using
 pub mod Found
+pub mod Counts
+pub mod TakenBack

@@ -19,6 +19,7 @@ use Rattle.gv_buffers.specs.Sound.{table_of, IsSound}
 use Rattle.gv_buffers.proofs.Lists.{All-buffers_from, put_in, passing, buffers_from-filter}
 use Rattle.gv_buffers.proofs.Tables.{live_slot, index_of_seen}
 use Rattle.gv_buffers.proofs.Conflicts.{no_pairs}
+use Rattle.gv_buffers.proofs.Using.{IsNow, grown}
 
 -- a buffer of this size can be made
 pub no_create_fault : (t : Table) (pages : ℕ) → pages ≢ 0 → pages ≤ pages_per_buffer → length t.live < t.limit → t.made < most_made → create_fault t pages ≡ None
@@ -49,11 +50,11 @@ pub record IsMade (b : Inside) (t : Table) (id : BufferId) (pages : ℕ) : Type 
   pub created : IsCreated t (table_of b) id pages
 
 -- a buffer is put into a free slot
-pub made : (a : Inside) (t : Table) (new : Slab Slot) (key pages : ℕ) (slot : Slot) → IsSound a → table_of a ≡ t → slab_len a.slots < a.limit →
+made : (a : Inside) (t : Table) (new : Slab Slot) (key pages : ℕ) (slot : Slot) → IsSound a → table_of a ≡ t → slab_len a.slots < a.limit →
     0 < pages → pages ≤ pages_per_buffer → get a.slots key ≡ None → Updates a.slots new key (Some slot) → slab_len new ≡ slab_len a.slots + 1 →
-    new.capacity ≡ a.slots.capacity → buffer_at key slot ≡ fresh (buffer_id key a.made) pages →
+    buffer_at key slot ≡ fresh (buffer_id key a.made) pages →
     IsMade (record a { made = a.made + 1; slots = new }) t (buffer_id key a.made) pages
-made a t new key pages slot sound view room some few free updates len capacity seen =
+made a t new key pages slot sound view room some few free updates len seen =
     let b : Buffer = fresh (buffer_id key a.made) pages in
     let here : buffer_in new key ≡ Some b = ap (option_map (buffer_at key)) updates.changed ∙ ap (λ (x : Buffer). Some x) seen in
     let elsewhere = λ (place : ℕ) (apart : place ≢ key). ap (option_map (buffer_at place)) (updates.others place apart) in
@@ -64,8 +65,6 @@ made a t new key pages slot sound view room some few free updates len capacity s
       sound = record {
         limit = sound.limit;
         few = rw len (omega arith);
-        room = rw capacity sound.room;
-        numbered = rw capacity sound.numbered;
         buffers = λ place x found. ⊎_elim
             (λ (e : place ≡ key). subst (IsBuffer (a.made + 1)) (same_Some _ _ (sym here ∙ (rw (← e) found))) is_buffer)
             (λ (apart : place ≢ key).
@@ -89,6 +88,17 @@ made a t new key pages slot sound view room some few free updates len capacity s
       });
     }
 
+-- and into one that is free once room was made for it
+pub made_with_room : (a : Inside) (t : Table) (mid new : Slab Slot) (key place pages : ℕ) (slot : Slot) → IsSound a → table_of a ≡ t →
+    mid ≡ record a.slots { capacity = mid.capacity } → key ≡ place → slab_len a.slots < a.limit → 0 < pages → pages ≤ pages_per_buffer → get mid key ≡ None →
+    Updates mid new key (Some slot) → slab_len new ≡ slab_len mid + 1 → buffer_at place slot ≡ fresh (buffer_id place a.made) pages →
+    IsMade (record a { made = a.made + 1; slots = new }) t (buffer_id place a.made) pages
+made_with_room a t mid new key place pages slot sound view same is room some few free updates len seen =
+    let now : IsNow (record a { slots = mid }) t = grown a t mid sound view same in
+    let mid_len : slab_len mid ≡ slab_len a.slots = ap (λ (s : Slab Slot). slab_len s) same in
+    made (record a { slots = mid }) t new place pages slot now.sound now.table (omega arith) some few
+    (subst (λ (n : ℕ). get mid n ≡ None) is free) (subst (λ (n : ℕ). Updates mid new n (Some slot)) is updates) len seen
+
 pub record IsDestroyed (b : Inside) (t : Table) (id : BufferId) : Type 0 where
   pub sound : IsSound b
   pub table : table_of b ≡ without id t
@@ -101,8 +111,8 @@ passing_elsewhere id place (Some s) apart =
 
 -- a buffer is taken out of its slot
 pub destroyed : (a : Inside) (t : Table) (new : Slab Slot) (id : BufferId) (v : Slot) → IsSound a → table_of a ≡ t → live_at a.slots id ≡ Some v →
-    Updates a.slots new id.index None → slab_len new + 1 ≡ slab_len a.slots → new.capacity ≡ a.slots.capacity → IsDestroyed (record a { slots = new }) t id
-destroyed a t new id v sound view found updates len capacity =
+    Updates a.slots new id.index None → slab_len new + 1 ≡ slab_len a.slots → IsDestroyed (record a { slots = new }) t id
+destroyed a t new id v sound view found updates len =
     let slot = live_slot a id v found in
     let here : buffer_in new id.index ≡ None = ap (option_map (buffer_at id.index)) updates.changed in
     let elsewhere = λ (place : ℕ) (apart : place ≢ id.index). ap (option_map (buffer_at place)) (updates.others place apart) in
@@ -120,8 +130,6 @@ destroyed a t new id v sound view found updates len capacity =
       sound = record {
         limit = sound.limit;
         few = omega (arith, sound.few);
-        room = rw capacity sound.room;
-        numbered = rw capacity sound.numbered;
         buffers = λ place x seen. ⊎_elim
             (λ (e : place ≡ id.index). absurd (none-some x (sym here ∙ (rw (← e) seen))))
             (λ (apart : place ≢ id.index). sound.buffers place x (sym (elsewhere place apart) ∙ seen))

@@ -9,7 +9,7 @@ use Rattle.gv_buffers.specs.declared.slots.Slot.{Slot}
 use Rattle.gv_buffers.specs.declared.usage.Usage.TheVariants.{Read}
 use Rattle.gv_buffers.specs.declared.usage.User.{User}
 use Rattle.gv_buffers.specs.Places.{Notes, IsNoted}
-use Rattle.gv_buffers.specs.Slots.{HasRoomFor}
+use Rattle.gv_buffers.specs.Slots.{HasRoomForJob}
 use Rattle.gv_buffers.proofs.Joins.{is_of}
 
 some_of : (o : Option ℕ) → is_some o ≡ true → (i : ℕ) × (o ≡ Some i)
@@ -26,7 +26,7 @@ noted_user notes place job users found noted =
     subst (λ (j : ℕ). IsNoted notes j place) (eqb-true _ _ here.1) (noted at.0 no_one here.0)
 
 pub room_from_user : (slots : Slab Slot) (place : ℕ) (slot : Slot) (job : ℕ) → ContainsKey slots place → is_some (position (is_of job) slot.users.items) ≡ true →
-    HasRoomFor job (get (with_value slots place slot) place)
+    HasRoomForJob job (get (with_value slots place slot) place)
 room_from_user slots place slot job lives found =
     let updates : Updates slots (with_value slots place slot) place (Some slot) = Updates-with_value slots place slot lives in
     rw updates.changed (λ missed. absurd (false≢true (sym missed ∙ found)))

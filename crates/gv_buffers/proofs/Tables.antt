@@ -102,20 +102,18 @@ noted_after f old new place None keeps were = were
 noted_after f old new place (Some y) keeps were = keeps y refl were
 
 -- a sound table whose buffers are changed one by one
-pub sound_map : (a b : Inside) (f : Buffer → Buffer) → IsSound a → b.limit ≡ a.limit → b.made ≡ a.made → b.slots.capacity ≡ a.slots.capacity →
+pub sound_map : (a b : Inside) (f : Buffer → Buffer) → IsSound a → b.limit ≡ a.limit → b.made ≡ a.made →
     ((place : ℕ) → buffer_in b.slots place ≡ option_map f (buffer_in a.slots place)) →
     ((place : ℕ) (x : Buffer) → buffer_in a.slots place ≡ Some x → IsBuffer a.made x → IsBuffer a.made (f x)) →
     ((place : ℕ) (x : Buffer) → buffer_in a.slots place ≡ Some x → AreNoted a.places place (Some x) → AreNoted b.places place (Some (f x))) →
     IsSound b
-sound_map a b f sound limit made capacity each keeps notes =
+sound_map a b f sound limit made each keeps notes =
     let lists : buffers_from 0 b.slots.slots ≡ map f (buffers_from 0 a.slots.slots) = live_from_map f a.slots b.slots each in
     let same_len : slab_len b.slots ≡ slab_len a.slots =
     sym (length-buffers_from 0 b.slots.slots) ∙ ap length lists ∙ length-map _ _ ∙ length-buffers_from 0 a.slots.slots in
     record {
       limit = rw limit sound.limit;
       few = rw (limit, same_len) sound.few;
-      room = rw (limit, capacity) sound.room;
-      numbered = rw capacity sound.numbered;
       buffers = λ place x found. rw made (buffers_after f a.made (buffer_in a.slots place) x (sym (each place) ∙ found) (keeps place) (sound.buffers place));
       noted = λ place. rw (each place) (noted_after f a.places b.places place (buffer_in a.slots place) (notes place) (sound.noted place));
     }
@@ -154,7 +152,7 @@ counted a t id v w change sound view lives found written keeps users =
     ap (option_map (buffer_at id.index)) updates.changed ∙ (rw found (ap (λ (b : Buffer). Some b) written)) in
     let each = places_from_only id change a.slots new v found (live_generation a id v lives_here found) here (λ place apart. ap (option_map (buffer_at place)) (updates.others place apart)) in
     record {
-      sound = sound_map a (record a { slots = new }) (only id change) sound refl refl refl each
+      sound = sound_map a (record a { slots = new }) (only id change) sound refl refl each
           (λ place x _ was. only_keeps id change a.made x (keeps a.made x) was)
           (λ place x _ was. only_notes id change a.places place x (users x) was);
       table = ap (λ (live : List Buffer). record { limit = a.limit; made = a.made; live = live }) (live_from_map (only id change) a.slots new each) ∙ ap (changed id change) view;

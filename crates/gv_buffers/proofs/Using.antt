@@ -29,12 +29,12 @@ unmapped None = refl
 unmapped (Some b) = refl
 
 -- room was made, and more may be noted
-pub unchanged : (a : Inside) (t : Table) (new : Slab Slot) (notes : Notes) → IsSound a → table_of a ≡ t → new.capacity ≡ a.slots.capacity →
+pub unchanged : (a : Inside) (t : Table) (new : Slab Slot) (notes : Notes) → IsSound a → table_of a ≡ t →
     ((place : ℕ) → buffer_in new place ≡ buffer_in a.slots place) → ((job place : ℕ) → IsNoted a.places job place → IsNoted notes job place) →
     IsNow (record a { slots = new; places = notes }) t
-unchanged a t new notes sound view capacity same keeps =
+unchanged a t new notes sound view same keeps =
     record {
-      sound = sound_map a (record a { slots = new; places = notes }) (λ b. b) sound refl refl capacity
+      sound = sound_map a (record a { slots = new; places = notes }) (λ b. b) sound refl refl
           (λ place. same place ∙ unmapped (buffer_in a.slots place)) (λ place x _ was. was)
           (λ place x _ was. All-weaker (λ u. IsNoted a.places u.job place) (λ u. IsNoted notes u.job place) (λ u noted. keeps u.job place noted) x.users was);
       table = ap (λ (live : List Buffer). record { limit = a.limit; made = a.made; live = live }) (live_from_same a.slots new same) ∙ view;
@@ -48,17 +48,17 @@ same_place id place o x found has =
 
 -- a job joined the buffer with an id, where it conflicts with none
 pub joined_table : (a : Inside) (t : Table) (new : Slab Slot) (notes : Notes) (id : BufferId) (v : Slot) (job : ℕ) (usage : Usage) → IsSound a → table_of a ≡ t →
-    live_at a.slots id ≡ Some v → conflict job usage v.users.items ≡ None → new.capacity ≡ a.slots.capacity →
+    live_at a.slots id ≡ Some v → conflict job usage v.users.items ≡ None →
     buffer_in new id.index ≡ option_map (joined_by job usage) (buffer_in a.slots id.index) → ((place : ℕ) → place ≢ id.index → buffer_in new place ≡ buffer_in a.slots place) →
     ((other place : ℕ) → IsNoted a.places other place → IsNoted notes other place) → IsNoted notes job id.index →
     IsNow (record a { slots = new; places = notes }) (changed id (joined_by job usage) t)
-joined_table a t new notes id v job usage sound view found none capacity here others keeps noted =
+joined_table a t new notes id v job usage sound view found none here others keeps noted =
     let slot = live_slot a id v found in
     let each = places_from_only id (joined_by job usage) a.slots new v slot.0 slot.1 here others in
     let harmless : AreHarmless job usage v.users.items = harmless_from_none job usage v.users.items none in
     let buffer_here : buffer_in a.slots id.index ≡ Some (buffer_at id.index v) = buffer_in_from_get a.slots id.index v slot.0 in
     record {
-      sound = sound_map a (record a { slots = new; places = notes }) (only id (joined_by job usage)) sound refl refl capacity each
+      sound = sound_map a (record a { slots = new; places = notes }) (only id (joined_by job usage)) sound refl refl each
           (λ place x seen was. elim (has_id id x) as (λ h. has_id id x ≡ h → IsBuffer a.made (cond h (joined_by job usage x) x)) [
             | true ↦ (λ has.
                 let at : place ≡ id.index = same_place id place (get a.slots place) x seen has in
@@ -107,17 +107,22 @@ stays notes place job new (Some b) same users noted =
     ⊎_elim (λ e. same ∙ ap (λ (us : List User). Some (record b { users = us })) (sym e)) noted (left_or_noted notes place job b.users users)
 
 -- a job left each buffer where it was noted
-pub left_table : (a : Inside) (t : Table) (new : Slab Slot) (notes : Notes) (job : ℕ) → IsSound a → table_of a ≡ t → new.capacity ≡ a.slots.capacity →
+pub left_table : (a : Inside) (t : Table) (new : Slab Slot) (notes : Notes) (job : ℕ) → IsSound a → table_of a ≡ t →
     ((place : ℕ) → IsLeftOrSame job a.slots new place) →
     ((place : ℕ) → IsNoted a.places job place → buffer_in new place ≡ option_map (left_by job) (buffer_in a.slots place)) →
     ((other at : ℕ) → other ≢ job → IsNoted a.places other at → IsNoted notes other at) →
     IsNow (record a { slots = new; places = notes }) (left_everywhere job t)
-left_table a t new notes job sound view capacity others noted keeps =
+left_table a t new notes job sound view others noted keeps =
     let each : (place : ℕ) → buffer_in new place ≡ option_map (left_by job) (buffer_in a.slots place) =
     λ place. ⊎_elim (λ gone. gone) (λ same. stays a.places place job (buffer_in new place) (buffer_in a.slots place) same (sound.noted place) (noted place)) (others place) in
     record {
-      sound = sound_map a (record a { slots = new; places = notes }) (left_by job) sound refl refl capacity each
+      sound = sound_map a (record a { slots = new; places = notes }) (left_by job) sound refl refl each
           (λ place x _ was. record { made_before = was.made_before; some_pages = was.some_pages; few_pages = was.few_pages; no_conflict = HaveNoConflict-left job x.users was.no_conflict })
           (λ place x _ was. noted_of_left a.places notes place job x.users keeps was);
       table = ap (λ (live : List Buffer). record { limit = a.limit; made = a.made; live = live }) (live_from_map (left_by job) a.slots new each) ∙ ap (left_everywhere job) view;
     }
+
+-- room was made for more buffers
+pub grown : (a : Inside) (t : Table) (new : Slab Slot) → IsSound a → table_of a ≡ t → new ≡ record a.slots { capacity = new.capacity } → IsNow (record a { slots = new }) t
+grown a t new sound view same =
+    unchanged a t new a.places sound view (λ place. ap (λ (s : Slab Slot). buffer_in s place) same) (λ job place noted. noted)

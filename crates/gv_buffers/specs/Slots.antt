@@ -45,9 +45,9 @@ AreNoted notes place None = Unit {0}
 AreNoted notes place (Some b) = All (λ u. IsNoted notes u.job place) b.users
 
 -- a job is among the users in a slot, or there is room for it
-abbrev pub HasRoomFor : ℕ → Option Slot → Type 0
-HasRoomFor job None = Unit {0}
-HasRoomFor job (Some slot) = IsNone (position (λ u. u.job == job) slot.users.items) → vec_len slot.users < vec_capacity slot.users
+abbrev pub HasRoomForJob : ℕ → Option Slot → Type 0
+HasRoomForJob job None = Unit {0}
+HasRoomForJob job (Some slot) = IsNone (position (λ u. u.job == job) slot.users.items) → vec_len slot.users < vec_capacity slot.users
 
 -- a job has left the buffer at a place, or the buffer is as it was
 abbrev pub IsLeftOrSame : ℕ → Slab Slot → Slab Slot → ℕ → Type 0

@@ -3,7 +3,7 @@ ghost use Rattle.std.specs.Prelude.{◌≡◌, ◌<◌, IfOk, IsOk, IsOkUnless, 
 ghost use Rattle.gv_types.specs.Limits.{greatest, IsFromOneTo};
 
 use crate::places::{Places, forget};
-use crate::slots::{Slot, join_at, leave_all, live_at, make_room};
+use crate::slots::{Slot, join_at, leave_all, live_at, make_room, next_place};
 use crate::usage::Usage;
 use crate::users;
 use gv_types::{BUFFER_PAGES, BufferId, Fault, Generation};
@@ -12,15 +12,14 @@ use std::alloc::Global;
 use std::collections::HashMap;
 use std::marker::Model;
 
-// An index has 32 bits.
-const MOST_PLACES: usize = 1 << 32;
+// So many buffers a new table has room for, where its limit is no lower.
+const FIRST_ROOM: u64 = 8;
 
 /// The live buffers of an address space: how many pages each has, how many mappings name it, and
 /// which running jobs use it. No two jobs use one buffer where either writes it, as the kernel's
 /// Reservation Objects ask. An id that died stays dead when its index is used again.
 #[derive(Drop)]
 pub struct Buffers {
-    alloc: Global,
     limit: u64,
     made: u64,
     slots: Slab<Slot>,
@@ -47,34 +46,29 @@ impl Buffers {
     ghost use Rattle.gv_buffers.specs.Table.{joined_by, most_counted};
     ghost use Rattle.std.specs.Option.{IsSomeAnd};
 
-    /// A table of no buffer, with room for `limit` live ones, from 1 to 65,536. `OutOfMemory` where
-    /// the system refuses that room.
+    /// A table of no buffer, in which at most `limit` are alive at once, from 1 to 65,536. It has
+    /// room for the first 8. `OutOfMemory` where the system refuses that room.
     pub fn new(alloc: Global, limit: u64) -> Result<Buffers, Fault>
         requires { IsFromOneTo greatest.buffers limit }
         ensures empty { IfOk result (λ b. b ≡ no_buffers limit) }
         ensures only_memory { IsOkUnless result Fault.OutOfMemory }
     {
-        let slots = Slab::with_capacity(alloc, limit as usize)?;
-        // So many places can't be numbered. No limit asks for as many.
-        if slots.capacity() > MOST_PLACES {
-            return Err(Fault::OutOfMemory);
-        }
+        let room = limit.min(FIRST_ROOM) as usize;
         Ok(Buffers {
-            alloc,
             limit,
             made: 0,
-            slots,
+            slots: Slab::with_capacity(alloc, room)?,
             places: HashMap::new(alloc),
         })
     }
 
-    /// Makes a buffer of `pages` pages. `BadSize` at 0 pages or over 2^36, and `TooManyBuffers`
-    /// where the limit's buffers are alive or 2^64 - 1 were made. The id's generation is how many
-    /// were made before; its index may be that of a buffer that was destroyed. It takes no memory,
-    /// since `new` made the room.
-    pub fn create(&mut self, pages: u64) -> Result<BufferId, Fault>
+    /// Makes a buffer of `pages` pages. `BadSize` at 0 pages or over 2^36, then `TooManyBuffers`
+    /// where the limit's buffers are alive or 2^64 - 1 were made, then `OutOfMemory`. The id's
+    /// generation is how many were made before; its index may be that of a buffer that was
+    /// destroyed. It takes memory only where no place is free, and then for twice as many places.
+    pub fn create(&mut self, alloc: Global, pages: u64) -> Result<BufferId, Fault>
         ensures fault { MatchOption (create_fault self.old pages)
-            (IsOk result) (λ fault. result ≡ Err fault) }
+            (IsOkUnless result Fault.OutOfMemory) (λ fault. result ≡ Err fault) }
         ensures ok { IfOk result (λ id. IsCreated self.old self.new id pages) }
         ensures err { OnErr result (self.new ≡ self.old) }
         ensures table { OnOk result (IsTable self.new) }
@@ -85,16 +79,17 @@ impl Buffers {
         if self.slots.len() as u64 >= self.limit || self.made == u64::MAX {
             return Err(Fault::TooManyBuffers);
         }
+        let place = next_place(&mut self.slots)?;
         let generation = self.made;
-        let place = self.slots.insert_reserved(Slot {
+        self.slots.insert_reserved(Slot {
             generation: Generation::new(generation),
             pages,
             uses: 0,
             kept: 0,
-            users: Vec::new(self.alloc),
+            users: Vec::new(alloc),
         });
         self.made += 1;
-        Ok(BufferId::new(place as u32, generation))
+        Ok(BufferId::new(place, generation))
     }
 
     /// Destroys a buffer that nothing names. `NoBuffer` where the id is dead, then `Mapped` where
@@ -174,7 +169,7 @@ impl Buffers {
     /// Lets a job use a buffer; one that uses it already gets the stronger usage. `NoBuffer` where
     /// the id is dead, then `Conflict` with the least other job that uses the buffer where one of
     /// the two writes it, then `OutOfMemory`.
-    pub fn join(&mut self, id: BufferId, job: u64, usage: Usage) -> Result<(), Fault>
+    pub fn join(&mut self, alloc: Global, id: BufferId, job: u64, usage: Usage) -> Result<(), Fault>
         ensures fault { MatchOption (join_fault self.old id job usage)
             (IsOkUnless result Fault.OutOfMemory) (λ fault. result ≡ Err fault) }
         ensures ok { OnOk result (self.new ≡ changed id (joined_by job usage) self.old) }
@@ -188,7 +183,7 @@ impl Buffers {
         if let Some(job) = users::conflict(&slot.users, job, usage) {
             return Err(Fault::Conflict { job });
         }
-        make_room(self.alloc, &mut self.slots, &mut self.places, place, job)?;
+        make_room(alloc, &mut self.slots, &mut self.places, place, job)?;
         join_at(&mut self.slots, place, job, usage);
         Ok(())
     }

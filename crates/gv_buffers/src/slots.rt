@@ -1,10 +1,11 @@
 //! The places of live buffers.
-ghost use Rattle.std.specs.Prelude.{◌≡◌, ◌≢◌, ℕ, Contains, IsOk, OnOk, MatchOption};
+ghost use Rattle.std.specs.Prelude.{◌≡◌, ◌≢◌, ℕ, Contains, IsOk, IfOk, OnOk, IsOkUnless};
+ghost use Rattle.std.specs.Prelude.{MatchOption};
 ghost use Rattle.std.specs.Option.{option_copied, option_map};
-ghost use Rattle.slab.specs.Slab.{get, ContainsKey};
+ghost use Rattle.slab.specs.Slab.{get, ContainsKey, HasRoomFor};
 ghost use Rattle.gv_buffers.specs.Places.{IsNoted};
 ghost use Rattle.gv_buffers.specs.Slots.{live_at, buffer_at, buffer_in};
-ghost use Rattle.gv_buffers.specs.Slots.{AreNoted, HasRoomFor, IsLeftOrSame};
+ghost use Rattle.gv_buffers.specs.Slots.{AreNoted, HasRoomForJob, IsLeftOrSame};
 ghost use Rattle.gv_buffers.specs.Table.{joined_by, left_by, use_fault};
 
 use crate::places::{Places, note};
@@ -57,6 +58,22 @@ pub fn live_at(slots: &Slab<Slot>, id: BufferId) -> Option<&Slot>
     }
 }
 
+/// The place of the next buffer, with room for it there. `OutOfMemory` where the system refuses that
+/// room, which doubles, and where an index can't number the place. No limit asks for as many.
+pub fn next_place(slots: &mut Slab<Slot>) -> Result<u32, Fault>
+    ensures place { IfOk result (λ place. place ≡ slots.new.vacant_key) }
+    ensures room { OnOk result (HasRoomFor slots.new 1) }
+    ensures only_memory { IsOkUnless result Fault.OutOfMemory }
+    ensures same { slots.new ≡ record slots.old { capacity = slots.new.capacity } }
+    ensures had_room { HasRoomFor slots.old 1 → slots.new ≡ slots.old }
+{
+    slots.reserve(1)?;
+    match u32::try_from(slots.vacant_key()) {
+        Ok(place) => Ok(place),
+        Err(_) => Err(Fault::OutOfMemory),
+    }
+}
+
 /// Makes room for a job among the users of the buffer at a place, and notes the place for the job,
 /// where it is no user yet.
 pub fn make_room(
@@ -69,10 +86,9 @@ pub fn make_room(
     requires lives { ContainsKey slots.old place }
     requires noted { AreNoted places.old place (buffer_in slots.old place) }
     ensures same { (other : ℕ) → buffer_in slots.new other ≡ buffer_in slots.old other }
-    ensures capacity { slots.new.capacity ≡ slots.old.capacity }
     ensures keeps { (other at : ℕ) → IsNoted places.old other at → IsNoted places.new other at }
     ensures noted { OnOk result (IsNoted places.new job place) }
-    ensures room { OnOk result (HasRoomFor job (get slots.new place)) }
+    ensures room { OnOk result (HasRoomForJob job (get slots.new place)) }
 {
     let slot = &mut slots[place as usize];
     if users::place_of(&slot.users, job).is_some() {
@@ -85,11 +101,10 @@ pub fn make_room(
 /// Lets the job use the buffer at a place, where there is room for it.
 pub fn join_at(slots: &mut Slab<Slot>, place: u32, job: u64, usage: Usage)
     requires lives { ContainsKey slots.old place }
-    requires room { HasRoomFor job (get slots.old place) }
+    requires room { HasRoomForJob job (get slots.old place) }
     ensures here { buffer_in slots.new place
         ≡ option_map (joined_by job usage) (buffer_in slots.old place) }
     ensures others { (key : ℕ) → key ≢ place → get slots.new key ≡ get slots.old key }
-    ensures capacity { slots.new.capacity ≡ slots.old.capacity }
 {
     users::join(&mut slots[place as usize].users, job, usage);
 }
@@ -99,7 +114,6 @@ pub fn leave_at(slots: &mut Slab<Slot>, place: u32, job: u64)
     ensures here { buffer_in slots.new place
         ≡ option_map (left_by job) (buffer_in slots.old place) }
     ensures others { (key : ℕ) → key ≢ place → get slots.new key ≡ get slots.old key }
-    ensures capacity { slots.new.capacity ≡ slots.old.capacity }
 {
     if let Some(slot) = slots.get_mut(place as usize) {
         users::leave(&mut slot.users, job);
@@ -111,7 +125,6 @@ pub fn leave_all(slots: &mut Slab<Slot>, places: &[u32], job: u64)
     ensures noted { (place : ℕ) → Contains places.now place
         → buffer_in slots.new place ≡ option_map (left_by job) (buffer_in slots.old place) }
     ensures others { (place : ℕ) → IsLeftOrSame job slots.old slots.new place }
-    ensures capacity { slots.new.capacity ≡ slots.old.capacity }
 {
     for place in places {
         leave_at(slots, *place, job);

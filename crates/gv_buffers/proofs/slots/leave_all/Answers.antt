@@ -7,4 +7,4 @@ pub loop-place-preserved : goal.loop-place-preserved
 loop-place-preserved c =
     let places = c.args.places.now in
     rw (take_more places c.loop-place.place-index 0 c.loop-place-test.true)
-    (HaveLeft-more c.args.job c.args.slots.now c.loop-place.slots c.leave_at.new.slots _ (get_or places c.loop-place.place-index 0) c.loop-place.invariant c.leave_at.ensures.here c.leave_at.ensures.others c.leave_at.ensures.capacity)
+    (HaveLeft-more c.args.job c.args.slots.now c.loop-place.slots c.leave_at.new.slots _ (get_or places c.loop-place.place-index 0) c.loop-place.invariant c.leave_at.ensures.here c.leave_at.ensures.others)

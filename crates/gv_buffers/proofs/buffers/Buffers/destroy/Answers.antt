@@ -20,7 +20,7 @@ returns-in_err-check_unused-clause-fault c =
 pub invariant_of-self : goal.invariant_of-self
 invariant_of-self c =
     let found : live_at c.self.inside.slots c.args.id ≡ Some c.in-Some.slot.now = rw c.in-Some.is at (sym c.live_at.ensures) in
-    (destroyed c.self.inside c.args.self.now c.remove.new.self c.args.id c.in-Some.slot.now c.self.invariant c.self.view_is found c.remove.ensures.updates c.remove.ensures.len c.remove.ensures.capacity).sound
+    (destroyed c.self.inside c.args.self.now c.remove.new.self c.args.id c.in-Some.slot.now c.self.invariant c.self.view_is found c.remove.ensures.updates c.remove.ensures.len).sound
 
 pub returns-clause-fault : goal.returns-clause-fault
 returns-clause-fault c =
@@ -30,4 +30,4 @@ returns-clause-fault c =
 pub returns-clause-ok : goal.returns-clause-ok
 returns-clause-ok c =
     let found : live_at c.self.inside.slots c.args.id ≡ Some c.in-Some.slot.now = rw c.in-Some.is at (sym c.live_at.ensures) in
-    (destroyed c.self.inside c.args.self.now c.remove.new.self c.args.id c.in-Some.slot.now c.self.invariant c.self.view_is found c.remove.ensures.updates c.remove.ensures.len c.remove.ensures.capacity).table
+    (destroyed c.self.inside c.args.self.now c.remove.new.self c.args.id c.in-Some.slot.now c.self.invariant c.self.view_is found c.remove.ensures.updates c.remove.ensures.len).table

@@ -24,7 +24,7 @@ returns-in-Some-conflict-clause-fault c =
 pub invariant_of-self : goal.invariant_of-self
 invariant_of-self c =
     (unchanged c.self.inside c.args.self.now c.make_room.new.slots c.make_room.new.places c.self.invariant c.self.view_is
-    c.in_err-make_room.ensures.capacity c.in_err-make_room.ensures.same c.in_err-make_room.ensures.keeps).sound
+    c.in_err-make_room.ensures.same c.in_err-make_room.ensures.keeps).sound
 
 pub returns-in_err-make_room-clause-fault : goal.returns-in_err-make_room-clause-fault
 returns-in_err-make_room-clause-fault c =
@@ -39,7 +39,7 @@ pub returns-in_err-make_room-clause-err : goal.returns-in_err-make_room-clause-e
 returns-in_err-make_room-clause-err c =
     let p = err_from_is_err_and c.from_residual.result c.from_residual.ensures.1 in
     rw p.1 (unchanged c.self.inside c.args.self.now c.make_room.new.slots c.make_room.new.places c.self.invariant c.self.view_is
-    c.in_err-make_room.ensures.capacity c.in_err-make_room.ensures.same c.in_err-make_room.ensures.keeps).table
+    c.in_err-make_room.ensures.same c.in_err-make_room.ensures.keeps).table
 
 pub invariant_of-self-2 : goal.invariant_of-self-2
 invariant_of-self-2 c =
@@ -49,7 +49,6 @@ invariant_of-self-2 c =
     ap (conflict c.args.job c.args.usage) (sym c.deref.ensures.value) ∙ sym c.conflict.ensures ∙ c.in_default-conflict.is in
     let room = c.in_ok-make_room.ensures in
     (joined_table c.self.inside c.args.self.now c.join_at.new.slots c.make_room.new.places c.args.id slot c.args.job c.args.usage c.self.invariant c.self.view_is found meets_none
-    (c.join_at.ensures.capacity ∙ room.capacity)
     (c.join_at.ensures.here ∙ ap (option_map (joined_by c.args.job c.args.usage)) (room.same c.args.id.index))
     (λ (place : ℕ) (apart : place ≢ c.args.id.index). ap (option_map (buffer_at place)) (c.join_at.ensures.others place apart) ∙ room.same place)
     room.keeps room.noted).sound
@@ -70,7 +69,6 @@ returns-clause-ok c =
     ap (conflict c.args.job c.args.usage) (sym c.deref.ensures.value) ∙ sym c.conflict.ensures ∙ c.in_default-conflict.is in
     let room = c.in_ok-make_room.ensures in
     (joined_table c.self.inside c.args.self.now c.join_at.new.slots c.make_room.new.places c.args.id slot c.args.job c.args.usage c.self.invariant c.self.view_is found meets_none
-    (c.join_at.ensures.capacity ∙ room.capacity)
     (c.join_at.ensures.here ∙ ap (option_map (joined_by c.args.job c.args.usage)) (room.same c.args.id.index))
     (λ (place : ℕ) (apart : place ≢ c.args.id.index). ap (option_map (buffer_at place)) (c.join_at.ensures.others place apart) ∙ room.same place)
     room.keeps room.noted).table
@@ -85,7 +83,7 @@ pub returns-in_err-make_room-clause-table : goal.returns-in_err-make_room-clause
 returns-in_err-make_room-clause-table c =
     is_table _ _
     (unchanged c.self.inside c.args.self.now c.make_room.new.slots c.make_room.new.places c.self.invariant c.self.view_is
-    c.in_err-make_room.ensures.capacity c.in_err-make_room.ensures.same c.in_err-make_room.ensures.keeps).sound refl
+    c.in_err-make_room.ensures.same c.in_err-make_room.ensures.keeps).sound refl
 
 pub returns-clause-table : goal.returns-clause-table
 returns-clause-table c =
@@ -96,7 +94,6 @@ returns-clause-table c =
     let room = c.in_ok-make_room.ensures in
     is_table _ _
     (joined_table c.self.inside c.args.self.now c.join_at.new.slots c.make_room.new.places c.args.id slot c.args.job c.args.usage c.self.invariant c.self.view_is found meets_none
-    (c.join_at.ensures.capacity ∙ room.capacity)
     (c.join_at.ensures.here ∙ ap (option_map (joined_by c.args.job c.args.usage)) (room.same c.args.id.index))
     (λ (place : ℕ) (apart : place ≢ c.args.id.index). ap (option_map (buffer_at place)) (c.join_at.ensures.others place apart) ∙ room.same place)
     room.keeps room.noted).sound refl
