@@ -5,11 +5,12 @@ use Rattle.std.specs.List.{All, filter, find, insert}
 use Rattle.std.proofs.lemmas.Bool.{cases_lt, eqb-true, eq-eqb, ne_eqb, and_parts}
 use Rattle.std.proofs.lemmas.Option.{none-some, same_Some}
 use Rattle.std.proofs.lemmas.List.Elements.{All-head, All-tail}
+use Rattle.gv_types.specs.Mapping.{is_same_id}
 use Rattle.gv_types.specs.declared.mapping.BufferId.{BufferId}
 use Rattle.gv_buffers.specs.declared.usage.Usage.TheVariants.{Read}
 use Rattle.gv_buffers.specs.declared.usage.User.{User}
 use Rattle.gv_buffers.specs.Users.{HaveNoConflict}
-use Rattle.gv_buffers.specs.Table.{Buffer, Table, buffer, has_id, is_same_id, fresh, without, changed, only, left_by, left_everywhere, IsBuffer, IsCreated, IsTable}
+use Rattle.gv_buffers.specs.Table.{Buffer, Table, buffer, has_id, fresh, without, changed, only, left_by, left_everywhere, IsBuffer, IsCreated, IsTable}
 
 -- a change that keeps what is looked for
 pub find-map : (test : Buffer → Bool) (f : Buffer → Buffer) (bs : List Buffer) → ((b : Buffer) → test (f b) ≡ test b) → find test (map f bs) ≡ option_map f (find test bs)

@@ -1,9 +1,10 @@
 -- The live buffers, with their counts and users, and what calls make of them.
-use Rattle.std.specs.Prelude.{◌≡◌, ◌≢◌, ℕ, ◌+◌, ◌-◌, ◌^◌, ◌<◌, ◌≤◌, Bool, not, ◌&&◌, ◌||◌, ◌==◌, nat_lt, nat_le, if◌then◌else◌, List, [], map, length, filter, find, insert, Option, Some, None, IsSome}
+use Rattle.std.specs.Prelude.{◌≡◌, ◌≢◌, ℕ, ◌+◌, ◌-◌, ◌^◌, ◌<◌, ◌≤◌, Bool, not, ◌||◌, ◌==◌, nat_lt, nat_le, if◌then◌else◌, List, [], map, length, filter, find, insert, Option, Some, None, IsSome}
 use Rattle.std.specs.List.{All, AllPairs}
 use Rattle.std.specs.Option.{option_map}
 use Rattle.gv_types.specs.Page.{pages_per_buffer}
 use Rattle.gv_types.specs.Limits.{greatest, IsFromOneTo}
+use Rattle.gv_types.specs.Mapping.{is_same_id}
 use Rattle.gv_types.specs.declared.mapping.BufferId.{BufferId}
 use Rattle.gv_types.specs.declared.fault.Fault.{Fault}
 use Rattle.gv_types.specs.declared.fault.Fault.TheVariants.{NoBuffer, BadSize, TooManyBuffers, Mapped, Kept, InUse, Conflict}
@@ -35,9 +36,6 @@ most_counted = 2 ^ 64 - 1
 
 abbrev pub no_buffers : ℕ → Table
 no_buffers limit = record { limit = limit; made = 0; live = [] }
-
-abbrev pub is_same_id : BufferId → BufferId → Bool
-is_same_id a b = (a.index == b.index) && (a.generation == b.generation)
 
 abbrev pub has_id : BufferId → Buffer → Bool
 has_id id b = is_same_id b.id id

@@ -8,3 +8,4 @@ pub mod Order
 pub mod Changes
 pub mod Meeting
 pub mod Rests
+pub mod MeetingLemmas

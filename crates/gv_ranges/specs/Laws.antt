@@ -1,5 +1,5 @@
 -- What holds of every list in order, every operation and every list of saved mappings.
-use Rattle.std.specs.Prelude.{ℕ, ◌≡◌, ◌+◌, if◌then◌else◌, List, length}
+use Rattle.std.specs.Prelude.{ℕ, ◌≡◌, ◌+◌, if◌then◌else◌, IsTrue, List, length}
 use Rattle.std.specs.List.{splice}
 use Rattle.gv_types.specs.Page.{IsPage}
 use Rattle.gv_types.specs.Span.{Span, covers}
@@ -50,3 +50,8 @@ RestoredRunInPlace = (ms saved : List Mapping) (range : Span) (place count : ℕ
 abbrev pub UndoneRestoreIsOld : Type 0
 UndoneRestoreIsOld = (ms saved : List Mapping) (range : Span) (place count : ℕ) → IsLaidOut ms → IsMeetingRun ms range place count →
     undone (restored ms range saved) (record { place = place; put_in = length (restored (run ms place count) range saved); taken = run ms place count }) ≡ ms
+
+-- the run that meets a range says of each page of the range what the list says
+abbrev pub MeetingRunSays : Type 0
+MeetingRunSays = (ms : List Mapping) (range : Span) (place count page : ℕ) → IsMeetingRun ms range place count → IsTrue (covers range page) →
+    at (run ms place count) page ≡ at ms page

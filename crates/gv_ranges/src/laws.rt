@@ -2,7 +2,7 @@
 ghost use Rattle.gv_ranges.specs.Laws.{EditedListSays, EditedListIsViewed, EditedListIsLaidOut};
 ghost use Rattle.gv_ranges.specs.Laws.{EditedRunInPlace, UndoneEditIsOld};
 ghost use Rattle.gv_ranges.specs.Laws.{RestoredListSays, RestoredListIsLaidOut};
-ghost use Rattle.gv_ranges.specs.Laws.{RestoredRunInPlace, UndoneRestoreIsOld};
+ghost use Rattle.gv_ranges.specs.Laws.{RestoredRunInPlace, UndoneRestoreIsOld, MeetingRunSays};
 
 /// Edits do to a list what operations do to an address map, in place, and can be taken back.
 pub fn edits()
@@ -19,4 +19,9 @@ pub fn restores()
     ensures laid_out { RestoredListIsLaidOut }
     ensures in_place { RestoredRunInPlace }
     ensures undone { UndoneRestoreIsOld }
+{}
+
+/// The run that meets a range says all that the list says of the range's pages.
+pub fn meetings()
+    ensures { MeetingRunSays }
 {}

@@ -76,6 +76,7 @@ fn edits_leave_rests(rt: HostRuntime) -> Result<(), Fail> {
     examples();
     laws::edits();
     laws::restores();
+    laws::meetings();
     let mut list = RangeList::new(rt.alloc());
     for op in [
         map(0, 2, 0),

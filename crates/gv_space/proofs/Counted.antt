@@ -4,11 +4,11 @@ use Rattle.std.specs.List.{All, filter, splice}
 use Rattle.std.proofs.lemmas.Bool.{and_parts, eqb-true, cases_eq, ne_eqb, eq-eqb}
 use Rattle.std.proofs.lemmas.List.Elements.{filter-append, All-nil, All-cons, All-head, All-tail}
 use Rattle.std.proofs.lemmas.List.Filters.{length-filter_both, length-filter_more}
+use Rattle.gv_types.specs.Mapping.{is_same_id, is_of}
 use Rattle.gv_types.specs.declared.mapping.BufferId.{BufferId}
 use Rattle.gv_types.specs.declared.mapping.Mapping.{Mapping}
 use Rattle.gv_ranges.specs.List.{run}
-use Rattle.gv_buffers.specs.Table.{is_same_id}
-use Rattle.gv_space.specs.Counts.{is_of, count_of}
+use Rattle.gv_space.specs.Counts.{count_of}
 
 eqb-symmetric : (a b : ℕ) → eqb a b ≡ eqb b a
 eqb-symmetric a b =

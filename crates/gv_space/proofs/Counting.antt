@@ -3,12 +3,13 @@ use Rattle.std.proofs.Common.{◌≡◌, ℕ, ◌+◌, ◌<◌, ◌≤◌, List,
 use Rattle.std.specs.Option.{option_map, IsSomeAnd}
 use Rattle.std.specs.List.{All}
 use Rattle.std.proofs.lemmas.List.{take_all}
+use Rattle.gv_types.specs.Mapping.{is_same_id, is_of}
 use Rattle.gv_types.specs.declared.mapping.Backing.{Backing}
 use Rattle.gv_types.specs.declared.mapping.Backing.TheVariants.{Buffer as BufferPages, Zero}
 use Rattle.gv_types.specs.declared.mapping.BufferId.{BufferId}
 use Rattle.gv_types.specs.declared.mapping.Mapping.{Mapping}
-use Rattle.gv_buffers.specs.Table.{Buffer, Table, buffer, changed, only, has_id, is_same_id}
-use Rattle.gv_space.specs.Counts.{is_of, count_of, by_count, more_used, less_used, more_kept, less_kept}
+use Rattle.gv_buffers.specs.Table.{Buffer, Table, buffer, changed, only, has_id}
+use Rattle.gv_space.specs.Counts.{count_of, by_count, more_used, less_used, more_kept, less_kept}
 use Rattle.gv_space.specs.Live.{IsLiveBacking}
 use Rattle.gv_space.proofs.Counted.{is_same_id-symmetric, count_of-more, count_of-front_lt}
 use Rattle.gv_space.proofs.Tables.{each-each, each-same, each-itself, buffer-each, found_live}

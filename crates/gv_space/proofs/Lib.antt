@@ -18,3 +18,5 @@ pub mod Lives
 pub mod Jobs
 pub mod Spaces
 pub mod Unchanged
+pub mod UsesFound
+pub mod SavedLemmas

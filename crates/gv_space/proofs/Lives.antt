@@ -6,16 +6,17 @@ use Rattle.std.proofs.lemmas.Bool.{eqb-true, and_parts, ltb-false, false≢true}
 use Rattle.std.proofs.lemmas.Option.{none-some}
 use Rattle.std.proofs.lemmas.List.Elements.{All-append, All-cons, All-take, All-drop, All-filter}
 use Rattle.std.proofs.lemmas.List.Filters.{length-filter_both}
+use Rattle.gv_types.specs.Mapping.{is_same_id, is_of}
 use Rattle.gv_types.specs.Bounds.{Area}
 use Rattle.gv_types.specs.declared.fault.Fault.TheVariants.{Mapped, Kept, InUse}
 use Rattle.gv_types.specs.declared.mapping.Backing.{Backing}
 use Rattle.gv_types.specs.declared.mapping.Backing.TheVariants.{Buffer as BufferPages, Zero}
 use Rattle.gv_types.specs.declared.mapping.BufferId.{BufferId}
 use Rattle.gv_types.specs.declared.mapping.Mapping.{Mapping}
-use Rattle.gv_buffers.specs.Table.{Buffer, Table, buffer, has_id, is_same_id, fresh, without, use_fault, destroy_fault, destroy_fault_of, IsLive, IsBuffer, IsCreated, IsTable}
+use Rattle.gv_buffers.specs.Table.{Buffer, Table, buffer, has_id, fresh, without, use_fault, destroy_fault, destroy_fault_of, IsLive, IsBuffer, IsCreated, IsTable}
 use Rattle.gv_buffers.proofs.Found.{others_stay_made, others_stay_destroyed, is_same_id-itself, is_same_id-other}
 use Rattle.gv_buffers.proofs.Tables.{counted_lives}
-use Rattle.gv_space.specs.Counts.{is_of, count_of}
+use Rattle.gv_space.specs.Counts.{count_of}
 use Rattle.gv_space.specs.State.{AddressSpace, LieInside, IsPlaced, AreSaved}
 use Rattle.gv_space.proofs.Counted.{same_from_is_same_id, count_of-none, none_from_count_of}
 use Rattle.gv_space.proofs.Tables.{found_live, IsFound}

@@ -1,14 +1,16 @@
 -- What undo values hold, after a change, after it is undone and after its mappings are given up.
 use Rattle.std.proofs.Common.{◌≡◌, ℕ, ◌+◌, ◌-◌, List, ◌++◌, length, arith, refl, sym, ◌∙◌, ap, subst, length-append, take, drop}
-use Rattle.std.specs.List.{All, splice}
-use Rattle.std.proofs.lemmas.List.Elements.{All-append, All-take, All-drop, All-same}
+use Rattle.std.specs.List.{All, filter, splice}
+use Rattle.std.proofs.lemmas.List.Elements.{All-append, All-take, All-drop, All-same, All-weaker, filter-append}
 use Rattle.std.proofs.lemmas.List.{take_at, drop_at}
 use Rattle.gv_types.specs.Bounds.{Area}
+use Rattle.gv_types.specs.Mapping.{is_of}
+use Rattle.gv_types.specs.declared.mapping.BufferId.{BufferId}
 use Rattle.gv_types.specs.declared.mapping.Mapping.{Mapping}
 use Rattle.gv_ranges.specs.List.{run}
 use Rattle.gv_ranges.specs.Edit.{undone}
 use Rattle.gv_buffers.specs.Table.{Table, IsTable}
-use Rattle.gv_space.specs.Counts.{by_count, counted, more_kept, less_kept}
+use Rattle.gv_space.specs.Counts.{count_of, by_count, counted, more_kept, less_kept}
 use Rattle.gv_space.specs.State.{AddressSpace, IsPlaced, AreSaved}
 use Rattle.gv_space.specs.Undo.{UndoValue, released, reverted}
 use Rattle.gv_space.specs.Change.{changed_to}
@@ -47,6 +49,17 @@ placed_reverted before taken a t xs placed =
 pub placed_released : (taken : List Mapping) (a : Area) (t : Table) (xs : List Mapping) → All (IsPlaced a t) xs → All (IsPlaced a (released_table taken t)) xs
 placed_released taken a t xs placed = placed-by_count less_kept taken a t xs less_kept_of_counts placed
 
+-- how many of two lists are of a buffer
+count_of-append : (id : BufferId) (xs ys : List Mapping) → count_of id (xs ++ ys) ≡ count_of id xs + count_of id ys
+count_of-append id xs ys =
+    ap length (filter-append (λ (m : Mapping). is_of id m.backing) xs ys) ∙
+    length-append (filter (λ (m : Mapping). is_of id m.backing) xs) (filter (λ (m : Mapping). is_of id m.backing) ys)
+
+-- in whatever order they stand
+count_of-moved : (id : BufferId) (newer taken older : List Mapping) → count_of id (newer ++ (taken ++ older)) ≡ count_of id (taken ++ (newer ++ older))
+count_of-moved id newer taken older =
+    omega (arith, count_of-append id newer (taken ++ older), count_of-append id taken older, count_of-append id taken (newer ++ older), count_of-append id newer older)
+
 -- what holds of each mapping of two lists holds of each of one
 pub All-front : (P : Mapping → Type 0) (xs ys : List Mapping) → All P (xs ++ ys) → All P xs
 All-front P xs ys all = subst (All P) (take_at xs ys (length xs) refl) (All-take P (length xs) (xs ++ ys) all)
@@ -71,6 +84,17 @@ AreSaved-changed s ms taken saved placed are_saved = record {
   kept = kept-counted (taken ++ saved) ms (by_count more_kept taken s.buffers) (kept-more_kept taken saved s.buffers are_saved.kept);
   held = omega (arith, are_saved.held, length-append taken saved);
 }
+
+-- what is held may stand in another order
+pub AreSaved-moved : (s : AddressSpace) (newer taken older : List Mapping) → AreSaved s (newer ++ (taken ++ older)) → AreSaved s (taken ++ (newer ++ older))
+AreSaved-moved s newer taken older are_saved =
+    let P : Mapping → Type 0 = IsPlaced s.area s.buffers in
+    let rest : All P (taken ++ older) = All-back P newer (taken ++ older) are_saved.placed in
+    record {
+      placed = All-append P taken (newer ++ older) (All-front P taken older rest) (All-append P newer older (All-front P newer (taken ++ older) are_saved.placed) (All-back P taken older rest));
+      kept = All-weaker (λ b. b.kept ≡ count_of b.id (newer ++ (taken ++ older))) (λ b. b.kept ≡ count_of b.id (taken ++ (newer ++ older))) (λ b h. h ∙ count_of-moved b.id newer taken older) s.buffers.live are_saved.kept;
+      held = omega (arith, are_saved.held, length-append newer (taken ++ older), length-append taken older, length-append taken (newer ++ older), length-append newer older);
+    }
 
 -- once its mappings are given up, the others are held
 pub AreSaved-released : (s : AddressSpace) (taken others : List Mapping) → AreSaved s (taken ++ others) → AreSaved (released s taken) others

@@ -6,8 +6,9 @@ use Rattle.std.proofs.lemmas.Bool.{false≢true}
 use Rattle.std.proofs.lemmas.Option.{none-some, same_Some}
 use Rattle.std.proofs.lemmas.List.{length-map, get_or-map}
 use Rattle.std.proofs.lemmas.List.Elements.{All-head, All-tail, All-map, All-weaker}
+use Rattle.gv_types.specs.Mapping.{is_same_id}
 use Rattle.gv_types.specs.declared.mapping.BufferId.{BufferId}
-use Rattle.gv_buffers.specs.Table.{Buffer, Table, buffer, pages, has_id, is_same_id, IsLive, IsBuffer, IsTable}
+use Rattle.gv_buffers.specs.Table.{Buffer, Table, buffer, pages, has_id, IsLive, IsBuffer, IsTable}
 use Rattle.gv_buffers.proofs.Found.{find-map, found_from_All}
 
 -- the table with each buffer changed

@@ -1,15 +1,14 @@
 -- How many mappings name each buffer, and how the counts of buffers move with them.
-use Rattle.std.specs.Prelude.{ℕ, ◌+◌, ◌-◌, Bool, false, List, map, filter, length}
-use Rattle.gv_types.specs.declared.mapping.Backing.{Backing}
-use Rattle.gv_types.specs.declared.mapping.Backing.TheVariants.{Buffer as BufferPages, Zero}
+use Rattle.std.specs.Prelude.{ℕ, ◌+◌, ◌-◌, List, map, filter, length}
+use Rattle.gv_types.specs.Mapping.{is_of}
+use Rattle.gv_types.specs.Span.{Span}
 use Rattle.gv_types.specs.declared.mapping.BufferId.{BufferId}
 use Rattle.gv_types.specs.declared.mapping.Mapping.{Mapping}
-use Rattle.gv_buffers.specs.Table.{Table, Buffer, is_same_id}
+use Rattle.gv_buffers.specs.Table.{Table, Buffer}
 
--- a buffer stands behind the pages
-abbrev pub is_of : BufferId → Backing → Bool
-is_of id (BufferPages other page) = is_same_id other id
-is_of id Zero = false
+-- the ranges of a buffer's mappings, in the order of the list
+abbrev pub ranges_of : BufferId → List Mapping → List Span
+ranges_of id ms = map (λ m. m.range) (filter (λ m. is_of id m.backing) ms)
 
 -- how many of the mappings are of a buffer
 abbrev pub count_of : BufferId → List Mapping → ℕ

@@ -6,3 +6,4 @@ pub mod Verdict
 pub mod Change
 pub mod Inside
 pub mod Ready
+pub mod Laws

@@ -1,8 +1,8 @@
 -- What an undo value holds, and when it fits.
-use Rattle.std.specs.Prelude.{◌≡◌, ℕ, ◌-◌, ◌≤◌, ◌++◌, List, length}
-use Rattle.gv_types.specs.Span.{Span}
+use Rattle.std.specs.Prelude.{◌≡◌, ℕ, ◌-◌, ◌≤◌, ◌++◌, IsTrue, List, length}
+use Rattle.gv_types.specs.Span.{Span, covers}
 use Rattle.gv_types.specs.declared.mapping.Mapping.{Mapping}
-use Rattle.gv_ranges.specs.List.{IsLaidOut, IsMeetingRun, run}
+use Rattle.gv_ranges.specs.List.{at, IsLaidOut, IsMeetingRun, run}
 use Rattle.gv_ranges.specs.Edit.{Undo, LieIn, replaced, undone}
 use Rattle.gv_table.specs.declared.page_table.PageTable.{PageTable}
 use Rattle.gv_table.specs.Table.{IsTree, gained_by}
@@ -29,6 +29,10 @@ pub record IsUndoOf (old new : List Mapping) (u : UndoValue) : Type 0 where
   pub taken : u.change.taken ≡ run old u.change.place (length u.change.taken)
   pub put_in : u.change.put_in ≡ length (replaced u.change.taken u.range pieces)
   pub tables : (table : PageTable) → IsTree new table → gained_by old table ≡ u.tables
+
+-- what an undo value holds says of each page of its range what the list before the change said
+abbrev pub HoldsWhatWas : List Mapping → UndoValue → Type 0
+HoldsWhatWas before u = (page : ℕ) → IsTrue (covers u.range page) → at u.change.taken page ≡ at before page
 
 -- these mappings are among those that undo values hold
 pub record Holds (s : AddressSpace) (ms : List Mapping) : Type 0 where

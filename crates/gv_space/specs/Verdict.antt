@@ -10,7 +10,7 @@ use Rattle.gv_types.specs.declared.mapping.Backing.TheVariants.{Buffer, Zero}
 use Rattle.gv_types.specs.declared.mapping.Mapping.{Mapping}
 use Rattle.gv_types.specs.declared.operation.Op.{Op}
 use Rattle.gv_types.specs.declared.operation.PageOp.{PageOp}
-use Rattle.gv_types.specs.declared.operation.PageOp.TheVariants.{Map, Unmap}
+use Rattle.gv_types.specs.declared.operation.PageOp.TheVariants.{Map, Unmap, UnmapBuffer}
 use Rattle.gv_ranges.specs.Edit.{edited}
 use Rattle.gv_buffers.specs.Table.{Table, pages}
 use Rattle.gv_space.specs.State.{AddressSpace, most_held}
@@ -30,9 +30,16 @@ abbrev pub backing_fault : Table → Backing → ℕ → Option Fault
 backing_fault t (Buffer id page) count = past_end (pages t id) (page + count)
 backing_fault t Zero count = None
 
+-- no live buffer has a size
+abbrev pub dead_fault : Option ℕ → Option Fault
+dead_fault None = Some NoBuffer
+dead_fault (Some size) = None
+
+-- why an operation's buffer refuses it
 abbrev pub buffer_fault : Table → PageOp → Option Fault
 buffer_fault t (Map range backing flags) = backing_fault t backing range.count
 buffer_fault t (Unmap range) = None
+buffer_fault t (UnmapBuffer id) = dead_fault (pages t id)
 
 -- the first fault of an operation: those of `check` in their order, then of its buffer
 abbrev pub operation_fault : AddressSpace → Op → Option Fault

@@ -3,9 +3,11 @@
 #![tactic(auto)]
 
 mod counts;
+pub mod laws;
 mod meeting;
 mod painted;
 mod pieces;
+mod ranges;
 mod space;
 mod undo;
 mod verdict;

@@ -6,7 +6,7 @@ ghost use Rattle.gv_types.specs.declared.mapping.Mapping.{Mapping};
 ghost use Rattle.gv_ranges.specs.List.{at, IsLaidOut, IsUnchanged};
 ghost use Rattle.gv_ranges.specs.Edit.{clipped};
 ghost use Rattle.gv_table.specs.Reads.{AreAlikeOutside};
-ghost use Rattle.gv_table.specs.Table.{IsTree, gained_by, tables_of};
+ghost use Rattle.gv_table.specs.Table.{IsTree, IsHeldAt, gained_by, tables_of};
 ghost use Rattle.gv_table.specs.declared.page_table.PageTable.{PageTable};
 
 use gv_ranges::RangeList;
@@ -54,14 +54,15 @@ impl PaintedList {
 
     /// What the page holds, by the page table.
     pub fn walk(&self, page: u64) -> Option<Entry>
-        ensures { result ≡ at self.now.mappings page }
+        ensures value { result ≡ at self.now.mappings page }
+        ensures tree { (table : PageTable) × IsTree self.now.mappings table × IsHeldAt table page result }
     {
         let _mappings = self.list.mappings();
         self.table.walk(page)
     }
 
-    /// How many tables stand at the levels 3, 2, 1 and 0.
-    pub fn tables(&self) -> [u64; 4]
+    /// How many tables stand at the levels 4, 3, 2, 1 and 0.
+    pub fn tables(&self) -> [u64; 5]
         ensures { result ≡ tables_of self.now.mappings }
     {
         self.table.tables()

@@ -1,18 +1,18 @@
 //! The address space.
-ghost use Rattle.std.specs.Prelude.{◌≡◌, ◌+◌, ◌++◌, if◌then◌else◌, ℕ, List, length};
+ghost use Rattle.std.specs.Prelude.{◌≡◌, ◌+◌, ◌<◌, ◌++◌, if◌then◌else◌, ℕ, IsTrue, List, length};
 ghost use Rattle.std.specs.Prelude.{IfOk, IsOk, IsOkUnless, OnOk, OnErr, MatchOption};
 ghost use Rattle.std.specs.List.{All, splice};
 ghost use Rattle.gv_types.specs.Page.{IsPage};
 ghost use Rattle.gv_types.specs.Span.{covers};
-ghost use Rattle.gv_types.specs.Operation.{in_pages, own_mapping, range_of, after, IsPageOp};
+ghost use Rattle.gv_types.specs.Operation.{has_range, in_pages, own_mapping, range_of, after, IsChecked};
 ghost use Rattle.gv_types.specs.declared.mapping.Mapping.{Mapping};
 
-use crate::counts;
 use crate::meeting::Meeting;
 use crate::painted::PaintedList;
 use crate::pieces::{Pieces, clip_to_range, count_in_range, with_rests};
 use crate::undo::OpUndo;
 use crate::verdict::check_buffer;
+use crate::{counts, ranges};
 use gv_buffers::{Buffers, Usage};
 use gv_split::Step;
 use gv_table::Spares;
@@ -54,14 +54,17 @@ impl Space {
     ghost use Rattle.gv_split.specs.Steps.{steps};
     ghost use Rattle.gv_buffers.specs.Table.{uses, kept, pages, create_fault, destroy_fault, join_fault};
     ghost use Rattle.gv_buffers.specs.Table.{without, changed, joined_by, left_everywhere, IsCreated};
-    ghost use Rattle.gv_table.specs.Table.{tables_of};
+    ghost use Rattle.gv_table.specs.Table.{tables_of, IsTree, IsHeldAt};
+    ghost use Rattle.gv_table.specs.declared.page_table.PageTable.{PageTable};
+    ghost use Rattle.gv_space.specs.Counts.{count_of, ranges_of};
     ghost use Rattle.gv_space.specs.State.{new_space, AreSaved, IsPlaced, IsSpace, IsUnchanged};
-    ghost use Rattle.gv_space.specs.Verdict.{operation_fault, limit_fault, apply_fault};
-    ghost use Rattle.gv_space.specs.Undo.{Holds, Fits, IsUndoOf, released, reverted};
+    ghost use Rattle.gv_space.specs.Verdict.{operation_fault, dead_fault, limit_fault, apply_fault};
+    ghost use Rattle.gv_space.specs.Undo.{Holds, HoldsWhatWas, Fits, IsUndoOf, released, reverted};
     ghost use Rattle.gv_space.specs.Change.{IsChanged};
     ghost use Rattle.gv_space.specs.Ready.{IsMeeting, IsReady};
 
-    /// A space of no mapping and no buffer. `OutOfMemory` where the system refuses the room of the limit's buffers.
+    /// A space of no mapping and no buffer. It is small: room for mappings, tables and buffers comes with them.
+    /// `OutOfMemory` where the system refuses the first room for buffers.
     pub fn new(alloc: Global, bounds: Bounds, limits: Limits) -> Result<Space, Fault>
         ensures ok { IfOk result (λ s. s ≡ new_space bounds limits) }
         ensures only_memory { IsOkUnless result Fault.OutOfMemory }
@@ -74,6 +77,20 @@ impl Space {
             buffers,
             held: 0,
         })
+    }
+
+    /// The pages of the space, and those that are reserved.
+    pub fn bounds(&self) -> Bounds
+        ensures { result ≡ self.now.area }
+    {
+        self.bounds
+    }
+
+    /// How many things of each kind it may hold.
+    pub fn limits(&self) -> Limits
+        ensures { result ≡ self.now.limits }
+    {
+        self.limits
     }
 
     /// The mappings, in ascending order.
@@ -91,15 +108,17 @@ impl Space {
         self.painted.list().at(page)
     }
 
-    /// What the page holds, by the page table: at most four steps. None past the end of the address space.
+    /// What the page holds, by the page table, which is the list's: at most five steps. None past the end of the address
+    /// space.
     pub fn walk(&self, page: u64) -> Option<Entry>
-        ensures { result ≡ at self.now.mappings page }
+        ensures value { result ≡ at self.now.mappings page }
+        ensures tree { (table : PageTable) × IsTree self.now.mappings table × IsHeldAt table page result }
     {
         self.painted.walk(page)
     }
 
-    /// How many tables stand at the levels 3, 2, 1 and 0.
-    pub fn tables(&self) -> [u64; 4]
+    /// How many tables stand at the levels 4, 3, 2, 1 and 0.
+    pub fn tables(&self) -> [u64; 5]
         ensures { result ≡ tables_of self.now.mappings }
     {
         self.painted.tables()
@@ -126,8 +145,24 @@ impl Space {
         self.buffers.pages(id)
     }
 
-    /// The split steps of an operation, as DRM GPUVM plans them; nothing changes. The faults are the first of `check`, then
-    /// `NoBuffer` and `OutOfBuffer`, then `OutOfMemory`. The limit of mappings is not asked.
+    /// The pages of each mapping of a buffer, in ascending order: what an unmap of the whole buffer unmaps. `NoBuffer` where
+    /// the id is dead; `OutOfMemory` only where there is such a mapping. It goes no further through the list than to the
+    /// last of them.
+    pub fn buffer_ranges(&self, alloc: Global, id: BufferId) -> Result<Vec<PageRange>, Fault>
+        ensures fault { MatchOption (dead_fault (pages self.now.buffers id))
+            (IsOkUnless result Fault.OutOfMemory) (λ fault. result ≡ Err fault) }
+        ensures ranges { IfOk result (λ list. list.items ≡ ranges_of id self.now.mappings) }
+        ensures some { result ≡ Err Fault.OutOfMemory → 0 < count_of id self.now.mappings }
+    {
+        let Some(count) = self.buffers.uses(id) else {
+            return Err(Fault::NoBuffer);
+        };
+        Ok(ranges::ranges_of(alloc, self.mappings(), id, count)?)
+    }
+
+    /// The split steps of an operation, as DRM GPUVM plans them; nothing changes. An unmap of a whole buffer has a step
+    /// for each of its mappings. The faults are the first of `check`, then `NoBuffer` and `OutOfBuffer`, then
+    /// `OutOfMemory`. The limit of mappings is not asked.
     pub fn plan(&self, alloc: Global, op: &Op) -> Result<Vec<Step>, Fault>
         ensures fault { MatchOption (operation_fault self.now op.now)
             (IsOkUnless result Fault.OutOfMemory) (λ fault. result ≡ Err fault) }
@@ -144,11 +179,13 @@ impl Space {
         gv_split::plan(alloc, self.painted.list(), &op)
     }
 
-    /// Applies an operation, given in bytes. The mappings that meet its range give way to their rests, and a map's mapping
+    /// Applies an operation, given in bytes, that names its pages: an unmap of a whole buffer is applied as an unmap of
+    /// each of `buffer_ranges`. The mappings that meet its range give way to their rests, and a map's mapping
     /// is added; nothing is joined. The faults are the first of `check`, then `NoBuffer`, `OutOfBuffer` (the offset plus the
     /// length is past the buffer's end), `TooManyMappings` (the list would pass its limit, or undo values would hold over
     /// 2^62 mappings), then `OutOfMemory`. All growth comes before the first change.
     pub fn apply(&mut self, alloc: Global, op: &Op) -> Result<OpUndo, Fault>
+        requires { IsTrue (has_range op.now) }
         ensures fault { MatchOption (apply_fault self.old op.now)
             (IsOkUnless result Fault.OutOfMemory) (λ fault. result ≡ Err fault) }
         ensures changed { IfOk result (λ undo.
@@ -156,6 +193,7 @@ impl Space {
         ensures range { IfOk result (λ undo. undo.range ≡ range_of (in_pages op.now)) }
         ensures says { IfOk result (λ _. (page : ℕ) → IsPage page
             → at self.new.mappings page ≡ after (in_pages op.now) (at self.old.mappings) page) }
+        ensures taken { IfOk result (HoldsWhatWas self.old.mappings) }
         ensures undone { IfOk result (λ undo. undone self.new.mappings undo.change ≡ self.old.mappings) }
         ensures unchanged { OnErr result (IsUnchanged self.old self.new) }
     {
@@ -186,6 +224,7 @@ impl Space {
         ensures range { IfOk result (λ undo. undo.range ≡ range) }
         ensures says { IfOk result (λ _. (page : ℕ) → IsPage page → at self.new.mappings page
             ≡ (if covers range page then at saved.now.change.taken page else at self.old.mappings page)) }
+        ensures taken { IfOk result (HoldsWhatWas self.old.mappings) }
         ensures undone { IfOk result (λ undo. undone self.new.mappings undo.change ≡ self.old.mappings) }
         ensures unchanged { OnErr result (IsUnchanged self.old self.new) }
     {
@@ -200,8 +239,8 @@ impl Space {
         ensures state { self.new ≡ reverted self.old undo }
         ensures undone { (before : List Mapping)
             → IsUndoOf before self.old.mappings undo → self.new.mappings ≡ before }
-        ensures saved { (others : List Mapping)
-            → AreSaved self.old (undo.change.taken ++ others) → AreSaved self.new others }
+        ensures saved { (newer older : List Mapping)
+            → AreSaved self.old (newer ++ (undo.change.taken ++ older)) → AreSaved self.new (newer ++ older) }
     {
         let OpUndo {
             place,
@@ -222,8 +261,8 @@ impl Space {
     pub fn release(&mut self, undo: OpUndo)
         requires { Holds self.old undo.change.taken }
         ensures state { self.new ≡ released self.old undo.change.taken }
-        ensures saved { (others : List Mapping)
-            → AreSaved self.old (undo.change.taken ++ others) → AreSaved self.new others }
+        ensures saved { (newer older : List Mapping)
+            → AreSaved self.old (newer ++ (undo.change.taken ++ older)) → AreSaved self.new (newer ++ older) }
     {
         let OpUndo {
             place: _,
@@ -237,15 +276,16 @@ impl Space {
     }
 
     /// Makes a buffer of `pages` pages. `BadSize` at 0 pages or over 2^36, and `TooManyBuffers` where the limit's buffers are
-    /// alive or 2^64 - 1 were made.
-    pub fn create(&mut self, pages: u64) -> Result<BufferId, Fault>
+    /// alive or 2^64 - 1 were made, then `OutOfMemory`.
+    pub fn create(&mut self, alloc: Global, pages: u64) -> Result<BufferId, Fault>
         ensures fault { MatchOption (create_fault self.old.buffers pages)
-            (IsOk result) (λ fault. result ≡ Err fault) }
+            (IsOkUnless result Fault.OutOfMemory) (λ fault. result ≡ Err fault) }
         ensures ok { IfOk result (λ id. IsCreated self.old.buffers self.new.buffers id pages) }
         ensures rest { self.new ≡ record self.old { buffers = self.new.buffers } }
         ensures err { OnErr result (self.new ≡ self.old) }
+        ensures saved { (kept : List Mapping) → AreSaved self.old kept → AreSaved self.new kept }
     {
-        self.buffers.create(pages)
+        self.buffers.create(alloc, pages)
     }
 
     /// Destroys a buffer that nothing names. `NoBuffer` where the id is dead, then `Mapped` where mappings of it are in the
@@ -255,6 +295,7 @@ impl Space {
             (IsOk result) (λ fault. result ≡ Err fault) }
         ensures ok { OnOk result (self.new ≡ record self.old { buffers = without id self.old.buffers }) }
         ensures err { OnErr result (self.new ≡ self.old) }
+        ensures saved { (kept : List Mapping) → AreSaved self.old kept → AreSaved self.new kept }
     {
         self.buffers.destroy(id)
     }
@@ -262,19 +303,21 @@ impl Space {
     /// Lets a job use a buffer, as the kernel's Reservation Objects do; one that uses it already gets the stronger usage.
     /// `NoBuffer` where the id is dead, then `Conflict` with the least other job that uses the buffer where one of the two
     /// writes it, then `OutOfMemory`.
-    pub fn join(&mut self, id: BufferId, job: u64, usage: Usage) -> Result<(), Fault>
+    pub fn join(&mut self, alloc: Global, id: BufferId, job: u64, usage: Usage) -> Result<(), Fault>
         ensures fault { MatchOption (join_fault self.old.buffers id job usage)
             (IsOkUnless result Fault.OutOfMemory) (λ fault. result ≡ Err fault) }
         ensures ok { OnOk result
             (self.new ≡ record self.old { buffers = changed id (joined_by job usage) self.old.buffers }) }
         ensures err { OnErr result (self.new ≡ self.old) }
+        ensures saved { (kept : List Mapping) → AreSaved self.old kept → AreSaved self.new kept }
     {
-        self.buffers.join(id, job, usage)
+        self.buffers.join(alloc, id, job, usage)
     }
 
     /// Removes a job from the users of every buffer. It takes no memory.
     pub fn leave(&mut self, job: u64)
-        ensures { self.new ≡ record self.old { buffers = left_everywhere job self.old.buffers } }
+        ensures state { self.new ≡ record self.old { buffers = left_everywhere job self.old.buffers } }
+        ensures saved { (kept : List Mapping) → AreSaved self.old kept → AreSaved self.new kept }
     {
         self.buffers.leave(job);
     }
@@ -284,10 +327,13 @@ impl Space {
         ensures fault { MatchOption (operation_fault self.now op.now) (IsOk result) (λ fault. result ≡ Err fault) }
         ensures same { IfOk result (λ p. p ≡ in_pages op.now) }
         ensures allowed { IfOk result (IsAllowed self.now.area) }
-        ensures page_op { IfOk result IsPageOp }
+        ensures page_op { IfOk result IsChecked }
         ensures placed { IfOk result (λ p. All (IsPlaced self.now.area self.now.buffers) (own_mapping p)) }
     {
-        let op = self.bounds.check(op)?;
+        let op = match self.bounds.check(op) {
+            Ok(op) => op,
+            Err(fault) => return Err(fault),
+        };
         check_buffer(&self.buffers, &op)?;
         Ok(op)
     }

@@ -7,3 +7,5 @@ mod restores;
 mod rounds;
 mod rows;
 mod tables;
+mod unmap_all;
+mod wide;

@@ -1,4 +1,6 @@
 //! Undo values.
+ghost use Rattle.std.specs.Prelude.{◌≡◌};
+
 use crate::pieces::Pieces;
 use gv_table::Spares;
 use gv_types::PageRange;
@@ -29,4 +31,13 @@ impl Model for OpUndo {
     } };
 
     ghost invariant = { λ u. IsLaidOut u.taken.items };
+}
+
+impl OpUndo {
+    /// The pages in which the change was made.
+    pub fn range(&self) -> PageRange
+        ensures { result ≡ self.now.range }
+    {
+        self.range
+    }
 }

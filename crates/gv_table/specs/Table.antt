@@ -1,7 +1,9 @@
 -- The page table as a whole.
-use Rattle.std.specs.Prelude.{ℕ, List, [], ◌∷◌}
+use Rattle.std.specs.Prelude.{◌≡◌, ℕ, List, [], ◌∷◌, Option}
 use Rattle.gv_types.specs.Span.{Span}
+use Rattle.gv_types.specs.declared.mapping.Entry.{Entry}
 use Rattle.gv_types.specs.declared.mapping.Mapping.{Mapping}
+use Rattle.gv_ranges.specs.List.{at, IsLaidOut}
 use Rattle.gv_table.specs.declared.page_table.PageTable.{PageTable}
 use Rattle.gv_table.specs.Levels.{top_level}
 use Rattle.gv_table.specs.Tree.{IsTreeOf, IsTreeOutside}
@@ -10,6 +12,10 @@ use Rattle.gv_table.specs.Counts.{gained, lost, needed, tables_at, tables_wanted
 -- the tree is that of the mappings
 abbrev pub IsTree : List Mapping → PageTable → Type 0
 IsTree ms table = IsTreeOf ms top_level 0 table.root
+
+-- what the tree holds at a page: what each list says of the page whose tree it is
+abbrev pub IsHeldAt : PageTable → ℕ → Option Entry → Type 0
+IsHeldAt table page entry = (ms : List Mapping) → IsLaidOut ms → IsTree ms table → entry ≡ at ms page
 
 -- the tree fits the mappings outside the range
 abbrev pub FitsOutside : List Mapping → Span → PageTable → Type 0

@@ -30,7 +30,7 @@ pub struct PageTable {
 }
 
 impl PageTable {
-    ghost use Rattle.gv_table.specs.Table.{IsTree, FitsOutside, gained_by, lost_by, needed_for};
+    ghost use Rattle.gv_table.specs.Table.{IsTree, IsHeldAt, FitsOutside, gained_by, lost_by, needed_for};
     ghost use Rattle.gv_table.specs.Table.{tables_by_level, tables_of};
 
     /// The tree of no mapping: it has no table, and takes no memory.
@@ -46,7 +46,7 @@ impl PageTable {
     /// What a page holds: at most five steps from table to table. None past the end of the address
     /// space.
     pub fn walk(&self, page: u64) -> Option<Entry>
-        ensures { (ms : List Mapping) → IsLaidOut ms → IsTree ms self.now → result ≡ at ms page }
+        ensures { IsHeldAt self.now page result }
     {
         if page >= SPACE_PAGES {
             return None;

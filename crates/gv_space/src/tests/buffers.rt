@@ -20,7 +20,7 @@ fn refused(space: &mut Space, id: &BufferId) -> Option<Fault>
 #[test]
 fn buffer_in_use_is_not_destroyed(rt: HostRuntime) -> Result<(), Fail> {
     let mut space = whole_space(rt.alloc(), 1, 4)?;
-    let id = &space.create(4)?;
+    let id = &space.create(rt.alloc(), 4)?;
     assert_eq!(rt; space.pages(*id), Some(4));
     bind(rt.alloc(), &mut space, &map(0, 4, id, 0))?;
     assert_eq!(rt; space.destroy(*id), Err(Fault::Mapped { count: 1 }));
@@ -38,9 +38,9 @@ fn buffer_in_use_is_not_destroyed(rt: HostRuntime) -> Result<(), Fail> {
 #[test]
 fn dead_buffer_stays_dead(rt: HostRuntime) -> Result<(), Fail> {
     let mut space = whole_space(rt.alloc(), 1, 4)?;
-    let old = &space.create(4)?;
+    let old = &space.create(rt.alloc(), 4)?;
     space.destroy(*old)?;
-    let new = &space.create(5)?;
+    let new = &space.create(rt.alloc(), 5)?;
     assert_eq!(rt; new.index, old.index);
     bind(rt.alloc(), &mut space, &map(0, 1, new, 4))?;
     assert_eq!(rt; space.uses(*new), Some(1));
@@ -53,33 +53,36 @@ fn dead_buffer_stays_dead(rt: HostRuntime) -> Result<(), Fail> {
         bind(rt.alloc(), &mut space, &map(1, 1, old, 0)),
         Err(Fault::NoBuffer)
     );
-    assert_eq!(rt; space.join(*old, 1, Usage::Read), Err(Fault::NoBuffer));
+    assert_eq!(rt;
+        space.join(rt.alloc(), *old, 1, Usage::Read),
+        Err(Fault::NoBuffer)
+    );
     assert_eq!(rt; space.destroy(*old), Err(Fault::NoBuffer));
-    assert_eq!(rt; space.create(1), Err(Fault::TooManyBuffers));
-    assert_eq!(rt; space.create(0), Err(Fault::BadSize));
+    assert_eq!(rt; space.create(rt.alloc(), 1), Err(Fault::TooManyBuffers));
+    assert_eq!(rt; space.create(rt.alloc(), 0), Err(Fault::BadSize));
     Ok(())
 }
 
 #[test]
 fn writer_uses_a_buffer_alone(rt: HostRuntime) -> Result<(), Fail> {
     let mut space = whole_space(rt.alloc(), 1, 4)?;
-    let id = &space.create(4)?;
-    space.join(*id, 9, Usage::Read)?;
-    space.join(*id, 4, Usage::Read)?;
+    let id = &space.create(rt.alloc(), 4)?;
+    space.join(rt.alloc(), *id, 9, Usage::Read)?;
+    space.join(rt.alloc(), *id, 4, Usage::Read)?;
     assert_eq!(rt;
-        space.join(*id, 5, Usage::Write),
+        space.join(rt.alloc(), *id, 5, Usage::Write),
         Err(Fault::Conflict { job: 4 })
     );
     assert_eq!(rt;
-        space.join(*id, 4, Usage::Write),
+        space.join(rt.alloc(), *id, 4, Usage::Write),
         Err(Fault::Conflict { job: 9 })
     );
     assert_eq!(rt; space.destroy(*id), Err(Fault::InUse { jobs: 2 }));
     space.leave(9);
-    space.join(*id, 4, Usage::Write)?;
-    space.join(*id, 4, Usage::Read)?;
+    space.join(rt.alloc(), *id, 4, Usage::Write)?;
+    space.join(rt.alloc(), *id, 4, Usage::Read)?;
     assert_eq!(rt;
-        space.join(*id, 5, Usage::Read),
+        space.join(rt.alloc(), *id, 5, Usage::Read),
         Err(Fault::Conflict { job: 4 })
     );
     assert_eq!(rt; space.destroy(*id), Err(Fault::InUse { jobs: 1 }));

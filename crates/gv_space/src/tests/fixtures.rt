@@ -73,7 +73,7 @@ pub struct Sight {
     pub mappings: usize,
     pub uses: Option<u64>,
     pub kept: Option<u64>,
-    pub tables: [u64; 4],
+    pub tables: [u64; 5],
 }
 
 pub fn look(space: &Space, id: &BufferId) -> Sight {

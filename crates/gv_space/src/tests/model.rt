@@ -91,15 +91,15 @@ impl Model {
         Ok(())
     }
 
-    /// How many tables stand at the levels 3, 2, 1 and 0, where no mapping covers 262,144 pages.
-    pub fn tables(&self) -> [u64; 4] {
+    /// How many tables stand at the levels 4, 3, 2, 1 and 0, where no mapping covers 262,144 pages.
+    pub fn tables(&self) -> [u64; 5] {
         if self.list.is_empty() {
-            return [0; 4];
+            return [0; 5];
         }
         let broken = (0..SLOTS)
             .filter(|slot| is_broken(&self.list, *slot))
             .count();
-        [1, 1, 1, broken as u64]
+        [1, 1, 1, 1, broken as u64]
     }
 }
 
@@ -129,7 +129,7 @@ fn put_by(op: &Op, range: PageRange) -> Option<Mapping> {
             backing: Backing::Zero,
             flags,
         }),
-        Op::Unmap { .. } => None,
+        Op::Unmap { .. } | Op::UnmapBuffer { .. } => None,
     }
 }
 

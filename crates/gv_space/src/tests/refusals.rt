@@ -44,21 +44,34 @@ fn space_at_last(alloc: Global) -> Result<Space, Fail> {
     }
 }
 
+/// A buffer of so many pages. Where memory is refused, it is not made yet.
+fn create_at_last(alloc: Global, space: &mut Space, pages: u64) -> Result<BufferId, Fault> {
+    match space.create(alloc, pages) {
+        Err(Fault::OutOfMemory) => space.create(alloc, pages),
+        made => made,
+    }
+}
+
 /// Lets the job 3 read a buffer. Where memory is refused, it does not read it yet.
-fn join_at_last(rt: &impl Abort, space: &mut Space, id: &BufferId) -> Result<(), Fault> {
-    if space.join(*id, 3, Usage::Read).is_err() {
-        assert_eq!(rt; space.join(*id, 9, Usage::Write), Ok(()));
+fn join_at_last(
+    rt: &impl Abort,
+    alloc: Global,
+    space: &mut Space,
+    id: &BufferId,
+) -> Result<(), Fault> {
+    if space.join(alloc, *id, 3, Usage::Read).is_err() {
+        assert_eq!(rt; space.join(alloc, *id, 9, Usage::Write), Ok(()));
         space.leave(9);
-        return space.join(*id, 3, Usage::Read);
+        return space.join(alloc, *id, 3, Usage::Read);
     }
     Ok(())
 }
 
 /// Asserts that the job 3 reads a buffer.
-fn expect_reader(rt: &impl Abort, space: &mut Space, id: &BufferId)
+fn expect_reader(rt: &impl Abort, alloc: Global, space: &mut Space, id: &BufferId)
     ensures { space.new ≡ space.old }
 {
-    match space.join(*id, 9, Usage::Write) {
+    match space.join(alloc, *id, 9, Usage::Write) {
         Ok(()) => panic!(rt; "a writer joined"),
         Err(fault) => assert_eq!(rt; fault, Fault::Conflict { job: 3 }),
     }
@@ -82,7 +95,7 @@ fn apply_at_last(
         Err(fault) => {
             assert_eq!(rt; fault, Fault::OutOfMemory);
             assert_eq!(rt; whole_of(space, id), before);
-            expect_reader(rt, space, id);
+            expect_reader(rt, alloc, space, id);
             space.apply(alloc, op)
         }
     }
@@ -108,7 +121,7 @@ fn restore_at_last(
         Err(fault) => {
             assert_eq!(rt; fault, Fault::OutOfMemory);
             assert_eq!(rt; whole_of(space, id), before);
-            expect_reader(rt, space, id);
+            expect_reader(rt, alloc, space, id);
             space.restore(alloc, range, saved)
         }
     }
@@ -140,8 +153,8 @@ fn restore_all(
 #[test]
 fn refused_request_changes_nothing(rt: HostRuntime) -> Result<(), Fail> {
     let mut space = space_at_last(rt.alloc())?;
-    let id = &space.create(2)?;
-    join_at_last(&rt, &mut space, id)?;
+    let id = &create_at_last(rt.alloc(), &mut space, 2)?;
+    join_at_last(&rt, rt.alloc(), &mut space, id)?;
     for first in [0, 2, 4, 6] {
         let undo = apply_at_last(&rt, rt.alloc(), &mut space, &map(first, 2, id, 0), id)?;
         space.release(undo);
@@ -153,7 +166,7 @@ fn refused_request_changes_nothing(rt: HostRuntime) -> Result<(), Fail> {
     space.revert(saved);
     assert_eq!(rt; after.sight.mappings, 3);
     assert_eq!(rt; whole_of(&space, id), before);
-    expect_reader(&rt, &mut space, id);
+    expect_reader(&rt, rt.alloc(), &mut space, id);
     outcome
 }
 
@@ -164,7 +177,7 @@ fn unmap_and_back(
     space: &mut Space,
     first: u32,
     id: &BufferId,
-) -> Result<([u64; 4], [u64; 4]), Fault>
+) -> Result<([u64; 5], [u64; 5]), Fault>
     ensures { IsUnchanged space.old space.new }
 {
     let undo = apply_at_last(rt, alloc, space, &unmap(first, 1), id)?;
@@ -176,17 +189,17 @@ fn unmap_and_back(
 #[test]
 fn way_back_takes_no_memory(rt: HostRuntime) -> Result<(), Fail> {
     let mut space = space_at_last(rt.alloc())?;
-    let id = &space.create(512)?;
-    join_at_last(&rt, &mut space, id)?;
+    let id = &create_at_last(rt.alloc(), &mut space, 512)?;
+    join_at_last(&rt, rt.alloc(), &mut space, id)?;
     let undo = apply_at_last(&rt, rt.alloc(), &mut space, &map(0, 1, id, 0), id)?;
     space.release(undo);
     let tables = unmap_and_back(&rt, rt.alloc(), &mut space, 0, id)?;
-    assert_eq!(rt; tables, ([0, 0, 0, 0], [1, 1, 1, 1]));
+    assert_eq!(rt; tables, ([0, 0, 0, 0, 0], [1, 1, 1, 1, 1]));
     let undo = apply_at_last(&rt, rt.alloc(), &mut space, &map(0, 512, id, 0), id)?;
-    assert_eq!(rt; space.tables(), [1, 1, 1, 0]);
+    assert_eq!(rt; space.tables(), [1, 1, 1, 1, 0]);
     let outcome = unmap_and_back(&rt, rt.alloc(), &mut space, 7, id);
     space.revert(undo);
-    assert_eq!(rt; outcome, Ok(([1, 1, 1, 1], [1, 1, 1, 0])));
-    assert_eq!(rt; space.tables(), [1, 1, 1, 1]);
+    assert_eq!(rt; outcome, Ok(([1, 1, 1, 1, 1], [1, 1, 1, 1, 0])));
+    assert_eq!(rt; space.tables(), [1, 1, 1, 1, 1]);
     Ok(())
 }

@@ -56,7 +56,7 @@ fn restore_parts(
 #[test]
 fn saved_pages_come_back(rt: HostRuntime) -> Result<(), Fail> {
     let mut space = whole_space(rt.alloc(), 1, 3)?;
-    let id = &space.create(4)?;
+    let id = &space.create(rt.alloc(), 4)?;
     bind(rt.alloc(), &mut space, &map(0, 4, id, 0))?;
     let saved = space.apply(rt.alloc(), &unmap(0, 4))?;
     let outcome = restore_parts(&rt, rt.alloc(), &mut space, &saved, id);
@@ -84,7 +84,7 @@ fn refused(alloc: Global, space: &mut Space, saved: &OpUndo) -> Result<Option<Fa
 #[test]
 fn restore_keeps_the_limit(rt: HostRuntime) -> Result<(), Fail> {
     let mut space = whole_space(rt.alloc(), 1, 2)?;
-    let id = &space.create(4)?;
+    let id = &space.create(rt.alloc(), 4)?;
     bind(rt.alloc(), &mut space, &map(0, 4, id, 0))?;
     let saved = space.apply(rt.alloc(), &unmap(0, 4))?;
     let outcome = refused(rt.alloc(), &mut space, &saved);

@@ -244,7 +244,7 @@ fn play(rt: &impl Abort, alloc: Global, first: u64, unit: u64) -> Result<(), Fai
     let limits = Limits::new(2, 1_000, 1, 1).ok_or("limits")?;
     let mut space = Space::new(alloc, bounds, limits)?;
     let size = unit.saturating_mul(100);
-    let buffers = [space.create(size)?, space.create(size)?];
+    let buffers = [space.create(alloc, size)?, space.create(alloc, size)?];
     let mut model = Model::new(
         alloc,
         Setting {

@@ -7,7 +7,7 @@ use std::test::Fail;
 #[test]
 fn hole_is_taken_back(rt: HostRuntime) -> Result<(), Fail> {
     let mut space = whole_space(rt.alloc(), 1, 4)?;
-    let id = &space.create(4)?;
+    let id = &space.create(rt.alloc(), 4)?;
     let first = space.apply(rt.alloc(), &map(0, 4, id, 0))?;
     let second = match space.apply(rt.alloc(), &unmap(1, 1)) {
         Ok(undo) => undo,
@@ -20,7 +20,7 @@ fn hole_is_taken_back(rt: HostRuntime) -> Result<(), Fail> {
         mappings: 2,
         uses: Some(2),
         kept: Some(1),
-        tables: [1, 1, 1, 1],
+        tables: [1, 1, 1, 1, 1],
     };
     assert_eq!(rt; look(&space, id), hole);
     assert!(rt; has_list(&space, &[mapping(0, 1, id, 0), mapping(2, 2, id, 2)]));
@@ -31,7 +31,7 @@ fn hole_is_taken_back(rt: HostRuntime) -> Result<(), Fail> {
         mappings: 1,
         uses: Some(1),
         kept: Some(0),
-        tables: [1, 1, 1, 1],
+        tables: [1, 1, 1, 1, 1],
     };
     assert_eq!(rt; look(&space, id), whole);
     assert!(rt; has_list(&space, &[mapping(0, 4, id, 0)]));
@@ -44,21 +44,21 @@ fn hole_is_taken_back(rt: HostRuntime) -> Result<(), Fail> {
 #[test]
 fn tables_that_an_unmap_freed_come_back(rt: HostRuntime) -> Result<(), Fail> {
     let mut space = whole_space(rt.alloc(), 1, 4)?;
-    let id = &space.create(4)?;
+    let id = &space.create(rt.alloc(), 4)?;
     bind(rt.alloc(), &mut space, &map(0, 1, id, 0))?;
     let (there, back) = there_and_back(rt.alloc(), &mut space, &unmap(0, 1), id)?;
     let gone = Sight {
         mappings: 0,
         uses: Some(0),
         kept: Some(1),
-        tables: [0, 0, 0, 0],
+        tables: [0, 0, 0, 0, 0],
     };
     assert_eq!(rt; there, gone);
     let mapped = Sight {
         mappings: 1,
         uses: Some(1),
         kept: Some(0),
-        tables: [1, 1, 1, 1],
+        tables: [1, 1, 1, 1, 1],
     };
     assert_eq!(rt; back, mapped);
     Ok(())
@@ -67,9 +67,9 @@ fn tables_that_an_unmap_freed_come_back(rt: HostRuntime) -> Result<(), Fail> {
 #[test]
 fn two_changes_are_taken_back(rt: HostRuntime) -> Result<(), Fail> {
     let mut space = whole_space(rt.alloc(), 1, 4)?;
-    let id = &space.create(512)?;
+    let id = &space.create(rt.alloc(), 512)?;
     let first = space.apply(rt.alloc(), &map(512, 512, id, 0))?;
-    assert_eq!(rt; space.tables(), [1, 1, 1, 0]);
+    assert_eq!(rt; space.tables(), [1, 1, 1, 1, 0]);
     let second = match space.apply(rt.alloc(), &unmap(700, 1)) {
         Ok(undo) => undo,
         Err(fault) => {
@@ -77,7 +77,7 @@ fn two_changes_are_taken_back(rt: HostRuntime) -> Result<(), Fail> {
             return Err(fault.into());
         }
     };
-    assert_eq!(rt; space.tables(), [1, 1, 1, 1]);
+    assert_eq!(rt; space.tables(), [1, 1, 1, 1, 1]);
     assert!(rt;
         has_list(
             &space,
@@ -85,10 +85,10 @@ fn two_changes_are_taken_back(rt: HostRuntime) -> Result<(), Fail> {
         )
     );
     space.revert(second);
-    assert_eq!(rt; space.tables(), [1, 1, 1, 0]);
+    assert_eq!(rt; space.tables(), [1, 1, 1, 1, 0]);
     assert!(rt; has_list(&space, &[mapping(512, 512, id, 0)]));
     space.revert(first);
-    assert_eq!(rt; space.tables(), [0, 0, 0, 0]);
+    assert_eq!(rt; space.tables(), [0, 0, 0, 0, 0]);
     assert!(rt; has_list(&space, &[]));
     Ok(())
 }

@@ -1,10 +1,12 @@
-use Rattle.std.proofs.Common.{◌≡◌, ℕ, Result, Ok, Err, sym, subst, OnOk, OnErr}
+use Rattle.std.proofs.Common.{◌≡◌, ℕ, Result, Ok, Err, sym, subst, List, OnOk, OnErr}
 use Rattle.gv_types.specs.declared.fault.Fault.{Fault}
 use Rattle.gv_types.specs.declared.mapping.BufferId.{BufferId}
 use Rattle.gv_buffers.specs.declared.usage.Usage.{Usage}
 use Rattle.gv_buffers.specs.Table.{Table, changed, joined_by, IsTable}
-use Rattle.gv_space.specs.State.{AddressSpace, IsSpace}
+use Rattle.gv_types.specs.declared.mapping.Mapping.{Mapping}
+use Rattle.gv_space.specs.State.{AddressSpace, AreSaved, IsSpace}
 use Rattle.gv_space.specs.Inside.{space_of}
+use Rattle.gv_space.proofs.Jobs.{AreSaved-joined}
 use Rattle.gv_space.proofs.Spaces.{IsSpace-joined}
 use Rattle.gv_space.proofs.space.Space.join.Goals as goal
 
@@ -17,3 +19,13 @@ after (Err f) s new id job usage space table ok same = subst (λ (t : Table). Is
 pub invariant_of-self : goal.invariant_of-self
 invariant_of-self c =
     after c.join.result (space_of c.self.inside) c.join.new.self c.args.id c.args.job c.args.usage c.self.invariant c.join.ensures.table c.join.ensures.ok c.join.ensures.err
+
+saves : {X : Type 0} (r : Result X Fault) (s : AddressSpace) (new : Table) (id : BufferId) (job : ℕ) (usage : Usage) →
+    OnOk r (new ≡ changed id (joined_by job usage) s.buffers) → OnErr r (new ≡ s.buffers) → (kept : List Mapping) → AreSaved s kept → AreSaved (record s { buffers = new }) kept
+saves (Ok x) s new id job usage ok same kept are_saved = subst (λ (t : Table). AreSaved (record s { buffers = t }) kept) (sym ok) (AreSaved-joined s id job usage kept are_saved)
+saves (Err f) s new id job usage ok same kept are_saved = subst (λ (t : Table). AreSaved (record s { buffers = t }) kept) (sym same) are_saved
+
+pub returns-clause-saved : goal.returns-clause-saved
+returns-clause-saved c = λ kept are_saved.
+    saves c.join.result (space_of c.self.inside) c.join.new.self c.args.id c.args.job c.args.usage c.join.ensures.ok c.join.ensures.err kept
+    (subst (λ (t : AddressSpace). AreSaved t kept) (sym c.self.view_is) are_saved)

@@ -1,7 +1,9 @@
 use Rattle.std.proofs.Common.{sym, subst}
 use Rattle.gv_buffers.specs.Table.{Table, IsTable}
-use Rattle.gv_space.specs.State.{AddressSpace, IsSpace}
+use Rattle.gv_types.specs.declared.mapping.Mapping.{Mapping}
+use Rattle.gv_space.specs.State.{AddressSpace, AreSaved, IsSpace}
 use Rattle.gv_space.specs.Inside.{space_of}
+use Rattle.gv_space.proofs.Jobs.{AreSaved-left}
 use Rattle.gv_space.proofs.Spaces.{IsSpace-left}
 use Rattle.gv_space.proofs.space.Space.leave.Goals as goal
 
@@ -10,3 +12,9 @@ invariant_of-self c =
     let s : AddressSpace = space_of c.self.inside in
     subst (λ (t : Table). IsSpace (record s { buffers = t })) (sym c.leave.ensures.value)
     (IsSpace-left s c.args.job (subst IsTable c.leave.ensures.value c.leave.ensures.table) c.self.invariant)
+
+pub returns-clause-saved : goal.returns-clause-saved
+returns-clause-saved c = λ kept are_saved.
+    let s : AddressSpace = space_of c.self.inside in
+    subst (λ (t : Table). AreSaved (record s { buffers = t }) kept) (sym c.leave.ensures.value)
+    (AreSaved-left s c.args.job kept (subst (λ (t : AddressSpace). AreSaved t kept) (sym c.self.view_is) are_saved))

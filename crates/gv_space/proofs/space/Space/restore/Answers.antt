@@ -8,7 +8,8 @@ use Rattle.gv_ranges.specs.List.{at}
 use Rattle.gv_ranges.specs.Edit.{restored}
 use Rattle.gv_ranges.proofs.Changes.{at-restored}
 use Rattle.gv_space.specs.State.{AddressSpace}
-use Rattle.gv_space.specs.Undo.{UndoValue}
+use Rattle.gv_space.specs.Undo.{UndoValue, HoldsWhatWas}
+use Rattle.gv_space.proofs.Says.{holds_what_was}
 use Rattle.gv_space.specs.Change.{IsChanged}
 use Rattle.gv_space.proofs.space.Space.restore.Goals as goal
 
@@ -25,4 +26,13 @@ returns-clause-says c =
     let now : new.mappings ≡ restored old.mappings c.args.range saved =
     ap (λ (t : AddressSpace). t.mappings) changed.state ∙ ap (λ (ms : List Mapping). restored old.mappings c.args.range ms) saved_is in
     rw now (at-restored old.mappings saved c.args.range page in_space))
+    c.change.ensures.changed
+
+pub returns-clause-taken : goal.returns-clause-taken
+returns-clause-taken c =
+    let old = c.args.self.now in
+    IfOk-weaker c.change.result
+    (λ undo. IsChanged old c.change.new.self (restored old.mappings c.args.range c.as_slice.result.now) undo)
+    (HoldsWhatWas old.mappings)
+    (λ undo changed. holds_what_was old.mappings c.change.new.self.mappings undo changed.undo)
     c.change.ensures.changed

@@ -1,0 +1,22 @@
+-- What `uses` tells of a live buffer.
+use Rattle.std.proofs.Common.{◌≡◌, ℕ, List, Some, Option, refl, sym, ◌∙◌, ap, subst}
+use Rattle.std.specs.Option.{option_map, IsSomeAnd}
+use Rattle.gv_types.specs.declared.mapping.BufferId.{BufferId}
+use Rattle.gv_types.specs.declared.mapping.Mapping.{Mapping}
+use Rattle.gv_buffers.specs.Table.{Buffer, Table, uses, IsLive}
+use Rattle.gv_buffers.proofs.Tables.{counted_lives}
+use Rattle.gv_space.specs.Counts.{count_of}
+use Rattle.gv_space.proofs.Counted.{same_from_is_same_id}
+use Rattle.gv_space.proofs.Tables.{found_live}
+use Rattle.gv_space.proofs.Recounted.{UsesAre}
+
+-- it is how many mappings of the list are of the buffer
+pub uses_found : (t : Table) (id : BufferId) (ms : List Mapping) (n : ℕ) → UsesAre ms t → uses t id ≡ Some n → n ≡ count_of id ms
+uses_found t id ms n used told =
+    let some : IsSomeAnd (uses t id) (λ m. m ≡ n) = subst (λ (o : Option ℕ). IsSomeAnd o (λ m. m ≡ n)) (sym told) refl in
+    let lives : IsLive t id = counted_lives t id (λ b. b.uses) (λ m. m ≡ n) some in
+    let found = found_live (λ b. b.uses ≡ count_of b.id ms) t id used lives in
+    let same : found.b.id ≡ id = same_from_is_same_id found.b.id id found.same_id in
+    let here : Some found.b.uses ≡ Some n = sym (ap (option_map (λ (b : Buffer). b.uses)) found.found) ∙ told in
+    let is : found.b.uses ≡ n = cc in
+    sym is ∙ found.holds ∙ ap (λ (i : BufferId). count_of i ms) same
