@@ -8,7 +8,7 @@ use mathlib.Core.Option.{some, some-injective, some-ne-none}
 use native.Mathlib.Decide.{ℕ_discrete, dec_le}
 use lib.ListN.{get_elem?}
 use Rattle.atomic_table.specs.Table.{Allows, Splits, keeps, State, opening, step}
-use Rattle.atomic_table.proofs.Lists.{at_set, at_snoc, set_else, set_again, at_longer}
+use Rattle.atomic_table.proofs.Lists.{at_set, at_snoc, set_else, at_longer}
 use Rattle.gv_sync.specs.declared.marks.Mark.{Mark}
 use Rattle.gv_sync.specs.declared.marks.Known.{Known}
 use Rattle.gv_sync.specs.Marks.{mark, fresh_mark, mark_at, marks_after_load, marks_after_raise, marks_split_off, known, first_known, known_after_split, known_split_off}
@@ -193,8 +193,8 @@ module _ (count seat : ℕ) (before : Known) (s : State ℕ Known) (kept : Seats
       → (k : ℕ) × (w : Known) × (get_elem? left_seats k ≡ some w) × ((mark_at w.marks t).raised ≡ slice_index s.words t)
   raised_left t j u at is = elim (ℕ_discrete j seat) [
     | yes e ↦
-      let same : before ≡ u = some-injective before u (sym here ∙ subst (λ (k : ℕ). get_elem? s.views k ≡ some u) e at) in
-      (seat, known_after_split before, at_set_here s.views seat before (known_after_split before) here, ap (λ (k : Known). (mark_at k.marks t).raised) same ∙ is)
+        let same : before ≡ u = some-injective before u (sym here ∙ subst (λ (k : ℕ). get_elem? s.views k ≡ some u) e at) in
+        (seat, known_after_split before, at_set_here s.views seat before (known_after_split before) here, ap (λ (k : Known). (mark_at k.marks t).raised) same ∙ is)
     | no ne ↦ (j, u, set_else s.views seat j (known_after_split before) ne ∙ at, is)
   ]
 

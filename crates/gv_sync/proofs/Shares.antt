@@ -1,5 +1,5 @@
 -- The shares of all seats are one whole: at first, after a step and after a split. So no seat comes from elsewhere, and one that has the whole is the only one.
-use Rattle.std.proofs.Common.{◌≡◌, ◌≢◌, ◌⊎◌, ℕ, zero, suc, ◌+◌, ◌-◌, ◌^◌, ◌<◌, ◌≤◌, List, [], ◌∷◌, ◌++◌, set, sum_by, slice_index, sym, refl, ap, ◌∙◌, subst, ⊎_elim, arith}
+use Rattle.std.proofs.Common.{◌≡◌, ◌≢◌, ℕ, zero, suc, ◌+◌, ◌-◌, ◌^◌, ◌<◌, ◌≤◌, List, [], ◌∷◌, ◌++◌, set, sum_by, slice_index, sym, refl, ap, ◌∙◌, subst, ⊎_elim, arith}
 use Rattle.std.proofs.lemmas.List.Sums.{sum_by-cons, sum_by_push}
 use Rattle.std.proofs.lemmas.Nat.{pow_pos}
 use Rattle.std.proofs.Math.Nat.{two-pow-succ}
@@ -7,7 +7,7 @@ use mathlib.Core.Option.{some, some-injective, some-ne-none}
 use native.Mathlib.Decide.{ℕ_discrete}
 use lib.ListN.{get_elem?}
 use Rattle.atomic_table.specs.Table.{State}
-use Rattle.atomic_table.proofs.Lists.{at_last, at_longer, set_else}
+use Rattle.atomic_table.proofs.Lists.{at_longer, set_else}
 use Rattle.gv_sync.specs.declared.marks.Known.{Known}
 use Rattle.gv_sync.specs.Marks.{first_known, known_after_split, known_split_off, mark_at}
 use Rattle.gv_sync.specs.Rule.{AreHalvedAtMost, AreOneWhole, IsOwnRaise, Knows, SeatsAgree, share}
@@ -79,12 +79,12 @@ module _ (seats : List Known) (seat : ℕ) (before after : Known) (here : get_el
   tops : AreHalvedAtMost most (set seats seat after) → AreHalvedAtMost most seats
   tops top j u at = elim (ℕ_discrete j seat) [
     | yes e ↦
-      let same : before ≡ u = some-injective before u (sym here ∙ subst (λ (k : ℕ). get_elem? seats k ≡ some u) e at) in
-      let b : ℕ = before.halvings in let a : ℕ = after.halvings in let m : ℕ = most in
-      let le : b ≤ a = no_less in
-      let up : a ≤ m = top seat after (at_set_here seats seat before after here) in
-      let low : b ≤ m = omega (arith, le, up) in
-      subst (λ (k : Known). k.halvings ≤ most) same low
+        let same : before ≡ u = some-injective before u (sym here ∙ subst (λ (k : ℕ). get_elem? seats k ≡ some u) e at) in
+        let b : ℕ = before.halvings in let a : ℕ = after.halvings in let m : ℕ = most in
+        let le : b ≤ a = no_less in
+        let up : a ≤ m = top seat after (at_set_here seats seat before after here) in
+        let low : b ≤ m = omega (arith, le, up) in
+        subst (λ (k : Known). k.halvings ≤ most) same low
     | no ne ↦ top j u (set_else seats seat j after ne ∙ at)
   ]
 
@@ -123,9 +123,9 @@ pub only_seat : WholeIsTheOnlySeat
 only_seat count seat other known u s kept here uncut_here at = elim (ℕ_discrete other seat) [
   | yes e ↦ e
   | no ne ↦
-    let most : ℕ = most_of s.views in
-    too_many (2 ^ most) (share most known) (share most u) (sum_by (share most) s.views) (whole_share most known uncut_here) (pow_pos (most - u.halvings))
-    (two_in (share most) s.views seat other known u (λ e. ne (sym e)) here at) (kept.shared most (at_most s.views))
+      let most : ℕ = most_of s.views in
+      too_many (2 ^ most) (share most known) (share most u) (sum_by (share most) s.views) (whole_share most known uncut_here) (pow_pos (most - u.halvings))
+      (two_in (share most) s.views seat other known u (λ e. ne (sym e)) here at) (kept.shared most (at_most s.views))
 ]
 
 -- where a seat has the whole, a number is what it raised it to

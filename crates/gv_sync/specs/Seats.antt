@@ -1,5 +1,5 @@
 -- Timelines and seats as callers see them.
-use Rattle.std.specs.Prelude.{◌≡◌, ℕ, ◌+◌, List, length, replicate}
+use Rattle.std.specs.Prelude.{◌≡◌, ℕ, ◌+◌, List, replicate}
 use Rattle.gv_sync.specs.declared.marks.Mark.{Mark}
 use Rattle.gv_types.specs.declared.request.Point.{Point}
 use Rattle.gv_sync.specs.Marks.{fresh_mark, mark_at, marks_after_load, marks_after_raise, marks_split_off}

@@ -102,9 +102,9 @@ impl Model for Seat {
     ghost Value = { SeatState };
 
     ghost view = { λ s. record {
-        of = s.pass.table_id;
-        marks = s.pass.me.0.marks;
-        halvings = s.pass.me.0.halvings
+      of = s.pass.table_id;
+      marks = s.pass.me.0.marks;
+      halvings = s.pass.me.0.halvings;
     } };
 
     ghost invariant = { λ s. length s.pass.me.0.marks ≡ s.pass.table_id.words };
