@@ -142,11 +142,12 @@ own_raise count seat timeline known s kept here uncut_here = ⊎_elim
     lowest word raised seen e a b = omega (arith, e, a, b)
 
 pub none_from_elsewhere : NoSeatFromElsewhere
-none_from_elsewhere count s known kept more =
+none_from_elsewhere count s next known kept is more =
     let all : List Known = s.views ++ known ∷ [] in
     let most : ℕ = most_of all in
     let old_top : AreHalvedAtMost most s.views = λ j u at. at_most all j u (at_longer s.views (known ∷ []) j u at) in
-    none_left (2 ^ most) (sum_by (share most) s.views) (share most known) (sum_by (share most) all) (kept.shared most old_top) (pow_pos (most - known.halvings)) (sum_by_push (share most) s.views known) (more.shared most (at_most all))
+    let more_shared : AreOneWhole all = subst (λ (l : List Known). AreOneWhole l) is more.shared in
+    none_left (2 ^ most) (sum_by (share most) s.views) (share most known) (sum_by (share most) all) (kept.shared most old_top) (pow_pos (most - known.halvings)) (sum_by_push (share most) s.views known) (more_shared most (at_most all))
   where
     none_left : (whole old b total : ℕ) → old ≡ whole → 0 < b → total ≡ old + b → total ≡ whole → ⊥
     none_left whole old b total e pos t f = absurd (omega (arith, e, pos, t, f))

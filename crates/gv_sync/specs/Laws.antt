@@ -46,11 +46,11 @@ SplitKeepsRule =
     (count seat : ℕ) (before : Known)
     → Splits (SeatsAgree count) seat before (known_after_split before) (known_split_off before)
 
--- no seat comes from elsewhere: with one more, however little it knows, the rule would be broken
+-- no seat comes from elsewhere: with one more, whatever it knows and did, the rule would be broken
 abbrev pub NoSeatFromElsewhere : Type 0
 NoSeatFromElsewhere =
-    (count : ℕ) (s : State ℕ Known) (more : Known) → SeatsAgree count s
-    → ¬ SeatsAgree count record { words = s.words; homes = s.homes; views = s.views ++ more ∷ [] }
+    (count : ℕ) (s next : State ℕ Known) (more : Known) → SeatsAgree count s
+    → next.views ≡ s.views ++ more ∷ [] → ¬ SeatsAgree count next
 
 -- a seat with the whole is the only one
 abbrev pub WholeIsTheOnlySeat : Type 0

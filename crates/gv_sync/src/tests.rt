@@ -32,6 +32,7 @@ fn one_thread_on_timelines(rt: HostRuntime) -> Result<(), Fail> {
     laws::raises();
     laws::steps();
     laws::shares();
+    laws::turns();
     let (timelines, mut seat) = Timelines::new(rt.alloc(), 2)?;
     assert_eq!(rt; timelines.count(), 2);
     assert_eq!(rt; timelines.value(&mut seat, 0), 0);
