@@ -1,2 +1,4 @@
+pub mod Shares
 pub mod Rises
 pub mod Raised
+pub mod Turns

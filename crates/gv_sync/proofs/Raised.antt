@@ -43,10 +43,10 @@ module _ (timeline : ℕ) (raises : List Point) (point : Point) where
   both : values_on timeline (raises ++ point ∷ []) ≡ values_on timeline raises ++ map (λ (p : Point). p.value) (cond (nat_eq point.timeline timeline) (point ∷ []) [])
   both = ap (λ (l : List Point). map (λ (p : Point). p.value) l) (filter-append (λ (p : Point). nat_eq p.timeline timeline) raises (point ∷ [])) ∙ map-append (λ (p : Point). p.value) (filter (λ (p : Point). nat_eq p.timeline timeline) raises) (filter (λ (p : Point). nat_eq p.timeline timeline) (point ∷ []))
 
-  values_on-same : nat_eq point.timeline timeline ≡ true → values_on timeline (raises ++ point ∷ []) ≡ values_on timeline raises ++ point.value ∷ []
+  pub values_on-same : nat_eq point.timeline timeline ≡ true → values_on timeline (raises ++ point ∷ []) ≡ values_on timeline raises ++ point.value ∷ []
   values_on-same e = both ∙ ap (λ (b : Bool). values_on timeline raises ++ map (λ (p : Point). p.value) (cond b (point ∷ []) [])) e
 
-  values_on-other : nat_eq point.timeline timeline ≡ false → values_on timeline (raises ++ point ∷ []) ≡ values_on timeline raises
+  pub values_on-other : nat_eq point.timeline timeline ≡ false → values_on timeline (raises ++ point ∷ []) ≡ values_on timeline raises
   values_on-other e = both ∙ ap (λ (b : Bool). values_on timeline raises ++ map (λ (p : Point). p.value) (cond b (point ∷ []) [])) e ∙ append-nil (values_on timeline raises)
 
 -- numbers that are those of their raises still are, after one more

@@ -1,5 +1,5 @@
 -- Each step on a timeline keeps the rule, and tells what it owes.
-use Rattle.std.proofs.Common.{◌≡◌, ◌≢◌, ◌⊎◌, ℕ, zero, suc, ◌+◌, ◌<◌, ◌≤◌, List, [], ◌∷◌, length, get_or, set, max, replicate, slice_index, sym, refl, ap, ◌∙◌, subst, inl, inr, ⊎_elim, le_refl, le_trans, zero-le, arith, get_or-set_same, get_or-set_other, All}
+use Rattle.std.proofs.Common.{◌≡◌, ◌≢◌, ◌⊎◌, ℕ, zero, suc, ◌+◌, ◌<◌, ◌≤◌, List, [], ◌∷◌, ◌++◌, length, get_or, set, max, replicate, slice_index, sym, refl, ap, ◌∙◌, subst, inl, inr, ⊎_elim, le_refl, le_trans, zero-le, arith, get_or-set_same, get_or-set_other, All}
 use Rattle.std.proofs.lemmas.List.{length-replicate}
 use Rattle.std.proofs.lemmas.List.Elements.{All-head, All-tail}
 use Rattle.std.proofs.Math.Nat.{le-max_left, le-max_right, max-le, max-eq_left, max-eq_right}
@@ -7,11 +7,13 @@ use Rattle.std.proofs.Math.ListN.{length-set, get_or-map, length-map}
 use mathlib.Core.Option.{some, some-injective, some-ne-none}
 use native.Mathlib.Decide.{ℕ_discrete, dec_le}
 use lib.ListN.{get_elem?}
-use Rattle.atomic_table.specs.Table.{Allows, Splits, keeps, opening, step}
-use Rattle.atomic_table.proofs.Lists.{at_set, at_snoc, set_else, set_again, at_longer}
+use Rattle.atomic_table.specs.Table.{Allows, Splits, keeps, State, opening, step}
+use Rattle.atomic_table.proofs.Lists.{at_set, at_snoc, set_else, at_longer}
 use Rattle.gv_sync.specs.declared.marks.Mark.{Mark}
-use Rattle.gv_sync.specs.Marks.{mark, fresh_mark, mark_at, marks_after_load, marks_after_raise, marks_split_off}
+use Rattle.gv_sync.specs.declared.marks.Known.{Known}
+use Rattle.gv_sync.specs.Marks.{mark, fresh_mark, mark_at, marks_after_load, marks_after_raise, marks_split_off, known, first_known, known_after_split, known_split_off}
 use Rattle.gv_sync.specs.Rule.{IsWithin, IsRaised, SeatsAgree, Loaded, Raised}
+use Rattle.gv_sync.proofs.Shares.{at_set_here, opened, stepped_on, halved, own_raise}
 
 -- a number of a list after one was set, by the two cases
 set_cases : {A : Type 0} (P : A → Type 0) (xs : List A) (i : ℕ) (x d : A) (j : ℕ) → i < length xs → (j ≡ i → P x) → (j ≢ i → P (get_or xs j d)) → P (get_or (set xs i x) j d)
@@ -22,32 +24,38 @@ set_cases P xs i x d j lt here else =
     ]
 
 -- one step of a seat on a timeline whose number goes from n to m. The seat's mark there becomes one that raised r and saw m
-module _ (words : List ℕ) (seats : List (List Mark)) (seat timeline : ℕ) (marks : List Mark) (m r taken : ℕ)
-    (within : (j : ℕ) (u : List Mark) → get_elem? seats j ≡ some u → IsWithin words u)
+module _ (words : List ℕ) (seats : List Known) (seat timeline : ℕ) (old_known : Known) (m r taken : ℕ)
+    (within : (j : ℕ) (u : Known) → get_elem? seats j ≡ some u → IsWithin words u.marks)
     (raised : (t : ℕ) → IsRaised words seats t)
-    (here : get_elem? seats seat ≡ some marks)
+    (here : get_elem? seats seat ≡ some old_known)
     (named : timeline < length words)
     (up : slice_index words timeline ≤ m)
-    (more : (mark_at marks timeline).raised ≤ r)
+    (more : (mark_at old_known.marks timeline).raised ≤ r)
     (below : r ≤ m)
     (by : (m ≡ slice_index words timeline) ⊎ (r ≡ m)) where
+  abbrev marks : List Mark
+  marks = old_known.marks
+
   abbrev new_words : List ℕ
   new_words = set words timeline m
 
   abbrev new_marks : List Mark
   new_marks = set marks timeline (mark m r taken)
 
-  abbrev new_seats : List (List Mark)
-  new_seats = set seats seat new_marks
+  abbrev new_known : Known
+  new_known = known new_marks old_known.halvings
+
+  abbrev new_seats : List Known
+  new_seats = set seats seat new_known
 
   marked : timeline < length marks
-  marked = let same = (within seat marks here).counted in omega (arith, same, named)
+  marked = let same = (within seat old_known here).counted in omega (arith, same, named)
 
   words_rise : (t : ℕ) → slice_index words t ≤ slice_index new_words t
   words_rise t = set_cases (λ (k : ℕ). slice_index words t ≤ k) words timeline m 0 t named (λ e. subst (λ (k : ℕ). slice_index words k ≤ m) (sym e) up) (λ ne. le_refl _)
 
   mine : IsWithin new_words new_marks
-  mine = let old = within seat marks here in record {
+  mine = let old = within seat old_known here in record {
     counted = simp length-set old.counted;
     raised = (λ t. set_cases (λ (k : Mark). k.raised ≤ k.seen) marks timeline (mark m r taken) fresh_mark t marked (λ e. below) (λ ne. old.raised t));
     seen = (λ t. set_cases (λ (k : Mark). k.seen ≤ slice_index new_words t) marks timeline (mark m r taken) fresh_mark t marked
@@ -58,34 +66,29 @@ module _ (words : List ℕ) (seats : List (List Mark)) (seat timeline : ℕ) (ma
   others : (u : List Mark) → IsWithin words u → IsWithin new_words u
   others u old = record { counted = simp length-set old.counted; raised = old.raised; seen = λ t. le_trans (old.seen t) (words_rise t) }
 
-  pub within_after : (j : ℕ) (u : List Mark) → get_elem? new_seats j ≡ some u → IsWithin new_words u
-  within_after j u at = ⊎_elim (λ (e : (j ≡ seat) × (new_marks ≡ u)). subst (λ (k : List Mark). IsWithin new_words k) e.1 mine)
-      (λ (e : (j ≢ seat) × (get_elem? seats j ≡ some u)). others u (within j u e.1)) (at_set seats seat j new_marks u at)
+  pub within_after : (j : ℕ) (u : Known) → get_elem? new_seats j ≡ some u → IsWithin new_words u.marks
+  within_after j u at = ⊎_elim (λ (e : (j ≡ seat) × (new_known ≡ u)). subst (λ (k : Known). IsWithin new_words k.marks) e.1 mine)
+      (λ (e : (j ≢ seat) × (get_elem? seats j ≡ some u)). others u.marks (within j u e.1)) (at_set seats seat j new_known u at)
 
-  at_mine : get_elem? new_seats seat ≡ some new_marks
-  at_mine = at_set_here seats seat marks new_marks here
-    where
-      at_set_here : (l : List (List Mark)) (i : ℕ) (x y : List Mark) → get_elem? l i ≡ some x → get_elem? (set l i y) i ≡ some y
-      at_set_here [] i x y e = absurd (some-ne-none x (sym e))
-      at_set_here (z ∷ l) zero x y e = refl
-      at_set_here (z ∷ l) (suc i) x y e = at_set_here l i x y e
+  at_mine : get_elem? new_seats seat ≡ some new_known
+  at_mine = at_set_here seats seat old_known new_known here
 
   -- what a seat raised a timeline to stands for the seat's next marks, except on the timeline of the step
-  still : (t : ℕ) → t ≢ timeline → (j : ℕ) (u : List Mark) → get_elem? seats j ≡ some u → (mark_at u t).raised ≡ slice_index words t
-      → (k : ℕ) × (w : List Mark) × (get_elem? new_seats k ≡ some w) × ((mark_at w t).raised ≡ slice_index words t)
+  still : (t : ℕ) → t ≢ timeline → (j : ℕ) (u : Known) → get_elem? seats j ≡ some u → (mark_at u.marks t).raised ≡ slice_index words t
+      → (k : ℕ) × (w : Known) × (get_elem? new_seats k ≡ some w) × ((mark_at w.marks t).raised ≡ slice_index words t)
   still t other j u at is = elim (ℕ_discrete j seat) [
     | yes e ↦ (
       seat,
-      new_marks,
+      new_known,
       at_mine,
-      let same : marks ≡ u = some-injective marks u (sym here ∙ subst (λ (k : ℕ). get_elem? seats k ≡ some u) e at) in
-          ap (λ (k : Mark). k.raised) (get_or-set_other marks timeline t (mark m r taken) fresh_mark other) ∙ (ap (λ (k : List Mark). (mark_at k t).raised) same ∙ is),
+      let same : old_known ≡ u = some-injective old_known u (sym here ∙ subst (λ (k : ℕ). get_elem? seats k ≡ some u) e at) in
+          ap (λ (k : Mark). k.raised) (get_or-set_other marks timeline t (mark m r taken) fresh_mark other) ∙ (ap (λ (k : Known). (mark_at k.marks t).raised) same ∙ is),
     )
-    | no ne ↦ (j, u, set_else seats seat j new_marks ne ∙ at, is)
+    | no ne ↦ (j, u, set_else seats seat j new_known ne ∙ at, is)
   ]
 
   mine_is_top : r ≡ m → IsRaised new_words new_seats timeline
-  mine_is_top e = inr (seat, new_marks, at_mine, ap (λ (k : Mark). k.raised) (get_or-set_same marks timeline (mark m r taken) fresh_mark marked) ∙ (e ∙ sym (get_or-set_same words timeline m 0 named)))
+  mine_is_top e = inr (seat, new_known, at_mine, ap (λ (k : Mark). k.raised) (get_or-set_same marks timeline (mark m r taken) fresh_mark marked) ∙ (e ∙ sym (get_or-set_same words timeline m 0 named)))
 
   same_word : m ≡ slice_index words timeline → slice_index new_words timeline ≡ slice_index words timeline
   same_word e = get_or-set_same words timeline m 0 named ∙ e
@@ -95,11 +98,11 @@ module _ (words : List ℕ) (seats : List (List Mark)) (seat timeline : ℕ) (ma
   stays e (inl none) = inl (same_word e ∙ none)
   stays e (inr (j, u, at, is)) = elim (ℕ_discrete j seat) [
     | yes mine ↦ mine_is_top (
-        let same : marks ≡ u = some-injective marks u (sym here ∙ subst (λ (k : ℕ). get_elem? seats k ≡ some u) mine at) in
-        let was : (mark_at marks timeline).raised ≡ slice_index words timeline = ap (λ (k : List Mark). (mark_at k timeline).raised) same ∙ is in
+        let same : old_known ≡ u = some-injective old_known u (sym here ∙ subst (λ (k : ℕ). get_elem? seats k ≡ some u) mine at) in
+        let was : (mark_at marks timeline).raised ≡ slice_index words timeline = ap (λ (k : Known). (mark_at k.marks timeline).raised) same ∙ is in
         let r' : ℕ = r in let m' : ℕ = m in let w : ℕ = slice_index words timeline in let o : ℕ = (mark_at marks timeline).raised in
         let p : o ≡ w = was in let q : m' ≡ w = e in let a : o ≤ r' = more in let b : r' ≤ m' = below in omega (arith, p, q, a, b))
-    | no ne ↦ inr (j, u, set_else seats seat j new_marks ne ∙ at, is ∙ sym (same_word e))
+    | no ne ↦ inr (j, u, set_else seats seat j new_known ne ∙ at, is ∙ sym (same_word e))
   ]
 
   elsewhere : (t : ℕ) → t ≢ timeline → IsRaised words seats t → IsRaised new_words new_seats t
@@ -112,23 +115,24 @@ module _ (words : List ℕ) (seats : List (List Mark)) (seat timeline : ℕ) (ma
     | no ne ↦ elsewhere t ne (raised t)
   ]
 
-pub loads : (count slots seat timeline : ℕ) (marks : List Mark) (out : List (ℕ × ℕ)) → timeline < count
-    → Allows (SeatsAgree count) slots seat (marks, out) timeline (λ n. n) (Loaded (step slots timeline 0 0 mathlib.Core.Option.none) (marks, out))
-loads count slots seat timeline marks out named s kept deep here fits =
-    let old = kept.within seat marks here in
-    let old_mark = mark_at marks timeline in
+pub loads : (count slots seat timeline : ℕ) (before : Known) (out : List (ℕ × ℕ)) → timeline < count
+    → Allows (SeatsAgree count) slots seat (before, out) timeline (λ n. n) (Loaded (step slots timeline 0 0 mathlib.Core.Option.none) (before, out))
+loads count slots seat timeline before out named s kept deep here fits =
+    let old = kept.within seat before here in
+    let old_mark = mark_at before.marks timeline in
     let n : ℕ = slice_index s.words timeline in
     let lt : timeline < length s.words = subst (λ (k : ℕ). timeline < k) (sym kept.counted) named in
     let reaches : old_mark.raised ≤ n = le_trans (old.raised timeline) (old.seen timeline) in (
-      marks_after_load marks timeline n,
+      known (marks_after_load before.marks timeline n) before.halvings,
       keeps,
       tt,
       record {
         counted = simp length-set kept.counted;
-        within = within_after s.words s.views seat timeline marks n old_mark.raised (old_mark.taken + 1) kept.within kept.raised here lt (le_refl n) (le_refl _) reaches (inl refl);
-        raised = raised_after s.words s.views seat timeline marks n old_mark.raised (old_mark.taken + 1) kept.within kept.raised here lt (le_refl n) (le_refl _) reaches (inl refl);
+        within = within_after s.words s.views seat timeline before n old_mark.raised (old_mark.taken + 1) kept.within kept.raised here lt (le_refl n) (le_refl _) reaches (inl refl);
+        raised = raised_after s.words s.views seat timeline before n old_mark.raised (old_mark.taken + 1) kept.within kept.raised here lt (le_refl n) (le_refl _) reaches (inl refl);
+        shared = stepped_on s.views seat before (known (marks_after_load before.marks timeline n) before.halvings) here refl kept.shared;
       },
-      (refl, record { seen = old.seen timeline; raised = reaches }),
+      record { marks = refl; halvings = refl; no_less = record { seen = old.seen timeline; raised = reaches }; alone = own_raise count seat timeline before s kept here },
     )
 
 -- the greater of the number and the value is the number, or what the seat then raised to
@@ -138,24 +142,25 @@ max_by n r k le = elim (dec_le k n) [
   | no high ↦ let up : n ≤ k = omega (arith, high) in inr (max-eq_right (le_trans le up) ∙ sym (max-eq_right up))
 ]
 
-pub raises : (count slots seat timeline value : ℕ) (marks : List Mark) (out : List (ℕ × ℕ)) → timeline < count
-    → Allows (SeatsAgree count) slots seat (marks, out) timeline (λ n. max n value) (Raised (step slots timeline value 0 mathlib.Core.Option.none) (marks, out))
-raises count slots seat timeline value marks out named s kept deep here fits =
-    let old = kept.within seat marks here in
-    let old_mark = mark_at marks timeline in
+pub raises : (count slots seat timeline value : ℕ) (before : Known) (out : List (ℕ × ℕ)) → timeline < count
+    → Allows (SeatsAgree count) slots seat (before, out) timeline (λ n. max n value) (Raised (step slots timeline value 0 mathlib.Core.Option.none) (before, out))
+raises count slots seat timeline value before out named s kept deep here fits =
+    let old = kept.within seat before here in
+    let old_mark = mark_at before.marks timeline in
     let n : ℕ = slice_index s.words timeline in
     let lt : timeline < length s.words = subst (λ (k : ℕ). timeline < k) (sym kept.counted) named in
     let reaches : old_mark.raised ≤ n = le_trans (old.raised timeline) (old.seen timeline) in
     let top : max old_mark.raised value ≤ max n value = max-le (le_trans reaches (le-max_left n value)) (le-max_right n value) in (
-      marks_after_raise marks timeline value (max n value),
+      known (marks_after_raise before.marks timeline value (max n value)) before.halvings,
       keeps,
       tt,
       record {
         counted = simp length-set kept.counted;
-        within = within_after s.words s.views seat timeline marks (max n value) (max old_mark.raised value) (old_mark.taken + 1) kept.within kept.raised here lt (le-max_left n value) (le-max_left old_mark.raised value) top (max_by n old_mark.raised value reaches);
-        raised = raised_after s.words s.views seat timeline marks (max n value) (max old_mark.raised value) (old_mark.taken + 1) kept.within kept.raised here lt (le-max_left n value) (le-max_left old_mark.raised value) top (max_by n old_mark.raised value reaches);
+        within = within_after s.words s.views seat timeline before (max n value) (max old_mark.raised value) (old_mark.taken + 1) kept.within kept.raised here lt (le-max_left n value) (le-max_left old_mark.raised value) top (max_by n old_mark.raised value reaches);
+        raised = raised_after s.words s.views seat timeline before (max n value) (max old_mark.raised value) (old_mark.taken + 1) kept.within kept.raised here lt (le-max_left n value) (le-max_left old_mark.raised value) top (max_by n old_mark.raised value reaches);
+        shared = stepped_on s.views seat before (known (marks_after_raise before.marks timeline value (max n value)) before.halvings) here refl kept.shared;
       },
-      (refl, record { seen = old.seen timeline; raised = reaches }),
+      record { marks = refl; halvings = refl; no_less = record { seen = old.seen timeline; raised = reaches }; alone = own_raise count seat timeline before s kept here },
     )
 
 split_within : (words : List ℕ) (marks : List Mark) → IsWithin words marks → IsWithin words (marks_split_off marks)
@@ -166,23 +171,52 @@ split_within words marks old =
       seen = λ t. subst (λ (k : Mark). k.seen ≤ slice_index words t) (sym (get_or-map cut marks t fresh_mark)) (old.seen t);
     }
 
-pub splits : (count seat : ℕ) (marks : List Mark) → Splits (SeatsAgree count) seat marks marks (marks_split_off marks)
-splits count seat marks s kept here =
-    let same : set s.views seat marks ≡ s.views = set_again s.views seat marks here in record {
-      counted = kept.counted;
-      within = λ j u at. ⊎_elim (λ was. kept.within j u (subst (λ (k : List (List Mark)). get_elem? k j ≡ some u) same was))
-          (λ (e : marks_split_off marks ≡ u). subst (λ (k : List Mark). IsWithin s.words k) e (split_within s.words marks (kept.within seat marks here))) (at_snoc (set s.views seat marks) (marks_split_off marks) u j at);
-      raised = λ t. ⊎_elim (λ none. inl none)
-          (λ (w : (j : ℕ) × (u : List Mark) × (get_elem? s.views j ≡ some u) × ((mark_at u t).raised ≡ slice_index s.words t)).
-          inr (w.0, w.1, at_longer (set s.views seat marks) (marks_split_off marks ∷ []) w.0 w.1 (subst (λ (k : List (List Mark)). get_elem? k w.0 ≡ some w.1) (sym same) w.2), w.3)) (kept.raised t);
-    }
+-- a split leaves the marks of the seat
+module _ (count seat : ℕ) (before : Known) (s : State ℕ Known) (kept : SeatsAgree count s) (here : get_elem? s.views seat ≡ some before) where
+  abbrev left_seats : List Known
+  left_seats = set s.views seat (known_after_split before)
+
+  abbrev all_seats : List Known
+  all_seats = left_seats ++ known_split_off before ∷ []
+
+  within_left : (j : ℕ) (u : Known) → get_elem? left_seats j ≡ some u → IsWithin s.words u.marks
+  within_left j u at = ⊎_elim (λ (e : (j ≡ seat) × (known_after_split before ≡ u)). subst (λ (k : Known). IsWithin s.words k.marks) e.1 (kept.within seat before here))
+      (λ (e : (j ≢ seat) × (get_elem? s.views j ≡ some u)). kept.within j u e.1) (at_set s.views seat j (known_after_split before) u at)
+
+  pub split_keeps_within : (j : ℕ) (u : Known) → get_elem? all_seats j ≡ some u → IsWithin s.words u.marks
+  split_keeps_within j u at = ⊎_elim (λ was. within_left j u was)
+      (λ (e : known_split_off before ≡ u). subst (λ (k : Known). IsWithin s.words k.marks) e (split_within s.words before.marks (kept.within seat before here)))
+      (at_snoc left_seats (known_split_off before) u j at)
+
+  -- who raised a timeline to what it is did so still
+  raised_left : (t j : ℕ) (u : Known) → get_elem? s.views j ≡ some u → (mark_at u.marks t).raised ≡ slice_index s.words t
+      → (k : ℕ) × (w : Known) × (get_elem? left_seats k ≡ some w) × ((mark_at w.marks t).raised ≡ slice_index s.words t)
+  raised_left t j u at is = elim (ℕ_discrete j seat) [
+    | yes e ↦
+        let same : before ≡ u = some-injective before u (sym here ∙ subst (λ (k : ℕ). get_elem? s.views k ≡ some u) e at) in
+        (seat, known_after_split before, at_set_here s.views seat before (known_after_split before) here, ap (λ (k : Known). (mark_at k.marks t).raised) same ∙ is)
+    | no ne ↦ (j, u, set_else s.views seat j (known_after_split before) ne ∙ at, is)
+  ]
+
+  pub split_keeps_raised : (t : ℕ) → IsRaised s.words all_seats t
+  split_keeps_raised t = ⊎_elim (λ none. inl none)
+      (λ (w : (j : ℕ) × (u : Known) × (get_elem? s.views j ≡ some u) × ((mark_at u.marks t).raised ≡ slice_index s.words t)).
+      let k = raised_left t w.0 w.1 w.2 w.3 in inr (k.0, k.1, at_longer left_seats (known_split_off before ∷ []) k.0 k.1 k.2, k.3)) (kept.raised t)
+
+pub splits : (count seat : ℕ) (before : Known) → Splits (SeatsAgree count) seat before (known_after_split before) (known_split_off before)
+splits count seat before s kept here = record {
+  counted = kept.counted;
+  within = split_keeps_within count seat before s kept here;
+  raised = split_keeps_raised count seat before s kept here;
+  shared = halved s.views seat before here kept.shared;
+}
 
 all_zero : (words : List ℕ) → All (λ n. n ≡ 0) words → (t : ℕ) → slice_index words t ≡ 0
 all_zero [] all t = refl
 all_zero (n ∷ words) all zero = All-head (λ (k : ℕ). k ≡ 0) n words all
 all_zero (n ∷ words) all (suc t) = all_zero words (All-tail (λ (k : ℕ). k ≡ 0) n words all) t
 
-replicated : (count : ℕ) (t : ℕ) → mark_at (replicate count fresh_mark) t ≡ fresh_mark
+pub replicated : (count : ℕ) (t : ℕ) → mark_at (replicate count fresh_mark) t ≡ fresh_mark
 replicated zero t = refl
 replicated (suc count) zero = refl
 replicated (suc count) (suc t) = replicated count t
@@ -194,13 +228,14 @@ begins_within words = record {
   seen = λ t. subst (λ (k : Mark). k.seen ≤ slice_index words t) (sym (replicated (length words) t)) zero-le;
 }
 
-pub begins : (words : List ℕ) → All (λ n. n ≡ 0) words → SeatsAgree (length words) (opening words [] (replicate (length words) fresh_mark))
+pub begins : (words : List ℕ) → All (λ n. n ≡ 0) words → SeatsAgree (length words) (opening words [] (first_known (length words)))
 begins words all = record {
   counted = refl;
   within = λ j u at. only j u at;
   raised = λ t. inl (all_zero words all t);
+  shared = opened (length words);
 }
   where
-    only : (j : ℕ) (u : List Mark) → get_elem? (replicate (length words) fresh_mark ∷ []) j ≡ some u → IsWithin words u
-    only zero u at = subst (λ (k : List Mark). IsWithin words k) (some-injective (replicate (length words) fresh_mark) u at) (begins_within words)
+    only : (j : ℕ) (u : Known) → get_elem? (first_known (length words) ∷ []) j ≡ some u → IsWithin words u.marks
+    only zero u at = subst (λ (k : Known). IsWithin words k.marks) (some-injective (first_known (length words)) u at) (begins_within words)
     only (suc j) u at = absurd (some-ne-none u (sym at))

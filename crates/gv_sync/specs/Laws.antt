@@ -1,11 +1,11 @@
--- Laws of `raised`, and that each kind of step keeps the rule `SeatsAgree`.
-use Rattle.std.specs.Prelude.{◌≡◌, ◌⊎◌, ℕ, ◌<◌, ◌≤◌, List, [], ◌∷◌, ◌++◌, length, max, replicate, All, Contains}
+-- Laws of `raised`, that each kind of step keeps the rule `SeatsAgree`, and what follows from the rule.
+use Rattle.std.specs.Prelude.{◌≡◌, ◌⊎◌, ℕ, ◌<◌, ◌≤◌, List, [], ◌∷◌, ◌++◌, length, max, slice_index, All, Contains}
 use mathlib.Core.Option.{none}
-use Rattle.atomic_table.specs.Table.{Allows, Splits, opening, step}
-use Rattle.gv_sync.specs.declared.marks.Mark.{Mark}
-use Rattle.gv_sync.specs.Marks.{fresh_mark, marks_split_off}
+use Rattle.atomic_table.specs.Table.{Allows, Splits, State, opening, step}
+use Rattle.gv_sync.specs.declared.marks.Known.{Known}
+use Rattle.gv_sync.specs.Marks.{first_known, known_after_split, known_split_off}
 use Rattle.gv_sync.specs.Raises.{raised}
-use Rattle.gv_sync.specs.Rule.{SeatsAgree, Loaded, Raised}
+use Rattle.gv_sync.specs.Rule.{IsOwnRaise, Knows, SeatsAgree, Loaded, Raised}
 
 -- no raise is greater
 abbrev pub RaisedIsGreatest : Type 0
@@ -24,23 +24,42 @@ RaisedOnceMore =
 abbrev pub NewTimelinesAgree : Type 0
 NewTimelinesAgree =
     (words : List ℕ) → All (λ n. n ≡ 0) words
-    → SeatsAgree (length words) (opening words [] (replicate (length words) fresh_mark))
+    → SeatsAgree (length words) (opening words [] (first_known (length words)))
 
 -- whatever the timelines are as a seat loads one, the rule is kept, and the load tells what it owes
 abbrev pub LoadKeepsRule : Type 0
 LoadKeepsRule =
-    (count slots seat timeline : ℕ) (marks : List Mark) (out : List (ℕ × ℕ)) → timeline < count
-    → Allows (SeatsAgree count) slots seat (marks, out) timeline (λ n. n)
-    (Loaded (step slots timeline 0 0 none) (marks, out))
+    (count slots seat timeline : ℕ) (before : Known) (out : List (ℕ × ℕ)) → timeline < count
+    → Allows (SeatsAgree count) slots seat (before, out) timeline (λ n. n)
+    (Loaded (step slots timeline 0 0 none) (before, out))
 
 -- the same where a seat raises one to a value
 abbrev pub RaiseKeepsRule : Type 0
 RaiseKeepsRule =
-    (count slots seat timeline value : ℕ) (marks : List Mark) (out : List (ℕ × ℕ)) → timeline < count
-    → Allows (SeatsAgree count) slots seat (marks, out) timeline (λ n. max n value)
-    (Raised (step slots timeline value 0 none) (marks, out))
+    (count slots seat timeline value : ℕ) (before : Known) (out : List (ℕ × ℕ)) → timeline < count
+    → Allows (SeatsAgree count) slots seat (before, out) timeline (λ n. max n value)
+    (Raised (step slots timeline value 0 none) (before, out))
 
--- the same where a seat is split: it keeps its view
+-- the same where a seat is split
 abbrev pub SplitKeepsRule : Type 0
 SplitKeepsRule =
-    (count seat : ℕ) (marks : List Mark) → Splits (SeatsAgree count) seat marks marks (marks_split_off marks)
+    (count seat : ℕ) (before : Known)
+    → Splits (SeatsAgree count) seat before (known_after_split before) (known_split_off before)
+
+-- no seat comes from elsewhere: with one more, whatever it knows and did, the rule would be broken
+abbrev pub NoSeatFromElsewhere : Type 0
+NoSeatFromElsewhere =
+    (count : ℕ) (s next : State ℕ Known) (more : Known) → SeatsAgree count s
+    → next.views ≡ s.views ++ more ∷ [] → ¬ SeatsAgree count next
+
+-- a seat with the whole is the only one
+abbrev pub WholeIsTheOnlySeat : Type 0
+WholeIsTheOnlySeat =
+    (count seat other : ℕ) (known known_there : Known) (s : State ℕ Known) → SeatsAgree count s
+    → Knows s.views seat known → known.halvings ≡ 0 → Knows s.views other known_there → other ≡ seat
+
+-- so each number is what that seat raised it to, which at first is 0
+abbrev pub WholeRaisedAll : Type 0
+WholeRaisedAll =
+    (count seat timeline : ℕ) (known : Known) (s : State ℕ Known) → SeatsAgree count s
+    → Knows s.views seat known → IsOwnRaise known timeline (slice_index s.words timeline)

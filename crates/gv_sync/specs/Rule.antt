@@ -1,14 +1,15 @@
--- The rule of the timelines: of each seat, dropped ones too, raised ≤ seen ≤ word, and a word is 0 or what some seat raised it to.
-use Rattle.std.specs.Prelude.{◌≡◌, ◌⊎◌, ℕ, ◌≤◌, List, length, slice_index, max}
+-- The rule of the timelines: of each seat, dropped ones too, raised ≤ seen ≤ word, a word is 0 or what some seat raised it to, and the seats' shares are one whole.
+use Rattle.std.specs.Prelude.{◌≡◌, ◌⊎◌, ℕ, ◌-◌, ◌^◌, ◌≤◌, List, length, max, slice_index, sum_by}
 use mathlib.Core.Option.{some}
 use lib.ListN.{get_elem?}
 use Rattle.atomic_table.specs.Table.{State, Me, Step}
 use Rattle.gv_sync.specs.declared.marks.Mark.{Mark}
+use Rattle.gv_sync.specs.declared.marks.Known.{Known}
 use Rattle.gv_sync.specs.Marks.{IsNoLess, mark_at, marks_after_load, marks_after_raise}
 
--- the seat with this number knows these marks
-abbrev pub Knows : List (List Mark) → ℕ → List Mark → Type 0
-Knows seats seat marks = get_elem? seats seat ≡ some marks
+-- the seat with this number knows this
+abbrev pub Knows : List Known → ℕ → Known → Type 0
+Knows seats seat known = get_elem? seats seat ≡ some known
 
 -- a seat raised a timeline no higher than it saw it, and saw it no higher than it is
 pub record IsWithin (words : List ℕ) (marks : List Mark) : Type 0 where
@@ -17,29 +18,51 @@ pub record IsWithin (words : List ℕ) (marks : List Mark) : Type 0 where
   pub seen : (timeline : ℕ) → (mark_at marks timeline).seen ≤ slice_index words timeline
 
 -- the timeline is 0, or some seat raised it to what it is
-abbrev pub IsRaised : List ℕ → List (List Mark) → ℕ → Type 0
+abbrev pub IsRaised : List ℕ → List Known → ℕ → Type 0
 IsRaised words seats timeline =
     (slice_index words timeline ≡ 0)
-    ⊎ ((seat : ℕ) × (marks : List Mark) × Knows seats seat marks
-    × ((mark_at marks timeline).raised ≡ slice_index words timeline))
+    ⊎ ((seat : ℕ) × (known : Known) × Knows seats seat known
+    × ((mark_at known.marks timeline).raised ≡ slice_index words timeline))
 
--- the words and the marks of all seats, dropped ones too, agree
-pub record SeatsAgree (count : ℕ) (s : State ℕ (List Mark)) : Type 0 where
+-- a seat's share of a whole of 2 ^ most parts
+abbrev pub share : ℕ → Known → ℕ
+share most known = 2 ^ (most - known.halvings)
+
+-- no seat's share was halved more often
+abbrev pub AreHalvedAtMost : ℕ → List Known → Type 0
+AreHalvedAtMost most seats =
+    (seat : ℕ) (known : Known) → Knows seats seat known → known.halvings ≤ most
+
+-- the shares of all seats add up to the whole: no seat came from elsewhere, and none is forgotten
+abbrev pub AreOneWhole : List Known → Type 0
+AreOneWhole seats =
+    (most : ℕ) → AreHalvedAtMost most seats → sum_by (share most) seats ≡ 2 ^ most
+
+-- the words and what all seats know, dropped ones too, agree
+pub record SeatsAgree (count : ℕ) (s : State ℕ Known) : Type 0 where
   pub counted : length s.words ≡ count
-  pub within : (seat : ℕ) (marks : List Mark) → Knows s.views seat marks → IsWithin s.words marks
+  pub within : (seat : ℕ) (known : Known) → Knows s.views seat known → IsWithin s.words known.marks
   pub raised : (timeline : ℕ) → IsRaised s.words s.views timeline
+  pub shared : AreOneWhole s.views
 
-abbrev pub Known : Type 0
-Known = Me ℕ (List Mark)
+abbrev pub Holder : Type 0
+Holder = Me ℕ Known
+
+-- a seat with the whole is the only one: a number is what it raised it to
+abbrev pub IsOwnRaise : Known → ℕ → ℕ → Type 0
+IsOwnRaise known timeline number =
+    known.halvings ≡ 0 → number ≡ (mark_at known.marks timeline).raised
 
 -- what a load tells: the number found is now seen, and no lower than what was seen
-abbrev pub Loaded : Step ℕ → Known → ℕ → Known → Type 0
-Loaded s before found after =
-    (after.0 ≡ marks_after_load before.0 s.word found)
-    × IsNoLess (mark_at before.0 s.word) found
+pub record Loaded (s : Step ℕ) (before : Holder) (found : ℕ) (after : Holder) : Type 0 where
+  pub marks : after.0.marks ≡ marks_after_load before.0.marks s.word found
+  pub halvings : after.0.halvings ≡ before.0.halvings
+  pub no_less : IsNoLess (mark_at before.0.marks s.word) found
+  pub alone : IsOwnRaise before.0 s.word found
 
 -- what a fetch_max tells: the greater of the number found and the value is now seen
-abbrev pub Raised : Step ℕ → Known → ℕ → Known → Type 0
-Raised s before found after =
-    (after.0 ≡ marks_after_raise before.0 s.word s.first (max found s.first))
-    × IsNoLess (mark_at before.0 s.word) found
+pub record Raised (s : Step ℕ) (before : Holder) (found : ℕ) (after : Holder) : Type 0 where
+  pub marks : after.0.marks ≡ marks_after_raise before.0.marks s.word s.first (max found s.first)
+  pub halvings : after.0.halvings ≡ before.0.halvings
+  pub no_less : IsNoLess (mark_at before.0.marks s.word) found
+  pub alone : IsOwnRaise before.0 s.word found

@@ -1,5 +1,5 @@
 ghost use Rattle.std.specs.Prelude.{◌≡◌, ◌≤◌, ◌<◌};
-ghost use Rattle.gv_sync.specs.Seats.{IsSeatOf, count_of};
+ghost use Rattle.gv_sync.specs.Seats.{IsSeatOf, count_of, first_seat};
 
 use crate::{Clock, Lacking, Reached, Seat, Timelines, laws};
 use gv_types::Point;
@@ -31,6 +31,8 @@ fn sight(look: Result<Reached, Lacking>) -> (bool, Point, u64) {
 fn one_thread_on_timelines(rt: HostRuntime) -> Result<(), Fail> {
     laws::raises();
     laws::steps();
+    laws::shares();
+    laws::turns();
     let (timelines, mut seat) = Timelines::new(rt.alloc(), 2)?;
     assert_eq!(rt; timelines.count(), 2);
     assert_eq!(rt; timelines.value(&mut seat, 0), 0);
@@ -44,6 +46,36 @@ fn one_thread_on_timelines(rt: HostRuntime) -> Result<(), Fail> {
     let mut other = timelines.split(&mut seat)?;
     assert_eq!(rt; timelines.raise(&mut other, at(0, 9)), 9);
     assert_eq!(rt; timelines.value(&mut seat, 0), 9);
+    Ok(())
+}
+
+/// Nobody raised a timeline before its first seat.
+#[tactic(auto, using(crate::proofs::Rises::replicated))]
+fn value_at_first(timelines: &Timelines, seat: &mut Seat, timeline: u64) -> u64
+    requires first { seat.old ≡ first_seat timelines.now }
+    requires named { timeline < count_of timelines.now }
+    ensures zero { result ≡ 0 }
+    ensures own { IsSeatOf timelines.now seat.new }
+{
+    timelines.value(seat, timeline)
+}
+
+/// A seat that was split off has seen what the other saw, and each is no longer alone.
+#[test]
+fn a_seat_split_off(rt: HostRuntime) -> Result<(), Fail> {
+    let (timelines, mut seat) = Timelines::new(rt.alloc(), 3)?;
+    seat.has_each_mark();
+    assert_eq!(rt; value_at_first(&timelines, &mut seat, 2), 0);
+    assert_eq!(rt; timelines.raise(&mut seat, at(2, 4)), 4);
+    let mut other = timelines.split(&mut seat)?;
+    other.has_each_mark();
+    assert_eq!(rt; timelines.value(&mut other, 2), 4);
+    assert_eq!(rt; timelines.raise(&mut other, at(1, 8)), 8);
+    let mut third = timelines.split(&mut other)?;
+    drop(other);
+    assert_eq!(rt; timelines.value(&mut third, 1), 8);
+    assert_eq!(rt; timelines.value(&mut seat, 1), 8);
+    assert_eq!(rt; timelines.value(&mut seat, 0), 0);
     Ok(())
 }
 

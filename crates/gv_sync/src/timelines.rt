@@ -2,16 +2,15 @@
 ghost use Rattle.std.specs.Prelude.{◌≡◌, ◌<◌, ◌≤◌, ◌↔◌, All, IfOk, IsOk, length, max};
 ghost use Rattle.gv_types.specs.Limits.{IsFromOneTo};
 ghost use Rattle.gv_sync.specs.Marks.{IsNoLess, StepsOnceOn};
-ghost use Rattle.gv_sync.specs.Seats.{IsSeatOf, after_load, after_raise, count_of, first_seat};
-ghost use Rattle.gv_sync.specs.Seats.{mark_of, most_timelines, split_from};
+ghost use Rattle.gv_sync.specs.Seats.{IsOnly, IsSeatOf, after_load, after_raise, after_split};
+ghost use Rattle.gv_sync.specs.Seats.{count_of, first_seat, mark_of, most_timelines, split_from};
 ghost use Rattle.gv_sync.specs.Sights.{number_seen, sight_of};
 
-use crate::marks::Mark;
+use crate::marks::Known;
 use crate::sights::{Lacking, Reached, compare};
 use atomic_table::{Play, Split, Table, TableRule};
 use gv_types::Point;
 use std::alloc::{AllocError, Global};
-use std::collections::LinkedList;
 use std::marker::Model;
 
 /// The number of timelines is at most this.
@@ -33,19 +32,18 @@ impl From<AllocError> for SyncFault {
 
 struct Rule;
 
-impl TableRule<u8, LinkedList<Mark>, usize> for Rule {
-    ghost use Rattle.std.specs.Prelude.{replicate};
-    ghost use Rattle.gv_sync.specs.Marks.{fresh_mark};
+impl TableRule<u8, Known, usize> for Rule {
+    ghost use Rattle.gv_sync.specs.Marks.{first_known};
     ghost use Rattle.gv_sync.specs.Rule.{SeatsAgree};
 
     ghost holds = { SeatsAgree };
 
-    ghost first = { λ count. replicate count fresh_mark };
+    ghost first = { first_known };
 }
 
 struct Load;
 
-impl Play<u8, LinkedList<Mark>> for Load {
+impl Play<u8, Known> for Load {
     ghost use Rattle.gv_sync.specs.Rule.{Loaded};
 
     ghost then = { Loaded };
@@ -53,7 +51,7 @@ impl Play<u8, LinkedList<Mark>> for Load {
 
 struct Raise;
 
-impl Play<u8, LinkedList<Mark>> for Raise {
+impl Play<u8, Known> for Raise {
     ghost use Rattle.gv_sync.specs.Rule.{Raised};
 
     ghost then = { Raised };
@@ -61,18 +59,18 @@ impl Play<u8, LinkedList<Mark>> for Raise {
 
 struct Share;
 
-impl Split<LinkedList<Mark>> for Share {
-    ghost use Rattle.gv_sync.specs.Marks.{marks_split_off};
+impl Split<Known> for Share {
+    ghost use Rattle.gv_sync.specs.Marks.{known_after_split, known_split_off};
 
-    ghost left = { λ marks. marks };
+    ghost left = { known_after_split };
 
-    ghost right = { marks_split_off };
+    ghost right = { known_split_off };
 }
 
 /// Numbers that only rise, each 0 at first. A clause sees which they are, and how many.
 #[derive(Drop)]
 pub struct Timelines {
-    table: Table<u8, LinkedList<Mark>, usize, Rule, Global>,
+    table: Table<u8, Known, usize, Rule, Global>,
 }
 
 impl Model for Timelines {
@@ -94,7 +92,7 @@ impl Model for Timelines {
 /// What one thread knows of the timelines. It has no bytes.
 #[derive(Drop)]
 pub struct Seat {
-    pass: atomic_table::Seat<u8, LinkedList<Mark>>,
+    pass: atomic_table::Seat<u8, Known>,
 }
 
 impl Model for Seat {
@@ -103,9 +101,22 @@ impl Model for Seat {
 
     ghost Value = { SeatState };
 
-    ghost view = { λ s. record { of = s.pass.table_id; marks = s.pass.me.0 } };
+    ghost view = { λ s. record {
+      of = s.pass.table_id;
+      marks = s.pass.me.0.marks;
+      halvings = s.pass.me.0.halvings;
+    } };
 
-    ghost invariant = { λ s. length s.pass.me.0 ≡ s.pass.table_id.words };
+    ghost invariant = { λ s. length s.pass.me.0.marks ≡ s.pass.table_id.words };
+}
+
+impl Seat {
+    /// A law for callers: there is a mark for each timeline. It does nothing.
+    pub fn has_each_mark(&self)
+        ensures { length self.now.marks ≡ count_of self.now.of }
+    {
+        let _pass = &self.pass;
+    }
 }
 
 impl Timelines {
@@ -114,6 +125,7 @@ impl Timelines {
         requires { IsFromOneTo most_timelines count }
         ensures count { IfOk result (λ r. count_of r.0 ≡ count) }
         ensures seat { IfOk result (λ r. r.1 ≡ first_seat r.0) }
+        ensures own { IfOk result (λ r. IsSeatOf r.0 r.1) }
     {
         let zeros = [0u64; MAX_WORDS];
         Timelines::over(alloc, &zeros[..count as usize])
@@ -142,10 +154,12 @@ impl Timelines {
     pub fn value(&self, seat: &mut Seat, timeline: u64) -> u64
         requires own { IsSeatOf self.now seat.old }
         requires named { timeline < count_of self.now }
+        ensures own { IsSeatOf self.now seat.new }
         ensures step { seat.new ≡ after_load seat.old timeline result }
         ensures one_step { StepsOnceOn timeline seat.old.marks seat.new.marks }
         ensures seen { (mark_of seat.new timeline).seen ≡ result }
         ensures no_less { IsNoLess (mark_of seat.old timeline) result }
+        ensures only { IsOnly seat.old → result ≡ (mark_of seat.old timeline).raised }
     {
         self.load(seat, timeline)
     }
@@ -155,11 +169,15 @@ impl Timelines {
     pub fn raise(&self, seat: &mut Seat, point: Point) -> u64
         requires own { IsSeatOf self.now seat.old }
         requires named { point.timeline < count_of self.now }
+        ensures own { IsSeatOf self.now seat.new }
         ensures step { seat.new ≡ after_raise seat.old point result }
         ensures one_step { StepsOnceOn point.timeline seat.old.marks seat.new.marks }
         ensures seen { (mark_of seat.new point.timeline).seen ≡ result }
         ensures no_less { IsNoLess (mark_of seat.old point.timeline) result }
         ensures reached { point.value ≤ result }
+        ensures raised { (mark_of seat.new point.timeline).raised
+            ≡ max (mark_of seat.old point.timeline).raised point.value }
+        ensures only { IsOnly seat.old → result ≡ (mark_of seat.new point.timeline).raised }
     {
         let found = self.fetch_max(seat, point);
         found.max(point.value)
@@ -169,22 +187,27 @@ impl Timelines {
     pub fn look(&self, seat: &mut Seat, point: &Point) -> Result<Reached, Lacking>
         requires own { IsSeatOf self.now seat.old }
         requires named { point.now.timeline < count_of self.now }
+        ensures own { IsSeatOf self.now seat.new }
         ensures step { seat.new ≡ after_load seat.old point.now.timeline (number_seen result) }
         ensures one_step { StepsOnceOn point.now.timeline seat.old.marks seat.new.marks }
         ensures seen { (mark_of seat.new point.now.timeline).seen ≡ number_seen result }
         ensures no_less { IsNoLess (mark_of seat.old point.now.timeline) (number_seen result) }
+        ensures only { IsOnly seat.old
+            → number_seen result ≡ (mark_of seat.old point.now.timeline).raised }
         ensures point { (sight_of result).point ≡ point.now }
         ensures reached { IsOk result ↔ (point.now.value ≤ number_seen result) }
     {
         compare(*point, self.value(seat, point.timeline))
     }
 
-    /// A seat that has seen as much, and raised and took nothing. It never fails.
+    /// A seat that has seen as much, and raised and took nothing, with half the share. It never fails.
     pub fn split(&self, seat: &mut Seat) -> Result<Seat, SyncFault>
         requires { IsSeatOf self.now seat.old }
         ensures ok { IsOk result }
-        ensures kept { seat.new ≡ seat.old }
+        ensures kept { seat.new ≡ after_split seat.old }
         ensures given { IfOk result (λ s. s ≡ split_from seat.old) }
+        ensures own { IsSeatOf self.now seat.new }
+        ensures own_given { IfOk result (λ s. IsSeatOf self.now s) }
     {
         Ok(self.share(seat))
     }
@@ -194,10 +217,12 @@ impl Timelines {
     fn load(&self, seat: &mut Seat, timeline: u64) -> u64
         requires own { IsSeatOf self.now seat.old }
         requires named { timeline < count_of self.now }
+        ensures own { IsSeatOf self.now seat.new }
         ensures step { seat.new ≡ after_load seat.old timeline result }
         ensures one_step { StepsOnceOn timeline seat.old.marks seat.new.marks }
         ensures seen { (mark_of seat.new timeline).seen ≡ result }
         ensures no_less { IsNoLess (mark_of seat.old timeline) result }
+        ensures only { IsOnly seat.old → result ≡ (mark_of seat.old timeline).raised }
     {
         self.table
             .shared
@@ -208,10 +233,14 @@ impl Timelines {
     fn fetch_max(&self, seat: &mut Seat, point: Point) -> u64
         requires own { IsSeatOf self.now seat.old }
         requires named { point.timeline < count_of self.now }
+        ensures own { IsSeatOf self.now seat.new }
         ensures step { seat.new ≡ after_raise seat.old point (max result point.value) }
         ensures one_step { StepsOnceOn point.timeline seat.old.marks seat.new.marks }
         ensures seen { (mark_of seat.new point.timeline).seen ≡ max result point.value }
         ensures no_less { IsNoLess (mark_of seat.old point.timeline) result }
+        ensures raised { (mark_of seat.new point.timeline).raised
+            ≡ max (mark_of seat.old point.timeline).raised point.value }
+        ensures only { IsOnly seat.old → result ≡ (mark_of seat.old point.timeline).raised }
     {
         let timeline = point.timeline as usize;
         self.table
@@ -221,7 +250,7 @@ impl Timelines {
 
     fn share(&self, seat: &mut Seat) -> Seat
         requires { IsSeatOf self.now seat.old }
-        ensures kept { seat.new ≡ seat.old }
+        ensures kept { seat.new ≡ after_split seat.old }
         ensures given { result ≡ split_from seat.old }
     {
         let pass = self.table.shared.split_seat::<Share>(&mut seat.pass);
