@@ -78,9 +78,8 @@ fn a_table_of_one(rt: HostRuntime) -> Result<(), Fail> {
     Ok(())
 }
 
-/// Makes a buffer, at the second try where the first wants memory. No buffer is made by a try that
-/// does.
-fn create(
+/// Makes a buffer, at the second try where the first wants memory. The first has made none then.
+fn create_at_last(
     rt: &(impl Abort + AllocGlobal),
     buffers: &mut Buffers,
     at: u64,
@@ -93,21 +92,20 @@ fn create(
     Ok(id)
 }
 
-/// Joins as a writer, at the second try where the first wants memory. A reader can join between the
-/// two, so the first has left no user.
-fn join(
+/// Lets the job 5 write a buffer, at the second try where the first wants memory. Another job can
+/// read the buffer between the two, so the first has left no user.
+fn join_at_last(
     rt: &(impl Abort + AllocGlobal),
     buffers: &mut Buffers,
     id: &BufferId,
-    job: u64,
 ) -> Result<(), Fault> {
-    match buffers.join(rt.alloc(), *id, job, Usage::Write) {
+    match buffers.join(rt.alloc(), *id, 5, Usage::Write) {
         Err(Fault::OutOfMemory) => (),
         first => return first,
     }
-    buffers.join(rt.alloc(), *id, job + 1, Usage::Read)?;
-    buffers.leave(job + 1);
-    buffers.join(rt.alloc(), *id, job, Usage::Write)
+    buffers.join(rt.alloc(), *id, 6, Usage::Read)?;
+    buffers.leave(6);
+    buffers.join(rt.alloc(), *id, 5, Usage::Write)
 }
 
 /// Passes with no allocation refused, and with any one of them.
@@ -118,14 +116,14 @@ fn refused_memory_leaves_the_table(rt: HostRuntime) -> Result<(), Fail> {
         first => first?,
     };
     for made in 0..40 {
-        let id = &create(&rt, &mut buffers, made)?;
-        join(&rt, &mut buffers, id, 5)?;
-        join(&rt, &mut buffers, id, 5)?;
+        let id = &create_at_last(&rt, &mut buffers, made)?;
+        join_at_last(&rt, &mut buffers, id)?;
+        join_at_last(&rt, &mut buffers, id)?;
         assert_eq!(rt; buffers.destroy(*id), Err(Fault::InUse { jobs: 1 }));
     }
     buffers.leave(5);
     for made in 40..60 {
-        create(&rt, &mut buffers, made)?;
+        create_at_last(&rt, &mut buffers, made)?;
     }
     Ok(())
 }
