@@ -89,6 +89,7 @@ pub record StopsAt (script text : List ℕ) (number : ℕ) : Type 0 where
 
 -- The text is the replies of some first lines, each with its line end.
 pub record IsStart (script text : List ℕ) : Type 0 where
+  pub short : length script ≤ script_limit
   pub next : List ℕ
   pub more : List (List ℕ)
   pub count : ℕ
@@ -96,22 +97,22 @@ pub record IsStart (script text : List ℕ) : Type 0 where
   pub now : State
   pub front : IsFront script text (next ∷ more) count refusals now
 
--- What a run of this script may answer, with what was written before it and after it, and whether a write failed.
-abbrev pub Ends : {T : Type 0} → List ℕ → Option (List ℕ) → Option (List ℕ) → Bool → Result T ScriptFault → Type 0
-Ends script held holds failed (Ok done) = (text : List ℕ) × IsRun script text × Appends held holds text
-Ends script held holds failed (Err (BadLine number)) = (text : List ℕ) × StopsAt script text number × Appends held holds text
-Ends script held holds failed (Err OutOfMemory) = (text : List ℕ) × IsStart script text × Appends held holds text
-Ends script held holds failed (Err WriteFault) = failed ≡ true
-Ends script held holds failed (Err ReadFault) = ⊥
-Ends script held holds failed (Err ScriptTooLong) = ⊥
+-- What a run of this script may answer, with what was written before it and after it.
+abbrev pub Ends : {T : Type 0} → List ℕ → Option (List ℕ) → Option (List ℕ) → Result T ScriptFault → Type 0
+Ends script held holds (Ok done) = (text : List ℕ) × IsRun script text × Appends held holds text
+Ends script held holds (Err (BadLine number)) = (text : List ℕ) × StopsAt script text number × Appends held holds text
+Ends script held holds (Err OutOfMemory) = (text : List ℕ) × IsStart script text × Appends held holds text
+Ends script held holds (Err WriteFault) = Unit {0}
+Ends script held holds (Err ReadFault) = ⊥
+Ends script held holds (Err ScriptTooLong) = ⊥
 
 -- The same for the line of this number, run on a state.
-abbrev pub LineEnds : {T : Type 0} → State → List ℕ → ℕ → State → Option (List ℕ) → Option (List ℕ) → Bool → Result T ScriptFault → Type 0
-LineEnds old line number new held holds failed (Ok done) =
+abbrev pub LineEnds : {T : Type 0} → State → List ℕ → ℕ → State → Option (List ℕ) → Option (List ℕ) → Result T ScriptFault → Type 0
+LineEnds old line number new held holds (Ok done) =
     (lacks : Bool) × (text : List ℕ) × (ran lacks old line ≡ Some (text, new)) × Appends held holds text
-LineEnds old line number new held holds failed (Err (BadLine bad)) =
+LineEnds old line number new held holds (Err (BadLine bad)) =
     (ran false old line ≡ None) × (bad ≡ number) × Appends held holds []
-LineEnds old line number new held holds failed (Err OutOfMemory) = Appends held holds []
-LineEnds old line number new held holds failed (Err WriteFault) = failed ≡ true
-LineEnds old line number new held holds failed (Err ReadFault) = ⊥
-LineEnds old line number new held holds failed (Err ScriptTooLong) = ⊥
+LineEnds old line number new held holds (Err OutOfMemory) = Appends held holds []
+LineEnds old line number new held holds (Err WriteFault) = Unit {0}
+LineEnds old line number new held holds (Err ReadFault) = ⊥
+LineEnds old line number new held holds (Err ScriptTooLong) = ⊥
