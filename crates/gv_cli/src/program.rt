@@ -42,7 +42,7 @@ fn obey<R: AllocGlobal + Print + Eprint, S: Source, K: Sink>(
     ensures run { (name : List ℕ) → texts words.now ≡ name ∷ codes "run" ∷ []
         → ((result ≡ no_memory) × (reader.new ≡ reader.old) × (writer.new ≡ writer.old))
         ⊎ ((answer : Result (Unit {0}) ScriptFault) × HasRun S.remaining S.failed K.written K.failed
-            reader.old reader.new writer.old writer.new answer × (result ≡ exit_status answer)) }
+        reader.old reader.new writer.old writer.new answer × (result ≡ exit_status answer)) }
     // Other words touch no device.
     ensures refused { fault_of command_line (texts words.now) ≢ []
         → (reader.new ≡ reader.old) × (writer.new ≡ writer.old) }
