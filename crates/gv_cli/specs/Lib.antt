@@ -1,3 +1,4 @@
 pub mod CommandLine
 pub mod Fault
+pub mod Run
 pub mod Status

@@ -1,22 +1,24 @@
 //! The program over any runtime.
-ghost use Rattle.std.specs.Prelude.{◌≡◌, ◌≢◌, ◌⊎◌, IfErr};
+ghost use Rattle.std.specs.Prelude.{◌≡◌, ◌≢◌, ◌⊎◌, ◌∷◌, [], ℕ, List, Result, IfErr, codes};
 ghost use Rattle.std.specs.IoError.{error_kind};
 ghost use Rattle.std.specs.declared.io.ErrorKind.TheVariants as stream;
 ghost use Rattle.gv_text.specs.declared.fault.ScriptFault.{ScriptFault};
-ghost use Rattle.clap.specs.Words.{kind_of};
+ghost use Rattle.clap.specs.Words.{fault_of, kind_of};
 ghost use Rattle.clap.specs.declared.error.kind.ErrorKind.TheVariants as kind;
-ghost use Rattle.gv_cli.specs.Fault.{fault_of, status_of};
-ghost use Rattle.gv_cli.specs.Status.{IsStatus, bad_words, broken_stream, done};
+ghost use Rattle.gv_cli.specs.CommandLine.{command_line, texts};
+ghost use Rattle.gv_cli.specs.Fault.{status_of};
+ghost use Rattle.gv_cli.specs.Run.{HasRun, exit_status};
+ghost use Rattle.gv_cli.specs.Status.{IsStatus, bad_words, broken_stream, done, no_memory};
 
 use crate::fault::ProgramFault;
 use crate::status::{BAD_WORDS, DONE};
 use crate::words::{WordsFault, read_words};
 use clap::Error;
-use gv_text::{ReadSource, WriteSink, run_script};
+use gv_text::{ReadSource, Sink, Source, WriteSink, run_script};
 use std::rt::Env;
 use std::{env, io};
 
-/// Does what the words of the command line ask for, and gives the exit status.
+/// Does what the words of the command line ask for, over the standard streams, and gives the exit status.
 pub fn program<R: Env + AllocGlobal + Input + Print + Eprint>(rt: &R) -> u8
     ensures { IsStatus result }
 {
@@ -24,11 +26,30 @@ pub fn program<R: Env + AllocGlobal + Input + Print + Eprint>(rt: &R) -> u8
         Ok(words) => words,
         Err(fault) => return told(rt, fault),
     };
-    match read_words(rt.alloc(), words.as_slice()) {
-        Ok(()) => match run(rt) {
-            Ok(()) => DONE,
-            Err(fault) => told(rt, fault),
-        },
+    let mut reader = ReadSource::new(rt.reader());
+    let mut writer = WriteSink::new(io::writer(rt));
+    obey(rt, words.as_slice(), &mut reader, &mut writer)
+}
+
+/// Does what these words ask for, over these devices, and gives the exit status.
+fn obey<R: AllocGlobal + Print + Eprint, S: Source, K: Sink>(
+    rt: &R,
+    words: &[String],
+    reader: &mut S,
+    writer: &mut K,
+) -> u8
+    // The word `run` runs the script, unless memory for reading the words is refused.
+    ensures run { (name : List ℕ) → texts words.now ≡ name ∷ codes "run" ∷ []
+        → ((result ≡ no_memory) × (reader.new ≡ reader.old) × (writer.new ≡ writer.old))
+        ⊎ ((answer : Result (Unit {0}) ScriptFault) × HasRun S.remaining S.failed K.written K.failed
+        reader.old reader.new writer.old writer.new answer × (result ≡ exit_status answer)) }
+    // Other words touch no device.
+    ensures refused { fault_of command_line (texts words.now) ≢ []
+        → (reader.new ≡ reader.old) × (writer.new ≡ writer.old) }
+    ensures status { IsStatus result }
+{
+    match read_words(rt.alloc(), words) {
+        Ok(()) => run(rt, reader, writer),
         Err(WordsFault::Printed(error)) => printed(rt, &error),
         Err(WordsFault::OutOfMemory) => told(rt, ProgramFault::OutOfMemory),
     }
@@ -58,14 +79,15 @@ fn argument_fault(error: &io::Error) -> ProgramFault
     }
 }
 
-/// Runs the script on standard input.
-fn run<R: AllocGlobal + Input + Print>(rt: &R) -> Result<(), ProgramFault>
-    ensures { IfErr result (λ fault. (script : ScriptFault) × (fault ≡ fault_of script)) }
+/// Runs the script that the reader gives, and gives the exit status: that of the fault, if one is answered.
+fn run<R: AllocGlobal + Eprint, S: Source, K: Sink>(rt: &R, reader: &mut S, writer: &mut K) -> u8
+    ensures { (answer : Result (Unit {0}) ScriptFault) × HasRun S.remaining S.failed K.written K.failed
+        reader.old reader.new writer.old writer.new answer × (result ≡ exit_status answer) }
 {
-    let mut reader = ReadSource::new(rt.reader());
-    let mut writer = WriteSink::new(io::writer(rt));
-    run_script(rt.alloc(), &mut reader, &mut writer)?;
-    Ok(())
+    match run_script(rt.alloc(), reader, writer) {
+        Ok(()) => DONE,
+        Err(fault) => told(rt, ProgramFault::from(fault)),
+    }
 }
 
 /// Prints what clap says of the words, and gives the exit status.

@@ -1,18 +1,13 @@
 //! Numbers as sixteen hexadecimal digits.
-ghost use Rattle.std.specs.Prelude.{Some};
+ghost use Rattle.std.specs.Prelude.{◌≡◌, ◌++◌, OnOk, string_bytes};
 ghost use Rattle.gv_lines.specs.Hex.{hex};
 
-use std::fmt;
+use std::alloc::AllocError;
+use std::fmt::Write;
 
-/// A number that is shown as sixteen lower-case hexadecimal digits, without `0x`.
-#[derive(Clone, Copy, Debug, PartialEq, Eq)]
-pub struct Hex(pub u64);
-
-impl fmt::Display for Hex {
-    ghost output = { λ number. Some (hex number.0) };
-
-    fn fmt<W: fmt::Write>(&self, f: &mut fmt::Formatter<W>) -> fmt::Result {
-        let number = self.0;
-        write!(f, "{number:016x}")
-    }
+/// Adds a number as sixteen lower-case hexadecimal digits, without `0x`.
+pub fn write_hex(out: &mut String, number: u64) -> Result<(), AllocError>
+    ensures { OnOk result (string_bytes out.new ≡ string_bytes out.old ++ hex number) }
+{
+    write!(out, "{number:016x}")
 }

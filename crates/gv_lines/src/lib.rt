@@ -9,7 +9,7 @@ mod name;
 mod number;
 mod words;
 
-pub use hex::Hex;
+pub use hex::write_hex;
 pub use line::{Line, Operation, parse_line};
 pub use name::Name;
 pub use words::split_once;

@@ -1,5 +1,5 @@
 //! Names of buffers.
-ghost use Rattle.std.specs.Prelude.{◌≡◌, nat_eq, Some};
+ghost use Rattle.std.specs.Prelude.{◌≡◌, nat_eq};
 ghost use Rattle.std.specs.List.{list_all};
 ghost use Rattle.std.specs.Cmp.{partial_equiv_from_equiv};
 ghost use Rattle.std.specs.Cmp.Lexicographic.{pointwise, nat_list_eq_equiv};
@@ -11,7 +11,7 @@ ghost use Rattle.gv_lines.specs.Words.{is_name, is_name_byte, name_of};
 use arrayvec::ArrayString;
 use std::hash::{Hash, Hasher};
 use std::marker::Model;
-use std::{fmt, str};
+use std::str;
 
 const NAME_LEN: usize = 16;
 
@@ -74,14 +74,6 @@ impl Hash for Name {
 
     fn hash<H: Hasher>(&self, state: &mut H) {
         self.text.hash(state);
-    }
-}
-
-impl fmt::Display for Name {
-    ghost output = { λ name. Some name };
-
-    fn fmt<W: fmt::Write>(&self, f: &mut fmt::Formatter<W>) -> fmt::Result {
-        fmt::Display::fmt(&self.text, f)
     }
 }
 

@@ -28,11 +28,13 @@ impl<'a> FailingSource<'a> {
 }
 
 impl<'a> Source for FailingSource<'a> {
-    ghost use Rattle.std.specs.Prelude.{None};
+    ghost use Rattle.std.specs.Prelude.{◌≡◌, None};
 
     ghost remaining = { λ _. None };
 
     ghost failed = { λ source. source.failed };
+
+    ghost fails = { λ source _. source.reads_left ≡ 0 };
 
     fn read(&mut self, buffer: &mut [u8]) -> Result<usize, ReadFault> {
         if self.reads_left == 0 {
@@ -67,11 +69,14 @@ impl FailingSink {
 }
 
 impl Sink for FailingSink {
-    ghost use Rattle.std.specs.Prelude.{None};
+    ghost use Rattle.std.specs.Prelude.{◌≡◌, ◌⊎◌, None, take};
 
     ghost written = { λ _. None };
 
     ghost failed = { λ sink. sink.failed };
+
+    ghost fails = { λ sink bytes after. (sink.writes_left ≡ 0)
+        ⊎ ⟦<MemorySink as Sink>⟧.fails sink.inner (take 1 bytes) after.inner };
 
     fn write(&mut self, bytes: &[u8]) -> Result<usize, WriteFault> {
         if self.writes_left == 0 {

@@ -204,7 +204,7 @@ pub const ROWS: [Row; 32] = [
 ];
 
 /// What makes a line bad, with the line. Each stands between a `buffer` line and a `map` line.
-pub const BAD_LINES: [(&str, &[u8]); 27] = [
+pub const BAD_LINES: [(&str, &[u8]); 28] = [
     ("space at the end", b"map "),
     ("two spaces", b"bind  map 0x0 0x1000 b 0x0"),
     ("leading zero", b"at 01"),
@@ -214,6 +214,7 @@ pub const BAD_LINES: [(&str, &[u8]); 27] = [
     ("zero as a name", b"buffer zero 1"),
     ("a name declared twice", b"buffer b 1"),
     ("a line that is none", b"free b"),
+    ("an unmap of a whole buffer", b"bind unmapall b"),
     ("uses of a name that is not declared", b"uses c"),
     ("a destroy of a name that is not declared", b"destroy c"),
     ("a destroy of two names", b"destroy b b"),

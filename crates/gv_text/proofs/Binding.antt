@@ -1,31 +1,28 @@
 -- An operation is applied to a script's space, or refused.
-use Rattle.std.proofs.Common.{◌≡◌, ℕ, ◌+◌, List, [], ◌∷◌, ◌++◌, map, length, Bool, true, false, Option, Some, None, IsOkUnless, OnOk, OnErr, MatchOption, Result, Ok, Err, option_map, refl, sym, ap, ◌∙◌, subst}
-use Rattle.std.specs.List.{All}
+use Rattle.std.proofs.Common.{◌≡◌, ℕ, ◌+◌, List, ◌∷◌, ◌++◌, map, length, Bool, true, Option, IsOkUnless, OnOk, OnErr, MatchOption, Result, Ok, Err, refl, sym, ap, ◌∙◌, subst}
 use Rattle.std.proofs.lemmas.Bool.{false≢true}
 use Rattle.std.proofs.lemmas.List.{map-append, length-map}
 use Rattle.std.proofs.lemmas.List.Elements.{All-cons}
 use Rattle.gv_types.specs.Limits.{Caps, greatest}
-use Rattle.gv_types.specs.Span.{Span}
 use Rattle.gv_types.specs.Bounds.{first_fault}
-use Rattle.gv_types.specs.Operation.{in_pages, range_of, own_mapping}
+use Rattle.gv_types.specs.Operation.{in_pages, range_of}
 use Rattle.gv_types.specs.declared.fault.Fault.{Fault}
 use Rattle.gv_types.specs.declared.fault.Fault.TheVariants.{OutOfMemory}
 use Rattle.gv_types.specs.declared.mapping.Backing.{Backing}
 use Rattle.gv_types.specs.declared.mapping.Backing.TheVariants.{Buffer as BufferPages, Zero as Zeros}
-use Rattle.gv_types.specs.declared.mapping.BufferId.{BufferId}
 use Rattle.gv_types.specs.declared.mapping.Mapping.{Mapping}
 use Rattle.gv_types.specs.declared.operation.Op.{Op}
 use Rattle.gv_types.specs.declared.operation.PageOp.{PageOp}
 use Rattle.gv_types.specs.declared.operation.PageOp.TheVariants.{Map as MapPages, Unmap as UnmapPages}
 use Rattle.gv_ranges.specs.Edit.{edited}
-use Rattle.gv_buffers.specs.Table.{Table, pages}
+use Rattle.gv_buffers.specs.Table.{Table}
 use Rattle.gv_space.specs.Counts.{by_count, counted, more_kept}
 use Rattle.gv_space.specs.Verdict.{past_end, first_of, count_met, limit_fault, apply_fault, buffer_fault as fault_in_table, backing_fault as backing_fault_in_table, operation_fault as fault_in_space}
 use Rattle.gv_space.proofs.Keeping.{pages-by_count, counted_of_counts, more_kept_of_counts}
-use Rattle.gv_text.specs.State.{State, Declared, Bound, met, with_bind, count_live}
-use Rattle.gv_text.specs.Renamed.{renamed_mapping, renamed_op, renamed_bytes, renamed_backing, IsBackedOf, AreOf, IsOperationOf}
+use Rattle.gv_text.specs.State.{State, Declared, met, with_bind, count_live}
+use Rattle.gv_text.specs.Renamed.{renamed_mapping, renamed_op, renamed_bytes, renamed_backing, IsBackedOf, IsOperationOf}
 use Rattle.gv_text.specs.Work.{Work, IsWork, with_room, worked}
-use Rattle.gv_text.specs.Desk.{ids_of, declared, state, IsDeclared, IsFresh, IsDesk}
+use Rattle.gv_text.specs.Desk.{ids_of, declared, state, IsDeclared, IsDesk}
 use Rattle.gv_text.specs.Answer.{backing_fault, pages_fault, operation_fault, room_fault, bind_fault}
 use Rattle.gv_text.specs.Calls.{IsFaultOf, Binds}
 use Rattle.gv_text.proofs.Places.{Entries}

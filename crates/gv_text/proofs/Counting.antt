@@ -2,7 +2,6 @@
 use Rattle.std.proofs.Common.{◌≡◌, ℕ, Bool, List, [], map, Option, Some, None, option_map, refl, sym, ap, ◌∙◌}
 use Rattle.std.specs.Option.{option_zip}
 use Rattle.std.proofs.lemmas.Option.{same_Some}
-use Rattle.gv_types.specs.declared.fault.Fault.{Fault}
 use Rattle.gv_types.specs.declared.mapping.BufferId.{BufferId}
 use Rattle.gv_types.specs.declared.mapping.Mapping.{Mapping}
 use Rattle.gv_buffers.specs.Table.{Buffer, buffer, pages, has_id, uses as uses_in_table, kept as kept_in_table, destroy_fault as fault_in_table, destroy_fault_of as fault_of_buffer}
@@ -12,7 +11,7 @@ use Rattle.gv_space.specs.State.{IsSpace}
 use Rattle.gv_space.proofs.Counted.{same_from_is_same_id}
 use Rattle.gv_space.proofs.Tables.{found_buffer}
 use Rattle.gv_text.specs.State.{id_at, size_of}
-use Rattle.gv_text.specs.Renamed.{renamed, renamed_mapping, AreOf}
+use Rattle.gv_text.specs.Renamed.{renamed_mapping, AreOf}
 use Rattle.gv_text.specs.Work.{Work, IsWork}
 use Rattle.gv_text.specs.Desk.{ids_of, declared, state, IsDeclared}
 use Rattle.gv_text.specs.Answer.{uses_at, destroy_fault, destroy_fault_of}

@@ -1,18 +1,16 @@
 -- A buffer is made for a new name.
-use Rattle.std.proofs.Common.{◌≡◌, ◌≢◌, ℕ, ◌+◌, ◌≤◌, List, [], ◌∷◌, ◌++◌, length, length-append, take, drop, take-append-drop, Bool, true, false, Option, Some, None, IfOk, IsOk, OnErr, MatchOption, Result, Ok, Err, cond, nat_le, nat_lt, ◌||◌, eqb, arith, refl, sym, ap, ◌∙◌, subst}
+use Rattle.std.proofs.Common.{◌≡◌, ℕ, ◌+◌, List, [], ◌∷◌, ◌++◌, length, length-append, take, drop, take-append-drop, Bool, true, Some, IsOk, MatchOption, Result, Ok, Err, arith, refl, sym, ap, ◌∙◌, subst}
 use Rattle.std.specs.List.{insert}
 use Rattle.std.proofs.lemmas.Bool.{false≢true}
 use Rattle.std.proofs.lemmas.List.{length-map}
-use Rattle.gv_types.specs.Limits.{greatest}
 use Rattle.gv_types.specs.declared.fault.Fault.{Fault}
-use Rattle.gv_types.specs.declared.fault.Fault.TheVariants.{OutOfMemory}
 use Rattle.gv_types.specs.declared.mapping.BufferId.{BufferId}
 use Rattle.gv_buffers.specs.Table.{Buffer, Table, fresh, create_fault, IsCreated}
 use Rattle.gv_text.specs.State.{State, Declared, count_live}
 use Rattle.gv_text.specs.Renamed.{IsOperationOf, AreOf}
 use Rattle.gv_text.specs.Work.{Work, IsWork}
-use Rattle.gv_text.specs.Desk.{ids_of, sized, declared, state, AreNumbered, IsDeclared, IsFresh, IsDesk}
-use Rattle.gv_text.specs.Answer.{buffer_fault, with_buffer}
+use Rattle.gv_text.specs.Desk.{ids_of, sized, declared, state, AreNumbered, IsDeclared, IsDesk}
+use Rattle.gv_text.specs.Answer.{buffer_fault}
 use Rattle.gv_text.specs.Calls.{Declares}
 use Rattle.gv_text.proofs.Places.{Entries, numbered_more, ids_of-more}
 use Rattle.gv_text.proofs.Sizes.{declared-made, count_live-more}

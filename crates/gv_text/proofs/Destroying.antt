@@ -1,17 +1,16 @@
 -- A declared buffer is destroyed.
-use Rattle.std.proofs.Common.{◌≡◌, ◌≢◌, ℕ, zero, suc, ◌+◌, ◌<◌, List, [], ◌∷◌, length, filter, get_or, not, Bool, true, false, cond, Option, Some, None, is_some, IsOk, OnOk, OnErr, MatchOption, Result, Ok, Err, option_map, arith, refl, sym, ap, ◌∙◌, subst, slice_get, eqb}
+use Rattle.std.proofs.Common.{◌≡◌, ℕ, suc, ◌+◌, ◌<◌, List, [], ◌∷◌, length, filter, not, Bool, true, false, cond, Option, Some, None, IsOk, OnOk, OnErr, MatchOption, Result, Ok, Err, option_map, arith, refl, sym, ap, ◌∙◌, subst, slice_get, eqb}
 use Rattle.std.specs.List.{All, AllPairs, find}
-use Rattle.std.proofs.lemmas.Bool.{and_parts, eqb-true, ne_eqb, false≢true}
+use Rattle.std.proofs.lemmas.Bool.{and_parts, eqb-true, ne_eqb}
 use Rattle.std.proofs.lemmas.Option.{none-some}
 use Rattle.std.proofs.lemmas.List.Elements.{All-head, All-tail}
 use Rattle.gv_types.specs.declared.fault.Fault.{Fault}
 use Rattle.gv_types.specs.declared.mapping.BufferId.{BufferId}
-use Rattle.gv_buffers.specs.Table.{Buffer, Table, buffer, pages, has_id, is_same_id, without, destroy_fault as fault_in_table, destroy_fault_of as fault_of_buffer}
+use Rattle.gv_buffers.specs.Table.{Buffer, Table, buffer, has_id, without, destroy_fault as fault_in_table, destroy_fault_of as fault_of_buffer}
 use Rattle.gv_space.specs.State.{IsSpace}
 use Rattle.gv_text.specs.State.{State, Declared, count_live, destroyed, size_of}
 use Rattle.gv_text.specs.Work.{Work, IsWork}
 use Rattle.gv_text.specs.Desk.{ids_of, declared, state, IsDeclared, IsFresh, IsDesk}
-use Rattle.gv_text.specs.Answer.{destroy_fault, without_buffer}
 use Rattle.gv_text.specs.Calls.{Destroys}
 use Rattle.gv_text.proofs.Places.{Entries, IsAt}
 use Rattle.gv_text.proofs.Sizes.{declared-destroyed, count_live-destroyed}

@@ -1,9 +1,10 @@
 -- One more line of a script has run.
-use Rattle.std.proofs.Common.{◌≡◌, ℕ, ◌+◌, List, [], ◌∷◌, ◌++◌, Bool, Option, Some, None, IfSome, refl, sym, ap, ◌∙◌, append_assoc, append-nil, length-append, arith}
+use Rattle.std.proofs.Common.{◌≡◌, ℕ, ◌+◌, ◌≤◌, length, List, [], ◌∷◌, ◌++◌, Bool, Option, Some, None, IfSome, refl, sym, ap, inl, ◌∙◌, append_assoc, append-nil, length-append, arith}
 use Rattle.std.specs.Io.KnownBytes.{Appends, append_known}
 use Rattle.std.proofs.KnownBytes.{Appends-nil}
 use Rattle.gv_lines.specs.Words.{parts}
 use Rattle.gv_lines.proofs.Parts.{parts_some}
+use Rattle.gv_text.specs.Reading.{script_limit, AreShort}
 use Rattle.gv_text.specs.State.{State, start}
 use Rattle.gv_text.specs.Answer.{ran}
 use Rattle.gv_text.specs.Script.{Replies, IsFront, IsStart, one_if}
@@ -48,25 +49,25 @@ front_more script text reply line rest count refusals lacks now new front here =
   counted = simp length-append (omega (arith, front.counted));
 }
 
--- nothing has run
-pub nothing_run : (known held : Option (List ℕ)) →
-    (script text : List ℕ) × IfSome known (λ bytes. script ≡ bytes) × IsStart script text × Appends held held text
-nothing_run None held = ([], [], tt, record { next = []; more = []; count = 0; refusals = 0; now = start; front = front_start [] }, Appends-nil held)
-nothing_run (Some bytes) held =
-    (elim (parts 10 bytes) as (λ (ps : List (List ℕ)). parts 10 bytes ≡ ps → (script text : List ℕ) × (script ≡ bytes) × IsStart script text × Appends held held text) [
-      | [] ↦ λ none. absurd (parts_some 10 bytes none)
-      | next ∷ more ↦ λ is. (bytes, [], refl, record { next = next; more = more; count = 0; refusals = 0; now = start; front = rw is at (front_start bytes) }, Appends-nil held)
-    ]) refl
-
 keeps_pending : (known : Option (List ℕ)) (pending : List ℕ) → pending ≡ [] → Appends known (append_known known pending) []
 keeps_pending None pending none = tt
 keeps_pending (Some bytes) pending none = ap (λ (rest : List ℕ). bytes ++ rest) none
 
 -- nothing has run of this script
-pub nothing_ran : (script : List ℕ) (known : Option (List ℕ)) (pending : List ℕ) → pending ≡ [] →
+pub nothing_ran : (script : List ℕ) (known : Option (List ℕ)) (pending : List ℕ) → length script ≤ script_limit → pending ≡ [] →
     (text : List ℕ) × IsStart script text × Appends known (append_known known pending) text
-nothing_ran script known pending none =
+nothing_ran script known pending short none =
     (elim (parts 10 script) as (λ (ps : List (List ℕ)). parts 10 script ≡ ps → (text : List ℕ) × IsStart script text × Appends known (append_known known pending) text) [
       | [] ↦ λ nothing. absurd (parts_some 10 script nothing)
-      | next ∷ more ↦ λ is. ([], record { next = next; more = more; count = 0; refusals = 0; now = start; front = rw is at (front_start script) }, keeps_pending known pending none)
+      | next ∷ more ↦ λ is. ([], record { short = short; next = next; more = more; count = 0; refusals = 0; now = start; front = rw is at (front_start script); good = inl refl }, keeps_pending known pending none)
+    ]) refl
+
+-- nothing has run of what was read
+pub nothing_run : (known held : Option (List ℕ)) → AreShort known →
+    (script text : List ℕ) × IfSome known (λ bytes. script ≡ bytes) × IsStart script text × Appends held held text
+nothing_run None held short = ([], [], tt, record { short = omega arith; next = []; more = []; count = 0; refusals = 0; now = start; front = front_start []; good = inl refl }, Appends-nil held)
+nothing_run (Some bytes) held short =
+    (elim (parts 10 bytes) as (λ (ps : List (List ℕ)). parts 10 bytes ≡ ps → (script text : List ℕ) × (script ≡ bytes) × IsStart script text × Appends held held text) [
+      | [] ↦ λ none. absurd (parts_some 10 bytes none)
+      | next ∷ more ↦ λ is. (bytes, [], refl, record { short = short; next = next; more = more; count = 0; refusals = 0; now = start; front = rw is at (front_start bytes); good = inl refl }, Appends-nil held)
     ]) refl

@@ -1,16 +1,15 @@
 -- Declared buffers by their places: their names, their ids and the numbers of the ids.
-use Rattle.std.proofs.Common.{◌≡◌, ℕ, zero, suc, ◌+◌, ◌<◌, List, [], ◌∷◌, ◌++◌, length, Option, Some, None, option_map, Bool, true, false, is_some, IsSome, arith, refl, sym, ap, ◌∙◌, subst, slice_get, map, position}
+use Rattle.std.proofs.Common.{◌≡◌, ℕ, zero, suc, ◌+◌, ◌<◌, List, [], ◌∷◌, ◌++◌, length, Option, Some, None, option_map, Bool, true, false, is_some, IsSome, arith, refl, sym, ap, ◌∙◌, subst, slice_get, position}
 use Rattle.std.specs.Prelude.{option_and_then, bytes_eq}
 use Rattle.std.proofs.lemmas.List.Quantifiers.{position-Some}
 use Rattle.std.proofs.lemmas.Bool.{false≢true}
-use Rattle.std.proofs.lemmas.Option.{slice_get-map, none-some, same_Some, slice_get_within}
+use Rattle.std.proofs.lemmas.Option.{slice_get-map, none-some, same_Some}
 use Rattle.std.proofs.lemmas.List.{map-append, length-map}
 use Rattle.gv_types.specs.declared.mapping.BufferId.{BufferId}
 use Rattle.gv_buffers.specs.Table.{Table}
 use Rattle.gv_text.specs.State.{Declared, texts, names_of, place_of, id_at}
 use Rattle.gv_text.specs.Renamed.{renamed, IsOf}
-use Rattle.gv_text.specs.Desk.{ids_of, sized, declared, AreNumberedFrom, AreNumbered}
-use Rattle.gv_types.specs.declared.operation.Op.{Op}
+use Rattle.gv_text.specs.Desk.{ids_of, declared, AreNumberedFrom, AreNumbered}
 use Rattle.gv_types.specs.declared.operation.Op.TheVariants.{Map as MapBytes}
 use Rattle.gv_lines.specs.declared.line.Operation.TheVariants.{Map as MapWords}
 use Rattle.gv_text.specs.Answer.{named, flags_of}

@@ -1,22 +1,20 @@
 -- An operation is planned on a script's space.
-use Rattle.std.proofs.Common.{◌≡◌, ℕ, List, map, Bool, Option, Some, None, IsOkUnless, MatchOption, IfOk, Result, Ok, Err, Vec, refl, sym, ap, ◌∙◌, subst}
+use Rattle.std.proofs.Common.{◌≡◌, ℕ, List, map, Bool, Option, IsOkUnless, MatchOption, IfOk, Result, Ok, Err, Vec, sym, ap, ◌∙◌, subst}
 use Rattle.std.specs.List.{All}
 use Rattle.std.specs.declared.alloc.Global.{Global}
 use Rattle.gv_types.specs.Operation.{in_pages, own_mapping}
 use Rattle.gv_types.specs.declared.fault.Fault.{Fault}
 use Rattle.gv_types.specs.declared.fault.Fault.TheVariants.{OutOfMemory}
-use Rattle.gv_types.specs.declared.mapping.Mapping.{Mapping}
 use Rattle.gv_types.specs.declared.operation.Op.{Op}
 use Rattle.gv_split.specs.Steps.{steps}
 use Rattle.gv_split.specs.declared.step.Step.{Step}
 use Rattle.gv_space.specs.State.{IsSpace, IsPlaced}
 use Rattle.gv_space.specs.Verdict.{operation_fault as fault_in_space}
-use Rattle.gv_text.specs.State.{texts, names_of, IsHeld}
-use Rattle.gv_text.specs.Renamed.{renamed_mapping, renamed_bytes, renamed_op, renamed_step, IsOperationOf}
+use Rattle.gv_text.specs.State.{texts}
+use Rattle.gv_text.specs.Renamed.{renamed_mapping, renamed_bytes, renamed_step, IsOperationOf}
 use Rattle.gv_text.specs.Reply.{IsHeldStep}
-use Rattle.gv_text.specs.Work.{Work, IsWork}
-use Rattle.gv_text.specs.Desk.{ids_of, declared, state, IsDeclared}
-use Rattle.gv_text.specs.Answer.{operation_fault}
+use Rattle.gv_text.specs.Work.{Work}
+use Rattle.gv_text.specs.Desk.{ids_of, state, IsDeclared}
 use Rattle.gv_text.specs.Calls.{IsFaultOf, Plans}
 use Rattle.gv_text.proofs.Places.{Entries, names_of-declared}
 use Rattle.gv_text.proofs.Held.{held_steps}

@@ -6,7 +6,6 @@ use Rattle.gv_types.specs.declared.mapping.Entry.{Entry}
 use Rattle.gv_types.specs.declared.mapping.Mapping.{Mapping}
 use Rattle.gv_split.specs.declared.step.Step.{Step}
 use Rattle.gv_split.specs.declared.step.Step.TheVariants.{Unmap, Remap, Map}
-use Rattle.gv_text.specs.State.{Declared}
 use Rattle.gv_text.specs.Reply.{target_text, mapping_text, rest_text, step_text, lines_reply, place_reply}
 use Rattle.gv_text.specs.Renamed.{renamed_backing, renamed_entry, renamed_mapping, renamed_step}
 

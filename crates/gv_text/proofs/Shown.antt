@@ -1,19 +1,16 @@
 -- The list of a space by the names of its buffers.
 use Rattle.std.proofs.Common.{◌≡◌, ℕ, ◌+◌, ◌≤◌, List, map, Option, Some, None, option_map, is_some, IsSome, arith, refl, sym, ap, ◌∙◌, slice_get}
 use Rattle.std.specs.List.{All}
-use Rattle.std.specs.Option.{IsSomeAnd}
 use Rattle.std.proofs.lemmas.Option.{slice_get-map, none-some}
-use Rattle.gv_types.specs.Page.{pages_per_buffer}
-use Rattle.gv_types.specs.Bounds.{Area}
 use Rattle.gv_types.specs.declared.mapping.Backing.{Backing}
 use Rattle.gv_types.specs.declared.mapping.Backing.TheVariants.{Buffer as BufferPages, Zero}
 use Rattle.gv_types.specs.declared.mapping.BufferId.{BufferId}
 use Rattle.gv_types.specs.declared.mapping.Mapping.{Mapping}
-use Rattle.gv_buffers.specs.Table.{Table, Buffer, IsBuffer, buffer, pages}
+use Rattle.gv_buffers.specs.Table.{Table, Buffer, IsBuffer, pages}
 use Rattle.gv_buffers.proofs.Tables.{counted_lives}
 use Rattle.gv_space.specs.State.{IsSpace, IsPlaced, LieInside as LieInBuffer}
 use Rattle.gv_space.proofs.Tables.{found_live}
-use Rattle.gv_text.specs.State.{Bound, texts, LieInside, IsHeld, IsBound, nothing_mapped}
+use Rattle.gv_text.specs.State.{texts, LieInside, IsHeld, IsBound, nothing_mapped}
 use Rattle.gv_text.specs.Renamed.{renamed_mapping, renamed_op, renamed_entry, IsOf, IsBackedOf, AreOf}
 use Rattle.gv_text.specs.Work.{Work, IsWork}
 use Rattle.gv_text.specs.Desk.{ids_of}

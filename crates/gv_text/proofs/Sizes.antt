@@ -1,11 +1,10 @@
 -- The sizes of declared buffers, and how many are alive, where buffers are made and destroyed.
-use Rattle.std.proofs.Common.{◌≡◌, ◌≢◌, ℕ, zero, suc, ◌+◌, ◌<◌, ◌≤◌, List, [], ◌∷◌, ◌++◌, length, map, filter, Option, Some, None, option_map, is_some, not, Bool, true, false, cond, arith, refl, sym, ap, ◌∙◌, subst, slice_get}
+use Rattle.std.proofs.Common.{◌≡◌, ◌≢◌, ℕ, zero, suc, ◌+◌, ◌<◌, ◌≤◌, List, [], ◌∷◌, ◌++◌, length, filter, Option, Some, None, option_map, is_some, true, false, cond, arith, refl, sym, ap, ◌∙◌, slice_get}
 use Rattle.std.specs.Prelude.{option_and_then}
-use Rattle.std.specs.List.{All, AllPairs, find}
 use Rattle.std.proofs.lemmas.Option.{slice_get-map, none-some, same_Some}
 use Rattle.std.proofs.lemmas.List.{map-append}
 use Rattle.gv_types.specs.declared.mapping.BufferId.{BufferId}
-use Rattle.gv_buffers.specs.Table.{Table, Buffer, buffer, pages, has_id, is_same_id, fresh, without, IsCreated}
+use Rattle.gv_buffers.specs.Table.{Table, Buffer, pages, without, IsCreated}
 use Rattle.gv_buffers.proofs.Found.{made_is_found, others_stay_made, destroyed_is_dead, others_stay_destroyed}
 use Rattle.gv_text.specs.State.{Declared, size_of, count_live, destroyed}
 use Rattle.gv_text.specs.Renamed.{IsOf}

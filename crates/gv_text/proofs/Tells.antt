@@ -10,7 +10,7 @@ use Rattle.gv_split.specs.declared.step.Step.{Step}
 use Rattle.gv_lines.specs.declared.line.Operation.{Operation}
 use Rattle.gv_lines.specs.declared.line.Line.TheVariants.{Bind, Plan}
 use Rattle.gv_text.specs.State.{State, names_of}
-use Rattle.gv_text.specs.Renamed.{renamed_mapping, renamed_step}
+use Rattle.gv_text.specs.Renamed.{renamed_mapping}
 use Rattle.gv_text.specs.Reply.{refused_request, refused_reply, lines_reply, mapping_text, step_text}
 use Rattle.gv_text.specs.Answer.{Told, answer, answer_if, named, bind_fault, operation_fault, map_reply, begun}
 use Rattle.gv_text.specs.Calls.{AnswersNamed, IsFaultOf, Binds, Plans}

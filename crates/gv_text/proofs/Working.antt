@@ -1,5 +1,5 @@
 -- What holds of a script's work also holds after a change of its space.
-use Rattle.std.proofs.Common.{◌≡◌, ℕ, ◌+◌, List, [], ◌∷◌, ◌++◌, Result, Ok, Err, OnOk, OnErr, IfOk, IsOk, MatchOption, Option, Some, None, length, take, drop, not, refl, sym, ap, ◌∙◌, subst, append-nil, append_assoc}
+use Rattle.std.proofs.Common.{◌≡◌, ℕ, List, [], ◌∷◌, ◌++◌, Result, Ok, Err, OnOk, OnErr, IfOk, IsOk, MatchOption, None, length, take, drop, not, refl, sym, ap, ◌∙◌, subst, append-nil, append_assoc}
 use Rattle.std.specs.List.{All}
 use Rattle.std.proofs.lemmas.List.Elements.{All-append, All-cons, All-take, All-drop, All-filter}
 use Rattle.gv_types.specs.Page.{IsPage}
@@ -11,9 +11,9 @@ use Rattle.gv_types.specs.declared.operation.PageOp.{PageOp}
 use Rattle.gv_ranges.specs.List.{at}
 use Rattle.gv_ranges.specs.Edit.{edited}
 use Rattle.gv_ranges.proofs.Meeting.{filter_meets}
-use Rattle.gv_buffers.specs.Table.{Table, Buffer, fresh, has_id, destroy_fault, without, IsCreated}
+use Rattle.gv_buffers.specs.Table.{Table, fresh, has_id, destroy_fault, without, IsCreated}
 use Rattle.gv_space.specs.Counts.{by_count, counted, more_kept}
-use Rattle.gv_space.specs.State.{AddressSpace, AreSaved, IsUnchanged}
+use Rattle.gv_space.specs.State.{AddressSpace, AreSaved}
 use Rattle.gv_space.specs.Undo.{UndoValue}
 use Rattle.gv_space.specs.Change.{IsChanged, changed_to}
 use Rattle.gv_space.proofs.Keeping.{All-by_count}

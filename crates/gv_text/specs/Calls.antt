@@ -4,14 +4,14 @@ use Rattle.std.specs.List.{All}
 use Rattle.std.specs.declared.alloc.Global.{Global}
 use Rattle.gv_types.specs.Operation.{in_pages}
 use Rattle.gv_types.specs.declared.fault.Fault.{Fault}
-use Rattle.gv_types.specs.declared.fault.Fault.TheVariants.{NoBuffer, OutOfMemory}
+use Rattle.gv_types.specs.declared.fault.Fault.TheVariants.{OutOfMemory}
 use Rattle.gv_types.specs.declared.operation.Op.{Op}
 use Rattle.gv_split.specs.Steps.{steps}
 use Rattle.gv_split.specs.declared.step.Step.{Step}
 use Rattle.gv_text.specs.State.{State, names_of, with_bind}
 use Rattle.gv_text.specs.Renamed.{renamed_step}
 use Rattle.gv_text.specs.Reply.{IsHeldStep}
-use Rattle.gv_text.specs.Answer.{bind_fault, operation_fault, buffer_fault, uses_at, destroy_fault, with_buffer, without_buffer}
+use Rattle.gv_text.specs.Answer.{bind_fault, operation_fault, buffer_fault, destroy_fault, with_buffer, without_buffer}
 
 -- There is an answer just where what the line names is declared, and then this holds of both.
 abbrev pub AnswersNamed : {X R : Type 0} → Option X → Option R → (X → R → Type 0) → Type 0

@@ -8,11 +8,46 @@ use Rattle.gv_text.specs.declared.fault.ScriptFault.TheVariants.{BadLine, Script
 abbrev pub script_limit : ℕ
 script_limit = 1048576
 
--- The answer for the bytes that were left, where they are known, and whether a read failed.
-abbrev pub ReadsWhole : Option (List ℕ) → Bool → Result (Vec ℕ Global) ScriptFault → Type 0
-ReadsWhole known failed (Ok script) = (length script.items ≤ script_limit) × IfSome known (λ bytes. script.items ≡ bytes)
-ReadsWhole known failed (Err ScriptTooLong) = IfSome known (λ bytes. script_limit < length bytes)
-ReadsWhole known failed (Err ReadFault) = failed ≡ true
-ReadsWhole known failed (Err OutOfMemory) = Unit {0}
-ReadsWhole known failed (Err (BadLine line)) = ⊥
-ReadsWhole known failed (Err WriteFault) = ⊥
+-- these bytes, where they are known, are no more than a script may have
+abbrev pub AreShort : Option (List ℕ) → Type 0
+AreShort known = IfSome known (λ bytes. length bytes ≤ script_limit)
+
+-- these bytes, where they are known, are more than a script may have
+abbrev pub AreLong : Option (List ℕ) → Type 0
+AreLong known = IfSome known (λ bytes. script_limit < length bytes)
+
+-- A script of these bytes is too long exactly where the answer is that, unless a read fails.
+abbrev pub TellsLength : {T : Type 0} → Option (List ℕ) → Result T ScriptFault → Type 0
+TellsLength known (Err ScriptTooLong) = AreLong known
+TellsLength known (Err ReadFault) = Unit {0}
+TellsLength known (Err WriteFault) = AreShort known
+TellsLength known (Err OutOfMemory) = AreShort known
+TellsLength known (Err (BadLine line)) = AreShort known
+TellsLength known (Ok done) = AreShort known
+
+-- A failed read is the answer exactly where the reader's flag goes up. The flag is given before and after.
+abbrev pub TellsReads : {T : Type 0} → Bool → Bool → Result T ScriptFault → Type 0
+TellsReads old new (Err ReadFault) = new ≡ true
+TellsReads old new (Err ScriptTooLong) = new ≡ old
+TellsReads old new (Err WriteFault) = new ≡ old
+TellsReads old new (Err OutOfMemory) = new ≡ old
+TellsReads old new (Err (BadLine line)) = new ≡ old
+TellsReads old new (Ok done) = new ≡ old
+
+-- A failed write is the answer exactly where the writer's flag goes up. The flag is given before and after.
+abbrev pub TellsWrites : {T : Type 0} → Bool → Bool → Result T ScriptFault → Type 0
+TellsWrites old new (Err WriteFault) = new ≡ true
+TellsWrites old new (Err ReadFault) = new ≡ old
+TellsWrites old new (Err ScriptTooLong) = new ≡ old
+TellsWrites old new (Err OutOfMemory) = new ≡ old
+TellsWrites old new (Err (BadLine line)) = new ≡ old
+TellsWrites old new (Ok done) = new ≡ old
+
+-- The answer for the bytes that were left, where they are known.
+abbrev pub ReadsWhole : Option (List ℕ) → Result (Vec ℕ Global) ScriptFault → Type 0
+ReadsWhole known (Ok script) = (length script.items ≤ script_limit) × IfSome known (λ bytes. script.items ≡ bytes)
+ReadsWhole known (Err ScriptTooLong) = Unit {0}
+ReadsWhole known (Err ReadFault) = Unit {0}
+ReadsWhole known (Err OutOfMemory) = Unit {0}
+ReadsWhole known (Err (BadLine line)) = ⊥
+ReadsWhole known (Err WriteFault) = ⊥

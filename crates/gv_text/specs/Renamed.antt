@@ -1,5 +1,5 @@
 -- Buffers named by their generation alone: which place of the table a buffer got is left open.
-use Rattle.std.specs.Prelude.{◌≡◌, List, Option, Some, slice_get}
+use Rattle.std.specs.Prelude.{◌≡◌, List, Some, slice_get}
 use Rattle.std.specs.List.{All}
 use Rattle.std.specs.Option.{option_map}
 use Rattle.gv_types.specs.Mapping.{buffer_id}

@@ -1,5 +1,5 @@
 -- What a script does: its lines one after another, and the text of their replies.
-use Rattle.std.specs.Prelude.{◌≡◌, ◌≢◌, ℕ, ◌+◌, ◌≤◌, Bool, true, false, List, [], ◌∷◌, ◌++◌, length, Option, Some, None, Result, Ok, Err}
+use Rattle.std.specs.Prelude.{◌≡◌, ◌≢◌, ℕ, ◌+◌, ◌≤◌, Bool, true, false, List, [], ◌∷◌, ◌++◌, length, Option, Some, None, IsSome, Result, Ok, Err, ◌⊎◌}
 use Rattle.std.specs.Io.KnownBytes.{Appends}
 use Rattle.gv_lines.specs.Words.{parts}
 use Rattle.gv_text.specs.Reading.{script_limit}
@@ -87,31 +87,38 @@ pub record StopsAt (script text : List ℕ) (number : ℕ) : Type 0 where
   pub counted : number ≡ count + 1
   pub ample : refusals ≡ 0 → outcome script ≡ record { text = text; bad_line = Some number }
 
--- The text is the replies of some first lines, each with its line end.
+-- a line has its line end, and is not bad
+abbrev pub IsGoodBefore : State → List ℕ → List (List ℕ) → Type 0
+IsGoodBefore now line [] = ⊥
+IsGoodBefore now line (next ∷ more) = IsSome (ran false now line)
+
+-- The text is the replies of some first lines, each with its line end. They are none, or the next line is not bad.
 pub record IsStart (script text : List ℕ) : Type 0 where
+  pub short : length script ≤ script_limit
   pub next : List ℕ
   pub more : List (List ℕ)
   pub count : ℕ
   pub refusals : ℕ
   pub now : State
   pub front : IsFront script text (next ∷ more) count refusals now
+  pub good : (count ≡ 0) ⊎ IsGoodBefore now next more
 
--- What a run of this script may answer, with what was written before it and after it, and whether a write failed.
-abbrev pub Ends : {T : Type 0} → List ℕ → Option (List ℕ) → Option (List ℕ) → Bool → Result T ScriptFault → Type 0
-Ends script held holds failed (Ok done) = (text : List ℕ) × IsRun script text × Appends held holds text
-Ends script held holds failed (Err (BadLine number)) = (text : List ℕ) × StopsAt script text number × Appends held holds text
-Ends script held holds failed (Err OutOfMemory) = (text : List ℕ) × IsStart script text × Appends held holds text
-Ends script held holds failed (Err WriteFault) = failed ≡ true
-Ends script held holds failed (Err ReadFault) = ⊥
-Ends script held holds failed (Err ScriptTooLong) = ⊥
+-- What a run of this script may answer, with what was written before it and after it.
+abbrev pub Ends : {T : Type 0} → List ℕ → Option (List ℕ) → Option (List ℕ) → Result T ScriptFault → Type 0
+Ends script held holds (Ok done) = (text : List ℕ) × IsRun script text × Appends held holds text
+Ends script held holds (Err (BadLine number)) = (text : List ℕ) × StopsAt script text number × Appends held holds text
+Ends script held holds (Err OutOfMemory) = (text : List ℕ) × IsStart script text × Appends held holds text
+Ends script held holds (Err WriteFault) = Unit {0}
+Ends script held holds (Err ReadFault) = ⊥
+Ends script held holds (Err ScriptTooLong) = ⊥
 
 -- The same for the line of this number, run on a state.
-abbrev pub LineEnds : {T : Type 0} → State → List ℕ → ℕ → State → Option (List ℕ) → Option (List ℕ) → Bool → Result T ScriptFault → Type 0
-LineEnds old line number new held holds failed (Ok done) =
+abbrev pub LineEnds : {T : Type 0} → State → List ℕ → ℕ → State → Option (List ℕ) → Option (List ℕ) → Result T ScriptFault → Type 0
+LineEnds old line number new held holds (Ok done) =
     (lacks : Bool) × (text : List ℕ) × (ran lacks old line ≡ Some (text, new)) × Appends held holds text
-LineEnds old line number new held holds failed (Err (BadLine bad)) =
+LineEnds old line number new held holds (Err (BadLine bad)) =
     (ran false old line ≡ None) × (bad ≡ number) × Appends held holds []
-LineEnds old line number new held holds failed (Err OutOfMemory) = Appends held holds []
-LineEnds old line number new held holds failed (Err WriteFault) = failed ≡ true
-LineEnds old line number new held holds failed (Err ReadFault) = ⊥
-LineEnds old line number new held holds failed (Err ScriptTooLong) = ⊥
+LineEnds old line number new held holds (Err OutOfMemory) = IsSome (ran false old line) × Appends held holds []
+LineEnds old line number new held holds (Err WriteFault) = Unit {0}
+LineEnds old line number new held holds (Err ReadFault) = ⊥
+LineEnds old line number new held holds (Err ScriptTooLong) = ⊥

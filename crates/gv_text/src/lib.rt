@@ -19,5 +19,5 @@ pub use device::{ReadFault, Sink, Source, WriteFault};
 pub use fault::ScriptFault;
 pub use memory::{MemorySink, MemorySource};
 pub use script::run_script;
-pub use standard::{ReadSource, WriteSink};
+pub use standard::{ReadCalls, ReadSource, WriteCalls, WriteSink};
 pub use transfer::SCRIPT_LIMIT;

@@ -1,5 +1,5 @@
 //! Scripts and replies in memory.
-ghost use Rattle.std.specs.Prelude.{◌≡◌, ◌≤◌, ◌<◌, ◌++◌, Bool, true, false, length, Some, [], IsOk};
+ghost use Rattle.std.specs.Prelude.{◌≡◌, ◌+◌, ◌≤◌, ◌<◌, ◌++◌, Bool, true, false, length, vec_len, vec_capacity, Some, [], IsOk};
 
 use crate::device::{ReadFault, Sink, Source, WriteFault};
 use std::alloc::{AllocError, Global};
@@ -23,6 +23,8 @@ impl<'a> Source for MemorySource<'a> {
 
     ghost failed = { λ _. false };
 
+    ghost fails = { λ _ _. ⊥ };
+
     fn read(&mut self, buffer: &mut [u8]) -> Result<usize, ReadFault> {
         let count = self.rest.len().min(buffer.len());
         let (given, rest) = self.rest.split_at(count);
@@ -32,7 +34,7 @@ impl<'a> Source for MemorySource<'a> {
     }
 }
 
-/// Replies kept in memory. A write fails where memory for it is refused.
+/// Replies kept in memory. A write fails only where there is no room for its bytes, and memory for more is refused.
 #[derive(Drop)]
 pub struct MemorySink {
     bytes: Vec<u8>,
@@ -61,6 +63,9 @@ impl Sink for MemorySink {
     ghost written = { λ sink. Some sink.bytes.items };
 
     ghost failed = { λ sink. sink.failed };
+
+    // There is no room for the bytes.
+    ghost fails = { λ sink bytes _. vec_capacity sink.bytes < vec_len sink.bytes + length bytes };
 
     fn write(&mut self, bytes: &[u8]) -> Result<usize, WriteFault> {
         if self.bytes.extend_from_slice(bytes).is_err() {

@@ -37,7 +37,8 @@ impl Output {
     pub fn push<W: Sink>(&mut self, sink: &mut W, text: &[u8]) -> Result<(), WriteFault>
         ensures ok { OnOk result (Appends (append_known (W.written sink.old) self.old)
             (append_known (W.written sink.new) self.new) text.now) }
-        ensures err { OnErr result (W.failed sink.new ≡ true) }
+        ensures unset { OnOk result (W.failed sink.new ≡ W.failed sink.old) }
+        ensures set { OnErr result (W.failed sink.new ≡ true) }
     {
         if PIECE_LEN.saturating_sub(self.pending.len()) < text.len() {
             self.flush(sink)?;
@@ -53,7 +54,8 @@ impl Output {
     pub fn flush<W: Sink>(&mut self, sink: &mut W) -> Result<(), WriteFault>
         ensures ok { OnOk result (Appends (append_known (W.written sink.old) self.old) (W.written sink.new) []) }
         ensures empty { OnOk result (self.new ≡ []) }
-        ensures err { OnErr result (W.failed sink.new ≡ true) }
+        ensures unset { OnOk result (W.failed sink.new ≡ W.failed sink.old) }
+        ensures set { OnErr result (W.failed sink.new ≡ true) }
     {
         write_all(sink, &self.pending)?;
         self.pending.clear();

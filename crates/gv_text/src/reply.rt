@@ -2,14 +2,15 @@
 ghost use Rattle.std.specs.Prelude.{◌≡◌, ◌+◌, ◌*◌, ◌≤◌, ◌<◌, ◌++◌, OnOk, string_bytes};
 ghost use Rattle.std.specs.List.{All};
 ghost use Rattle.gv_types.specs.Page.{bytes_per_page};
+ghost use Rattle.gv_types.specs.Fault.{fault_text};
 ghost use Rattle.gv_text.specs.State.{texts, LieInside, IsHeld};
 ghost use Rattle.gv_text.specs.Reply.{target_text, mapping_text, rest_text, step_text, flags_text, keep_text};
-ghost use Rattle.gv_text.specs.Reply.{lines_reply, place_reply, IsHeldRest, IsHeldStep, IsHeldEntry};
+ghost use Rattle.gv_text.specs.Reply.{refused_reply, refused_request, lines_reply, place_reply, IsHeldRest, IsHeldStep, IsHeldEntry};
 
 use crate::names::Names;
-use gv_lines::Hex;
+use gv_lines::write_hex;
 use gv_split::Step;
-use gv_types::{Backing, Entry, Flags, Mapping, PAGE_BYTES};
+use gv_types::{Backing, Entry, Fault, Flags, Mapping, PAGE_BYTES};
 use std::alloc::AllocError;
 use std::fmt::Write;
 
@@ -41,8 +42,9 @@ fn write_target(
             let Some(name) = names.name_of(id) else {
                 unreachable!()
             };
-            let byte = Hex(page * PAGE_BYTES + rest);
-            write!(out, "{name} {byte}")
+            out.push_str(name.as_str())?;
+            out.push_str(" ")?;
+            write_hex(out, page * PAGE_BYTES + rest)
         }
         Backing::Zero => out.push_str("zero"),
     }
@@ -53,9 +55,10 @@ fn write_mapping(out: &mut String, names: &Names, mapping: &Mapping) -> Result<(
     requires { IsHeld (texts names.now.entries) mapping.now }
     ensures { OnOk result (string_bytes out.new ≡ string_bytes out.old ++ mapping_text (texts names.now.entries) mapping.now) }
 {
-    let first = Hex(mapping.range.first() * PAGE_BYTES);
-    let end = Hex(mapping.range.end() * PAGE_BYTES);
-    write!(out, "{first} {end} ")?;
+    write_hex(out, mapping.range.first() * PAGE_BYTES)?;
+    out.push_str(" ")?;
+    write_hex(out, mapping.range.end() * PAGE_BYTES)?;
+    out.push_str(" ")?;
     write_target(out, names, mapping.backing, 0)?;
     out.push_str(" ")?;
     out.push_str(flags_word(mapping.flags))
@@ -155,6 +158,36 @@ pub fn write_place(
         return out.push_str("none\n");
     };
     write_target(out, names, entry.backing, rest)?;
-    let flags = flags_word(entry.flags);
-    writeln!(out, " {flags}")
+    out.push_str(" ")?;
+    out.push_str(flags_word(entry.flags))?;
+    out.push_str("\n")
+}
+
+/// Writes a fault: its name, and the number that it carries, if any.
+fn write_fault(out: &mut String, fault: &Fault) -> Result<(), AllocError>
+    ensures { OnOk result (string_bytes out.new ≡ string_bytes out.old ++ fault_text fault.now) }
+{
+    out.push_str(fault.name())?;
+    match fault.carried() {
+        Some(number) => write!(out, " {number}"),
+        None => Ok(()),
+    }
+}
+
+/// Writes that something is refused.
+pub fn write_refused(out: &mut String, fault: &Fault) -> Result<(), AllocError>
+    ensures { OnOk result (string_bytes out.new ≡ string_bytes out.old ++ refused_reply fault.now) }
+{
+    out.push_str("refused ")?;
+    write_fault(out, fault)?;
+    out.push_str("\n")
+}
+
+/// Writes that a request is refused at its operation 0.
+pub fn write_refused_request(out: &mut String, fault: &Fault) -> Result<(), AllocError>
+    ensures { OnOk result (string_bytes out.new ≡ string_bytes out.old ++ refused_request fault.now) }
+{
+    out.push_str("refused 0 ")?;
+    write_fault(out, fault)?;
+    out.push_str("\n")
 }

@@ -1,11 +1,13 @@
 //! What the lines of a script do.
-ghost use Rattle.std.specs.Prelude.{◌≡◌, ◌&&◌, Bool, false, None, OnOk};
+ghost use Rattle.std.specs.Prelude.{◌≡◌, ◌&&◌, Bool, false, None, IsSome, OnOk};
 ghost use Rattle.gv_types.specs.Bounds.{is_aligned};
 ghost use Rattle.gv_text.specs.Answer.{Told, answer, answer_if, ran, asked_area, space_told};
 ghost use Rattle.gv_text.specs.declared.run.LineFault.TheVariants as line_fault;
 
 use crate::desk::Desk;
-use crate::reply::{write_mappings, write_place, write_steps};
+use crate::reply::{
+    write_mappings, write_place, write_refused, write_refused_request, write_steps,
+};
 use gv_lines::{Line, Name, Operation, parse_line};
 use gv_types::{Bounds, Fault, OutOfMemory, PAGE_BYTES};
 use std::alloc::{AllocError, Global};
@@ -45,6 +47,7 @@ pub fn run_text(
     ensures done { OnOk result
         ((lacks : Bool) × Told (ran lacks desk.old text.now) out.old out.new desk.new) }
     ensures bad { result ≡ Err LineFault.Bad → ran false desk.old text.now ≡ None }
+    ensures memory { result ≡ Err LineFault.OutOfMemory → IsSome (ran false desk.old text.now) }
 {
     match parse_line(text) {
         Some(line) => run(alloc, desk, line, out),
@@ -57,6 +60,7 @@ fn run(alloc: Global, desk: &mut Desk, line: Line, out: &mut String) -> Result<(
     ensures done { OnOk result
         ((lacks : Bool) × Told (answer_if lacks desk.old line) out.old out.new desk.new) }
     ensures bad { result ≡ Err LineFault.Bad → answer desk.old line ≡ None }
+    ensures memory { result ≡ Err LineFault.OutOfMemory → IsSome (answer desk.old line) }
 {
     match line {
         Line::Silent => Ok(()),
@@ -89,6 +93,7 @@ fn space(
 ) -> Result<(), LineFault>
     ensures done { OnOk result (Told (space_told desk.old bounds) out.old out.new desk.new) }
     ensures bad { result ≡ Err LineFault.Bad → space_told desk.old bounds ≡ None }
+    ensures memory { result ≡ Err LineFault.OutOfMemory → IsSome (space_told desk.old bounds) }
 {
     if desk.has_begun() {
         return Err(LineFault::Bad);
@@ -104,13 +109,14 @@ fn space(
 fn buffer(desk: &mut Desk, name: Name, pages: u64, out: &mut String) -> Result<(), LineFault>
     ensures done { OnOk result (Told (answer desk.old (Line.Buffer name pages)) out.old out.new desk.new) }
     ensures bad { result ≡ Err LineFault.Bad → answer desk.old (Line.Buffer name pages) ≡ None }
+    ensures memory { result ≡ Err LineFault.OutOfMemory → IsSome (answer desk.old (Line.Buffer name pages)) }
 {
     desk.begin();
     match desk.declare(name, pages) {
         None => Err(LineFault::Bad),
         Some(Ok(())) => Ok(out.push_str("ok\n")?),
         Some(Err(Fault::OutOfMemory)) => Err(LineFault::OutOfMemory),
-        Some(Err(fault)) => Ok(writeln!(out, "refused {fault}")?),
+        Some(Err(fault)) => Ok(write_refused(out, &fault)?),
     }
 }
 
@@ -118,12 +124,13 @@ fn buffer(desk: &mut Desk, name: Name, pages: u64, out: &mut String) -> Result<(
 fn destroy(desk: &mut Desk, name: &Name, out: &mut String) -> Result<(), LineFault>
     ensures done { OnOk result (Told (answer desk.old (Line.Destroy name.now)) out.old out.new desk.new) }
     ensures bad { result ≡ Err LineFault.Bad → answer desk.old (Line.Destroy name.now) ≡ None }
+    ensures memory { result ≡ Err LineFault.OutOfMemory → IsSome (answer desk.old (Line.Destroy name.now)) }
 {
     desk.begin();
     match desk.destroy(name) {
         None => Err(LineFault::Bad),
         Some(Ok(())) => Ok(out.push_str("ok\n")?),
-        Some(Err(fault)) => Ok(writeln!(out, "refused {fault}")?),
+        Some(Err(fault)) => Ok(write_refused(out, &fault)?),
     }
 }
 
@@ -131,15 +138,13 @@ fn destroy(desk: &mut Desk, name: &Name, out: &mut String) -> Result<(), LineFau
 fn uses(desk: &mut Desk, name: &Name, out: &mut String) -> Result<(), LineFault>
     ensures done { OnOk result (Told (answer desk.old (Line.Uses name.now)) out.old out.new desk.new) }
     ensures bad { result ≡ Err LineFault.Bad → answer desk.old (Line.Uses name.now) ≡ None }
+    ensures memory { result ≡ Err LineFault.OutOfMemory → IsSome (answer desk.old (Line.Uses name.now)) }
 {
     desk.begin();
     match desk.uses(name) {
         None => Err(LineFault::Bad),
         Some(Some((uses, kept))) => Ok(writeln!(out, "uses {uses} kept {kept}")?),
-        Some(None) => {
-            let fault = Fault::NoBuffer;
-            Ok(writeln!(out, "refused {fault}")?)
-        }
+        Some(None) => Ok(write_refused(out, &Fault::NoBuffer)?),
     }
 }
 
@@ -153,12 +158,13 @@ fn bind(
     ensures done { OnOk result ((lacks : Bool) ×
         Told (answer_if lacks desk.old (Line.Bind operation.now)) out.old out.new desk.new) }
     ensures bad { result ≡ Err LineFault.Bad → answer desk.old (Line.Bind operation.now) ≡ None }
+    ensures memory { result ≡ Err LineFault.OutOfMemory → IsSome (answer desk.old (Line.Bind operation.now)) }
 {
     desk.begin();
     match desk.bind(alloc, operation) {
         None => Err(LineFault::Bad),
         Some(Ok(number)) => Ok(writeln!(out, "accepted {number}")?),
-        Some(Err(fault)) => Ok(writeln!(out, "refused 0 {fault}")?),
+        Some(Err(fault)) => Ok(write_refused_request(out, &fault)?),
     }
 }
 
@@ -171,13 +177,14 @@ fn plan(
 ) -> Result<(), LineFault>
     ensures done { OnOk result (Told (answer desk.old (Line.Plan operation.now)) out.old out.new desk.new) }
     ensures bad { result ≡ Err LineFault.Bad → answer desk.old (Line.Plan operation.now) ≡ None }
+    ensures memory { result ≡ Err LineFault.OutOfMemory → IsSome (answer desk.old (Line.Plan operation.now)) }
 {
     desk.begin();
     match desk.plan(alloc, operation) {
         None => Err(LineFault::Bad),
         Some(Ok(steps)) => Ok(write_steps(out, desk.names(), &steps)?),
         Some(Err(Fault::OutOfMemory)) => Err(LineFault::OutOfMemory),
-        Some(Err(fault)) => Ok(writeln!(out, "refused {fault}")?),
+        Some(Err(fault)) => Ok(write_refused(out, &fault)?),
     }
 }
 
@@ -185,6 +192,7 @@ fn plan(
 fn map(desk: &mut Desk, out: &mut String) -> Result<(), LineFault>
     ensures done { OnOk result (Told (answer desk.old Line.Map) out.old out.new desk.new) }
     ensures bad { result ≡ Err LineFault.Bad → answer desk.old Line.Map ≡ None }
+    ensures memory { result ≡ Err LineFault.OutOfMemory → IsSome (answer desk.old Line.Map) }
 {
     desk.begin();
     Ok(write_mappings(out, desk.names(), desk.mappings())?)
@@ -194,6 +202,7 @@ fn map(desk: &mut Desk, out: &mut String) -> Result<(), LineFault>
 fn at(desk: &mut Desk, addr: u64, out: &mut String) -> Result<(), LineFault>
     ensures done { OnOk result (Told (answer desk.old (Line.At addr)) out.old out.new desk.new) }
     ensures bad { result ≡ Err LineFault.Bad → answer desk.old (Line.At addr) ≡ None }
+    ensures memory { result ≡ Err LineFault.OutOfMemory → IsSome (answer desk.old (Line.At addr)) }
 {
     desk.begin();
     let entry = desk.walk(addr / PAGE_BYTES);
@@ -204,6 +213,7 @@ fn at(desk: &mut Desk, addr: u64, out: &mut String) -> Result<(), LineFault>
 fn tables(desk: &mut Desk, out: &mut String) -> Result<(), LineFault>
     ensures done { OnOk result (Told (answer desk.old Line.Tables) out.old out.new desk.new) }
     ensures bad { result ≡ Err LineFault.Bad → answer desk.old Line.Tables ≡ None }
+    ensures memory { result ≡ Err LineFault.OutOfMemory → IsSome (answer desk.old Line.Tables) }
 {
     desk.begin();
     let [three, two, one, zero] = desk.tables();

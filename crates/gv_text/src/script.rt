@@ -1,7 +1,7 @@
 //! A script from its bytes to its replies.
-ghost use Rattle.std.specs.Prelude.{◌≡◌, ◌<◌, ◌≤◌, ℕ, List, [], length, OnOk, IfSome, true};
+ghost use Rattle.std.specs.Prelude.{◌≡◌, ◌≤◌, ℕ, List, [], length, OnOk, IfSome};
 ghost use Rattle.std.specs.Io.KnownBytes.{Appends, append_known};
-ghost use Rattle.gv_text.specs.Reading.{script_limit};
+ghost use Rattle.gv_text.specs.Reading.{script_limit, TellsLength, TellsReads, TellsWrites};
 ghost use Rattle.gv_text.specs.State.{start};
 ghost use Rattle.gv_text.specs.Script.{IsRun, StopsAt, IsStart, Ends, LineEnds};
 
@@ -39,12 +39,13 @@ pub fn run_script<R: Source, W: Sink>(
     ensures out_of_memory { result ≡ Err ScriptFault.OutOfMemory → (script text : List ℕ)
         × IfSome (R.remaining reader.old) (λ bytes. script ≡ bytes)
         × IsStart script text × Appends (W.written writer.old) (W.written writer.new) text }
-    ensures too_long { result ≡ Err ScriptFault.ScriptTooLong →
-        IfSome (R.remaining reader.old) (λ bytes. script_limit < length bytes) }
+    // A script is too long exactly where the answer is that, whatever memory is refused, unless a read fails.
+    ensures too_long { TellsLength (R.remaining reader.old) result }
     ensures too_long_silent { result ≡ Err ScriptFault.ScriptTooLong → writer.new ≡ writer.old }
-    ensures read_fault { result ≡ Err ScriptFault.ReadFault → R.failed reader.new ≡ true }
+    // A device's fault is the answer exactly where its flag goes up.
+    ensures read_fault { TellsReads (R.failed reader.old) (R.failed reader.new) result }
     ensures read_fault_silent { result ≡ Err ScriptFault.ReadFault → writer.new ≡ writer.old }
-    ensures write_fault { result ≡ Err ScriptFault.WriteFault → W.failed writer.new ≡ true }
+    ensures write_fault { TellsWrites (W.failed writer.old) (W.failed writer.new) result }
 {
     let script = read_script(alloc, reader)?;
     let mut output = Output::new(alloc);
@@ -65,8 +66,8 @@ fn run_lines<W: Sink>(
 ) -> Result<(), ScriptFault>
     requires short { length script.now ≤ script_limit }
     requires fresh { output.old ≡ [] }
-    ensures { Ends script.now (W.written writer.old) (append_known (W.written writer.new) output.new)
-        (W.failed writer.new) result }
+    ensures ends { Ends script.now (W.written writer.old) (append_known (W.written writer.new) output.new) result }
+    ensures fault { TellsWrites (W.failed writer.old) (W.failed writer.new) result }
 {
     let mut desk = match Desk::new(alloc) {
         Ok(desk) => desk,
@@ -88,8 +89,8 @@ fn run_each<W: Sink>(
     requires short { length script.now ≤ script_limit }
     requires start { desk.old ≡ start }
     requires fresh { output.old ≡ [] }
-    ensures { Ends script.now (W.written writer.old) (append_known (W.written writer.new) output.new)
-        (W.failed writer.new) result }
+    ensures ends { Ends script.now (W.written writer.old) (append_known (W.written writer.new) output.new) result }
+    ensures fault { TellsWrites (W.failed writer.old) (W.failed writer.new) result }
 {
     let mut reply = String::new(alloc);
     let mut rest = script;
@@ -119,8 +120,9 @@ fn run_line<W: Sink>(
     output: &mut Output,
     writer: &mut W,
 ) -> Result<(), ScriptFault>
-    ensures { LineEnds desk.old line.now number desk.new (append_known (W.written writer.old) output.old)
-        (append_known (W.written writer.new) output.new) (W.failed writer.new) result }
+    ensures ends { LineEnds desk.old line.now number desk.new (append_known (W.written writer.old) output.old)
+        (append_known (W.written writer.new) output.new) result }
+    ensures fault { TellsWrites (W.failed writer.old) (W.failed writer.new) result }
 {
     reply.clear();
     match run_text(alloc, desk, line, reply) {

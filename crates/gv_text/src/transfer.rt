@@ -1,40 +1,61 @@
 //! Whole texts through devices.
-ghost use Rattle.std.specs.Prelude.{◌≡◌, true, OnOk, OnErr};
+ghost use Rattle.std.specs.Prelude.{◌≡◌, ◌++◌, true, IsOk, OnOk, OnErr};
 ghost use Rattle.std.specs.Io.KnownBytes.{Appends};
-ghost use Rattle.gv_text.specs.Reading.{ReadsWhole};
+ghost use Rattle.gv_text.specs.Reading.{ReadsWhole, TellsLength, TellsReads};
 
 use crate::device::{Sink, Source, WriteFault};
 use crate::fault::ScriptFault;
-use std::alloc::Global;
+use std::alloc::{AllocError, Global};
 
 /// The greatest number of bytes in a script.
 pub const SCRIPT_LIMIT: usize = 1_048_576;
 
 const CHUNK_LEN: usize = 4096;
 
-/// The whole script. Each read gives a byte or ends it, so there are at most `SCRIPT_LIMIT + 1` reads.
+/// The whole script. Each read gives a byte or ends it, so there are at most `SCRIPT_LIMIT + 1` reads. Where memory is
+/// refused, the rest is read and counted all the same: a script that is too long, or a read that fails, is told first.
 pub fn read_script<S: Source>(alloc: Global, source: &mut S) -> Result<Vec<u8>, ScriptFault>
-    ensures { ReadsWhole (S.remaining source.old) (S.failed source.new) result }
+    ensures whole { ReadsWhole (S.remaining source.old) result }
+    ensures len { TellsLength (S.remaining source.old) result }
+    ensures fault { TellsReads (S.failed source.old) (S.failed source.new) result }
 {
     let mut script = Vec::new(alloc);
+    let mut kept = Ok(());
+    let mut len: usize = 0;
     let mut chunk = [0u8; CHUNK_LEN];
     for _reads in 0..=SCRIPT_LIMIT {
         let count = source.read(&mut chunk)?;
         if count == 0 {
+            kept?;
             return Ok(script);
         }
-        if SCRIPT_LIMIT - script.len() < count {
+        if SCRIPT_LIMIT - len < count {
             return Err(ScriptFault::ScriptTooLong);
         }
-        script.extend_from_slice(&chunk[..count])?;
+        len += count;
+        kept = keep(&mut script, kept, &chunk[..count]);
     }
     unreachable!()
+}
+
+/// Adds the bytes, unless memory for those before them was refused.
+fn keep(
+    script: &mut Vec<u8>,
+    before: Result<(), AllocError>,
+    bytes: &[u8],
+) -> Result<(), AllocError>
+    ensures bytes { OnOk result (script.new.items ≡ script.old.items ++ bytes.now) }
+    ensures before { OnOk result (IsOk before) }
+{
+    before?;
+    script.extend_from_slice(bytes)
 }
 
 /// Writes all of the bytes.
 pub fn write_all<S: Sink>(sink: &mut S, bytes: &[u8]) -> Result<(), WriteFault>
     ensures ok { OnOk result (Appends (S.written sink.old) (S.written sink.new) bytes.now) }
-    ensures err { OnErr result (S.failed sink.new ≡ true) }
+    ensures unset { OnOk result (S.failed sink.new ≡ S.failed sink.old) }
+    ensures set { OnErr result (S.failed sink.new ≡ true) }
 {
     let mut at = 0;
     while at < bytes.len() {

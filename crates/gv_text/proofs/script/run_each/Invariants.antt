@@ -1,4 +1,4 @@
-use Rattle.std.proofs.Common.{List, ℕ, ◌+◌, ◌≤◌, length}
+use Rattle.std.proofs.Common.{◌≡◌, List, ℕ, ◌+◌, ◌≤◌, length}
 use Rattle.std.specs.Io.KnownBytes.{Appends, append_known}
 use Rattle.gv_lines.specs.Words.{parts}
 use Rattle.gv_text.specs.Script.{IsFront}
@@ -10,6 +10,7 @@ invariant-loop-line g l = record {
   refusals : ℕ;
   front : IsFront l.script text (parts 10 l.rest) l.done refusals l.desk;
   wrote : Appends (g.W.Sink.written l.initial.writer) (append_known (g.W.Sink.written l.writer) l.output) text;
+  flag : g.W.Sink.failed l.writer ≡ g.W.Sink.failed l.initial.writer;
   left : l.done + length l.rest ≤ length l.script;
 }
 

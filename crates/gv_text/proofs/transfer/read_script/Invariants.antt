@@ -1,11 +1,15 @@
-use Rattle.std.proofs.Common.{◌≤◌, vec_len}
+use Rattle.std.proofs.Common.{◌≡◌, ◌≤◌, ℕ, List, length, OnOk}
 use Rattle.std.specs.Io.KnownBytes.{Consumes}
 use Rattle.gv_text.specs.Reading.{script_limit}
 use Rattle.gv_text.proofs.transfer.read_script.Given as goal
 
 abbrev pub invariant-loop-reads : goal.invariant-loop-reads
 invariant-loop-reads g l = record {
-  each_gave : l._reads ≤ vec_len l.script;
-  short : vec_len l.script ≤ script_limit;
-  so_far : Consumes (g.S.Source.remaining l.initial.source) (g.S.Source.remaining l.source) l.script.items;
+  read : List ℕ;
+  counted : length read ≡ l.len;
+  each_gave : l._reads ≤ l.len;
+  short : l.len ≤ script_limit;
+  held : OnOk l.kept (l.script.items ≡ read);
+  so_far : Consumes (g.S.Source.remaining l.initial.source) (g.S.Source.remaining l.source) read;
+  flag : g.S.Source.failed l.source ≡ g.S.Source.failed l.initial.source;
 }

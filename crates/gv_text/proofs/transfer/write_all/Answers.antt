@@ -1,4 +1,4 @@
-use Rattle.std.proofs.Common.{arith, ◌-◌, length, drop, take_all, length-drop}
+use Rattle.std.proofs.Common.{◌∙◌, arith, ◌-◌, length, drop, take_all, length-drop}
 use Rattle.std.proofs.Math.Seq.{take-add}
 use Rattle.std.proofs.KnownBytes.{Appends-trans}
 use Rattle.gv_text.proofs.transfer.write_all.Goals as goal
@@ -11,4 +11,5 @@ loop-at-preserved g c = record {
       let at = c.loop-at.at in let bytes = c.args.bytes.now in
       let whole = take_all (length bytes - at) (drop at bytes) (omega (arith, length-drop at bytes)) in
       rw take-add (rw whole at both);
+  flag = c.in_ok-at.ensures.unset ∙ c.loop-at.invariant.flag;
 }

@@ -1,4 +1,4 @@
-use Rattle.std.proofs.Common.{◌∙◌, ◌++◌, ◌∷◌, [], ap, nat_eq}
+use Rattle.std.proofs.Common.{◌∙◌, nat_eq}
 use Rattle.std.specs.Cmp.Lexicographic.{pointwise}
 use Rattle.indexmap.proofs.CallerLemmas.{insert_entry-new}
 use Rattle.gv_text.proofs.names.Names.declare.Goals as goal
