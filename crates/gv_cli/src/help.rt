@@ -28,7 +28,7 @@ The lines of a script:
   at ADDR
       Prints what an address reaches, by the page table.
   tables
-      Prints how many tables the page table has at its levels 3, 2, 1 and 0.
+      Prints how many tables the page table has at its levels 4, 3, 2, 1 and 0.
 
 An OPERATION is one of:
   map ADDR LEN NAME OFFSET [ro]

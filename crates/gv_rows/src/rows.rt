@@ -8,7 +8,7 @@ pub struct Row {
     pub bad_line: Option<u64>,
 }
 
-pub const ROWS: [Row; 32] = [
+pub const ROWS: [Row; 34] = [
     Row {
         name: "empty_script",
         script: b"",
@@ -18,7 +18,7 @@ pub const ROWS: [Row; 32] = [
     Row {
         name: "one_map",
         script: b"buffer b 4\nbind map 0x0 0x4000 b 0x0\nmap\ntables\n",
-        replies: b"ok\naccepted 0\n0000000000000000 0000000000004000 b 0000000000000000 rw\n1 1 1 1\n",
+        replies: b"ok\naccepted 0\n0000000000000000 0000000000004000 b 0000000000000000 rw\n1 1 1 1 1\n",
         bad_line: None,
     },
     Row {
@@ -34,9 +34,9 @@ pub const ROWS: [Row; 32] = [
         bad_line: None,
     },
     Row {
-        name: "last_page_of_the_space",
+        name: "page_past_48_bits",
         script: b"buffer b 2\nbind map 0xfffffffff000 0x1000 b 0x0\nbind map 0xfffffffff000 0x2000 b 0x0\nmap\n",
-        replies: b"ok\naccepted 0\nrefused 0 OutOfSpace\n0000fffffffff000 0001000000000000 b 0000000000000000 rw\n",
+        replies: b"ok\naccepted 0\naccepted 1\n0000fffffffff000 0001000000001000 b 0000000000000000 rw\n",
         bad_line: None,
     },
     Row {
@@ -82,9 +82,9 @@ pub const ROWS: [Row; 32] = [
         bad_line: None,
     },
     Row {
-        name: "longest_operation",
+        name: "over_a_leaf",
         script: b"bind zero 0x0 0x10001000\nbind zero 0x0 0x10000000\nmap\n",
-        replies: b"refused 0 TooLong\naccepted 0\n0000000000000000 0000000010000000 zero rw\n",
+        replies: b"accepted 0\naccepted 1\n0000000000000000 0000000010000000 zero rw\n0000000010000000 0000000010001000 zero rw\n",
         bad_line: None,
     },
     Row {
@@ -144,13 +144,25 @@ pub const ROWS: [Row; 32] = [
     Row {
         name: "large_leaf_broken",
         script: b"buffer b 512\nbind map 0x0 0x200000 b 0x0\ntables\nbind unmap 0x1000 0x1000\ntables\n",
-        replies: b"ok\naccepted 0\n1 1 1 0\naccepted 1\n1 1 1 1\n",
+        replies: b"ok\naccepted 0\n1 1 1 1 0\naccepted 1\n1 1 1 1 1\n",
         bad_line: None,
     },
     Row {
-        name: "longest_operation",
+        name: "tables_over_a_leaf",
         script: b"bind zero 0x0 0x10001000\nbind zero 0x0 0x10000000\ntables\n",
-        replies: b"refused 0 TooLong\naccepted 0\n1 1 1 0\n",
+        replies: b"accepted 0\naccepted 1\n1 1 1 1 1\n",
+        bad_line: None,
+    },
+    Row {
+        name: "last_page_of_the_widest_space",
+        script: b"bind zero 0x1fffffffffff000 0x2000\nbind zero 0x1fffffffffff000 0x1000\nmap\ntables\n",
+        replies: b"refused 0 OutOfSpace\naccepted 0\n01fffffffffff000 0200000000000000 zero rw\n1 1 1 1 1\n",
+        bad_line: None,
+    },
+    Row {
+        name: "gigabyte_is_one_leaf",
+        script: b"bind zero 0x0 0x40000000\ntables\nbind unmap 0x0 0x1000\ntables\nat 0x1000\nat 0x200000000000000\n",
+        replies: b"accepted 0\n1 1 1 0 0\naccepted 1\n1 1 1 1 1\nzero rw\nnone\n",
         bad_line: None,
     },
     Row {
@@ -162,13 +174,13 @@ pub const ROWS: [Row; 32] = [
     Row {
         name: "tables_come_and_go",
         script: b"buffer b 65536\nbind map 0x0 0x10000000 b 0x0\ntables\nbind unmap 0x0 0x10000000\ntables\nbind map 0x1ff000 0x2000 b 0x0\ntables\nbind unmap 0x1ff000 0x2000\nbind map 0x7ffffff000 0x2000 b 0x0\ntables\n",
-        replies: b"ok\naccepted 0\n1 1 1 0\naccepted 1\n0 0 0 0\naccepted 2\n1 1 1 2\naccepted 3\naccepted 4\n1 2 2 2\n",
+        replies: b"ok\naccepted 0\n1 1 1 1 0\naccepted 1\n0 0 0 0 0\naccepted 2\n1 1 1 1 2\naccepted 3\naccepted 4\n1 1 2 2 2\n",
         bad_line: None,
     },
     Row {
         name: "leaves_where_one_mapping_covers",
         script: b"buffer b 1024\nbind map 0x1000 0x200000 b 0x0\ntables\nbind map 0x0 0x1000 b 0x300000\ntables\nbind map 0x200000 0x200000 b 0x0\ntables\nbind map 0x0 0x200000 b 0x1000\ntables\n",
-        replies: b"ok\naccepted 0\n1 1 1 2\naccepted 1\n1 1 1 2\naccepted 2\n1 1 1 1\naccepted 3\n1 1 1 0\n",
+        replies: b"ok\naccepted 0\n1 1 1 1 2\naccepted 1\n1 1 1 1 2\naccepted 2\n1 1 1 1 1\naccepted 3\n1 1 1 1 0\n",
         bad_line: None,
     },
     Row {
@@ -198,7 +210,7 @@ pub const ROWS: [Row; 32] = [
     Row {
         name: "name_not_declared",
         script: b"tables\ndestroy b\n",
-        replies: b"0 0 0 0\n",
+        replies: b"0 0 0 0 0\n",
         bad_line: Some(2),
     },
 ];

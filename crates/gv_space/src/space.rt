@@ -239,8 +239,8 @@ impl Space {
         ensures state { self.new ≡ reverted self.old undo }
         ensures undone { (before : List Mapping)
             → IsUndoOf before self.old.mappings undo → self.new.mappings ≡ before }
-        ensures saved { (newer older : List Mapping)
-            → AreSaved self.old (newer ++ (undo.change.taken ++ older)) → AreSaved self.new (newer ++ older) }
+        ensures saved { (others : List Mapping)
+            → AreSaved self.old (undo.change.taken ++ others) → AreSaved self.new others }
     {
         let OpUndo {
             place,
@@ -261,8 +261,8 @@ impl Space {
     pub fn release(&mut self, undo: OpUndo)
         requires { Holds self.old undo.change.taken }
         ensures state { self.new ≡ released self.old undo.change.taken }
-        ensures saved { (newer older : List Mapping)
-            → AreSaved self.old (newer ++ (undo.change.taken ++ older)) → AreSaved self.new (newer ++ older) }
+        ensures saved { (others : List Mapping)
+            → AreSaved self.old (undo.change.taken ++ others) → AreSaved self.new others }
     {
         let OpUndo {
             place: _,

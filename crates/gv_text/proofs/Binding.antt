@@ -13,7 +13,7 @@ use Rattle.gv_types.specs.declared.mapping.Backing.TheVariants.{Buffer as Buffer
 use Rattle.gv_types.specs.declared.mapping.Mapping.{Mapping}
 use Rattle.gv_types.specs.declared.operation.Op.{Op}
 use Rattle.gv_types.specs.declared.operation.PageOp.{PageOp}
-use Rattle.gv_types.specs.declared.operation.PageOp.TheVariants.{Map as MapPages, Unmap as UnmapPages}
+use Rattle.gv_types.specs.declared.operation.PageOp.TheVariants.{Map as MapPages, Unmap as UnmapPages, UnmapBuffer as UnmapBufferPages}
 use Rattle.gv_ranges.specs.Edit.{edited}
 use Rattle.gv_buffers.specs.Table.{Table}
 use Rattle.gv_space.specs.Counts.{by_count, counted, more_kept}
@@ -41,6 +41,7 @@ backing_fault-state t entries Zeros count is = refl
 pages_fault-state : (t : Table) (entries : Entries) (p : PageOp) → IsOperationOf (ids_of entries) p → pages_fault (declared t entries) (renamed_op p) ≡ fault_in_table t p
 pages_fault-state t entries (MapPages range backing flags) is = backing_fault-state t entries backing range.count is
 pages_fault-state t entries (UnmapPages range) is = refl
+pages_fault-state t entries (UnmapBufferPages buffer) is = absurd is
 
 -- a script's reason to refuse an operation is the space's
 pub operation_fault-state : (begun : Bool) (w : Work) (entries : Entries) (op : Op) → IsOperationOf (ids_of entries) (in_pages op) →

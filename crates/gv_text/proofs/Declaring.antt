@@ -1,9 +1,10 @@
 -- A buffer is made for a new name.
-use Rattle.std.proofs.Common.{◌≡◌, ℕ, ◌+◌, List, [], ◌∷◌, ◌++◌, length, length-append, take, drop, take-append-drop, Bool, true, Some, IsOk, MatchOption, Result, Ok, Err, arith, refl, sym, ap, ◌∙◌, subst}
+use Rattle.std.proofs.Common.{◌≡◌, ℕ, ◌+◌, List, [], ◌∷◌, ◌++◌, length, length-append, take, drop, take-append-drop, Bool, true, Some, IsOkUnless, MatchOption, Result, Ok, Err, arith, refl, sym, ap, ◌∙◌, subst}
 use Rattle.std.specs.List.{insert}
 use Rattle.std.proofs.lemmas.Bool.{false≢true}
 use Rattle.std.proofs.lemmas.List.{length-map}
 use Rattle.gv_types.specs.declared.fault.Fault.{Fault}
+use Rattle.gv_types.specs.declared.fault.Fault.TheVariants.{OutOfMemory}
 use Rattle.gv_types.specs.declared.mapping.BufferId.{BufferId}
 use Rattle.gv_buffers.specs.Table.{Buffer, Table, fresh, create_fault, IsCreated}
 use Rattle.gv_text.specs.State.{State, Declared, count_live}
@@ -16,7 +17,7 @@ use Rattle.gv_text.proofs.Places.{Entries, numbered_more, ids_of-more}
 use Rattle.gv_text.proofs.Sizes.{declared-made, count_live-more}
 use Rattle.gv_text.proofs.RenamedIds.{AreOf-more, operations_of-more}
 use Rattle.std.specs.List.{All}
-use Rattle.gv_text.proofs.Faults.{no_fault, some_fault}
+use Rattle.gv_text.proofs.Faults.{none_from_ok, fault_but_memory}
 
 -- a script's reason to refuse a size is the table's
 pub create_fault-state : (w : Work) (entries : Entries) (size : ℕ) → IsWork w → IsDeclared w entries →
@@ -64,18 +65,18 @@ IsDesk-made begun w new entries name id size has_begun is made rest =
 
 -- what the call answers
 pub declares : {T : Type 0} (begun : Bool) (w new : Work) (entries : Entries) (name : List ℕ) (id : BufferId) (size : ℕ) (done : T) → IsWork w → IsDesk begun w entries →
-    MatchOption (create_fault w.space.buffers size) (IsOk {T = BufferId} {E = Fault} (Ok id)) (λ fault. ◌≡◌ {A = Result BufferId Fault} (Ok id) (Err fault)) →
+    MatchOption (create_fault w.space.buffers size) (IsOkUnless {T = BufferId} {E = Fault} (Ok id) OutOfMemory) (λ fault. ◌≡◌ {A = Result BufferId Fault} (Ok id) (Err fault)) →
     IsCreated w.space.buffers new.space.buffers id size → new ≡ with_table new.space.buffers w →
     Declares (state begun w entries) name size {T = T} (Ok done) (state begun new (entries ++ (name, id) ∷ []))
 declares begun w new entries name id size done work is fault made rest =
     let sizes : declared new.space.buffers (entries ++ (name, id) ∷ []) ≡ declared w.space.buffers entries ++ (name, Some size) ∷ [] =
     declared-made w.space.buffers new.space.buffers id size entries name made is.declared.numbered is.declared.made in (
-      sym (create_fault-state w entries size work is.declared) ∙ no_fault (create_fault w.space.buffers size) id fault,
+      sym (create_fault-state w entries size work is.declared) ∙ none_from_ok (create_fault w.space.buffers size) id fault,
       ap (λ (x : Work). state begun x (entries ++ (name, id) ∷ [])) rest ∙ ap (λ (bs : Declared). let s : State = record (state begun w entries) { buffers = bs } in s) sizes,
     )
 
 pub refuses : (T : Type 0) (begun : Bool) (w new : Work) (entries : Entries) (name : List ℕ) (size : ℕ) (why : Fault) → IsWork w → IsDesk begun w entries →
-    MatchOption (create_fault w.space.buffers size) (IsOk {T = BufferId} {E = Fault} (Err why)) (λ fault. ◌≡◌ {A = Result BufferId Fault} (Err why) (Err fault)) →
+    MatchOption (create_fault w.space.buffers size) (why ≡ OutOfMemory) (λ fault. ◌≡◌ {A = Result BufferId Fault} (Err why) (Err fault)) →
     new ≡ w → Declares (state begun w entries) name size {T = T} (Err why) (state begun new entries)
 refuses T begun w new entries name size why work is fault same =
-    (λ _. sym (create_fault-state w entries size work is.declared) ∙ some_fault BufferId (create_fault w.space.buffers size) why fault, ap (λ (x : Work). state begun x entries) same)
+    (λ apart. sym (create_fault-state w entries size work is.declared) ∙ fault_but_memory BufferId (create_fault w.space.buffers size) why fault apart, ap (λ (x : Work). state begun x entries) same)

@@ -1,5 +1,5 @@
 -- What a clause of faults says of a result.
-use Rattle.std.proofs.Common.{◌≡◌, Option, Some, None, IsOk, IsOkUnless, MatchOption, Result, Ok, Err, refl, ap}
+use Rattle.std.proofs.Common.{◌≡◌, ◌≢◌, Option, Some, None, IsOk, IsOkUnless, MatchOption, Result, Ok, Err, refl, ap}
 use Rattle.std.proofs.lemmas.Bool.{false≢true}
 use Rattle.gv_types.specs.declared.fault.Fault.{Fault}
 use Rattle.gv_types.specs.declared.fault.Fault.TheVariants.{OutOfMemory}
@@ -23,6 +23,12 @@ none_from_ok (Some fault) done is = absurd cc
 pub fault_from_err : (T : Type 0) (o : Option Fault) (why : Fault) → MatchOption o (why ≡ OutOfMemory) (λ fault. ◌≡◌ {A = Result T Fault} (Err why) (Err fault)) → IsFaultOf o why
 fault_from_err T None why is = is
 fault_from_err T (Some fault) why is = cc
+
+-- a refusal for anything but want of memory is the fault that stands before
+pub fault_but_memory : (T : Type 0) (o : Option Fault) (why : Fault) → MatchOption o (why ≡ OutOfMemory) (λ fault. ◌≡◌ {A = Result T Fault} (Err why) (Err fault)) →
+    why ≢ OutOfMemory → o ≡ Some why
+fault_but_memory T None why is apart = absurd (apart is)
+fault_but_memory T (Some fault) why is apart = let same : fault ≡ why = cc in ap (λ (f : Fault). Some f) same
 
 -- a fault that is passed on is the one that was answered
 pub fault_passed : (T U : Type 0) (o : Option Fault) (P : Type 0) (why : Fault) → MatchOption o P (λ fault. ◌≡◌ {A = Result T Fault} (Err why) (Err fault)) →

@@ -4,18 +4,19 @@ use Rattle.std.specs.List.{All, filter}
 use Rattle.std.proofs.lemmas.List.Elements.{All-head, All-tail, All-append, All-map, All-filter}
 use Rattle.std.proofs.lemmas.Bool.Decides.{nat_tests}
 use Rattle.gv_types.specs.Page.{PAGES}
-use Rattle.gv_types.specs.Span.{end_of, covers, meets, lies_in}
+use Rattle.gv_types.specs.Span.{end_of, covers, lies_in}
 use Rattle.gv_types.specs.Mapping.{advanced, clip, part, IsMapping}
 use Rattle.gv_types.specs.Operation.{range_of, own_mapping}
 use Rattle.gv_types.specs.declared.mapping.Backing.{Backing}
 use Rattle.gv_types.specs.declared.mapping.Backing.TheVariants.{Buffer, Zero}
 use Rattle.gv_types.specs.declared.mapping.Mapping.{Mapping}
 use Rattle.gv_types.specs.declared.operation.PageOp.{PageOp}
+use Rattle.gv_types.specs.declared.operation.PageOp.TheVariants.{Map as MapOp, Unmap as UnmapOp, UnmapBuffer}
 use Rattle.gv_ranges.specs.List.{at, IsLaidOut}
 use Rattle.gv_ranges.specs.Edit.{edited}
 use Rattle.gv_ranges.proofs.Kept.{clip_is_piece, HoldsOfPieces, All-edited}
 use Rattle.gv_ranges.proofs.Replaced.{all_mappings}
-use Rattle.gv_split.specs.Steps.{step_of, steps, is_kept}
+use Rattle.gv_split.specs.Steps.{gives_way, step_in, step_of, steps, is_kept}
 use Rattle.gv_split.specs.declared.step.Step.TheVariants.{Unmap, Remap, Map}
 use Rattle.gv_text.specs.State.{LieInside, IsHeld}
 use Rattle.gv_text.specs.Reply.{IsHeldRest, IsHeldStep, IsHeldEntry}
@@ -55,12 +56,17 @@ held_rest names low high m is held =
     (elim (clip low high m) as (λ o. clip low high m ≡ o → IsHeldRest names o)
     [ Some n ↦ λ clipped. held_pieces names low high m n is held clipped | None ↦ λ clipped. tt ]) refl
 
-held_step : (names : List (List ℕ)) (op : PageOp) (m : Mapping) → IsMapping m → IsHeld names m → IsHeldStep names (step_of op m)
-held_step names op m is held =
+held_in : (names : List (List ℕ)) (op : PageOp) (m : Mapping) → IsMapping m → IsHeld names m → IsHeldStep names (step_in op m)
+held_in names op m is held =
     (elim (lies_in m.range (range_of op)) as (λ b. IsHeldStep names (cond b (Unmap m (is_kept op m)) (Remap m (clip 0 (range_of op).first m) (clip (end_of (range_of op)) PAGES m) (is_kept op m)))) [
       | true ↦ held
       | false ↦ (held, held_rest names 0 (range_of op).first m is held, held_rest names (end_of (range_of op)) PAGES m is held)
     ])
+
+held_step : (names : List (List ℕ)) (op : PageOp) (m : Mapping) → IsMapping m → IsHeld names m → IsHeldStep names (step_of op m)
+held_step names (MapOp range backing flags) m is held = held_in names (MapOp range backing flags) m is held
+held_step names (UnmapOp range) m is held = held_in names (UnmapOp range) m is held
+held_step names (UnmapBuffer buffer) m is held = held
 
 own_step : (names : List (List ℕ)) (op : PageOp) → All (IsHeld names) (own_mapping op) → All (IsHeldStep names) (map Map (own_mapping op))
 own_step names op own = All-map (IsHeldStep names) Map (own_mapping op) own
@@ -71,7 +77,7 @@ pub held_steps : (names : List (List ℕ)) (ms : List Mapping) (op : PageOp) →
 held_steps names ms op laid held own =
     let each : All (λ (m : Mapping). IsHeldStep names (step_of op m)) ms =
     λ k d below. held_step names op _ (all_mappings ms 0 laid k d below) (held k d below) in
-    let met : All (λ (m : Mapping). IsHeldStep names (step_of op m)) (filter (λ m. meets m.range (range_of op)) ms) =
-    All-filter (λ (m : Mapping). meets m.range (range_of op)) (λ (m : Mapping). IsHeldStep names (step_of op m)) ms each in
-    All-append (IsHeldStep names) (map (step_of op) (filter (λ m. meets m.range (range_of op)) ms)) (map Map (own_mapping op))
-    (All-map (IsHeldStep names) (step_of op) (filter (λ m. meets m.range (range_of op)) ms) met) (own_step names op own)
+    let met : All (λ (m : Mapping). IsHeldStep names (step_of op m)) (filter (gives_way op) ms) =
+    All-filter (gives_way op) (λ (m : Mapping). IsHeldStep names (step_of op m)) ms each in
+    All-append (IsHeldStep names) (map (step_of op) (filter (gives_way op) ms)) (map Map (own_mapping op))
+    (All-map (IsHeldStep names) (step_of op) (filter (gives_way op) ms) met) (own_step names op own)

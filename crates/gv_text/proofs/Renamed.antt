@@ -11,7 +11,7 @@ use Rattle.gv_types.specs.declared.mapping.Backing.TheVariants.{Buffer, Zero}
 use Rattle.gv_types.specs.declared.mapping.Entry.{Entry}
 use Rattle.gv_types.specs.declared.mapping.Mapping.{Mapping}
 use Rattle.gv_types.specs.declared.operation.PageOp.{PageOp}
-use Rattle.gv_types.specs.declared.operation.PageOp.TheVariants.{Map, Unmap}
+use Rattle.gv_types.specs.declared.operation.PageOp.TheVariants.{Map, Unmap, UnmapBuffer}
 use Rattle.gv_ranges.specs.List.{at}
 use Rattle.gv_ranges.specs.Edit.{clipped, replaced, edited, restored}
 use Rattle.gv_text.specs.Renamed.{renamed_backing, renamed_entry, renamed_mapping, renamed_op}
@@ -71,10 +71,12 @@ replaced-renamed ms range pieces =
 pub range_of-renamed : (op : PageOp) → range_of (renamed_op op) ≡ range_of op
 range_of-renamed (Map range backing flags) = refl
 range_of-renamed (Unmap range) = refl
+range_of-renamed (UnmapBuffer buffer) = refl
 
 pub own_mapping-renamed : (op : PageOp) → own_mapping (renamed_op op) ≡ map renamed_mapping (own_mapping op)
 own_mapping-renamed (Map range backing flags) = refl
 own_mapping-renamed (Unmap range) = refl
+own_mapping-renamed (UnmapBuffer buffer) = refl
 
 -- the list after an operation
 pub edited-renamed : (ms : List Mapping) (op : PageOp) → edited (map renamed_mapping ms) (renamed_op op) ≡ map renamed_mapping (edited ms op)
@@ -91,6 +93,7 @@ pub own_part-renamed : (op : PageOp) (page : ℕ) → own_part (renamed_op op) p
 own_part-renamed (Map range backing flags) page =
     ap (λ (e : Entry). Some e) (part-renamed (record { range = range; backing = backing; flags = flags }) page)
 own_part-renamed (Unmap range) page = refl
+own_part-renamed (UnmapBuffer buffer) page = refl
 
 -- the address map after an operation
 pub after-renamed : (op : PageOp) (base base' : ℕ → Option Entry) (page : ℕ) → base' page ≡ option_map renamed_entry (base page) →

@@ -5,7 +5,8 @@ use Rattle.gv_types.specs.declared.mapping.Backing.{Backing}
 use Rattle.gv_types.specs.declared.mapping.Backing.TheVariants.{Buffer, Zero}
 use Rattle.gv_types.specs.declared.mapping.BufferId.{BufferId}
 use Rattle.gv_types.specs.declared.mapping.Mapping.{Mapping}
-use Rattle.gv_space.specs.Counts.{is_of, count_of}
+use Rattle.gv_types.specs.Mapping.{is_of}
+use Rattle.gv_space.specs.Counts.{count_of}
 use Rattle.gv_text.specs.Renamed.{renamed, renamed_backing, renamed_mapping, IsOf, IsBackedOf, AreOf}
 use Rattle.gv_text.proofs.RenamedLists.{length-renamed}
 use Rattle.gv_text.proofs.RenamedSteps.{same_id-renamed}

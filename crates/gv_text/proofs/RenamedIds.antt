@@ -10,7 +10,7 @@ use Rattle.gv_types.specs.declared.mapping.Backing.TheVariants.{Buffer, Zero}
 use Rattle.gv_types.specs.declared.mapping.BufferId.{BufferId}
 use Rattle.gv_types.specs.declared.mapping.Mapping.{Mapping}
 use Rattle.gv_types.specs.declared.operation.PageOp.{PageOp}
-use Rattle.gv_types.specs.declared.operation.PageOp.TheVariants.{Map, Unmap}
+use Rattle.gv_types.specs.declared.operation.PageOp.TheVariants.{Map, Unmap, UnmapBuffer}
 use Rattle.gv_ranges.specs.Edit.{clipped, replaced, edited}
 use Rattle.gv_ranges.proofs.Kept.{clip_is_piece, All-clipped}
 use Rattle.gv_text.specs.Renamed.{IsOf, IsBackedOf, AreOf, IsOperationOf}
@@ -45,6 +45,7 @@ pub AreOf-own_mapping : (ids : List BufferId) (op : PageOp) → IsOperationOf id
 AreOf-own_mapping ids (Map range backing flags) is =
     All-cons (λ (m : Mapping). IsBackedOf ids m.backing) (record { range = range; backing = backing; flags = flags }) [] is (AreOf-nil ids)
 AreOf-own_mapping ids (Unmap range) is = AreOf-nil ids
+AreOf-own_mapping ids (UnmapBuffer buffer) is = absurd is
 
 -- the list after an operation
 pub AreOf-edited : (ids : List BufferId) (ms : List Mapping) (op : PageOp) → AreOf ids ms → IsOperationOf ids op → AreOf ids (edited ms op)
@@ -87,6 +88,7 @@ AreOf-more ids more ms are =
 pub IsOperationOf-more : (ids more : List BufferId) (op : PageOp) → IsOperationOf ids op → IsOperationOf (ids ++ more) op
 IsOperationOf-more ids more (Map range backing flags) is = IsBackedOf-more ids more backing is
 IsOperationOf-more ids more (Unmap range) is = is
+IsOperationOf-more ids more (UnmapBuffer buffer) is = absurd is
 
 pub operations_of-more : (ids more : List BufferId) (ops : List PageOp) → All (IsOperationOf ids) ops → All (IsOperationOf (ids ++ more)) ops
 operations_of-more ids more ops are = All-weaker (IsOperationOf ids) (IsOperationOf (ids ++ more)) (λ op is. IsOperationOf-more ids more op is) ops are

@@ -4,16 +4,18 @@ use Rattle.std.proofs.lemmas.List.{length-map}
 use Rattle.gv_types.specs.Span.{Span, meets}
 use Rattle.gv_types.specs.Bounds.{Area, first_fault, checked, unless_fault}
 use Rattle.gv_types.specs.Mapping.{IsMapping, HasSmallPages}
-use Rattle.gv_types.specs.Operation.{range_of, in_pages, IsPageOp}
+use Rattle.std.specs.Prelude.{IsTrue}
+use Rattle.gv_types.specs.Operation.{has_range, range_of, in_pages, IsPageOp}
+use Rattle.gv_types.specs.declared.mapping.BufferId.{BufferId}
 use Rattle.gv_types.specs.declared.mapping.Backing.{Backing}
 use Rattle.gv_types.specs.declared.mapping.Backing.TheVariants.{Buffer, Zero}
 use Rattle.gv_types.specs.declared.mapping.Mapping.{Mapping}
 use Rattle.gv_types.specs.declared.operation.Op.{Op}
-use Rattle.gv_types.specs.declared.operation.Op.TheVariants.{Map as MapBytes, MapZero, Unmap as UnmapBytes}
+use Rattle.gv_types.specs.declared.operation.Op.TheVariants.{Map as MapBytes, MapZero, Unmap as UnmapBytes, UnmapBuffer as UnmapBufferBytes}
 use Rattle.gv_types.specs.declared.operation.PageOp.{PageOp}
-use Rattle.gv_types.specs.declared.operation.PageOp.TheVariants.{Map, Unmap}
+use Rattle.gv_types.specs.declared.operation.PageOp.TheVariants.{Map, Unmap, UnmapBuffer}
 use Rattle.gv_ranges.specs.List.{IsLaidOut, IsLaidOutFrom}
-use Rattle.gv_text.specs.Renamed.{renamed_backing, renamed_mapping, renamed_op, renamed_bytes}
+use Rattle.gv_text.specs.Renamed.{renamed_backing, renamed_mapping, renamed_op, renamed_bytes, IsOperationOf}
 
 pub length-renamed : (ms : List Mapping) → length (map renamed_mapping ms) ≡ length ms
 length-renamed ms = length-map ms renamed_mapping
@@ -55,22 +57,33 @@ IsLaidOut-renamed ms laid = laid_out_from-renamed ms 0 laid
 pub IsPageOp-renamed : (op : PageOp) → IsPageOp op → IsPageOp (renamed_op op)
 IsPageOp-renamed (Map range backing flags) is = IsMapping-renamed (record { range = range; backing = backing; flags = flags }) is
 IsPageOp-renamed (Unmap range) is = is
+IsPageOp-renamed (UnmapBuffer buffer) is = absurd is
 
 pub in_pages-renamed : (op : Op) → in_pages (renamed_bytes op) ≡ renamed_op (in_pages op)
 in_pages-renamed (MapBytes addr len buffer offset flags) = refl
 in_pages-renamed (MapZero addr len flags) = refl
 in_pages-renamed (UnmapBytes addr len) = refl
+in_pages-renamed (UnmapBufferBytes buffer) = refl
 
 pub range_of-bytes-renamed : (op : Op) → range_of (in_pages (renamed_bytes op)) ≡ range_of (in_pages op)
 range_of-bytes-renamed (MapBytes addr len buffer offset flags) = refl
 range_of-bytes-renamed (MapZero addr len flags) = refl
 range_of-bytes-renamed (UnmapBytes addr len) = refl
+range_of-bytes-renamed (UnmapBufferBytes buffer) = refl
 
 pub first_fault-renamed : (a : Area) (op : Op) → first_fault a (renamed_bytes op) ≡ first_fault a op
 first_fault-renamed a (MapBytes addr len buffer offset flags) = refl
 first_fault-renamed a (MapZero addr len flags) = refl
 first_fault-renamed a (UnmapBytes addr len) = refl
+first_fault-renamed a (UnmapBufferBytes buffer) = refl
 
 -- the operation in pages, or its first fault
 pub checked-renamed : (a : Area) (op : Op) → checked a (renamed_bytes op) ≡ unless_fault (first_fault a op) (renamed_op (in_pages op))
 checked-renamed a op = rw (first_fault-renamed a op, in_pages-renamed op) refl
+
+-- an operation of a script names its pages
+pub has_range_of : (ids : List BufferId) (op : Op) → IsOperationOf ids (in_pages op) → IsTrue (has_range op)
+has_range_of ids (MapBytes addr len buffer offset flags) is = refl
+has_range_of ids (MapZero addr len flags) is = refl
+has_range_of ids (UnmapBytes addr len) is = refl
+has_range_of ids (UnmapBufferBytes buffer) is = absurd is

@@ -5,7 +5,7 @@ use Rattle.std.proofs.lemmas.Option.{same_Some}
 use Rattle.std.proofs.lemmas.List.{map-append}
 use Rattle.std.proofs.lemmas.List.Elements.{All-head, All-tail, All-filter}
 use Rattle.gv_types.specs.Page.{PAGES}
-use Rattle.gv_types.specs.Span.{end_of, meets, lies_in}
+use Rattle.gv_types.specs.Span.{end_of, lies_in}
 use Rattle.gv_types.specs.Mapping.{clip}
 use Rattle.gv_types.specs.Operation.{range_of, own_mapping}
 use Rattle.gv_types.specs.declared.mapping.Backing.{Backing}
@@ -13,8 +13,8 @@ use Rattle.gv_types.specs.declared.mapping.Backing.TheVariants.{Buffer, Zero}
 use Rattle.gv_types.specs.declared.mapping.BufferId.{BufferId}
 use Rattle.gv_types.specs.declared.mapping.Mapping.{Mapping}
 use Rattle.gv_types.specs.declared.operation.PageOp.{PageOp}
-use Rattle.gv_types.specs.declared.operation.PageOp.TheVariants.{Map as MapOp, Unmap as UnmapOp}
-use Rattle.gv_split.specs.Steps.{same_flags, continues, is_kept, step_of, steps}
+use Rattle.gv_types.specs.declared.operation.PageOp.TheVariants.{Map as MapOp, Unmap as UnmapOp, UnmapBuffer}
+use Rattle.gv_split.specs.Steps.{same_flags, continues, gives_way, is_kept, step_in, step_of, steps}
 use Rattle.gv_split.specs.declared.step.Step.TheVariants.{Unmap, Remap, Map}
 use Rattle.gv_text.specs.Renamed.{renamed_backing, renamed_mapping, renamed_op, renamed_step, IsOf, IsBackedOf, AreOf, IsOperationOf}
 use Rattle.gv_text.proofs.Renamed.{clip-renamed, range_of-renamed}
@@ -50,10 +50,11 @@ pub is_kept-renamed : (ids : List BufferId) (op : PageOp) (m : Mapping) → IsOp
 is_kept-renamed ids (MapOp range backing flags) m is is' =
     ap (λ b. b && same_flags flags m.flags) (continues-renamed ids backing m.backing range.first m.range.first is is')
 is_kept-renamed ids (UnmapOp range) m is is' = refl
+is_kept-renamed ids (UnmapBuffer buffer) m is is' = refl
 
-pub step_of-renamed : (ids : List BufferId) (op : PageOp) (m : Mapping) → IsOperationOf ids op → IsBackedOf ids m.backing →
-    step_of (renamed_op op) (renamed_mapping m) ≡ renamed_step (step_of op m)
-step_of-renamed ids op m is is' =
+step_in-renamed : (ids : List BufferId) (op : PageOp) (m : Mapping) → IsOperationOf ids op → IsBackedOf ids m.backing →
+    step_in (renamed_op op) (renamed_mapping m) ≡ renamed_step (step_in op m)
+step_in-renamed ids op m is is' =
     rw (
       is_kept-renamed ids op m is is',
       range_of-renamed op,
@@ -66,9 +67,23 @@ step_of-renamed ids op m is is' =
     ≡ renamed_step (cond b (Unmap m (is_kept op m)) (Remap m (clip 0 (range_of op).first m) (clip (end_of (range_of op)) PAGES m) (is_kept op m))))
     [ true ↦ refl | false ↦ refl ])
 
+pub step_of-renamed : (ids : List BufferId) (op : PageOp) (m : Mapping) → IsOperationOf ids op → IsBackedOf ids m.backing →
+    step_of (renamed_op op) (renamed_mapping m) ≡ renamed_step (step_of op m)
+step_of-renamed ids (MapOp range backing flags) m is is' = step_in-renamed ids (MapOp range backing flags) m is is'
+step_of-renamed ids (UnmapOp range) m is is' = step_in-renamed ids (UnmapOp range) m is is'
+step_of-renamed ids (UnmapBuffer buffer) m is is' = absurd is
+
+-- the mappings that give way to an operation
+gives_way-renamed : (ids : List BufferId) (op : PageOp) (ms : List Mapping) → IsOperationOf ids op →
+    filter (gives_way (renamed_op op)) (map renamed_mapping ms) ≡ map renamed_mapping (filter (gives_way op) ms)
+gives_way-renamed ids (MapOp range backing flags) ms is = met-renamed ms range
+gives_way-renamed ids (UnmapOp range) ms is = met-renamed ms range
+gives_way-renamed ids (UnmapBuffer buffer) ms is = absurd is
+
 own_step-renamed : (op : PageOp) → map Map (own_mapping (renamed_op op)) ≡ map renamed_step (map Map (own_mapping op))
 own_step-renamed (MapOp range backing flags) = refl
 own_step-renamed (UnmapOp range) = refl
+own_step-renamed (UnmapBuffer buffer) = refl
 
 cons_same : {X : Type 0} {x y : X} {xs ys : List X} → x ≡ y → xs ≡ ys → x ∷ xs ≡ y ∷ ys
 cons_same first rest = cc
@@ -90,10 +105,8 @@ steps_of_run-renamed ids op (m ∷ ms) is are =
 pub steps-renamed : (ids : List BufferId) (ms : List Mapping) (op : PageOp) → AreOf ids ms → IsOperationOf ids op →
     steps (map renamed_mapping ms) (renamed_op op) ≡ map renamed_step (steps ms op)
 steps-renamed ids ms op are is =
-    let run : List Mapping = filter (λ m. meets m.range (range_of op)) ms in
-    let met : filter (λ m. meets m.range (range_of (renamed_op op))) (map renamed_mapping ms) ≡ map renamed_mapping (filter (λ m. meets m.range (range_of op)) ms) =
-    rw (range_of-renamed op) (met-renamed ms (range_of op)) in
+    let run : List Mapping = filter (gives_way op) ms in
     let each : map (step_of (renamed_op op)) (map renamed_mapping run) ≡ map renamed_step (map (step_of op) run) =
-    steps_of_run-renamed ids op run is (All-filter (λ (m : Mapping). meets m.range (range_of op)) (λ (m : Mapping). IsBackedOf ids m.backing) ms are) in
-    append_same (ap (map (step_of (renamed_op op))) met ∙ each) (own_step-renamed op)
+    steps_of_run-renamed ids op run is (All-filter (gives_way op) (λ (m : Mapping). IsBackedOf ids m.backing) ms are) in
+    append_same (ap (map (step_of (renamed_op op))) (gives_way-renamed ids op ms is) ∙ each) (own_step-renamed op)
     ∙ sym (map-append renamed_step (map (step_of op) run) (map Map (own_mapping op)))

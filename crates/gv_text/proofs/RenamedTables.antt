@@ -61,8 +61,9 @@ tables_wanted-renamed ms target (suc level) first =
 pub tables_of-renamed : (ms : List Mapping) → tables_of (map renamed_mapping ms) ≡ tables_of ms
 tables_of-renamed ms =
     rw (
-      tables_wanted-renamed ms 3 4 0,
-      tables_wanted-renamed ms 2 4 0,
-      tables_wanted-renamed ms 1 4 0,
-      tables_wanted-renamed ms 0 4 0,
+      tables_wanted-renamed ms 4 5 0,
+      tables_wanted-renamed ms 3 5 0,
+      tables_wanted-renamed ms 2 5 0,
+      tables_wanted-renamed ms 1 5 0,
+      tables_wanted-renamed ms 0 5 0,
     ) refl

@@ -13,7 +13,7 @@ use Rattle.gv_types.specs.declared.mapping.Flags.{Flags}
 use Rattle.gv_types.specs.declared.operation.Op.{Op}
 use Rattle.gv_types.specs.declared.operation.Op.TheVariants.{Map as MapBytes, MapZero, Unmap as UnmapBytes}
 use Rattle.gv_types.specs.declared.operation.PageOp.{PageOp}
-use Rattle.gv_types.specs.declared.operation.PageOp.TheVariants.{Map as MapPages, Unmap as UnmapPages}
+use Rattle.gv_types.specs.declared.operation.PageOp.TheVariants.{Map as MapPages, Unmap as UnmapPages, UnmapBuffer as UnmapBufferPages}
 use Rattle.gv_ranges.specs.List.{at}
 use Rattle.gv_ranges.specs.Edit.{edited}
 use Rattle.gv_split.specs.Steps.{steps}
@@ -48,6 +48,7 @@ backing_fault buffers Zeros count = None
 abbrev pub pages_fault : Declared → PageOp → Option Fault
 pages_fault buffers (MapPages range backing flags) = backing_fault buffers backing range.count
 pages_fault buffers (UnmapPages range) = None
+pages_fault buffers (UnmapBufferPages buffer) = None
 
 -- the first fault of an operation: those of `check` in their order, then of its buffer
 abbrev pub operation_fault : State → Op → Option Fault

@@ -9,9 +9,9 @@ use Rattle.gv_types.specs.declared.mapping.BufferId.{BufferId}
 use Rattle.gv_types.specs.declared.mapping.Entry.{Entry}
 use Rattle.gv_types.specs.declared.mapping.Mapping.{Mapping}
 use Rattle.gv_types.specs.declared.operation.Op.{Op}
-use Rattle.gv_types.specs.declared.operation.Op.TheVariants.{Map as MapBytes, MapZero, Unmap as UnmapBytes}
+use Rattle.gv_types.specs.declared.operation.Op.TheVariants.{Map as MapBytes, MapZero, Unmap as UnmapBytes, UnmapBuffer as UnmapBufferBytes}
 use Rattle.gv_types.specs.declared.operation.PageOp.{PageOp}
-use Rattle.gv_types.specs.declared.operation.PageOp.TheVariants.{Map as MapPages, Unmap as UnmapPages}
+use Rattle.gv_types.specs.declared.operation.PageOp.TheVariants.{Map as MapPages, Unmap as UnmapPages, UnmapBuffer as UnmapBufferPages}
 use Rattle.gv_split.specs.declared.step.Step.{Step}
 use Rattle.gv_split.specs.declared.step.Step.TheVariants.{Unmap, Remap, Map}
 
@@ -36,12 +36,14 @@ renamed_mapping m = record { range = m.range; backing = renamed_backing m.backin
 abbrev pub renamed_op : PageOp → PageOp
 renamed_op (MapPages range backing flags) = MapPages range (renamed_backing backing) flags
 renamed_op (UnmapPages range) = UnmapPages range
+renamed_op (UnmapBufferPages buffer) = UnmapBufferPages (renamed buffer)
 
 -- an operation in bytes with its buffer renamed
 abbrev pub renamed_bytes : Op → Op
 renamed_bytes (MapBytes addr len buffer offset flags) = MapBytes addr len (renamed buffer) offset flags
 renamed_bytes (MapZero addr len flags) = MapZero addr len flags
 renamed_bytes (UnmapBytes addr len) = UnmapBytes addr len
+renamed_bytes (UnmapBufferBytes buffer) = UnmapBufferBytes (renamed buffer)
 
 -- a step with the buffers of its mappings renamed
 abbrev pub renamed_step : Step → Step
@@ -63,7 +65,8 @@ IsBackedOf ids Zero = Unit {0}
 abbrev pub AreOf : List BufferId → List Mapping → Type 0
 AreOf ids = All (λ m. IsBackedOf ids m.backing)
 
--- the buffer that an operation names, if it names one, is the one of its generation
+-- the buffer that an operation names, if it names one, is the one of its generation; a script's operations name their pages
 abbrev pub IsOperationOf : List BufferId → PageOp → Type 0
 IsOperationOf ids (MapPages range backing flags) = IsBackedOf ids backing
 IsOperationOf ids (UnmapPages range) = Unit {0}
+IsOperationOf ids (UnmapBufferPages buffer) = ⊥

@@ -1,6 +1,6 @@
 //! The address space of a script, with the operations that changed it.
-ghost use Rattle.std.specs.Prelude.{◌≡◌, ◌+◌, [], length, IsOk, IsOkUnless, IfOk, OnOk, OnErr, MatchOption};
-ghost use Rattle.gv_types.specs.Operation.{in_pages};
+ghost use Rattle.std.specs.Prelude.{◌≡◌, ◌+◌, [], length, IsTrue, IsOk, IsOkUnless, IfOk, OnOk, OnErr, MatchOption};
+ghost use Rattle.gv_types.specs.Operation.{has_range, in_pages};
 
 use crate::history::History;
 use gv_space::{OpUndo, Space};
@@ -86,14 +86,14 @@ impl Bindings {
     }
 
     /// Makes a buffer.
-    pub fn create(&mut self, pages: u64) -> Result<BufferId, Fault>
+    pub fn create(&mut self, alloc: Global, pages: u64) -> Result<BufferId, Fault>
         ensures fault { MatchOption (create_fault self.old.space.buffers pages)
-            (IsOk result) (λ fault. result ≡ Err fault) }
+            (IsOkUnless result Fault.OutOfMemory) (λ fault. result ≡ Err fault) }
         ensures ok { IfOk result (λ id. IsCreated self.old.space.buffers self.new.space.buffers id pages) }
         ensures rest { self.new ≡ record self.old { space = record self.old.space { buffers = self.new.space.buffers } } }
         ensures err { OnErr result (self.new ≡ self.old) }
     {
-        self.space.create(pages)
+        self.space.create(alloc, pages)
     }
 
     /// Destroys a buffer that nothing names.
@@ -111,6 +111,7 @@ impl Bindings {
     /// Applies an operation, and keeps it with its undo value. There is room for both before the change; where there is
     /// none, the change is taken back, so that the first fault is the answer.
     pub fn apply(&mut self, alloc: Global, op: &Op) -> Result<(), Fault>
+        requires { IsTrue (has_range op.now) }
         ensures fault { MatchOption (apply_fault self.old.space op.now)
             (IsOkUnless result Fault.OutOfMemory) (λ fault. result ≡ Err fault) }
         ensures ok { OnOk result (self.new ≡ with_room self.new.space.room (worked self.old (in_pages op.now))) }

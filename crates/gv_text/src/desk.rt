@@ -89,8 +89,13 @@ impl Desk {
     }
 
     /// Declares a buffer: None where its name is declared already. `BadSize`, then `TooManyBuffers`; `OutOfMemory` where
-    /// there is no room for the name.
-    pub fn declare(&mut self, name: Name, pages: u64) -> Option<Result<(), Fault>>
+    /// there is no room for the name or the buffer.
+    pub fn declare(
+        &mut self,
+        alloc: Global,
+        name: Name,
+        pages: u64,
+    ) -> Option<Result<(), Fault>>
         requires { self.old.begun ≡ true }
         ensures { MatchOption result (IsSome (place_of self.old.buffers name))
             (λ r. (place_of self.old.buffers name ≡ None) × Declares self.old name pages r self.new) }
@@ -102,7 +107,7 @@ impl Desk {
         if self.names.reserve().is_err() {
             return Some(Err(Fault::OutOfMemory));
         }
-        let id = match self.bindings.create(pages) {
+        let id = match self.bindings.create(alloc, pages) {
             Ok(id) => id,
             Err(fault) => return Some(Err(fault)),
         };
@@ -180,8 +185,8 @@ impl Desk {
         self.bindings.space().walk(page)
     }
 
-    /// How many tables stand at the levels 3, 2, 1 and 0.
-    pub fn tables(&self) -> [u64; 4]
+    /// How many tables stand at the levels 4, 3, 2, 1 and 0.
+    pub fn tables(&self) -> [u64; 5]
         ensures { result ≡ tables_of self.now.bound.mappings }
     {
         self.bindings.space().tables()

@@ -1,11 +1,11 @@
 //! The texts of replies.
-ghost use Rattle.std.specs.Prelude.{◌≡◌, ◌+◌, ◌*◌, ◌≤◌, ◌<◌, ◌++◌, OnOk, string_bytes};
+ghost use Rattle.std.specs.Prelude.{◌≡◌, ◌+◌, ◌*◌, ◌≤◌, ◌<◌, ◌++◌, ◌∷◌, [], OnOk, codes, decimal, string_bytes};
 ghost use Rattle.std.specs.List.{All};
 ghost use Rattle.gv_types.specs.Page.{bytes_per_page};
 ghost use Rattle.gv_types.specs.Fault.{fault_text};
 ghost use Rattle.gv_text.specs.State.{texts, LieInside, IsHeld};
 ghost use Rattle.gv_text.specs.Reply.{target_text, mapping_text, rest_text, step_text, flags_text, keep_text};
-ghost use Rattle.gv_text.specs.Reply.{refused_reply, refused_request, lines_reply, place_reply, IsHeldRest, IsHeldStep, IsHeldEntry};
+ghost use Rattle.gv_text.specs.Reply.{refused_reply, refused_request, lines_reply, place_reply, tables_reply, IsHeldRest, IsHeldStep, IsHeldEntry};
 
 use crate::names::Names;
 use gv_lines::write_hex;
@@ -190,4 +190,37 @@ pub fn write_refused_request(out: &mut String, fault: &Fault) -> Result<(), Allo
     out.push_str("refused 0 ")?;
     write_fault(out, fault)?;
     out.push_str("\n")
+}
+
+/// Writes a count, and a space behind it.
+fn write_count(out: &mut String, count: u64) -> Result<(), AllocError>
+    ensures { OnOk result (string_bytes out.new ≡ string_bytes out.old ++ (decimal count ++ codes " ")) }
+{
+    write!(out, "{count} ")
+}
+
+/// Writes a count, and ends the line.
+fn write_last_count(out: &mut String, count: u64) -> Result<(), AllocError>
+    ensures { OnOk result (string_bytes out.new ≡ string_bytes out.old ++ (decimal count ++ codes "\n")) }
+{
+    writeln!(out, "{count}")
+}
+
+/// Writes how many tables there are, by level from the top.
+pub fn write_tables(
+    out: &mut String,
+    four: u64,
+    three: u64,
+    two: u64,
+    one: u64,
+    zero: u64,
+) -> Result<(), AllocError>
+    ensures { OnOk result (string_bytes out.new
+        ≡ string_bytes out.old ++ tables_reply (four ∷ three ∷ two ∷ one ∷ zero ∷ [])) }
+{
+    write_count(out, four)?;
+    write_count(out, three)?;
+    write_count(out, two)?;
+    write_count(out, one)?;
+    write_last_count(out, zero)
 }

@@ -5,9 +5,7 @@ ghost use Rattle.gv_text.specs.Answer.{Told, answer, answer_if, ran, asked_area,
 ghost use Rattle.gv_text.specs.declared.run.LineFault.TheVariants as line_fault;
 
 use crate::desk::Desk;
-use crate::reply::{
-    write_mappings, write_place, write_refused, write_refused_request, write_steps,
-};
+use crate::reply::{write_mappings, write_place, write_refused, write_refused_request, write_steps, write_tables};
 use gv_lines::{Line, Name, Operation, parse_line};
 use gv_types::{Bounds, Fault, OutOfMemory, PAGE_BYTES};
 use std::alloc::{AllocError, Global};
@@ -73,7 +71,7 @@ fn run(alloc: Global, desk: &mut Desk, line: Line, out: &mut String) -> Result<(
             let bounds = asked_bounds(start, len, reserved_start, reserved_len);
             space(alloc, desk, bounds, out)
         }
-        Line::Buffer { name, pages } => buffer(desk, name, pages, out),
+        Line::Buffer { name, pages } => buffer(alloc, desk, name, pages, out),
         Line::Destroy { name } => destroy(desk, &name, out),
         Line::Uses { name } => uses(desk, &name, out),
         Line::Bind { operation } => bind(alloc, desk, &operation, out),
@@ -106,13 +104,19 @@ fn space(
 }
 
 /// Declares a buffer, unless its name is declared already or its size is refused.
-fn buffer(desk: &mut Desk, name: Name, pages: u64, out: &mut String) -> Result<(), LineFault>
+fn buffer(
+    alloc: Global,
+    desk: &mut Desk,
+    name: Name,
+    pages: u64,
+    out: &mut String,
+) -> Result<(), LineFault>
     ensures done { OnOk result (Told (answer desk.old (Line.Buffer name pages)) out.old out.new desk.new) }
     ensures bad { result ≡ Err LineFault.Bad → answer desk.old (Line.Buffer name pages) ≡ None }
     ensures memory { result ≡ Err LineFault.OutOfMemory → IsSome (answer desk.old (Line.Buffer name pages)) }
 {
     desk.begin();
-    match desk.declare(name, pages) {
+    match desk.declare(alloc, name, pages) {
         None => Err(LineFault::Bad),
         Some(Ok(())) => Ok(out.push_str("ok\n")?),
         Some(Err(Fault::OutOfMemory)) => Err(LineFault::OutOfMemory),
@@ -216,8 +220,8 @@ fn tables(desk: &mut Desk, out: &mut String) -> Result<(), LineFault>
     ensures memory { result ≡ Err LineFault.OutOfMemory → IsSome (answer desk.old Line.Tables) }
 {
     desk.begin();
-    let [three, two, one, zero] = desk.tables();
-    Ok(writeln!(out, "{three} {two} {one} {zero}")?)
+    let [four, three, two, one, zero] = desk.tables();
+    Ok(write_tables(out, four, three, two, one, zero)?)
 }
 
 /// The bounds in bytes. None where a number is no multiple of a page, or there are no such bounds.

@@ -37,6 +37,16 @@ impl Op {
     ghost use Rattle.gv_types.specs.Operation.{addr_of, len_of, offset_of, has_range};
     ghost use Rattle.gv_types.specs.Operation.{in_pages, range_of, IsPageOp};
 
+    /// Whether it names its pages: all but an unmap of a whole buffer.
+    pub fn has_range(&self) -> bool
+        ensures { result ≡ has_range self.now }
+    {
+        match self {
+            Op::Map { .. } | Op::MapZero { .. } | Op::Unmap { .. } => true,
+            Op::UnmapBuffer { .. } => false,
+        }
+    }
+
     /// Its first byte, and 0 where it names no pages.
     pub fn addr(&self) -> u64
         ensures { result ≡ addr_of self.now }

@@ -1,7 +1,7 @@
 //! Buffers, and the jobs that use them.
 ghost use Rattle.std.specs.Prelude.{◌≡◌};
 
-use super::fixtures::{bind, map, unmap, whole_space};
+use super::fixtures::{apply, bind, map, unmap, whole_space};
 use crate::Space;
 use gv_buffers::Usage;
 use gv_types::{BufferId, Fault};
@@ -24,11 +24,11 @@ fn buffer_in_use_is_not_destroyed(rt: HostRuntime) -> Result<(), Fail> {
     assert_eq!(rt; space.pages(*id), Some(4));
     bind(rt.alloc(), &mut space, &map(0, 4, id, 0))?;
     assert_eq!(rt; space.destroy(*id), Err(Fault::Mapped { count: 1 }));
-    let undo = space.apply(rt.alloc(), &unmap(0, 4))?;
+    let undo = apply(rt.alloc(), &mut space, &unmap(0, 4))?;
     assert_eq!(rt; refused(&mut space, id), Some(Fault::Kept { count: 1 }));
     space.revert(undo);
     assert_eq!(rt; space.destroy(*id), Err(Fault::Mapped { count: 1 }));
-    let undo = space.apply(rt.alloc(), &unmap(0, 4))?;
+    let undo = apply(rt.alloc(), &mut space, &unmap(0, 4))?;
     assert_eq!(rt; refused(&mut space, id), Some(Fault::Kept { count: 1 }));
     space.release(undo);
     assert_eq!(rt; space.destroy(*id), Ok(()));

@@ -1,9 +1,12 @@
 //! What the tests are made of.
-ghost use Rattle.std.specs.Prelude.{List};
+ghost use Rattle.std.specs.Prelude.{List, IfOk, OnErr};
+ghost use Rattle.gv_types.specs.Operation.{in_pages};
 ghost use Rattle.gv_types.specs.declared.mapping.Mapping.{Mapping};
-ghost use Rattle.gv_space.specs.State.{AreSaved};
+ghost use Rattle.gv_ranges.specs.Edit.{edited};
+ghost use Rattle.gv_space.specs.Change.{IsChanged};
+ghost use Rattle.gv_space.specs.State.{AreSaved, IsUnchanged};
 
-use crate::Space;
+use crate::{OpUndo, Space};
 use gv_types::{
     Backing, Bounds, BufferId, Fault, Flags, Limits, Mapping, Op, PAGE_BYTES, PageRange,
 };
@@ -85,11 +88,23 @@ pub fn look(space: &Space, id: &BufferId) -> Sight {
     }
 }
 
+/// Applies an operation. `Unmapped` where it names no pages, which no test does.
+pub fn apply(alloc: Global, space: &mut Space, op: &Op) -> Result<OpUndo, Fault>
+    ensures changed { IfOk result (λ undo.
+        IsChanged space.old space.new (edited space.old.mappings (in_pages op.now)) undo) }
+    ensures unchanged { OnErr result (IsUnchanged space.old space.new) }
+{
+    if !op.has_range() {
+        return Err(Fault::Unmapped { access: 0 });
+    }
+    space.apply(alloc, op)
+}
+
 /// Applies an operation for good.
 pub fn bind(alloc: Global, space: &mut Space, op: &Op) -> Result<(), Fault>
     ensures saved { (ms : List Mapping) → AreSaved space.old ms → AreSaved space.new ms }
 {
-    let undo = space.apply(alloc, op)?;
+    let undo = apply(alloc, space, op)?;
     space.release(undo);
     Ok(())
 }
@@ -101,7 +116,7 @@ pub fn there_and_back(
     op: &Op,
     id: &BufferId,
 ) -> Result<(Sight, Sight), Fault> {
-    let undo = space.apply(alloc, op)?;
+    let undo = apply(alloc, space, op)?;
     let there = look(space, id);
     space.revert(undo);
     Ok((there, look(space, id)))

@@ -6,7 +6,7 @@ ghost use Rattle.gv_space.specs.Change.{IsChanged};
 ghost use Rattle.gv_space.specs.State.{IsUnchanged};
 ghost use Rattle.gv_space.specs.Undo.{Holds};
 
-use super::fixtures::{Sight, look, map, map_zero, unmap};
+use super::fixtures::{Sight, apply, look, map, map_zero, unmap};
 use crate::{OpUndo, Space};
 use gv_buffers::Usage;
 use gv_types::{Bounds, BufferId, Fault, Limits, Mapping, Op, PageRange};
@@ -90,13 +90,13 @@ fn apply_at_last(
     ensures unchanged { OnErr result (IsUnchanged space.old space.new) }
 {
     let before = whole_of(space, id);
-    match space.apply(alloc, op) {
+    match apply(alloc, space, op) {
         Ok(undo) => Ok(undo),
         Err(fault) => {
             assert_eq!(rt; fault, Fault::OutOfMemory);
             assert_eq!(rt; whole_of(space, id), before);
             expect_reader(rt, alloc, space, id);
-            space.apply(alloc, op)
+            apply(alloc, space, op)
         }
     }
 }

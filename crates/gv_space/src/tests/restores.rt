@@ -2,7 +2,7 @@
 ghost use Rattle.gv_space.specs.State.{IsUnchanged};
 ghost use Rattle.gv_space.specs.Undo.{Holds};
 
-use super::fixtures::{bind, has_list, map, map_zero, mapping, unmap, whole_space, zeros};
+use super::fixtures::{apply, bind, has_list, map, map_zero, mapping, unmap, whole_space, zeros};
 use crate::{OpUndo, Space};
 use gv_types::{BufferId, Fault, Mapping, PageRange};
 use std::alloc::Global;
@@ -58,7 +58,7 @@ fn saved_pages_come_back(rt: HostRuntime) -> Result<(), Fail> {
     let mut space = whole_space(rt.alloc(), 1, 3)?;
     let id = &space.create(rt.alloc(), 4)?;
     bind(rt.alloc(), &mut space, &map(0, 4, id, 0))?;
-    let saved = space.apply(rt.alloc(), &unmap(0, 4))?;
+    let saved = apply(rt.alloc(), &mut space, &unmap(0, 4))?;
     let outcome = restore_parts(&rt, rt.alloc(), &mut space, &saved, id);
     space.release(saved);
     assert_eq!(rt; space.kept(*id), Some(0));
@@ -86,7 +86,7 @@ fn restore_keeps_the_limit(rt: HostRuntime) -> Result<(), Fail> {
     let mut space = whole_space(rt.alloc(), 1, 2)?;
     let id = &space.create(rt.alloc(), 4)?;
     bind(rt.alloc(), &mut space, &map(0, 4, id, 0))?;
-    let saved = space.apply(rt.alloc(), &unmap(0, 4))?;
+    let saved = apply(rt.alloc(), &mut space, &unmap(0, 4))?;
     let outcome = refused(rt.alloc(), &mut space, &saved);
     space.release(saved);
     assert_eq!(rt; outcome?, Some(Fault::TooManyMappings));

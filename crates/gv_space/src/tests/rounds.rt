@@ -2,7 +2,7 @@
 ghost use Rattle.std.specs.Prelude.{◌<◌, IfOk};
 ghost use Rattle.gv_space.specs.Undo.{Fits, Holds, released, reverted};
 
-use super::fixtures::bind;
+use super::fixtures::{apply, bind};
 use super::model::{Model, PLACES, Setting, count_of, entry_behind, range_of};
 use crate::{OpUndo, Space};
 use gv_types::{Bounds, Entry, Flags, Limits, Mapping, Op, PAGE_BYTES, PageRange};
@@ -154,9 +154,9 @@ fn apply_both(
     ensures held { IfOk result (λ undos.
         Holds (released space.new undos.1.change.taken) undos.0.change.taken) }
 {
-    let first = space.apply(alloc, &course.ops[0])?;
+    let first = apply(alloc, space, &course.ops[0])?;
     expect(rt, space, &course.one, &course.kept_by_first);
-    match space.apply(alloc, &course.ops[1]) {
+    match apply(alloc, space, &course.ops[1]) {
         Ok(second) => {
             expect(rt, space, &course.two, &course.kept_by_both);
             Ok((first, second))
@@ -230,7 +230,7 @@ fn bring_back(
     course: Course,
     stays: bool,
 ) -> Result<Model, Fail> {
-    let saved = space.apply(alloc, &course.ops[0])?;
+    let saved = apply(alloc, space, &course.ops[0])?;
     let outcome = restore_after(rt, alloc, space, &saved, &course, stays);
     space.release(saved);
     outcome?;

@@ -1,6 +1,6 @@
 //! Changes, and the way back.
 use super::fixtures::{
-    Sight, bind, has_list, look, map, mapping, there_and_back, unmap, whole_space,
+    Sight, apply, bind, has_list, look, map, mapping, there_and_back, unmap, whole_space,
 };
 use std::test::Fail;
 
@@ -8,8 +8,8 @@ use std::test::Fail;
 fn hole_is_taken_back(rt: HostRuntime) -> Result<(), Fail> {
     let mut space = whole_space(rt.alloc(), 1, 4)?;
     let id = &space.create(rt.alloc(), 4)?;
-    let first = space.apply(rt.alloc(), &map(0, 4, id, 0))?;
-    let second = match space.apply(rt.alloc(), &unmap(1, 1)) {
+    let first = apply(rt.alloc(), &mut space, &map(0, 4, id, 0))?;
+    let second = match apply(rt.alloc(), &mut space, &unmap(1, 1)) {
         Ok(undo) => undo,
         Err(fault) => {
             space.release(first);
@@ -68,9 +68,9 @@ fn tables_that_an_unmap_freed_come_back(rt: HostRuntime) -> Result<(), Fail> {
 fn two_changes_are_taken_back(rt: HostRuntime) -> Result<(), Fail> {
     let mut space = whole_space(rt.alloc(), 1, 4)?;
     let id = &space.create(rt.alloc(), 512)?;
-    let first = space.apply(rt.alloc(), &map(512, 512, id, 0))?;
+    let first = apply(rt.alloc(), &mut space, &map(512, 512, id, 0))?;
     assert_eq!(rt; space.tables(), [1, 1, 1, 1, 0]);
-    let second = match space.apply(rt.alloc(), &unmap(700, 1)) {
+    let second = match apply(rt.alloc(), &mut space, &unmap(700, 1)) {
         Ok(undo) => undo,
         Err(fault) => {
             space.release(first);

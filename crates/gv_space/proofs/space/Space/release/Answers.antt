@@ -4,7 +4,7 @@ use Rattle.gv_space.specs.State.{AddressSpace, IsSpace, AreSaved}
 use Rattle.gv_space.specs.Undo.{UndoValue, released}
 use Rattle.gv_space.specs.Inside.{space_of}
 use Rattle.gv_space.proofs.Spaces.{IsSpace-released}
-use Rattle.gv_space.proofs.Saved.{AreSaved-released, AreSaved-moved}
+use Rattle.gv_space.proofs.Saved.{AreSaved-released}
 use Rattle.gv_space.proofs.Rooms.{saved_are_kept}
 use Rattle.gv_space.proofs.space.Space.release.Goals as goal
 
@@ -42,7 +42,6 @@ returns-clause-saved c =
     let taken_is : c.undo.inside.taken.items ≡ taken = ap (λ (u : UndoValue). u.change.taken) c.undo.view_is in
     let new : AddressSpace = record s { buffers = c.unkeep.new.buffers; held = s.held - c.len.result } in
     let state : new ≡ released s taken = rw (c.unkeep.ensures, c.len.ensures.value, c.as_slice.ensures, taken_is) refl in
-    λ newer older are_saved.
-    subst (λ (t : AddressSpace). AreSaved t (newer ++ older)) (sym state)
-    (AreSaved-released s taken (newer ++ older)
-    (AreSaved-moved s newer taken older (subst (λ (t : AddressSpace). AreSaved t (newer ++ (taken ++ older))) (sym c.self.view_is) are_saved)))
+    λ others are_saved.
+    subst (λ (t : AddressSpace). AreSaved t others) (sym state)
+    (AreSaved-released s taken others (subst (λ (t : AddressSpace). AreSaved t (taken ++ others)) (sym c.self.view_is) are_saved))

@@ -7,7 +7,7 @@ use Rattle.gv_space.specs.State.{AddressSpace, IsSpace, AreSaved}
 use Rattle.gv_space.specs.Undo.{UndoValue, Fits, reverted}
 use Rattle.gv_space.specs.Inside.{space_of}
 use Rattle.gv_space.proofs.Reverts.{old, gone, within, room_to_undo, old_alike, taken_live, gone_live, taken_kept, room_for_taken, gone_counted, state_before, space_before, undone_is}
-use Rattle.gv_space.proofs.Saved.{AreSaved-reverted, AreSaved-moved}
+use Rattle.gv_space.proofs.Saved.{AreSaved-reverted}
 use Rattle.gv_space.proofs.space.Space.revert.Goals as goal
 
 pub overflow_add-pieces : goal.overflow_add-pieces
@@ -148,8 +148,8 @@ returns-clause-saved c =
     rw (mappings_are, size, c.as_slice.ensures) at c.exchange_back.ensures in
     let state = state_before s u c.self.invariant fits c.replace-lost.new.self c.exchange_back.new.buffers c.len.result list_is c.replace-lost.ensures.room buffers_is c.len.ensures.value in
     let new : AddressSpace = record s { mappings = c.replace-lost.new.self.mappings; room = c.replace-lost.new.self.room; buffers = c.exchange_back.new.buffers; held = s.held - c.len.result } in
-    λ newer older are_saved.
-    let saved : AreSaved s (newer ++ (u.change.taken ++ older)) =
-    subst (λ (v : UndoValue). AreSaved s (newer ++ (v.change.taken ++ older))) (sym c.undo.view_is)
-    (subst (λ (t : AddressSpace). AreSaved t (newer ++ (c.args.undo.change.taken ++ older))) (sym c.self.view_is) are_saved) in
-    subst (λ (t : AddressSpace). AreSaved t (newer ++ older)) (sym state) (AreSaved-reverted s u (newer ++ older) (AreSaved-moved s newer u.change.taken older saved))
+    λ others are_saved.
+    let saved : AreSaved s (u.change.taken ++ others) =
+    subst (λ (v : UndoValue). AreSaved s (v.change.taken ++ others)) (sym c.undo.view_is)
+    (subst (λ (t : AddressSpace). AreSaved t (c.args.undo.change.taken ++ others)) (sym c.self.view_is) are_saved) in
+    subst (λ (t : AddressSpace). AreSaved t others) (sym state) (AreSaved-reverted s u others saved)

@@ -7,6 +7,6 @@ use Rattle.gv_space.proofs.tests.refusals.apply_at_last.Goals as goal
 
 pub returns-in-Err-clause-changed : goal.returns-in-Err-clause-changed
 returns-in-Err-clause-changed g c =
-    changed_at_last c.args.space.now c.apply.new.self c.expect_reader.new.space c.apply-in-Err.new.self
+    changed_at_last c.args.space.now c.apply.new.space c.expect_reader.new.space c.apply-in-Err.new.space
     (λ (ms : List Mapping). edited ms (in_pages c.args.op.now)) c.apply-in-Err.result
     c.in-Err.ensures.unchanged c.expect_reader.ensures c.apply-in-Err.ensures.changed

@@ -8,6 +8,6 @@ returns-in-Ok-clause-held g c =
     let older = c.in_ok-first.first.change.taken ++ first.others in
     record {
       others = first.others;
-      are_saved = AreSaved-released c.apply-2.new.self c.in-Ok.second.change.taken older
+      are_saved = AreSaved-released c.apply-2.new.space c.in-Ok.second.change.taken older
           (c.in-Ok.ensures.changed.saved older first.are_saved);
     }

@@ -5,12 +5,12 @@ use Rattle.gv_space.proofs.tests.rows.hole_is_taken_back.Goals as goal
 
 pub release-requires : goal.release-requires
 release-requires g c =
-    Holds-unchanged c.apply.new.self c.apply-2.new.self c.in_ok-first.first.change.taken c.in-Err.ensures.unchanged
+    Holds-unchanged c.apply.new.space c.apply-2.new.space c.in_ok-first.first.change.taken c.in-Err.ensures.unchanged
     c.in_ok-first.ensures.changed.fits.holds
 
 pub release-requires-2 : goal.release-requires-2
 release-requires-2 g c =
-    Holds-unchanged c.apply.new.self c.revert.new.self c.in_ok-first.first.change.taken
-    (taken_back c.apply.new.self c.apply-2.new.self c.revert.new.self (edited c.apply.new.self.mappings (in_pages c.unmap.result))
+    Holds-unchanged c.apply.new.space c.revert.new.self c.in_ok-first.first.change.taken
+    (taken_back c.apply.new.space c.apply-2.new.space c.revert.new.self (edited c.apply.new.space.mappings (in_pages c.unmap.result))
     c.in-Ok.undo c.in-Ok.ensures.changed c.revert.ensures.state)
     c.in_ok-first.ensures.changed.fits.holds
