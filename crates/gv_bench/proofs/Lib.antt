@@ -1,3 +1,1 @@
-mod Further
 mod Plain
-mod Unwinding

@@ -1,58 +1,55 @@
-//! Runs of operations on an address space.
-ghost use Rattle.std.specs.Prelude.{◌≡◌, IfOk, OnOk, OnErr, reverse};
+//! Runs of edits of an address space.
 ghost use Rattle.gv_space.specs.State.{IsUnchanged};
-ghost use Rattle.gv_bench.specs.Runs.{edited_by, FitInTurn, unwound, LeadBack};
 
-use gv_space::{OpUndo, Space};
-use gv_types::{Fault, Op};
+use crate::edit::Edit;
+use crate::failure::Failure;
+use gv_space::Space;
 use std::alloc::Global;
+use std::time::{CpuClock, Duration};
 
-/// Applies operations in turn, and keeps their undo values, the newest last. Where one is refused, those before it are
-/// taken back. The faults are those of `Space::apply`.
-pub fn apply_all(space: &mut Space, alloc: Global, ops: &[Op]) -> Result<Vec<OpUndo>, Fault>
-    ensures applied { OnOk result (space.new.mappings ≡ edited_by ops.now space.old.mappings) }
-    ensures lead_back { IfOk result (λ undos. LeadBack space.old space.new undos.items) }
-    ensures unchanged { OnErr result (IsUnchanged space.old space.new) }
+/// Applies edits in turn, reads the clock, and takes them back, the newest first. Where one is refused, those before it
+/// are taken back.
+pub fn there_and_back<R: CpuClock>(
+    rt: &R,
+    space: &mut Space,
+    alloc: Global,
+    edits: &[Edit],
+) -> Result<Duration, Failure>
+    ensures { IsUnchanged space.old space.new }
 {
-    let mut undos = Vec::new(alloc);
-    for op in ops {
-        let undo = match space.apply(alloc, op) {
-            Ok(undo) => undo,
-            Err(fault) => {
-                revert_all(space, undos);
-                return Err(fault);
-            }
-        };
-        if let Err(refused) = undos.push(undo) {
-            space.revert(refused.value);
-            revert_all(space, undos);
-            return Err(Fault::OutOfMemory);
-        }
-    }
-    Ok(undos)
+    let Some((edit, rest)) = edits.split_first() else {
+        return Ok(rt.thread_cpu_time()?);
+    };
+    let undo = space.apply(alloc, edit.op())?;
+    let applied = there_and_back(rt, space, alloc, rest);
+    space.revert(undo);
+    applied
 }
 
-/// Takes operations back, the newest first. It takes no memory.
-pub fn revert_all(space: &mut Space, undos: Vec<OpUndo>)
-    requires { FitInTurn space.old (reverse undos.items) }
-    ensures { space.new ≡ unwound space.old (reverse undos.items) }
-{
-    let mut undos = undos;
-    while let Some(undo) = undos.pop() {
-        space.revert(undo);
-    }
-    undos.destroy_empty();
-}
-
-/// Applies operations in turn, for good, up to the first that is refused. The faults are those of `Space::apply`.
-pub fn keep_all(space: &mut Space, alloc: Global, ops: &[Op]) -> Result<(), Fault>
-    ensures { OnOk result (space.new.mappings ≡ edited_by ops.now space.old.mappings) }
-{
-    for op in ops {
-        match space.apply(alloc, op) {
-            Ok(undo) => space.release(undo),
-            Err(fault) => return Err(fault),
+/// Applies edits in turn, for good, up to the first that is refused. Of each that moved the mappings behind its first
+/// page, how many those were.
+pub fn keep_all(space: &mut Space, alloc: Global, edits: &[Edit]) -> Result<Vec<usize>, Failure> {
+    let mut moves = Vec::with_capacity(alloc, edits.len())?;
+    for edit in edits {
+        if let Some(behind) = keep(space, alloc, edit)? {
+            moves.push(behind)?;
         }
     }
-    Ok(())
+    Ok(moves)
+}
+
+/// Applies an edit for good. How many mappings were behind its first page, where it makes the list longer or shorter.
+fn keep(space: &mut Space, alloc: Global, edit: &Edit) -> Result<Option<usize>, Failure> {
+    let count = space.mappings().len();
+    let first = edit.first();
+    let place = space
+        .mappings()
+        .partition_point(|mapping| mapping.range.end() <= first);
+    let undo = space.apply(alloc, edit.op())?;
+    space.release(undo);
+    if space.mappings().len() == count {
+        Ok(None)
+    } else {
+        Ok(Some(count.saturating_sub(place)))
+    }
 }

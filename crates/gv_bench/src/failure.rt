@@ -1,6 +1,6 @@
 //! Why the program ends early.
 use gv_types::{Fault, OutOfMemory};
-use std::alloc::AllocError;
+use std::alloc::{AllocError, AllocFailed};
 use std::{fmt, io};
 
 /// Why the figures are not all there.
@@ -38,6 +38,12 @@ impl From<OutOfMemory> for Failure {
 
 impl From<AllocError> for Failure {
     fn from(_error: AllocError) -> Failure {
+        Failure::Refused(Fault::OutOfMemory)
+    }
+}
+
+impl From<AllocFailed<usize>> for Failure {
+    fn from(_error: AllocFailed<usize>) -> Failure {
         Failure::Refused(Fault::OutOfMemory)
     }
 }

@@ -4,31 +4,62 @@ use std::time::Duration;
 
 /// The line over the figures: nanoseconds of a step of each kind, then how many hundredths of the one the other takes.
 pub const HEADER: &str = "\
-workload  mappings    apply   revert     edit     find     walk  look-up  \
+workload  mappings    apply   revert     move     edit     find     walk  look-up  \
 revert/apply  apply/edit  find/look-up  walk/look-up";
 
-/// Times at one workload and size: of edits of the address space, their undoing and edits of the plain list, and of
-/// look-ups by the space's list, by its page table and in the plain list.
+/// Times at one workload and size: of edits of the address space and of the plain list, and of look-ups in both.
 #[derive(Clone, Copy)]
 pub struct Figures {
-    pub apply: Least,
-    pub revert: Least,
-    pub edit: Least,
-    pub find: Least,
-    pub walk: Least,
-    pub look_up: Least,
+    pub space_edits: SpaceTimes,
+    pub plain_edits: Least,
+    pub look_ups: LookUpTimes,
 }
 
 impl fmt::Display for Figures {
     fn fmt<W: fmt::Write>(&self, f: &mut fmt::Formatter<W>) -> fmt::Result {
-        write!(f, "  {:>7}  {:>7}", self.apply.each(), self.revert.each())?;
-        write!(f, "  {:>7}  {:>7}", self.edit.each(), self.find.each())?;
-        write!(f, "  {:>7}  {:>7}", self.walk.each(), self.look_up.each())?;
-        write!(f, "  {:>11}%", self.revert.percent_of(self.apply))?;
-        write!(f, "  {:>9}%", self.apply.percent_of(self.edit))?;
-        write!(f, "  {:>11}%", self.find.percent_of(self.look_up))?;
-        write!(f, "  {:>11}%", self.walk.percent_of(self.look_up))
+        let edits = self.space_edits;
+        let plain = self.plain_edits;
+        let LookUpTimes {
+            find,
+            walk,
+            look_up,
+        } = self.look_ups;
+        write!(f, "  {:>7}  {:>7}", edits.apply.each(), edits.revert.each())?;
+        write!(f, "  {:>7}  {:>7}", edits.shift.each(), plain.each())?;
+        write!(f, "  {:>7}  {:>7}", find.each(), walk.each())?;
+        write!(f, "  {:>7}", look_up.each())?;
+        write!(f, "  {:>11}%", edits.revert.percent_of(edits.apply))?;
+        write!(f, "  {:>9}%", edits.apply.percent_of(plain))?;
+        write!(f, "  {:>11}%", find.percent_of(look_up))?;
+        write!(f, "  {:>11}%", walk.percent_of(look_up))
     }
+}
+
+/// Times of edits of the address space: of applying them, of taking them back, and of moving alone what they move.
+#[derive(Clone, Copy)]
+pub struct SpaceTimes {
+    pub apply: Least,
+    pub revert: Least,
+    pub shift: Least,
+}
+
+impl SpaceTimes {
+    /// Of no run yet. Each is to have so many edits.
+    pub fn new(edits: u64) -> SpaceTimes {
+        SpaceTimes {
+            apply: Least::new(edits),
+            revert: Least::new(edits),
+            shift: Least::new(edits),
+        }
+    }
+}
+
+/// Times of look-ups by the space's list, by its page table and in the plain list.
+#[derive(Clone, Copy)]
+pub struct LookUpTimes {
+    pub find: Least,
+    pub walk: Least,
+    pub look_up: Least,
 }
 
 /// The least time of some runs of equally many steps.

@@ -3,6 +3,7 @@
 #![tactic(auto)]
 
 mod checksum;
+mod edit;
 mod edits;
 mod failure;
 mod figures;

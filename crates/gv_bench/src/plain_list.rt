@@ -1,9 +1,9 @@
 //! The plain list that an address space is compared with.
-ghost use Rattle.std.specs.Prelude.{◌≡◌, ◌<◌, IfSome};
+ghost use Rattle.std.specs.Prelude.{◌<◌, IfSome};
 ghost use Rattle.gv_types.specs.Mapping.{IsMapping};
-ghost use Rattle.gv_types.specs.Operation.{IsPageOp};
 
-use gv_types::{Backing, Bounds, Entry, Fault, Mapping, Op, OutOfMemory, PageOp, PageRange};
+use crate::edit::Edit;
+use gv_types::{Backing, Bounds, Entry, Fault, Mapping, OutOfMemory, PageOp, PageRange};
 use std::alloc::Global;
 use std::collections::BTreeMap;
 use std::collections::btree_map::Values;
@@ -38,9 +38,7 @@ impl PlainList {
     }
 
     /// The mappings, in ascending order.
-    pub fn mappings(&self) -> Values<'_, u64, Mapping>
-        ensures { result ≡ self.now }
-    {
+    pub fn mappings(&self) -> Values<'_, u64, Mapping> {
         self.mappings.values()
     }
 
@@ -54,30 +52,32 @@ impl PlainList {
         }
     }
 
-    /// Applies an operation: the mappings that meet its range go, and their rests and a map's mapping come. The faults
+    /// Applies an edit: the mappings that meet its range go, and their rests and a map's mapping come. The faults
     /// are those of `Bounds::check`, then `OutOfMemory`.
-    pub fn apply(&mut self, op: &Op) -> Result<(), Fault> {
-        let op = Bounds::whole().check(op)?;
-        self.cut(op.range())?;
-        match op {
+    pub fn apply(&mut self, edit: &Edit) -> Result<(), Fault> {
+        match Bounds::whole().check(edit.op())? {
             PageOp::Map {
                 range,
                 backing,
                 flags,
-            } => self.insert(Mapping {
-                range,
-                backing,
-                flags,
-            })?,
-            PageOp::Unmap { .. } => {}
+            } => {
+                self.cut(range)?;
+                self.insert(Mapping {
+                    range,
+                    backing,
+                    flags,
+                })?;
+            }
+            PageOp::Unmap { range } => self.cut(range)?,
+            PageOp::UnmapBuffer { .. } => unreachable!(),
         }
         Ok(())
     }
 
-    /// Applies operations in turn, up to the first that is refused.
-    pub fn apply_all(&mut self, ops: &[Op]) -> Result<(), Fault> {
-        for op in ops {
-            self.apply(op)?;
+    /// Applies edits in turn, up to the first that is refused.
+    pub fn apply_all(&mut self, edits: &[Edit]) -> Result<(), Fault> {
+        for edit in edits {
+            self.apply(edit)?;
         }
         Ok(())
     }

@@ -1,50 +1,77 @@
 //! The processor time that runs of edits and of look-ups take. What other programs do meanwhile is not in it.
 use crate::checksum::Checksum;
-use crate::edits::{apply_all, keep_all, revert_all};
+use crate::edit::Edit;
+use crate::edits::{keep_all, there_and_back};
 use crate::failure::Failure;
-use crate::figures::Least;
+use crate::figures::{Least, SpaceTimes};
 use crate::plain_list::PlainList;
 use gv_space::Space;
-use gv_types::{Entry, Op};
-use std::time::CpuClock;
+use gv_types::{Entry, Mapping};
+use std::alloc::Global;
+use std::time::{CpuClock, Duration};
 
-/// How many operations a run has.
+/// How many edits a run has.
 const EDITS: usize = 100;
 
 /// How many look-ups a run has.
 const LOOK_UPS: usize = 1_000;
 
-/// Applies operations to the space, in runs, each of which is taken back once and applied again. The times of applying
-/// a run and of taking it back.
+/// Applies edits to the space, in runs, each of which is taken back once and applied again. The times of applying a run,
+/// of taking it back, and of moving alone what its edits move.
 pub fn time_edits<R: CpuClock + AllocGlobal>(
     rt: &R,
     space: &mut Space,
-    ops: &[Op],
-) -> Result<(Least, Least), Failure> {
-    let mut apply = Least::new(EDITS as u64);
-    let mut revert = Least::new(EDITS as u64);
-    for run in ops.chunks_exact(EDITS) {
+    edits: &[Edit],
+) -> Result<SpaceTimes, Failure> {
+    let mut times = SpaceTimes::new(EDITS as u64);
+    for run in edits.chunks_exact(EDITS) {
         let start = rt.thread_cpu_time()?;
-        let undos = apply_all(space, rt.alloc(), run)?;
-        let applied = rt.thread_cpu_time();
-        revert_all(space, undos);
+        let applied = there_and_back(rt, space, rt.alloc(), run)?;
         let reverted = rt.thread_cpu_time()?;
-        let applied = applied?;
-        keep_all(space, rt.alloc(), run)?;
-        apply.take(applied.saturating_sub(start));
-        revert.take(reverted.saturating_sub(applied));
+        times.apply.take(applied.saturating_sub(start));
+        times.revert.take(reverted.saturating_sub(applied));
+        times.shift.take(keep_run(rt, rt.alloc(), space, run)?);
     }
-    Ok((apply, revert))
+    Ok(times)
 }
 
-/// Applies operations to the plain list, in runs. The time of a run.
+/// Applies a run for good. The time of moving alone what its edits move.
+fn keep_run<R: CpuClock>(
+    rt: &R,
+    alloc: Global,
+    space: &mut Space,
+    run: &[Edit],
+) -> Result<Duration, Failure> {
+    let moves = keep_all(space, alloc, run)?;
+    let mut mappings = space.mappings().to_vec(alloc)?;
+    time_moves(rt, &mut mappings, moves.as_slice())
+}
+
+/// The time of moving the last mappings by one place: so many, then so many, each time in one block.
+fn time_moves<R: CpuClock>(
+    rt: &R,
+    mappings: &mut Vec<Mapping>,
+    moves: &[usize],
+) -> Result<Duration, Failure> {
+    let start = rt.thread_cpu_time()?;
+    for count in moves {
+        let place = mappings.len().saturating_sub(*count);
+        if place < mappings.len() {
+            mappings.copy_within(place + 1.., place);
+        }
+    }
+    let moved = rt.thread_cpu_time()?;
+    Ok(moved.saturating_sub(start))
+}
+
+/// Applies edits to the plain list, in runs. The time of a run.
 pub fn time_plain_edits<R: CpuClock>(
     rt: &R,
     list: &mut PlainList,
-    ops: &[Op],
+    edits: &[Edit],
 ) -> Result<Least, Failure> {
     let mut edit = Least::new(EDITS as u64);
-    for run in ops.chunks_exact(EDITS) {
+    for run in edits.chunks_exact(EDITS) {
         let start = rt.thread_cpu_time()?;
         list.apply_all(run)?;
         let applied = rt.thread_cpu_time()?;

@@ -1,6 +1,8 @@
 //! What is done to the lists.
-ghost use Rattle.std.specs.Prelude.{◌^◌, ◌<◌, ◌≤◌};
+ghost use Rattle.std.specs.Prelude.{◌^◌, ◌<◌, ◌≤◌, IsTrue};
+ghost use Rattle.gv_types.specs.Operation.{has_range};
 
+use crate::edit::Edit;
 use crate::random::Random;
 use gv_types::{BufferId, Flags, Op, PAGE_BYTES};
 use std::alloc::{AllocError, Global};
@@ -61,20 +63,20 @@ pub struct Plan {
 
 impl Plan {
     /// Maps that make the list, none of which touches another.
-    pub fn start(&self, alloc: Global) -> Result<Vec<Op>, AllocError> {
+    pub fn start(&self, alloc: Global) -> Result<Vec<Edit>, AllocError> {
         let mut ops = Vec::with_capacity(alloc, self.size as usize)?;
         for place in 0..self.size {
-            ops.push(self.map(u64::from(place) * STRIDE, MAPPED))?;
+            ops.push(Edit::new(self.map(u64::from(place) * STRIDE, MAPPED)))?;
         }
         Ok(ops)
     }
 
     /// The operations.
-    pub fn operations(&self, alloc: Global) -> Result<Vec<Op>, AllocError> {
+    pub fn edits(&self, alloc: Global) -> Result<Vec<Edit>, AllocError> {
         let mut random = Random::new(u64::from(self.size));
         let mut ops = Vec::with_capacity(alloc, OPERATIONS as usize)?;
         for turn in 0..OPERATIONS {
-            ops.push(self.operation(&mut random, turn))?;
+            ops.push(Edit::new(self.operation(&mut random, turn)))?;
         }
         Ok(ops)
     }
@@ -92,7 +94,9 @@ impl Plan {
     }
 
     /// The operation that comes after `turn` others.
-    fn operation(&self, random: &mut Random, turn: u32) -> Op {
+    fn operation(&self, random: &mut Random, turn: u32) -> Op
+        ensures { IsTrue (has_range result) }
+    {
         let units = u64::from(self.size) * STRIDE;
         match self.workload {
             Workload::Random | Workload::Sparse => {
@@ -116,6 +120,7 @@ impl Plan {
     fn map(&self, first: u64, count: u64) -> Op
         requires first { first < 2 ^ 40 }
         requires count { count < 2 ^ 40 }
+        ensures { IsTrue (has_range result) }
     {
         let addr = self.bytes(first);
         Op::Map {
@@ -130,6 +135,7 @@ impl Plan {
     fn unmap(&self, first: u64, count: u64) -> Op
         requires first { first < 2 ^ 40 }
         requires count { count < 2 ^ 40 }
+        ensures { IsTrue (has_range result) }
     {
         Op::Unmap {
             addr: self.bytes(first),
