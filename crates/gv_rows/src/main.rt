@@ -4,6 +4,8 @@
 #[cfg(test)]
 mod devices;
 #[cfg(test)]
+mod refusals;
+#[cfg(test)]
 mod rows;
 
 use gv_text::{MemorySink, MemorySource, run_script};

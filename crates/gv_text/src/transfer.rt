@@ -10,7 +10,10 @@ use std::alloc::{AllocError, Global};
 /// The greatest number of bytes in a script.
 pub const SCRIPT_LIMIT: usize = 1_048_576;
 
-const CHUNK_LEN: usize = 4096;
+/// How many bytes one read may give. The chunk lies on the stack and has more bytes than the frames of all calls that a
+/// line makes (a table that the system refuses comes back through frames of a table's size each), so the stack that a
+/// line needs was given before the first line runs: want of memory then meets no stack that can't grow.
+const CHUNK_LEN: usize = 1 << 19;
 
 /// The whole script. Each read gives a byte or ends it, so there are at most `SCRIPT_LIMIT + 1` reads. Where memory is
 /// refused, the rest is read and counted all the same: a script that is too long, or a read that fails, is told first.
