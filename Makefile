@@ -26,19 +26,12 @@ test:
 	@! grep -rnw Wait crates/gv_sync/src
 	$(RT) ci
 
-# Outside the gate, since it has no way to refuse memory: each request for memory refused in turn, the first, the second
-# and so on, to the first example and to those tests of the space that are made for it. A run that asks for less than N
-# times ends as it does with ample memory.
+# Outside the gate, since it has no way to refuse memory: a long script under limits of the address space, and the first,
+# second and further requests for memory refused in the tests that are made for it. Each run is compared with what it may
+# come to; the last line is 'N passed, M failed'.
 LAST ?= 40
-refuse-memory:
-	@cd $(PROGRAM) && for n in $$(seq 1 $(LAST)); do \
-		echo "== the first example, request $$n refused"; \
-		$(RT) try --fail-alloc $$n -- run < ../../examples/first.vmb 2>&1 | tail -n 12; \
-	done
-	@cd crates/gv_space && for n in $$(seq 1 $(LAST)); do \
-		echo "== the space, request $$n refused"; \
-		$(RT) try --test --fail-alloc $$n 2>&1 | grep 'refusals::'; \
-	done
+refuse-memory: vmbind
+	@RT="$(RT)" tools/refuse-memory $(LAST)
 
 # Times of edits and look-ups. The figures are of this machine.
 measure:
