@@ -31,7 +31,7 @@ at_run ms range place count page is covered =
     at_begun_past (drop (place + count) ms) page
     (All-weaker (λ (m : Mapping). end_of range ≤ m.range.first) (λ (m : Mapping). page < m.range.first) (λ m h. omega (arith, h)) (drop (place + count) ms) is.behind) in
     sym (
-      ap (λ (xs : List Mapping). at xs page) (split_at_run ms place count) ∙
-        at-append_none (take place ms) (run ms place count ++ drop (place + count) ms) page before ∙
-        at-append_left (run ms place count) (drop (place + count) ms) page behind
+    ap (λ (xs : List Mapping). at xs page) (split_at_run ms place count) ∙
+    at-append_none (take place ms) (run ms place count ++ drop (place + count) ms) page before ∙
+    at-append_left (run ms place count) (drop (place + count) ms) page behind
     )

@@ -7,19 +7,17 @@ ghost use Rattle.gv_types.specs.Span.{covers};
 ghost use Rattle.gv_types.specs.Operation.{has_range, in_pages, own_mapping, range_of, after, IsChecked};
 ghost use Rattle.gv_types.specs.declared.mapping.Mapping.{Mapping};
 
-use crate::meeting::Meeting;
 use crate::painted::PaintedList;
-use crate::pieces::{Pieces, clip_to_range, count_in_range, with_rests};
 use crate::undo::OpUndo;
-use crate::verdict::check_buffer;
 use crate::{counts, ranges};
 use gv_buffers::{Buffers, Usage};
 use gv_split::Step;
-use gv_table::Spares;
 use gv_types::{Backing, Bounds, BufferId, Entry, Fault, Limits, Mapping, Op, PageOp, PageRange};
-use smallvec::SmallVec;
 use std::alloc::Global;
 use std::marker::Model;
+
+mod buffers;
+mod change;
 
 /// Undo values of one space hold at most so many mappings.
 const MAX_HELD: u64 = 1 << 62;
@@ -122,42 +120,6 @@ impl Space {
         ensures { result ≡ tables_of self.now.mappings }
     {
         self.painted.tables()
-    }
-
-    /// How many mappings of the buffer are in the list, or None where the id is dead.
-    pub fn uses(&self, id: BufferId) -> Option<u64>
-        ensures { result ≡ uses self.now.buffers id }
-    {
-        self.buffers.uses(id)
-    }
-
-    /// How many mappings of the buffer are in undo values, or None where the id is dead.
-    pub fn kept(&self, id: BufferId) -> Option<u64>
-        ensures { result ≡ kept self.now.buffers id }
-    {
-        self.buffers.kept(id)
-    }
-
-    /// How many pages the buffer has, or None where the id is dead.
-    pub fn pages(&self, id: BufferId) -> Option<u64>
-        ensures { result ≡ pages self.now.buffers id }
-    {
-        self.buffers.pages(id)
-    }
-
-    /// The pages of each mapping of a buffer, in ascending order: what an unmap of the whole buffer unmaps. `NoBuffer` where
-    /// the id is dead; `OutOfMemory` only where there is such a mapping. It goes no further through the list than to the
-    /// last of them.
-    pub fn buffer_ranges(&self, alloc: Global, id: BufferId) -> Result<Vec<PageRange>, Fault>
-        ensures fault { MatchOption (dead_fault (pages self.now.buffers id))
-            (IsOkUnless result Fault.OutOfMemory) (λ fault. result ≡ Err fault) }
-        ensures ranges { IfOk result (λ list. list.items ≡ ranges_of id self.now.mappings) }
-        ensures some { result ≡ Err Fault.OutOfMemory → 0 < count_of id self.now.mappings }
-    {
-        let Some(count) = self.buffers.uses(id) else {
-            return Err(Fault::NoBuffer);
-        };
-        Ok(ranges::ranges_of(alloc, self.mappings(), id, count)?)
     }
 
     /// The split steps of an operation, as DRM GPUVM plans them; nothing changes. An unmap of a whole buffer has a step
@@ -273,145 +235,5 @@ impl Space {
         } = undo;
         counts::unkeep(&mut self.buffers, taken.as_slice());
         self.held -= taken.len() as u64;
-    }
-
-    /// Makes a buffer of `pages` pages. `BadSize` at 0 pages or over 2^36, and `TooManyBuffers` where the limit's buffers are
-    /// alive or 2^64 - 1 were made, then `OutOfMemory`.
-    pub fn create(&mut self, alloc: Global, pages: u64) -> Result<BufferId, Fault>
-        ensures fault { MatchOption (create_fault self.old.buffers pages)
-            (IsOkUnless result Fault.OutOfMemory) (λ fault. result ≡ Err fault) }
-        ensures ok { IfOk result (λ id. IsCreated self.old.buffers self.new.buffers id pages) }
-        ensures rest { self.new ≡ record self.old { buffers = self.new.buffers } }
-        ensures err { OnErr result (self.new ≡ self.old) }
-        ensures saved { (kept : List Mapping) → AreSaved self.old kept → AreSaved self.new kept }
-    {
-        self.buffers.create(alloc, pages)
-    }
-
-    /// Destroys a buffer that nothing names. `NoBuffer` where the id is dead, then `Mapped` where mappings of it are in the
-    /// list, `Kept` where they are in undo values, and `InUse` where jobs use it. It takes no memory.
-    pub fn destroy(&mut self, id: BufferId) -> Result<(), Fault>
-        ensures fault { MatchOption (destroy_fault self.old.buffers id)
-            (IsOk result) (λ fault. result ≡ Err fault) }
-        ensures ok { OnOk result (self.new ≡ record self.old { buffers = without id self.old.buffers }) }
-        ensures err { OnErr result (self.new ≡ self.old) }
-        ensures saved { (kept : List Mapping) → AreSaved self.old kept → AreSaved self.new kept }
-    {
-        self.buffers.destroy(id)
-    }
-
-    /// Lets a job use a buffer, as the kernel's Reservation Objects do; one that uses it already gets the stronger usage.
-    /// `NoBuffer` where the id is dead, then `Conflict` with the least other job that uses the buffer where one of the two
-    /// writes it, then `OutOfMemory`.
-    pub fn join(&mut self, alloc: Global, id: BufferId, job: u64, usage: Usage) -> Result<(), Fault>
-        ensures fault { MatchOption (join_fault self.old.buffers id job usage)
-            (IsOkUnless result Fault.OutOfMemory) (λ fault. result ≡ Err fault) }
-        ensures ok { OnOk result
-            (self.new ≡ record self.old { buffers = changed id (joined_by job usage) self.old.buffers }) }
-        ensures err { OnErr result (self.new ≡ self.old) }
-        ensures saved { (kept : List Mapping) → AreSaved self.old kept → AreSaved self.new kept }
-    {
-        self.buffers.join(alloc, id, job, usage)
-    }
-
-    /// Removes a job from the users of every buffer. It takes no memory.
-    pub fn leave(&mut self, job: u64)
-        ensures state { self.new ≡ record self.old { buffers = left_everywhere job self.old.buffers } }
-        ensures saved { (kept : List Mapping) → AreSaved self.old kept → AreSaved self.new kept }
-    {
-        self.buffers.leave(job);
-    }
-
-    /// The operation in pages, or its first fault: those of `check` in their order, then of its buffer.
-    fn check(&self, op: &Op) -> Result<PageOp, Fault>
-        ensures fault { MatchOption (operation_fault self.now op.now) (IsOk result) (λ fault. result ≡ Err fault) }
-        ensures same { IfOk result (λ p. p ≡ in_pages op.now) }
-        ensures allowed { IfOk result (IsAllowed self.now.area) }
-        ensures page_op { IfOk result IsChecked }
-        ensures placed { IfOk result (λ p. All (IsPlaced self.now.area self.now.buffers) (own_mapping p)) }
-    {
-        let op = match self.bounds.check(op) {
-            Ok(op) => op,
-            Err(fault) => return Err(fault),
-        };
-        check_buffer(&self.buffers, &op)?;
-        Ok(op)
-    }
-
-    /// `TooManyMappings` where the list would pass its limit, or undo values would hold too much, once the saved mappings
-    /// stand in the range.
-    fn check_limits(
-        &self,
-        range: PageRange,
-        meeting: &Meeting,
-        saved: &[Mapping],
-    ) -> Result<(), Fault>
-        requires laid_out { IsLaidOut saved.now }
-        requires meeting { IsMeeting self.now.mappings range meeting.now }
-        ensures { MatchOption (limit_fault self.now range (restored self.now.mappings range saved.now))
-            (IsOk result) (λ fault. result ≡ Err fault) }
-    {
-        let inside = count_in_range(saved, range);
-        let after = self.mappings().len() - meeting.count + meeting.count_rests() + inside;
-        if after as u64 > self.limits.mappings() || self.held + meeting.count as u64 > MAX_HELD {
-            return Err(Fault::TooManyMappings);
-        }
-        Ok(())
-    }
-
-    /// The range is cut out, and what the saved mappings have in it is put in.
-    fn change(
-        &mut self,
-        alloc: Global,
-        range: PageRange,
-        saved: &[Mapping],
-    ) -> Result<OpUndo, Fault>
-        requires laid_out { IsLaidOut saved.now }
-        requires placed { All (IsPlaced self.old.area self.old.buffers) saved.now }
-        ensures fault { MatchOption (limit_fault self.old range (restored self.old.mappings range saved.now))
-            (IsOkUnless result Fault.OutOfMemory) (λ fault. result ≡ Err fault) }
-        ensures changed { IfOk result (λ undo.
-            IsChanged self.old self.new (restored self.old.mappings range saved.now) undo) }
-        ensures range { IfOk result (λ undo. undo.range ≡ range) }
-        ensures unchanged { OnErr result (IsUnchanged self.old self.new) }
-    {
-        let meeting = Meeting::of(self.painted.list(), range);
-        self.check_limits(range, &meeting, saved)?;
-        let place = meeting.place;
-        let run = &self.mappings()[place..place + meeting.count];
-        let taken = SmallVec::from_slice(alloc, run)?;
-        let inside = clip_to_range(alloc, saved, range)?;
-        let pieces = with_rests(alloc, &meeting, inside.as_slice())?;
-        let spares = self.painted.spare(alloc, range, inside.as_slice())?;
-        self.painted
-            .reserve(pieces.len().saturating_sub(taken.len()))?;
-        Ok(self.exchange(range, place, taken, pieces.as_slice(), spares))
-    }
-
-    /// The change, for which all room is there.
-    fn exchange(
-        &mut self,
-        range: PageRange,
-        place: usize,
-        taken: Pieces,
-        pieces: &[Mapping],
-        spares: Spares,
-    ) -> OpUndo
-        requires { (inside : List Mapping) × IsReady inside self.old range place taken.items pieces.now spares }
-        ensures changed { IsChanged self.old self.new
-            (splice self.old.mappings place (place + length taken.items) pieces.now) result }
-        ensures range { result.range ≡ range }
-    {
-        let count = taken.len();
-        counts::exchange(&mut self.buffers, taken.as_slice(), pieces);
-        let tables = self.painted.replace(range, place, count, pieces, spares);
-        self.held += count as u64;
-        OpUndo {
-            place,
-            put_in: pieces.len(),
-            range,
-            taken,
-            tables,
-        }
     }
 }

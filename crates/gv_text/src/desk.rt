@@ -90,12 +90,7 @@ impl Desk {
 
     /// Declares a buffer: None where its name is declared already. `BadSize`, then `TooManyBuffers`; `OutOfMemory` where
     /// there is no room for the name or the buffer.
-    pub fn declare(
-        &mut self,
-        alloc: Global,
-        name: Name,
-        pages: u64,
-    ) -> Option<Result<(), Fault>>
+    pub fn declare(&mut self, alloc: Global, name: Name, pages: u64) -> Option<Result<(), Fault>>
         requires { self.old.begun ≡ true }
         ensures { MatchOption result (IsSome (place_of self.old.buffers name))
             (λ r. (place_of self.old.buffers name ≡ None) × Declares self.old name pages r self.new) }

@@ -5,7 +5,9 @@ ghost use Rattle.gv_text.specs.Answer.{Told, answer, answer_if, ran, asked_area,
 ghost use Rattle.gv_text.specs.declared.run.LineFault.TheVariants as line_fault;
 
 use crate::desk::Desk;
-use crate::reply::{write_mappings, write_place, write_refused, write_refused_request, write_steps, write_tables};
+use crate::reply::{
+    write_mappings, write_place, write_refused, write_refused_request, write_steps, write_tables,
+};
 use gv_lines::{Line, Name, Operation, parse_line};
 use gv_types::{Bounds, Fault, OutOfMemory, PAGE_BYTES};
 use std::alloc::{AllocError, Global};

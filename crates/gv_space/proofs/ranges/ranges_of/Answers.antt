@@ -1,9 +1,8 @@
-use Rattle.std.proofs.Common.{arith, ◌≡◌, ℕ, ◌≤◌, List, length, take, map, ap, sym, ◌∙◌}
+use Rattle.std.proofs.Common.{arith, ◌≡◌, List, take, map, ap, ◌∙◌}
 use Rattle.std.proofs.lemmas.Result.{IfOk-weaker}
 use Rattle.std.proofs.lemmas.List.{take_all}
 use Rattle.std.specs.List.{filter}
 use Rattle.gv_types.specs.Mapping.{is_of}
-use Rattle.gv_types.specs.Span.{Span}
 use Rattle.gv_types.specs.declared.mapping.Mapping.{Mapping}
 use Rattle.gv_space.specs.Counts.{ranges_of}
 use Rattle.gv_space.proofs.ranges.ranges_of.Goals as goal

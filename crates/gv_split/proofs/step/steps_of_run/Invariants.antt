@@ -1,4 +1,4 @@
-use Rattle.std.proofs.Common.{◌≡◌, ◌≤◌, ◌+◌, map, take, length, vec_len, vec_capacity}
+use Rattle.std.proofs.Common.{◌≡◌, ◌+◌, map, take, length, vec_len, vec_capacity}
 use Rattle.gv_types.specs.Operation.{own_mapping}
 use Rattle.gv_split.specs.Steps.{step_in}
 use Rattle.gv_split.proofs.step.steps_of_run.Given as goal

@@ -1,4 +1,4 @@
-use Rattle.std.proofs.Common.{◌≡◌, Some, Err, refl, sym, ◌∙◌}
+use Rattle.std.proofs.Common.{◌≡◌, Some, refl, sym, ◌∙◌}
 use Rattle.gv_types.specs.Bounds.{first_fault}
 use Rattle.gv_types.specs.Operation.{in_pages}
 use Rattle.gv_space.specs.Verdict.{operation_fault, buffer_fault}

@@ -1,6 +1,5 @@
 use Rattle.std.proofs.Common.{sym, subst}
 use Rattle.gv_buffers.specs.Table.{Table, IsTable}
-use Rattle.gv_types.specs.declared.mapping.Mapping.{Mapping}
 use Rattle.gv_space.specs.State.{AddressSpace, AreSaved, IsSpace}
 use Rattle.gv_space.specs.Inside.{space_of}
 use Rattle.gv_space.proofs.Jobs.{AreSaved-left}
