@@ -124,11 +124,12 @@ impl Space {
 
     /// The split steps of an operation, as DRM GPUVM plans them; nothing changes. An unmap of a whole buffer has a step
     /// for each of its mappings. The faults are the first of `check`, then `NoBuffer` and `OutOfBuffer`, then
-    /// `OutOfMemory`. The limit of mappings is not asked.
+    /// `OutOfMemory`, only where there are steps. The limit of mappings is not asked.
     pub fn plan(&self, alloc: Global, op: &Op) -> Result<Vec<Step>, Fault>
         ensures fault { MatchOption (operation_fault self.now op.now)
             (IsOkUnless result Fault.OutOfMemory) (λ fault. result ≡ Err fault) }
         ensures steps { IfOk result (λ list. list.items ≡ steps self.now.mappings (in_pages op.now)) }
+        ensures some { result ≡ Err Fault.OutOfMemory → 0 < length (steps self.now.mappings (in_pages op.now)) }
         ensures placed { IfOk result (λ _.
             All (IsPlaced self.now.area self.now.buffers) (own_mapping (in_pages op.now))) }
     {
