@@ -17,6 +17,8 @@ const CHUNK_LEN: usize = 1 << 19;
 
 /// The whole script. Each read gives a byte or ends it, so there are at most `SCRIPT_LIMIT + 1` reads. Where memory is
 /// refused, the rest is read and counted all the same: a script that is too long, or a read that fails, is told first.
+// A frame of its own, given back before a line runs.
+#[inline(never)]
 pub fn read_script<S: Source>(alloc: Global, source: &mut S) -> Result<Vec<u8>, ScriptFault>
     ensures whole { ReadsWhole (S.remaining source.old) result }
     ensures len { TellsLength (S.remaining source.old) result }
