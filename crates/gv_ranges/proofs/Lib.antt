@@ -1,6 +1,7 @@
 pub mod Parts
 pub mod Splices
 pub mod Lookup
+pub mod Places
 pub mod Clip
 pub mod Kept
 pub mod Replaced

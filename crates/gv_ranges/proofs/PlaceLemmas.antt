@@ -1,5 +1,5 @@
 -- For callers: places up to which mappings end, as a list changes.
-use Rattle.std.proofs.Common.{◌≡◌, ℕ, ◌+◌, ◌≤◌, ◌++◌, List, length, take, drop, arith, sym, subst, ◌∙◌}
+use Rattle.std.proofs.Common.{◌≡◌, ℕ, ◌≤◌, ◌++◌, List, length, take, drop, arith, sym, subst, ◌∙◌}
 use Rattle.std.proofs.lemmas.List.{take-append-le, take_all, length-take-le, length-append}
 use Rattle.std.specs.List.{All, splice}
 use Rattle.gv_types.specs.Span.{Span, end_of}
