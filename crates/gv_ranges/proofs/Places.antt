@@ -1,7 +1,7 @@
 -- Places found step by step.
-use Rattle.std.proofs.Common.{◌≡◌, ℕ, Bool, true, false, leb, refl, ◌+◌, ◌-◌, ◌/◌, ◌∙◌, ◌≤◌, ◌<◌, ◌⊎◌, inl, inr, length, get_or, take, drop, List, arith, sym, subst}
+use Rattle.std.proofs.Common.{◌≡◌, ℕ, Bool, true, false, leb, refl, ◌+◌, ◌-◌, ◌/◌, ◌*◌, ◌^◌, ◌%◌, ◌∙◌, ◌≤◌, ◌<◌, ◌⊎◌, inl, inr, length, get_or, take, drop, List, arith, sym, subst}
 use Rattle.std.specs.Prelude.{if◌then◌else◌}
-use Rattle.std.proofs.lemmas.Bool.{leb-true, leb-false}
+use Rattle.std.proofs.lemmas.Bool.{leb-true, leb-false, lt-leb, le-leb, cases_lt}
 use Rattle.std.proofs.lemmas.List.{length-drop, get_or_default}
 use Rattle.std.specs.List.{All}
 use Rattle.gv_types.specs.Span.{end_of}
@@ -62,19 +62,20 @@ true-or-false : (b : Bool) → (b ≡ true) ⊎ (b ≡ false)
 true-or-false true = inl refl
 true-or-false false = inr refl
 
-chosen : (b : Bool) (next x y : ℕ) → next ≡ (if b then x else y) → ((b ≡ true) × (next ≡ x)) ⊎ ((b ≡ false) × (next ≡ y))
-chosen true next x y is = inl (refl, is)
-chosen false next x y is = inr (refl, is)
+chosen : (b : Bool) (next place half one : ℕ) → one ≡ (if b then 1 else 0) → next ≡ place + half * one →
+    ((b ≡ true) × (next ≡ place + half)) ⊎ ((b ≡ false) × (next ≡ place))
+chosen true next place half one is sum = let e : half * one ≡ half = rw is (grind arith) in inl (refl, omega (arith, e))
+chosen false next place half one is sum = let e : half * one ≡ 0 = rw is (grind arith) in inr (refl, omega (arith, e))
 
 -- a step of a search: what is left is halved by a look at the mapping in the middle
-pub halved : (ms : List Mapping) (page place left half next end : ℕ) (m : Mapping) → IsLaidOut ms → place + left ≤ length ms → 0 < left →
+pub halved : (ms : List Mapping) (page place left half next end one : ℕ) (m : Mapping) → IsLaidOut ms → place + left ≤ length ms → 0 < left →
     half ≡ left - left / 2 → AreEnded ms page place → All (λ m. page < end_of m.range) (drop (place + left) ms) →
-    m ≡ get_or ms (place + half - 1) m → end ≡ end_of m.range → next ≡ (if leb end page then place + half else place) →
+    m ≡ get_or ms (place + half - 1) m → end ≡ end_of m.range → one ≡ (if leb end page then 1 else 0) → next ≡ place + half * one →
     (next + (left - half) ≤ length ms) × AreEnded ms page next × All (λ m. page < end_of m.range) (drop (next + (left - half)) ms)
-halved ms page place left half next end m laid within some middle ended past here end_is is =
+halved ms page place left half next end one m laid within some middle ended past here end_is one_is is =
     let inside : place + half - 1 < length ms = omega arith in
     let same : (d : Mapping) → get_or ms (place + half - 1) d ≡ m = λ d. get_or_default ms (place + half - 1) d m inside ∙ sym here in
-    elim (chosen (leb end page) next (place + half) place is) [
+    elim (chosen (leb end page) next place half one one_is is) [
       | inl low ↦ (
           let h : end ≤ page = leb-true end page low.0 in
           let h' : end_of m.range ≤ page = omega arith in
@@ -90,4 +91,18 @@ halved ms page place left half next end m laid within some middle ended past her
             subst (λ (n : ℕ). AreEnded ms page n) (sym high.1) ended,
             past-from ms page (place + half - 1) laid inside (next + (left - half)) (omega (arith, high.1)) (omega (arith, high.1)) (λ d. rw (same d) h'),
           ))
+    ]
+
+-- the sign of a difference
+sign-negative : (end page : ℕ) → end ≤ page → page ≤ 2 ^ 45 → (end + (2 ^ 64 - (page + 1))) % 2 ^ 64 / 2 ^ 63 ≡ 1
+sign-negative end page low few = omega arith
+
+sign-positive : (end page : ℕ) → page < end → end ≤ 2 ^ 45 → (end + (2 ^ 64 - (page + 1))) % 2 ^ 64 / 2 ^ 63 ≡ 0
+sign-positive end page high few = omega arith
+
+pub one_if-sign : (end page : ℕ) → end ≤ 2 ^ 45 → page ≤ 2 ^ 45 → (end + (2 ^ 64 - (page + 1))) % 2 ^ 64 / 2 ^ 63 ≡ (if leb end page then 1 else 0)
+one_if-sign end page few few' =
+    elim (cases_lt page end) [
+      | inl high ↦ rw (lt-leb _ _ high) (sign-positive end page high few)
+      | inr low ↦ rw (le-leb _ _ low) (sign-negative end page low few')
     ]

@@ -6,6 +6,6 @@ pub loop-left-preserved : goal.loop-left-preserved
 loop-left-preserved c =
     let inv = c.loop-left.invariant in
     let next = halved c.args.mappings.now c.args.page c.loop-left.place c.loop-left.left (c.loop-left.left - c.loop-left.left / 2)
-    c.select_unpredictable-place.result c.end.result c.index-mappings-place.result c.requires inv.within c.loop-left-test.true refl inv.ended inv.past
-    c.index-mappings-place.is (rw c.index-mappings-place.is c.end.ensures.value) c.select_unpredictable-place.ensures in
+    _ c.end-end.result c.one_if_ended.result c.index-mappings-place.result c.requires.laid_out inv.within c.loop-left-test.true refl inv.ended inv.past
+    c.index-mappings-place.is (rw c.index-mappings-place.is c.end-end.ensures.value) c.one_if_ended.ensures refl in
     record { within = next.0; ended = next.1; past = next.2 }
