@@ -135,3 +135,11 @@ run_meets (n ∷ ns) range place behind up within after' before' =
 pub at_past : (ms : List Mapping) (low page : ℕ) → IsLaidOutFrom low ms → PAGES ≤ page → at ms page ≡ None
 at_past [] low page laid past = refl
 at_past (m ∷ ms) low page laid past = at_skip m ms page (omega arith) ∙ at_past ms (end_of m.range) page laid.2 past
+
+-- a mapping ends before a later one begins
+pub end_before_first : (ms : List Mapping) (low i j : ℕ) (d : Mapping) → IsLaidOutFrom low ms → i < j → j < length ms →
+    end_of (get_or ms i d).range ≤ (get_or ms j d).range.first
+end_before_first [] low i j d laid less within = absurd (omega arith)
+end_before_first (m ∷ ms) low i zero d laid less within = absurd (omega arith)
+end_before_first (m ∷ ms) low zero (suc j) d laid less within = first_above ms (end_of m.range) j d laid.2 (omega arith)
+end_before_first (m ∷ ms) low (suc i) (suc j) d laid less within = end_before_first ms (end_of m.range) i j d laid.2 (omega arith) (omega arith)

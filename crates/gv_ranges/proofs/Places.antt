@@ -1,14 +1,14 @@
 -- Places found step by step.
-use Rattle.std.proofs.Common.{◌≡◌, ℕ, Bool, true, false, leb, refl, ◌+◌, ◌-◌, ◌/◌, ◌*◌, ◌^◌, ◌%◌, ◌∙◌, ◌≤◌, ◌<◌, ◌⊎◌, inl, inr, length, get_or, take, drop, List, arith, sym, subst}
+use Rattle.std.proofs.Common.{◌≡◌, ℕ, [], ◌∷◌, None, Bool, true, false, leb, refl, ◌+◌, ◌-◌, ◌/◌, ◌^◌, ◌%◌, ◌∙◌, ◌≤◌, ◌<◌, ◌⊎◌, inl, inr, length, get_or, take, drop, List, arith, sym, subst}
 use Rattle.std.specs.Prelude.{if◌then◌else◌}
 use Rattle.std.proofs.lemmas.Bool.{leb-true, leb-false, lt-leb, le-leb, cases_lt}
-use Rattle.std.proofs.lemmas.List.{length-drop, get_or_default}
+use Rattle.std.proofs.lemmas.List.{length-drop, get_or_default, take_all}
 use Rattle.std.specs.List.{All}
 use Rattle.gv_types.specs.Span.{end_of}
 use Rattle.gv_types.specs.declared.mapping.Mapping.{Mapping}
-use Rattle.gv_ranges.specs.List.{IsLaidOut, AreEnded}
-use Rattle.gv_ranges.proofs.Lookup.{firsts_rise, ends_rise}
-use Rattle.gv_ranges.proofs.Parts.{All-take_within, All-drop_within, All-take_at}
+use Rattle.gv_ranges.specs.List.{at, IsLaidOut, AreEnded, IsPlaceOf}
+use Rattle.gv_ranges.proofs.Lookup.{firsts_rise, ends_rise, end_before_first, at_gap, at_none}
+use Rattle.gv_ranges.proofs.Parts.{All-take_within, All-drop_within, All-take_at, All-drop_at}
 
 split : (i n : ℕ) → i < n + 1 → (i < n) ⊎ (i ≡ n)
 split i n below = grind arith
@@ -39,6 +39,27 @@ module _ (ms : List Mapping) (page i : ℕ) (laid : IsLaidOut ms) (within : i < 
       let up = ends_rise ms 0 laid i k d (omega arith) high in
       omega (arith, h, up))
 
+  -- the mappings before one that begins at the page or before it end there or before it
+  pub ended-before : ((d : Mapping) → (get_or ms i d).range.first ≤ page) → AreEnded ms page i
+  ended-before here = record {
+    within = omega arith;
+    ended = All-take_within (λ (m : Mapping). end_of m.range ≤ page) ms i (omega arith)
+        (λ k d low high.
+        let h = here d in
+        let up = end_before_first ms 0 k i d laid high within in
+        omega (arith, h, up));
+  }
+
+  -- the mappings from one on that begins past the page do so
+  pub begun-from : (place : ℕ) → i ≤ place → place ≤ length ms → ((d : Mapping) → page < (get_or ms i d).range.first) →
+      All (λ m. page < m.range.first) (drop place ms)
+  begun-from place from few here =
+      All-drop_within (λ (m : Mapping). page < m.range.first) ms place few
+      (λ k d low high.
+      let h = here d in
+      let up = firsts_rise ms 0 laid i k d (omega arith) high in
+      omega (arith, h, up))
+
   -- one mapping more that begins before the page
   pub begun-more : All (λ m. m.range.first < page) (take i ms) → ((d : Mapping) → (get_or ms i d).range.first < page) →
       All (λ m. m.range.first < page) (take (i + 1) ms)
@@ -62,47 +83,109 @@ true-or-false : (b : Bool) → (b ≡ true) ⊎ (b ≡ false)
 true-or-false true = inl refl
 true-or-false false = inr refl
 
-chosen : (b : Bool) (next place half one : ℕ) → one ≡ (if b then 1 else 0) → next ≡ place + half * one →
+chosen : (b : Bool) (next place half step : ℕ) → step ≡ (if b then half else 0) → next ≡ place + step →
     ((b ≡ true) × (next ≡ place + half)) ⊎ ((b ≡ false) × (next ≡ place))
-chosen true next place half one is sum = let e : half * one ≡ half = rw is (grind arith) in inl (refl, omega (arith, e))
-chosen false next place half one is sum = let e : half * one ≡ 0 = rw is (grind arith) in inr (refl, omega (arith, e))
+chosen true next place half step is sum = inl (refl, omega arith)
+chosen false next place half step is sum = inr (refl, omega arith)
 
 -- a step of a search: what is left is halved by a look at the mapping in the middle
-pub halved : (ms : List Mapping) (page place left half next end one : ℕ) (m : Mapping) → IsLaidOut ms → place + left ≤ length ms → 0 < left →
-    half ≡ left - left / 2 → AreEnded ms page place → All (λ m. page < end_of m.range) (drop (place + left) ms) →
-    m ≡ get_or ms (place + half - 1) m → end ≡ end_of m.range → one ≡ (if leb end page then 1 else 0) → next ≡ place + half * one →
-    (next + (left - half) ≤ length ms) × AreEnded ms page next × All (λ m. page < end_of m.range) (drop (next + (left - half)) ms)
-halved ms page place left half next end one m laid within some middle ended past here end_is one_is is =
-    let inside : place + half - 1 < length ms = omega arith in
-    let same : (d : Mapping) → get_or ms (place + half - 1) d ≡ m = λ d. get_or_default ms (place + half - 1) d m inside ∙ sym here in
-    elim (chosen (leb end page) next place half one one_is is) [
+pub halved : (ms : List Mapping) (page place left half next first step : ℕ) (m : Mapping) → IsLaidOut ms → place + left ≤ length ms → 1 < left →
+    half ≡ left / 2 → AreEnded ms page place → All (λ m. page < m.range.first) (drop (place + left) ms) →
+    m ≡ get_or ms (place + half) m → first ≡ m.range.first → step ≡ (if leb first page then half else 0) → next ≡ place + step →
+    (next + (left - half) ≤ length ms) × AreEnded ms page next × All (λ m. page < m.range.first) (drop (next + (left - half)) ms)
+halved ms page place left half next first step m laid within some middle ended past here first_is step_is is =
+    let inside : place + half < length ms = omega arith in
+    let same : (d : Mapping) → get_or ms (place + half) d ≡ m = λ d. get_or_default ms (place + half) d m inside ∙ sym here in
+    elim (chosen (leb first page) next place half step step_is is) [
       | inl low ↦ (
-          let h : end ≤ page = leb-true end page low.0 in
-          let h' : end_of m.range ≤ page = omega arith in
-          let rest : next + (left - half) ≡ place + left = omega (arith, low.1) in (
+          let h : first ≤ page = leb-true first page low.0 in
+          let h' : m.range.first ≤ page = omega arith in
+          let rest : next + (left - half) ≡ place + left = omega (arith, low.1) in
+          let at' : next ≡ place + half = low.1 in (
             omega (arith, rest),
-            ended-up-to ms page (place + half - 1) laid inside next (omega (arith, low.1)) (λ d. rw (same d) h'),
+            subst (λ (n : ℕ). AreEnded ms page n) (sym at') (ended-before ms page (place + half) laid inside (λ d. rw (same d) h')),
             rw rest past,
           ))
       | inr high ↦ (
-          let h : page < end = leb-false end page high.0 in
-          let h' : page < end_of m.range = omega arith in (
+          let h : page < first = leb-false first page high.0 in
+          let h' : page < m.range.first = omega arith in (
             omega (arith, high.1),
             subst (λ (n : ℕ). AreEnded ms page n) (sym high.1) ended,
-            past-from ms page (place + half - 1) laid inside (next + (left - half)) (omega (arith, high.1)) (omega (arith, high.1)) (λ d. rw (same d) h'),
+            begun-from ms page (place + half) laid inside (next + (left - half)) (omega (arith, high.1)) (omega (arith, high.1)) (λ d. rw (same d) h'),
           ))
     ]
 
--- the sign of a difference
-sign-negative : (end page : ℕ) → end ≤ page → page ≤ 2 ^ 45 → (end + (2 ^ 64 - (page + 1))) % 2 ^ 64 / 2 ^ 63 ≡ 1
-sign-negative end page low few = omega arith
+-- where the last mapping that begins at the page or before it ends past the page, it is the first that does; else the next one is
+pub placed-here : (ms : List Mapping) (page i : ℕ) → IsLaidOut ms → i < length ms → AreEnded ms page i → ((d : Mapping) → page < end_of (get_or ms i d).range) →
+    IsPlaceOf ms page i
+placed-here ms page i laid inside ended here = record {
+  within = ended.within;
+  ended = ended.ended;
+  not_ended = past-from ms page i laid inside i (omega arith) (omega arith) here;
+}
 
-sign-positive : (end page : ℕ) → page < end → end ≤ 2 ^ 45 → (end + (2 ^ 64 - (page + 1))) % 2 ^ 64 / 2 ^ 63 ≡ 0
-sign-positive end page high few = omega arith
+pub placed-next : (ms : List Mapping) (page i : ℕ) → IsLaidOut ms → i < length ms → All (λ m. page < m.range.first) (drop (i + 1) ms) →
+    ((d : Mapping) → end_of (get_or ms i d).range ≤ page) → IsPlaceOf ms page (i + 1)
+placed-next ms page i laid inside later here =
+    let ended = ended-up-to ms page i laid inside (i + 1) refl here in
+    record {
+      within = ended.within;
+      ended = ended.ended;
+      not_ended = λ k d below. let h = later k d below in omega (arith, h);
+    }
 
-pub one_if-sign : (end page : ℕ) → end ≤ 2 ^ 45 → page ≤ 2 ^ 45 → (end + (2 ^ 64 - (page + 1))) % 2 ^ 64 / 2 ^ 63 ≡ (if leb end page then 1 else 0)
-one_if-sign end page few few' =
-    elim (cases_lt page end) [
-      | inl high ↦ rw (lt-leb _ _ high) (sign-positive end page high few)
-      | inr low ↦ rw (le-leb _ _ low) (sign-negative end page low few')
+-- all mappings end at the page or before it where the last one does
+pub placed-last : (ms : List Mapping) (page : ℕ) → IsLaidOut ms → 0 < length ms → ((d : Mapping) → end_of (get_or ms (length ms - 1) d).range ≤ page) →
+    IsPlaceOf ms page (length ms)
+placed-last ms page laid some here =
+    let ended = ended-up-to ms page (length ms - 1) laid (omega arith) (length ms) (omega arith) here in
+    record {
+      within = ended.within;
+      ended = ended.ended;
+      not_ended = All-past (λ m. page < end_of m.range) ms (length ms) (omega arith);
+    }
+
+-- nothing is at a page where the last mapping that begins at it or before it ends there or before it
+pub at-nothing : (ms : List Mapping) (page i : ℕ) → IsLaidOut ms → i < length ms → All (λ m. page < m.range.first) (drop (i + 1) ms) →
+    ((d : Mapping) → end_of (get_or ms i d).range ≤ page) → at ms page ≡ None
+at-nothing [] page i laid inside later here = refl
+at-nothing (n ∷ ns) page i laid inside later here =
+    let is = placed-next (n ∷ ns) page i laid inside later here in
+    elim (cases_lt (i + 1) (length (n ∷ ns))) [
+      | inl more ↦ at_gap (n ∷ ns) 0 page (i + 1) n laid more
+          (λ k less. All-take_at (λ (m : Mapping). end_of m.range ≤ page) (n ∷ ns) (i + 1) k n is.within is.ended less)
+          (All-drop_at (λ (m : Mapping). page < m.range.first) (n ∷ ns) (i + 1) n more later)
+      | inr end ↦ (
+          let whole : take (i + 1) (n ∷ ns) ≡ n ∷ ns = take_all (i + 1) (n ∷ ns) end in
+          at_none (n ∷ ns) page (rw whole at is.ended))
+    ]
+
+pub at-empty : (ms : List Mapping) (page : ℕ) → length ms ≡ 0 → at ms page ≡ None
+at-empty [] page none = refl
+at-empty (m ∷ ms) page none = absurd (omega arith)
+
+-- the upper bits of a difference
+bits-none : (end page : ℕ) → end ≤ page → page ≤ 2 ^ 45 → (page + (2 ^ 64 - end)) % 2 ^ 64 / 2 ^ 58 ≡ 0
+bits-none end page low few = omega arith
+
+bits-all : (end page : ℕ) → page < end → end ≤ 2 ^ 45 → (page + (2 ^ 64 - end)) % 2 ^ 64 / 2 ^ 58 ≡ 63
+bits-all end page high few = omega arith
+
+shifted-out : (step : ℕ) → step < 2 ^ 63 → step / 2 ^ 63 ≡ 0
+shifted-out step fits = omega arith
+
+unshifted : (step : ℕ) → step / 2 ^ 0 ≡ step
+unshifted step = omega arith
+
+-- a step shifted by the upper bits of a difference
+pub stepped : (step first page bits : ℕ) → step < 2 ^ 63 → first ≤ 2 ^ 45 → page ≤ 2 ^ 45 → bits ≡ (page + (2 ^ 64 - first)) % 2 ^ 64 / 2 ^ 58 →
+    step / 2 ^ bits ≡ (if leb first page then step else 0)
+stepped step first page bits fits few few' is =
+    elim (cases_lt page first) [
+      | inl high ↦ (
+          let all : bits ≡ 63 = is ∙ bits-all first page high few in
+          rw (lt-leb _ _ high, all) (shifted-out step fits))
+      | inr low ↦ (
+          let none : bits ≡ 0 = is ∙ bits-none first page low few' in
+          rw (le-leb _ _ low, none) (unshifted step))
     ]

@@ -66,7 +66,7 @@ rest_of_first (n ∷ ms) page m is laid past =
     rw (← same) (clipped_first n ms 0 page laid (omega arith))
 
 -- a run that has a last mapping has one
-some_of_last : (ms : List Mapping) (m : Mapping) → Some m ≡ slice_get ms (length ms - 1) → 0 < length ms
+pub some_of_last : (ms : List Mapping) (m : Mapping) → Some m ≡ slice_get ms (length ms - 1) → 0 < length ms
 some_of_last [] m is = absurd cc
 some_of_last (n ∷ ms) m is = omega arith
 

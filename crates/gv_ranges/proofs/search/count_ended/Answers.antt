@@ -1,11 +1,33 @@
-use Rattle.std.proofs.Common.{◌-◌, ◌/◌, refl}
-use Rattle.gv_ranges.proofs.Places.{halved}
+use Rattle.std.proofs.Common.{◌-◌, ◌≤◌, ◌<◌, ◌≡◌, arith, get_or, length, sym, ◌∙◌}
+use Rattle.std.proofs.lemmas.List.{get_or_default}
+use Rattle.std.proofs.lemmas.Option.{get_or_from_slice_get}
+use Rattle.gv_types.specs.Span.{end_of}
+use Rattle.gv_ranges.proofs.Places.{placed-last, placed-next, placed-here}
+use Rattle.gv_ranges.proofs.Rests.{some_of_last}
 use Rattle.gv_ranges.proofs.search.count_ended.Goals as goal
 
-pub loop-left-preserved : goal.loop-left-preserved
-loop-left-preserved c =
-    let inv = c.loop-left.invariant in
-    let next = halved c.args.mappings.now c.args.page c.loop-left.place c.loop-left.left (c.loop-left.left - c.loop-left.left / 2)
-    _ c.end-end.result c.one_if_ended.result c.index-mappings-place.result c.requires.laid_out inv.within c.loop-left-test.true refl inv.ended inv.past
-    c.index-mappings-place.is (rw c.index-mappings-place.is c.end-end.ensures.value) c.one_if_ended.ensures refl in
-    record { within = next.0; ended = next.1; past = next.2 }
+pub returns-then-end-page : goal.returns-then-end-page
+returns-then-end-page c =
+    let ms = c.args.mappings.now in
+    let m = c.in-Some.last.now in
+    let some : 0 < length ms = some_of_last ms m c.in-Some.ensures.value in
+    let here : get_or ms (length ms - 1) m ≡ m = get_or_from_slice_get ms (length ms - 1) m m (sym c.in-Some.ensures.value) in
+    let ends : end_of m.range ≤ c.args.page = omega arith in
+    placed-last ms c.args.page c.requires.laid_out some
+    (λ d. rw (get_or_default ms (length ms - 1) d m (omega arith) ∙ here) ends)
+
+pub returns-then-end-page-2 : goal.returns-then-end-page-2
+returns-then-end-page-2 c =
+    let ms = c.args.mappings.now in
+    let i = c.last_begun-place.result in
+    let ends : end_of (get_or ms i c.index-mappings-place.result).range ≤ c.args.page = omega arith in
+    placed-next ms c.args.page i c.requires.laid_out c.last_begun-place.ensures.within c.last_begun-place.ensures.later
+    (λ d. rw (get_or_default ms i d c.index-mappings-place.result c.last_begun-place.ensures.within) ends)
+
+pub returns-else-end-page-2 : goal.returns-else-end-page-2
+returns-else-end-page-2 c =
+    let ms = c.args.mappings.now in
+    let i = c.last_begun-place.result in
+    let past : c.args.page < end_of (get_or ms i c.index-mappings-place.result).range = omega arith in
+    placed-here ms c.args.page i c.requires.laid_out c.last_begun-place.ensures.within c.last_begun-place.ensures.ended
+    (λ d. rw (get_or_default ms i d c.index-mappings-place.result c.last_begun-place.ensures.within) past)

@@ -1,35 +1,49 @@
-use Rattle.std.proofs.Common.{arith, ◌≡◌, ◌<◌, ◌≤◌, get_or, take, sym}
-use Rattle.std.proofs.lemmas.List.{take_all}
+use Rattle.std.proofs.Common.{arith, ◌<◌, ◌≤◌, get_or, sym}
+use Rattle.std.proofs.lemmas.Bool.{eqb-true}
+use Rattle.std.proofs.lemmas.List.{get_or_default}
 use Rattle.gv_types.specs.Span.{end_of}
 use Rattle.gv_types.specs.declared.mapping.Mapping.{Mapping}
-use Rattle.gv_ranges.proofs.Parts.{All-take_at, All-drop_at}
-use Rattle.gv_ranges.proofs.Lookup.{at_past, at_none, at_gap, at_found, is_mapping}
+use Rattle.gv_ranges.proofs.Parts.{All-take_at}
+use Rattle.gv_ranges.proofs.Lookup.{at_past, at_found, at_gap, is_mapping}
+use Rattle.gv_ranges.proofs.Places.{at-nothing, at-empty}
 use Rattle.gv_ranges.proofs.search.entry_at.Goals as goal
+use Rattle.gv_ranges.proofs.search.entry_at.Goals.{then-page-ge-SPACE_PAGES-via-then-page-ge-SPACE_PAGES, then-page-ge-SPACE_PAGES-via-else-page-ge-SPACE_PAGES+then-is_empty, then-page-first-via-then-page-first, then-page-first-via-else-page-first+then-end-page}
 
-pub returns-then-place-mappings : goal.returns-then-place-mappings
-returns-then-place-mappings c =
-    let whole : take c.count_ended-place.result c.args.mappings.now ≡ c.args.mappings.now = take_all _ _ (omega arith) in
-    sym (at_none c.args.mappings.now c.args.page (rw whole at c.count_ended-place.ensures.ended))
+pub returns-then-page-ge-SPACE_PAGES : goal.returns-then-page-ge-SPACE_PAGES
+returns-then-page-ge-SPACE_PAGES c =
+    elim c.then-page-ge-SPACE_PAGES.branch [
+      | then-page-ge-SPACE_PAGES-via-then-page-ge-SPACE_PAGES w ↦ sym (at_past c.args.mappings.now 0 c.args.page c.requires w.if-page-ge-SPACE_PAGES.true)
+      | then-page-ge-SPACE_PAGES-via-else-page-ge-SPACE_PAGES+then-is_empty w ↦ sym (at-empty c.args.mappings.now c.args.page (eqb-true _ _ (sym w.if-is_empty.ensures)))
+    ]
 
 pub returns-then-page-first : goal.returns-then-page-first
 returns-then-page-first c =
-    let behind : c.args.page < (get_or c.args.mappings.now c.count_ended-place.result c.index-mappings-place.result).range.first =
-    rw (← c.index-mappings-place.is) (omega arith) in
-    sym (at_gap c.args.mappings.now 0 c.args.page c.count_ended-place.result c.index-mappings-place.result c.requires (omega arith)
-    (λ k less. All-take_at (λ (m : Mapping). end_of m.range ≤ c.args.page) _ _ k _ c.count_ended-place.ensures.within c.count_ended-place.ensures.ended less) behind)
+    let ms = c.args.mappings.now in
+    let m = c.index-mappings-last_begun.result in
+    let i = c.last_begun.result in
+    let inside = c.last_begun.ensures.within in
+    let ended = c.last_begun.ensures.ended in
+    elim c.then-page-first.branch [
+      | then-page-first-via-then-page-first w ↦ (
+          let later : c.args.page < (get_or ms i m).range.first = rw (← c.index-mappings-last_begun.is) (omega arith) in
+          sym (at_gap ms 0 c.args.page i m c.requires inside (λ k less. All-take_at (λ (n : Mapping). end_of n.range ≤ c.args.page) ms i k m ended.within ended.ended less) later))
+      | then-page-first-via-else-page-first+then-end-page w ↦ (
+          let ends : end_of (get_or ms i m).range ≤ c.args.page = rw (← c.index-mappings-last_begun.is) (omega arith) in
+          sym (at-nothing ms c.args.page i c.requires inside c.last_begun.ensures.later (λ d. rw (get_or_default ms i d m inside) ends)))
+    ]
 
 pub part-requires-clause-mapping : goal.part-requires-clause-mapping
 part-requires-clause-mapping c =
-    rw c.index-mappings-place.is (is_mapping c.args.mappings.now 0 c.count_ended-place.result c.index-mappings-place.result c.requires (omega arith))
+    rw c.index-mappings-last_begun.is (is_mapping c.args.mappings.now 0 c.last_begun.result c.index-mappings-last_begun.result c.requires c.last_begun.ensures.within)
 
 pub returns : goal.returns
 returns c =
-    let begun : (get_or c.args.mappings.now c.count_ended-place.result c.index-mappings-place.result).range.first ≤ c.args.page =
-    rw (← c.index-mappings-place.is) (omega arith) in
-    let found = at_found c.args.mappings.now c.args.page c.count_ended-place.result c.index-mappings-place.result (omega arith)
-    (λ k less. All-take_at (λ (m : Mapping). end_of m.range ≤ c.args.page) _ _ k _ c.count_ended-place.ensures.within c.count_ended-place.ensures.ended less) begun
-    (All-drop_at (λ (m : Mapping). c.args.page < end_of m.range) c.args.mappings.now c.count_ended-place.result c.index-mappings-place.result (omega arith) c.count_ended-place.ensures.not_ended) in
-    rw c.part.ensures (sym (rw (← c.index-mappings-place.is) at found))
-
-pub returns-then-page-ge-SPACE_PAGES : goal.returns-then-page-ge-SPACE_PAGES
-returns-then-page-ge-SPACE_PAGES c = sym (at_past c.args.mappings.now 0 c.args.page c.requires c.if-page-ge-SPACE_PAGES.true)
+    let ms = c.args.mappings.now in
+    let m = c.index-mappings-last_begun.result in
+    let i = c.last_begun.result in
+    let ended = c.last_begun.ensures.ended in
+    let begun : (get_or ms i m).range.first ≤ c.args.page = rw (← c.index-mappings-last_begun.is) (omega arith) in
+    let past : c.args.page < end_of (get_or ms i m).range = rw (← c.index-mappings-last_begun.is) (omega arith) in
+    let found = at_found ms c.args.page i m c.last_begun.ensures.within
+    (λ k less. All-take_at (λ (n : Mapping). end_of n.range ≤ c.args.page) ms i k m ended.within ended.ended less) begun past in
+    rw c.part.ensures (sym (rw (← c.index-mappings-last_begun.is) at found))
