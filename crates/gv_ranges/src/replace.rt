@@ -17,6 +17,28 @@ fn append(items: &mut Vec<Mapping>, pieces: &[Mapping])
     }
 }
 
+/// Puts `pieces` in before `place`.
+fn put_in(items: &mut Vec<Mapping>, place: usize, pieces: &[Mapping])
+    requires within { place ≤ vec_len items.old }
+    requires room { vec_len items.old + length pieces.now ≤ vec_capacity items.old }
+    ensures items { items.new.items ≡ splice items.old.items place place pieces.now }
+    ensures room { vec_capacity items.new ≡ vec_capacity items.old }
+{
+    append(items, pieces);
+    items[place..].rotate_right(pieces.len());
+}
+
+/// Takes `count` mappings out from `place` on.
+fn take_out(items: &mut Vec<Mapping>, place: usize, count: usize)
+    requires { place + count ≤ vec_len items.old }
+    ensures items { items.new.items
+        ≡ take place items.old.items ++ drop (place + count) items.old.items }
+    ensures room { vec_capacity items.new ≡ vec_capacity items.old }
+{
+    items[place..].rotate_left(count);
+    items.truncate(items.len() - count);
+}
+
 /// Writes `pieces` over the mappings from `place` on.
 fn overwrite(items: &mut Vec<Mapping>, place: usize, pieces: &[Mapping])
     requires { place + length pieces.now ≤ vec_len items.old }
@@ -26,31 +48,6 @@ fn overwrite(items: &mut Vec<Mapping>, place: usize, pieces: &[Mapping])
     ensures room { vec_capacity items.new ≡ vec_capacity items.old }
 {
     items[place..place + pieces.len()].copy_from_slice(pieces);
-}
-
-/// Puts `pieces` in before `place`: the mappings from there on make way in one block.
-fn put_in(items: &mut Vec<Mapping>, place: usize, pieces: &[Mapping])
-    requires within { place ≤ vec_len items.old }
-    requires room { vec_len items.old + length pieces.now ≤ vec_capacity items.old }
-    ensures items { items.new.items ≡ splice items.old.items place place pieces.now }
-    ensures room { vec_capacity items.new ≡ vec_capacity items.old }
-{
-    let len = items.len();
-    append(items, pieces);
-    items.copy_within(place..len, place + pieces.len());
-    overwrite(items, place, pieces);
-}
-
-/// Takes `count` mappings out from `place` on: those behind move up in one block.
-fn take_out(items: &mut Vec<Mapping>, place: usize, count: usize)
-    requires { place + count ≤ vec_len items.old }
-    ensures items { items.new.items
-        ≡ take place items.old.items ++ drop (place + count) items.old.items }
-    ensures room { vec_capacity items.new ≡ vec_capacity items.old }
-{
-    let len = items.len();
-    items.copy_within(place + count..len, place);
-    items.truncate(len - count);
 }
 
 /// Replaces `count` mappings from `place` on by `pieces`.
