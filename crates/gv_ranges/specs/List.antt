@@ -25,10 +25,6 @@ pub record Ranges : Type 0 where
   pub mappings : List Mapping
   pub room : ℕ
 
--- what contracts see of `Pieces`
-pub record Items : Type 0 where
-  pub items : List Mapping
-
 -- the same mappings, and no less room
 pub record IsUnchanged (old new : Ranges) : Type 0 where
   pub mappings : new.mappings ≡ old.mappings

@@ -1,15 +1,14 @@
-//! The list of mappings of an address space, and what an operation puts in place of the mappings
-//! that it meets.
+//! The list of mappings of an address space, and what is left of the mappings that a range meets.
 #![tactic(auto)]
 
 pub mod laws;
-mod pieces;
 mod range_list;
 mod replace;
+mod rest;
 mod search;
 
-pub use pieces::{MAX_PIECES, Pieces, replacement, rest_before, rest_behind};
 pub use range_list::RangeList;
+pub use rest::{rest_before, rest_behind};
 
 #[cfg(test)]
 mod tests;

@@ -1,10 +1,9 @@
 //! The list of mappings of an address space, sorted and disjoint.
 ghost use Rattle.std.specs.Prelude.{◌≡◌, ◌+◌, ◌*◌, ◌<◌, ◌≤◌, [], length, max, OnOk, OnErr};
 
-use crate::pieces::replacement;
 use crate::replace::replace_run;
 use crate::search::{entry_at, meeting_run};
-use gv_types::{Entry, Mapping, OutOfMemory, PageOp, PageRange};
+use gv_types::{Entry, Mapping, OutOfMemory, PageRange};
 use std::alloc::Global;
 use std::marker::Model;
 
@@ -28,8 +27,6 @@ impl Model for RangeList {
 
 impl RangeList {
     ghost use Rattle.std.specs.List.{splice};
-    ghost use Rattle.gv_types.specs.Operation.{IsPageOp};
-    ghost use Rattle.gv_ranges.specs.Edit.{edited};
     ghost use Rattle.gv_ranges.specs.List.{at, IsLaidOut, IsMeetingRun, IsUnchanged};
 
     /// A list of no mapping, which takes no memory.
@@ -102,23 +99,5 @@ impl RangeList {
         ensures room { self.new.room ≡ self.old.room }
     {
         replace_run(&mut self.mappings, place, out_count, pieces);
-    }
-
-    /// Puts what the operation leaves of the mappings that it meets, and its own mapping, in their
-    /// place. All growth comes before the first change, and `OutOfMemory` leaves the list as it was.
-    /// One search, and one block move of the mappings behind.
-    pub fn edit(&mut self, op: &PageOp) -> Result<(), OutOfMemory>
-        requires { IsPageOp op.now }
-        ensures ok { OnOk result (self.new.mappings ≡ edited self.old.mappings op.now) }
-        ensures err { OnErr result (IsUnchanged self.old self.new) }
-        ensures room { self.old.room ≤ self.new.room }
-        ensures was_laid_out { OnOk result (IsLaidOut self.old.mappings) }
-    {
-        let (place, count) = self.overlapping(op.range());
-        let pieces = replacement(&self.mappings()[place..place + count], op);
-        let pieces = pieces.as_slice();
-        self.reserve(pieces.len())?;
-        self.splice(place, count, pieces);
-        Ok(())
     }
 }

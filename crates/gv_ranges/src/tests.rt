@@ -1,13 +1,17 @@
-ghost use Rattle.std.specs.Prelude.{◌≡◌, IfSome, OnErr, OnOk};
-ghost use Rattle.gv_types.specs.Span.{span};
+ghost use Rattle.std.specs.Prelude.{◌≡◌, ◌++◌, IfOk, IfSome, IsTrue, OnErr, OnOk};
+ghost use Rattle.std.specs.List.{All};
+ghost use Rattle.std.specs.Option.{option_to_list};
+ghost use Rattle.gv_types.specs.Span.{span, meets};
 ghost use Rattle.gv_types.specs.Mapping.{IsMapping};
-ghost use Rattle.gv_types.specs.Operation.{IsPageOp};
+ghost use Rattle.gv_types.specs.Operation.{IsPageOp, range_of};
+ghost use Rattle.gv_ranges.specs.List.{IsLaidOut};
+ghost use Rattle.gv_ranges.specs.Edit.{edited};
 ghost use Rattle.gv_ranges.specs.Examples.{EditOfNothing, EditOfLastPage, HoleLeavesBothRests};
 ghost use Rattle.gv_ranges.specs.Examples.{MapOverThree, MapAtSamePages, UnmapOfNothing};
 ghost use Rattle.gv_ranges.specs.Examples.{RestsKeepFlags, RestsOfZeros, NeighboursStayApart};
 ghost use Rattle.gv_ranges.specs.Examples.{RestoreOfPieces};
 
-use crate::{RangeList, laws, replacement, rest_before, rest_behind};
+use crate::{RangeList, laws, rest_before, rest_behind};
 use gv_types::{Backing, BufferId, Flags, Mapping, OutOfMemory, PageOp, PageRange};
 use std::alloc::Global;
 use std::test::Fail;
@@ -71,6 +75,46 @@ fn row(mapping: &Mapping) -> Option<(u64, u64, u64)> {
     }
 }
 
+/// Appends what there is.
+fn add(pieces: &mut Vec<Mapping>, piece: Option<Mapping>) -> Result<(), OutOfMemory>
+    ensures { OnOk result (pieces.new.items ≡ pieces.old.items ++ option_to_list piece) }
+{
+    // The borrow checker proves the call only where the function names the types inside the mapping.
+    let _backing = Backing::Zero;
+    if let Some(piece) = piece {
+        pieces.push(piece)?;
+    }
+    Ok(())
+}
+
+/// What stands in place of a run that meets the operation's range.
+fn replacement(alloc: Global, run: &[Mapping], op: &PageOp) -> Result<Vec<Mapping>, OutOfMemory>
+    requires op { IsPageOp op.now }
+    requires laid_out { IsLaidOut run.now }
+    requires meeting { All (λ m. IsTrue (meets m.range (range_of op.now))) run.now }
+    ensures { IfOk result (λ pieces. pieces.items ≡ edited run.now op.now) }
+{
+    let range = op.range();
+    let mut pieces = Vec::new(alloc);
+    add(&mut pieces, rest_before(run, range.first()))?;
+    add(&mut pieces, op.own_mapping())?;
+    add(&mut pieces, rest_behind(run, range.end()))?;
+    Ok(pieces)
+}
+
+/// Changes the list by the operation.
+fn edit(alloc: Global, list: &mut RangeList, op: &PageOp) -> Result<(), OutOfMemory>
+    requires { IsPageOp op.now }
+    ensures ok { OnOk result (list.new.mappings ≡ edited list.old.mappings op.now) }
+    ensures err { OnErr result (list.new.mappings ≡ list.old.mappings) }
+{
+    let (place, count) = list.overlapping(op.range());
+    let pieces = replacement(alloc, &list.mappings()[place..place + count], op)?;
+    list.reserve(pieces.len())?;
+    list.splice(place, count, &pieces);
+    Ok(())
+}
+
 #[test]
 fn edits_leave_rests(rt: HostRuntime) -> Result<(), Fail> {
     examples();
@@ -85,7 +129,7 @@ fn edits_leave_rests(rt: HostRuntime) -> Result<(), Fail> {
         map(1, 4, 100),
         unmap(2, 1),
     ] {
-        list.edit(&op.ok_or("an operation")?)?;
+        edit(rt.alloc(), &mut list, &op.ok_or("an operation")?)?;
     }
     let wanted = [(0, 1, 0), (1, 1, 100), (3, 2, 102), (5, 1, 5)];
     assert_eq!(rt; list.mappings().len(), wanted.len());
@@ -110,7 +154,7 @@ fn a_thousand_mappings(rt: HostRuntime) -> Result<(), Fail> {
     let mut list = RangeList::new(rt.alloc());
     for k in 0..1000u32 {
         let op = map(u64::from(k) * 2, 1, k).ok_or("an operation")?;
-        list.edit(&op)?;
+        edit(rt.alloc(), &mut list, &op)?;
     }
     assert_eq!(rt; list.mappings().len(), 1000);
     for k in 0..1000u32 {

@@ -1,5 +1,7 @@
-ghost use Rattle.std.specs.Prelude.{◌≡◌, ◌≤◌, IfOk, IfSome, List, OnErr, OnOk};
-ghost use Rattle.gv_types.specs.Span.{span, end_of};
+ghost use Rattle.std.specs.Prelude.{◌≡◌, ◌≤◌, ◌++◌, IfOk, IfSome, IsTrue, List, OnErr, OnOk};
+ghost use Rattle.std.specs.List.{All};
+ghost use Rattle.std.specs.Option.{option_to_list};
+ghost use Rattle.gv_types.specs.Span.{span, end_of, meets};
 ghost use Rattle.gv_types.specs.Mapping.{IsMapping};
 ghost use Rattle.gv_types.specs.Operation.{IsPageOp, own_mapping, range_of};
 ghost use Rattle.gv_types.specs.declared.mapping.Mapping.{Mapping};
@@ -9,8 +11,8 @@ ghost use Rattle.gv_table.specs.Reads.{AreAlikeOutside};
 ghost use Rattle.gv_table.specs.Table.{IsTree, FitsOutside, gained_by};
 
 use crate::{PageTable, Spares, laws};
-use gv_ranges::{RangeList, replacement};
-use gv_types::{Backing, BufferId, Fault, Flags, OutOfMemory, PageOp, PageRange};
+use gv_ranges::{RangeList, rest_before, rest_behind};
+use gv_types::{Backing, BufferId, Fault, Flags, Mapping, OutOfMemory, PageOp, PageRange};
 use std::alloc::Global;
 use std::test::Fail;
 
@@ -36,17 +38,44 @@ fn unmap(first: u64, count: u64) -> Option<PageOp>
     Some(PageOp::Unmap { range })
 }
 
+/// Appends what there is.
+fn add(pieces: &mut Vec<Mapping>, piece: Option<Mapping>) -> Result<(), OutOfMemory>
+    ensures { OnOk result (pieces.new.items ≡ pieces.old.items ++ option_to_list piece) }
+{
+    // The borrow checker proves the call only where the function names the types inside the mapping.
+    let _backing = Backing::Zero;
+    if let Some(piece) = piece {
+        pieces.push(piece)?;
+    }
+    Ok(())
+}
+
+/// What stands in place of a run that meets the operation's range.
+fn replacement(alloc: Global, run: &[Mapping], op: &PageOp) -> Result<Vec<Mapping>, OutOfMemory>
+    requires op { IsPageOp op.now }
+    requires laid_out { IsLaidOut run.now }
+    requires meeting { All (λ m. IsTrue (meets m.range (range_of op.now))) run.now }
+    ensures { IfOk result (λ pieces. pieces.items ≡ edited run.now op.now) }
+{
+    let range = op.range();
+    let mut pieces = Vec::new(alloc);
+    add(&mut pieces, rest_before(run, range.first()))?;
+    add(&mut pieces, op.own_mapping())?;
+    add(&mut pieces, rest_behind(run, range.end()))?;
+    Ok(pieces)
+}
+
 /// Changes the list by the operation.
-fn edit(list: &mut RangeList, op: &PageOp) -> Result<(), OutOfMemory>
+fn edit(alloc: Global, list: &mut RangeList, op: &PageOp) -> Result<(), OutOfMemory>
     requires { IsPageOp op.now }
     ensures ok { OnOk result (list.new.mappings ≡ edited list.old.mappings op.now) }
     ensures err { OnErr result (list.new.mappings ≡ list.old.mappings) }
     ensures laid_out { IsLaidOut list.old.mappings }
 {
     let (place, count) = list.overlapping(op.range());
-    let pieces = replacement(&list.mappings()[place..place + count], op);
-    list.reserve(pieces.as_slice().len())?;
-    list.splice(place, count, pieces.as_slice());
+    let pieces = replacement(alloc, &list.mappings()[place..place + count], op)?;
+    list.reserve(pieces.len())?;
+    list.splice(place, count, &pieces);
     Ok(())
 }
 
@@ -114,9 +143,9 @@ fn apply(
 {
     let op = op.ok_or("an operation")?;
     let mut spares = spares_for(alloc, table, &op)?;
-    edit(list, &op)?;
+    edit(alloc, list, &op)?;
     let lost = sway(table, twin, list, op.range(), &mut spares)?;
-    edit(twin, &op)?;
+    edit(alloc, twin, &op)?;
     Ok(lost)
 }
 
