@@ -9,3 +9,4 @@ pub mod Using
 pub mod Found
 pub mod Counts
 pub mod TakenBack
+pub mod RenamingLemmas

@@ -9,3 +9,4 @@ pub mod Changes
 pub mod Meeting
 pub mod Rests
 pub mod MeetingLemmas
+pub mod RenamingLemmas

@@ -20,3 +20,4 @@ pub mod Spaces
 pub mod Unchanged
 pub mod UsesFound
 pub mod SavedLemmas
+pub mod RenamingLemmas

@@ -11,12 +11,13 @@ use Rattle.gv_buffers.proofs.Tables.{counted_lives}
 use Rattle.gv_space.specs.State.{IsSpace, IsPlaced, LieInside as LieInBuffer}
 use Rattle.gv_space.proofs.Tables.{found_live}
 use Rattle.gv_text.specs.State.{texts, LieInside, IsHeld, IsBound, nothing_mapped}
-use Rattle.gv_text.specs.Renamed.{renamed_mapping, renamed_op, renamed_entry, IsOf, IsBackedOf, AreOf}
+use Rattle.gv_types.specs.Renamed.{renamed_mapping, renamed_op, renamed_entry, IsOf, IsBackedOf, AreOf}
 use Rattle.gv_text.specs.Work.{Work, IsWork}
 use Rattle.gv_text.specs.Desk.{ids_of}
 use Rattle.gv_text.proofs.Places.{Entries}
-use Rattle.gv_text.proofs.Renamed.{at-renamed, view-renamed}
-use Rattle.gv_text.proofs.RenamedLists.{IsLaidOut-renamed}
+use Rattle.gv_ranges.proofs.RenamingLemmas.{at-renamed}
+use Rattle.gv_types.proofs.RenamingLemmas.{view-renamed}
+use Rattle.gv_ranges.proofs.RenamingLemmas.{IsLaidOut-renamed}
 
 named_entry : (o : Option (List ℕ × BufferId)) (id : BufferId) → option_map (λ (e : List ℕ × BufferId). e.1) o ≡ Some id →
     is_some (option_map (λ (e : List ℕ × BufferId). e.0) o) ≡ is_some (Some id)
