@@ -5,11 +5,9 @@ use Rattle.std.proofs.lemmas.Option.{same_Some}
 use Rattle.gv_types.specs.declared.mapping.BufferId.{BufferId}
 use Rattle.gv_types.specs.declared.mapping.Mapping.{Mapping}
 use Rattle.gv_buffers.specs.Table.{Buffer, buffer, pages, has_id, uses as uses_in_table, kept as kept_in_table, destroy_fault}
-use Rattle.gv_buffers.proofs.Found.{found_from_All}
+use Rattle.gv_buffers.proofs.FoundLemmas.{found_from_All, found_id}
 use Rattle.gv_space.specs.Counts.{count_of}
 use Rattle.gv_space.specs.State.{IsSpace}
-use Rattle.gv_space.proofs.Counted.{same_from_is_same_id}
-use Rattle.gv_space.proofs.Tables.{found_buffer}
 use Rattle.gv_text.specs.State.{id_at, size_of}
 use Rattle.gv_types.specs.Renamed.{renamed_mapping, AreOf}
 use Rattle.gv_text.specs.Work.{Work, IsWork}
@@ -33,12 +31,6 @@ counts_at : (entries : Entries) (place : ℕ) (id : BufferId) (ms : List Mapping
 counts_at entries place id ms at are =
     ap (λ (k : ℕ). count_of (id_at k) (map renamed_mapping ms)) (sym at.generation) ∙ count_of-renamed (ids_of entries) id ms (is_of entries place id at) are
 
-found_id : (w : Work) (id : BufferId) (b : Buffer) → IsSpace w.space → buffer w.space.buffers id ≡ Some b → b.id ≡ id
-found_id w id b space found =
-    let live = found_buffer (λ x. x.uses ≡ count_of x.id w.space.mappings) w.space.buffers id b space.used found in
-    let same : b ≡ live.b = same_Some b live.b (sym found ∙ live.found) in
-    ap (λ (x : Buffer). x.id) same ∙ same_from_is_same_id live.b.id id live.same_id
-
 -- the buffer at a place is that of its id under its new name
 found_of : (begun : Bool) (w : Work) (entries : Entries) (place : ℕ) (id : BufferId) (o : Option Buffer) → IsSpace w.space → IsWork w → IsDeclared w entries → IsAt entries place id →
     buffer w.space.buffers id ≡ o → buffer (table_of (state begun w entries)) (id_at place) ≡ option_map (under (id_at place)) o
@@ -50,7 +42,7 @@ found_of begun w entries place id (Some b) space work is at found =
     let used : b.uses ≡ count_of b.id w.space.mappings = found_from_All (λ x. x.uses ≡ count_of x.id w.space.mappings) (has_id id) w.space.buffers.live b space.used found in
     let kept : b.kept ≡ count_of b.id w.taken = found_from_All (λ x. x.kept ≡ count_of x.id w.taken) (has_id id) w.space.buffers.live b work.saved.kept found in
     let idle : b.users ≡ [] = found_from_All (λ x. x.users ≡ []) (has_id id) w.space.buffers.live b work.idle found in
-    let same : b.id ≡ id = found_id w id b space found in
+    let same : b.id ≡ id = found_id w.space.buffers id b found in
     let in_list : count_of (id_at place) (map renamed_mapping w.space.mappings) ≡ b.uses =
     counts_at entries place id w.space.mappings at is.mappings ∙ ap (λ (i : BufferId). count_of i w.space.mappings) (sym same) ∙ sym used in
     let in_values : count_of (id_at place) (map renamed_mapping w.taken) ≡ b.kept =
