@@ -1,7 +1,5 @@
--- The steps of an operation with their buffers renamed, where equal generations mean equal buffers.
-use Rattle.std.proofs.Common.{◌≡◌, ℕ, List, [], ◌∷◌, ◌++◌, map, filter, true, false, cond, ◌&&◌, eqb, Some, option_map, slice_get, inl, inr, refl, sym, ap, ◌∙◌}
-use Rattle.std.proofs.lemmas.Bool.{cases_Bool, eqb-true, eq-eqb, and_right}
-use Rattle.std.proofs.lemmas.Option.{same_Some}
+-- For callers: the steps of an operation with their buffers renamed, where equal generations mean equal buffers.
+use Rattle.std.proofs.Common.{◌≡◌, ℕ, List, [], ◌∷◌, ◌++◌, map, filter, true, false, cond, ◌&&◌, option_map, refl, sym, ap, ◌∙◌}
 use Rattle.std.proofs.lemmas.List.{map-append}
 use Rattle.std.proofs.lemmas.List.Elements.{All-head, All-tail, All-filter}
 use Rattle.gv_types.specs.Page.{PAGES}
@@ -14,29 +12,12 @@ use Rattle.gv_types.specs.declared.mapping.BufferId.{BufferId}
 use Rattle.gv_types.specs.declared.mapping.Mapping.{Mapping}
 use Rattle.gv_types.specs.declared.operation.PageOp.{PageOp}
 use Rattle.gv_types.specs.declared.operation.PageOp.TheVariants.{Map as MapOp, Unmap as UnmapOp, UnmapBuffer}
-use Rattle.gv_split.specs.Steps.{same_flags, continues, gives_way, is_kept, step_in, step_of, steps}
+use Rattle.gv_split.specs.Steps.{same_flags, continues, gives_way, continues_mapping, step_in, step_of, steps}
 use Rattle.gv_split.specs.declared.step.Step.TheVariants.{Unmap, Remap, Map}
-use Rattle.gv_text.specs.Renamed.{renamed_backing, renamed_mapping, renamed_op, renamed_step, IsOf, IsBackedOf, AreOf, IsOperationOf}
-use Rattle.gv_text.proofs.Renamed.{clip-renamed, range_of-renamed}
-use Rattle.gv_text.proofs.RenamedLists.{met-renamed}
-
--- two buffers of one generation are the same
-pub same_generation : (ids : List BufferId) (a b : BufferId) → IsOf ids a → IsOf ids b → a.generation ≡ b.generation → a ≡ b
-same_generation ids a b is is' same =
-    let found : slice_get ids a.generation ≡ Some b = rw same is' in
-    same_Some a b (sym is ∙ found)
-
--- so a test of their names is one of their generations
-pub same_id-renamed : (ids : List BufferId) (a b : BufferId) → IsOf ids a → IsOf ids b →
-    (eqb a.generation b.generation && eqb a.generation b.generation) ≡ (eqb a.index b.index && eqb a.generation b.generation)
-same_id-renamed ids a b is is' =
-    elim (cases_Bool (eqb a.generation b.generation)) [
-      | inl same ↦ (
-          let one : a ≡ b = same_generation ids a b is is' (eqb-true _ _ same) in
-          let index : eqb a.index b.index ≡ true = eq-eqb _ _ (ap (λ (id : BufferId). id.index) one) in
-          rw (same, index) refl)
-      | inr other ↦ rw (other, and_right (eqb a.index b.index) false refl) refl
-    ]
+use Rattle.gv_types.specs.Renamed.{renamed_backing, renamed_mapping, renamed_op, IsBackedOf, AreOf, IsOperationOf}
+use Rattle.gv_split.specs.Renamed.{renamed_step}
+use Rattle.gv_types.proofs.RenamingLemmas.{clip-renamed, range_of-renamed, met-renamed}
+use Rattle.gv_types.proofs.IdLemmas.{same_id-renamed, of_one-renamed}
 
 continues-renamed : (ids : List BufferId) (b old : Backing) (first old_first : ℕ) → IsBackedOf ids b → IsBackedOf ids old →
     continues (renamed_backing b) first (renamed_backing old) old_first ≡ continues b first old old_first
@@ -45,40 +26,40 @@ continues-renamed ids (Buffer id page) Zero first old_first is is' = refl
 continues-renamed ids Zero old first old_first is is' = refl
 
 -- whether a mapping's pages may stay
-pub is_kept-renamed : (ids : List BufferId) (op : PageOp) (m : Mapping) → IsOperationOf ids op → IsBackedOf ids m.backing →
-    is_kept (renamed_op op) (renamed_mapping m) ≡ is_kept op m
-is_kept-renamed ids (MapOp range backing flags) m is is' =
+pub continues_mapping-renamed : (ids : List BufferId) (op : PageOp) (m : Mapping) → IsOperationOf ids op → IsBackedOf ids m.backing →
+    continues_mapping (renamed_op op) (renamed_mapping m) ≡ continues_mapping op m
+continues_mapping-renamed ids (MapOp range backing flags) m is is' =
     ap (λ b. b && same_flags flags m.flags) (continues-renamed ids backing m.backing range.first m.range.first is is')
-is_kept-renamed ids (UnmapOp range) m is is' = refl
-is_kept-renamed ids (UnmapBuffer buffer) m is is' = refl
+continues_mapping-renamed ids (UnmapOp range) m is is' = refl
+continues_mapping-renamed ids (UnmapBuffer buffer) m is is' = refl
 
 step_in-renamed : (ids : List BufferId) (op : PageOp) (m : Mapping) → IsOperationOf ids op → IsBackedOf ids m.backing →
     step_in (renamed_op op) (renamed_mapping m) ≡ renamed_step (step_in op m)
 step_in-renamed ids op m is is' =
     rw (
-      is_kept-renamed ids op m is is',
+      continues_mapping-renamed ids op m is is',
       range_of-renamed op,
       clip-renamed 0 (range_of op).first m,
       clip-renamed (end_of (range_of op)) PAGES m,
     )
     (elim (lies_in m.range (range_of op)) as (λ b.
-    cond b (Unmap (renamed_mapping m) (is_kept op m))
-    (Remap (renamed_mapping m) (option_map renamed_mapping (clip 0 (range_of op).first m)) (option_map renamed_mapping (clip (end_of (range_of op)) PAGES m)) (is_kept op m))
-    ≡ renamed_step (cond b (Unmap m (is_kept op m)) (Remap m (clip 0 (range_of op).first m) (clip (end_of (range_of op)) PAGES m) (is_kept op m))))
+    cond b (Unmap (renamed_mapping m) (continues_mapping op m))
+    (Remap (renamed_mapping m) (option_map renamed_mapping (clip 0 (range_of op).first m)) (option_map renamed_mapping (clip (end_of (range_of op)) PAGES m)) (continues_mapping op m))
+    ≡ renamed_step (cond b (Unmap m (continues_mapping op m)) (Remap m (clip 0 (range_of op).first m) (clip (end_of (range_of op)) PAGES m) (continues_mapping op m))))
     [ true ↦ refl | false ↦ refl ])
 
 pub step_of-renamed : (ids : List BufferId) (op : PageOp) (m : Mapping) → IsOperationOf ids op → IsBackedOf ids m.backing →
     step_of (renamed_op op) (renamed_mapping m) ≡ renamed_step (step_of op m)
 step_of-renamed ids (MapOp range backing flags) m is is' = step_in-renamed ids (MapOp range backing flags) m is is'
 step_of-renamed ids (UnmapOp range) m is is' = step_in-renamed ids (UnmapOp range) m is is'
-step_of-renamed ids (UnmapBuffer buffer) m is is' = absurd is
+step_of-renamed ids (UnmapBuffer buffer) m is is' = refl
 
 -- the mappings that give way to an operation
-gives_way-renamed : (ids : List BufferId) (op : PageOp) (ms : List Mapping) → IsOperationOf ids op →
+gives_way-renamed : (ids : List BufferId) (op : PageOp) (ms : List Mapping) → IsOperationOf ids op → AreOf ids ms →
     filter (gives_way (renamed_op op)) (map renamed_mapping ms) ≡ map renamed_mapping (filter (gives_way op) ms)
-gives_way-renamed ids (MapOp range backing flags) ms is = met-renamed ms range
-gives_way-renamed ids (UnmapOp range) ms is = met-renamed ms range
-gives_way-renamed ids (UnmapBuffer buffer) ms is = absurd is
+gives_way-renamed ids (MapOp range backing flags) ms is are = met-renamed ms range
+gives_way-renamed ids (UnmapOp range) ms is are = met-renamed ms range
+gives_way-renamed ids (UnmapBuffer buffer) ms is are = of_one-renamed ids buffer ms is are
 
 own_step-renamed : (op : PageOp) → map Map (own_mapping (renamed_op op)) ≡ map renamed_step (map Map (own_mapping op))
 own_step-renamed (MapOp range backing flags) = refl
@@ -108,5 +89,5 @@ steps-renamed ids ms op are is =
     let run : List Mapping = filter (gives_way op) ms in
     let each : map (step_of (renamed_op op)) (map renamed_mapping run) ≡ map renamed_step (map (step_of op) run) =
     steps_of_run-renamed ids op run is (All-filter (gives_way op) (λ (m : Mapping). IsBackedOf ids m.backing) ms are) in
-    append_same (ap (map (step_of (renamed_op op))) (gives_way-renamed ids op ms is) ∙ each) (own_step-renamed op)
+    append_same (ap (map (step_of (renamed_op op))) (gives_way-renamed ids op ms is are) ∙ each) (own_step-renamed op)
     ∙ sym (map-append renamed_step (map (step_of op) run) (map Map (own_mapping op)))

@@ -1,7 +1,6 @@
 -- Buffers named by their generation alone: which place of the table a buffer got is left open.
 use Rattle.std.specs.Prelude.{◌≡◌, List, Some, slice_get}
 use Rattle.std.specs.List.{All}
-use Rattle.std.specs.Option.{option_map}
 use Rattle.gv_types.specs.Mapping.{buffer_id}
 use Rattle.gv_types.specs.declared.mapping.Backing.{Backing}
 use Rattle.gv_types.specs.declared.mapping.Backing.TheVariants.{Buffer, Zero}
@@ -12,8 +11,6 @@ use Rattle.gv_types.specs.declared.operation.Op.{Op}
 use Rattle.gv_types.specs.declared.operation.Op.TheVariants.{Map as MapBytes, MapZero, Unmap as UnmapBytes, UnmapBuffer as UnmapBufferBytes}
 use Rattle.gv_types.specs.declared.operation.PageOp.{PageOp}
 use Rattle.gv_types.specs.declared.operation.PageOp.TheVariants.{Map as MapPages, Unmap as UnmapPages, UnmapBuffer as UnmapBufferPages}
-use Rattle.gv_split.specs.declared.step.Step.{Step}
-use Rattle.gv_split.specs.declared.step.Step.TheVariants.{Unmap, Remap, Map}
 
 -- a buffer with its generation for its index
 abbrev pub renamed : BufferId → BufferId
@@ -45,13 +42,6 @@ renamed_bytes (MapZero addr len flags) = MapZero addr len flags
 renamed_bytes (UnmapBytes addr len) = UnmapBytes addr len
 renamed_bytes (UnmapBufferBytes buffer) = UnmapBufferBytes (renamed buffer)
 
--- a step with the buffers of its mappings renamed
-abbrev pub renamed_step : Step → Step
-renamed_step (Unmap m keep) = Unmap (renamed_mapping m) keep
-renamed_step (Remap m prev next keep) =
-    Remap (renamed_mapping m) (option_map renamed_mapping prev) (option_map renamed_mapping next) keep
-renamed_step (Map m) = Map (renamed_mapping m)
-
 -- a buffer is the one of its generation among these
 abbrev pub IsOf : List BufferId → BufferId → Type 0
 IsOf ids id = slice_get ids id.generation ≡ Some id
@@ -65,8 +55,8 @@ IsBackedOf ids Zero = Unit {0}
 abbrev pub AreOf : List BufferId → List Mapping → Type 0
 AreOf ids = All (λ m. IsBackedOf ids m.backing)
 
--- the buffer that an operation names, if it names one, is the one of its generation; a script's operations name their pages
+-- the buffer that an operation names, if it names one, is the one of its generation
 abbrev pub IsOperationOf : List BufferId → PageOp → Type 0
 IsOperationOf ids (MapPages range backing flags) = IsBackedOf ids backing
 IsOperationOf ids (UnmapPages range) = Unit {0}
-IsOperationOf ids (UnmapBufferPages buffer) = ⊥
+IsOperationOf ids (UnmapBufferPages buffer) = IsOf ids buffer

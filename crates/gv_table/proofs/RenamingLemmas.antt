@@ -1,4 +1,4 @@
--- The tables of a list with its buffers renamed: as many, at the same places.
+-- For callers: the tables of a list with its buffers renamed: as many, at the same places.
 use Rattle.std.proofs.Common.{◌≡◌, ℕ, zero, suc, ◌+◌, ◌*◌, List, [], ◌∷◌, map, Bool, true, false, cond, ◌||◌, Option, Some, None, option_map, nat_le, refl, ap}
 use Rattle.gv_types.specs.Span.{Span, lies_in, meets}
 use Rattle.gv_types.specs.Mapping.{part}
@@ -11,8 +11,8 @@ use Rattle.gv_table.specs.Wanted.{wanted, leaf_or_table, is_divided}
 use Rattle.gv_table.specs.Counts.{tables_wanted}
 use Rattle.gv_table.specs.Table.{tables_of}
 use Rattle.gv_table.proofs.Sums.{sum_below-same}
-use Rattle.gv_text.specs.Renamed.{renamed_entry, renamed_mapping}
-use Rattle.gv_text.proofs.Renamed.{part-renamed}
+use Rattle.gv_types.specs.Renamed.{renamed_entry, renamed_mapping}
+use Rattle.gv_types.proofs.RenamingLemmas.{part-renamed}
 
 pub any_meets-renamed : (ms : List Mapping) (range : Span) → any_meets (map renamed_mapping ms) range ≡ any_meets ms range
 any_meets-renamed [] range = refl

@@ -1,32 +1,58 @@
--- Each buffer is the one of its generation: in pieces, edited lists and parts of lists, and when one more is declared.
-use Rattle.std.proofs.Common.{◌≡◌, ℕ, zero, suc, ◌++◌, List, [], ◌∷◌, length, take, drop, filter, get_or, All, Bool, Some, slice_get, refl, sym, subst}
-use Rattle.std.proofs.lemmas.List.Elements.{All-nil, All-cons, All-append, All-filter, All-take, All-drop, All-weaker}
-use Rattle.gv_types.specs.Page.{PAGES}
-use Rattle.gv_types.specs.Span.{Span, end_of}
-use Rattle.gv_types.specs.Mapping.{advanced, clip}
-use Rattle.gv_types.specs.Operation.{range_of, own_mapping}
+-- For callers: where each buffer is the one of its generation, its new name tells it from others as its id does.
+use Rattle.std.proofs.Common.{◌≡◌, ℕ, List, [], ◌∷◌, ◌++◌, map, filter, true, false, cond, ◌&&◌, eqb, Some, slice_get, inl, inr, refl, sym, ap, ◌∙◌, zero, suc, length, take, drop, All, Bool, subst}
+use Rattle.std.proofs.lemmas.Bool.{cases_Bool, eqb-true, eq-eqb, and_right}
+use Rattle.std.proofs.lemmas.Option.{same_Some}
+use Rattle.std.proofs.lemmas.List.Elements.{All-head, All-tail, All-filter, All-nil, All-cons, All-append, All-take, All-drop, All-weaker}
+use Rattle.gv_types.specs.Mapping.{is_of, advanced}
+use Rattle.gv_types.specs.Operation.{own_mapping}
 use Rattle.gv_types.specs.declared.mapping.Backing.{Backing}
 use Rattle.gv_types.specs.declared.mapping.Backing.TheVariants.{Buffer, Zero}
 use Rattle.gv_types.specs.declared.mapping.BufferId.{BufferId}
 use Rattle.gv_types.specs.declared.mapping.Mapping.{Mapping}
 use Rattle.gv_types.specs.declared.operation.PageOp.{PageOp}
+use Rattle.gv_types.specs.Renamed.{renamed_backing, renamed_mapping, IsOf, IsBackedOf, AreOf, IsOperationOf, renamed}
 use Rattle.gv_types.specs.declared.operation.PageOp.TheVariants.{Map, Unmap, UnmapBuffer}
-use Rattle.gv_ranges.specs.Edit.{clipped, replaced, edited}
-use Rattle.gv_ranges.proofs.Kept.{clip_is_piece, All-clipped}
-use Rattle.gv_text.specs.Renamed.{IsOf, IsBackedOf, AreOf, IsOperationOf}
+
+-- two buffers of one generation are the same
+pub same_generation : (ids : List BufferId) (a b : BufferId) → IsOf ids a → IsOf ids b → a.generation ≡ b.generation → a ≡ b
+same_generation ids a b is is' same =
+    let found : slice_get ids a.generation ≡ Some b = rw same is' in
+    same_Some a b (sym is ∙ found)
+
+-- so a test of their names is one of their generations
+pub same_id-renamed : (ids : List BufferId) (a b : BufferId) → IsOf ids a → IsOf ids b →
+    (eqb a.generation b.generation && eqb a.generation b.generation) ≡ (eqb a.index b.index && eqb a.generation b.generation)
+same_id-renamed ids a b is is' =
+    elim (cases_Bool (eqb a.generation b.generation)) [
+      | inl same ↦ (
+          let one : a ≡ b = same_generation ids a b is is' (eqb-true _ _ same) in
+          let index : eqb a.index b.index ≡ true = eq-eqb _ _ (ap (λ (id : BufferId). id.index) one) in
+          rw (same, index) refl)
+      | inr other ↦ rw (other, and_right (eqb a.index b.index) false refl) refl
+    ]
+
+pub is_of-renamed : (ids : List BufferId) (id : BufferId) (b : Backing) → IsOf ids id → IsBackedOf ids b →
+    is_of (renamed id) (renamed_backing b) ≡ is_of id b
+is_of-renamed ids id (Buffer other page) is is' = same_id-renamed ids other id is' is
+is_of-renamed ids id Zero is is' = refl
+
+pub of_one-renamed : (ids : List BufferId) (id : BufferId) (ms : List Mapping) → IsOf ids id → AreOf ids ms →
+    filter (λ m. is_of (renamed id) m.backing) (map renamed_mapping ms) ≡ map renamed_mapping (filter (λ m. is_of id m.backing) ms)
+of_one-renamed ids id [] is are = refl
+of_one-renamed ids id (m ∷ ms) is are =
+    let run : List Mapping = filter (λ m. is_of id m.backing) ms in
+    let here : is_of (renamed id) (renamed_backing m.backing) ≡ is_of id m.backing =
+    is_of-renamed ids id m.backing is (All-head (λ (n : Mapping). IsBackedOf ids n.backing) m ms are) in
+    let rest : filter (λ m. is_of (renamed id) m.backing) (map renamed_mapping ms) ≡ map renamed_mapping run =
+    of_one-renamed ids id ms is (All-tail (λ (n : Mapping). IsBackedOf ids n.backing) m ms are) in
+    rw (here, rest)
+    (elim (is_of id m.backing) as (λ b.
+    cond b (renamed_mapping m ∷ map renamed_mapping run) (map renamed_mapping run) ≡ map renamed_mapping (cond b (m ∷ run) run))
+    [ true ↦ refl | false ↦ refl ])
 
 pub IsBackedOf-advanced : (ids : List BufferId) (b : Backing) (pages : ℕ) → IsBackedOf ids b → IsBackedOf ids (advanced b pages)
 IsBackedOf-advanced ids (Buffer id page) pages is = is
 IsBackedOf-advanced ids Zero pages is = is
-
--- what is left of a mapping
-pub IsBackedOf-clip : (ids : List BufferId) (low high : ℕ) (m n : Mapping) → clip low high m ≡ Some n → IsBackedOf ids m.backing → IsBackedOf ids n.backing
-IsBackedOf-clip ids low high m n left is = rw (clip_is_piece low high m n left).1 (IsBackedOf-advanced ids m.backing _ is)
-
-pub AreOf-clipped : (ids : List BufferId) (low high : ℕ) (ms : List Mapping) → AreOf ids ms → AreOf ids (clipped low high ms)
-AreOf-clipped ids low high ms are =
-    All-clipped (λ (m : Mapping). IsBackedOf ids m.backing) low high ms
-    (λ k d below n left. IsBackedOf-clip ids low high (get_or ms k d) n left (are k d below))
 
 pub AreOf-nil : (ids : List BufferId) → AreOf ids []
 AreOf-nil ids = All-nil (λ (m : Mapping). IsBackedOf ids m.backing)
@@ -34,22 +60,11 @@ AreOf-nil ids = All-nil (λ (m : Mapping). IsBackedOf ids m.backing)
 pub AreOf-append : (ids : List BufferId) (ms others : List Mapping) → AreOf ids ms → AreOf ids others → AreOf ids (ms ++ others)
 AreOf-append ids ms others are are' = All-append (λ (m : Mapping). IsBackedOf ids m.backing) ms others are are'
 
-pub AreOf-replaced : (ids : List BufferId) (ms : List Mapping) (range : Span) (pieces : List Mapping) → AreOf ids ms → AreOf ids pieces →
-    AreOf ids (replaced ms range pieces)
-AreOf-replaced ids ms range pieces are are' =
-    AreOf-append ids (clipped 0 range.first ms ++ pieces) (clipped (end_of range) PAGES ms)
-    (AreOf-append ids (clipped 0 range.first ms) pieces (AreOf-clipped ids 0 range.first ms are) are')
-    (AreOf-clipped ids (end_of range) PAGES ms are)
-
 pub AreOf-own_mapping : (ids : List BufferId) (op : PageOp) → IsOperationOf ids op → AreOf ids (own_mapping op)
 AreOf-own_mapping ids (Map range backing flags) is =
     All-cons (λ (m : Mapping). IsBackedOf ids m.backing) (record { range = range; backing = backing; flags = flags }) [] is (AreOf-nil ids)
 AreOf-own_mapping ids (Unmap range) is = AreOf-nil ids
-AreOf-own_mapping ids (UnmapBuffer buffer) is = absurd is
-
--- the list after an operation
-pub AreOf-edited : (ids : List BufferId) (ms : List Mapping) (op : PageOp) → AreOf ids ms → IsOperationOf ids op → AreOf ids (edited ms op)
-AreOf-edited ids ms op are is = AreOf-replaced ids ms (range_of op) (own_mapping op) are (AreOf-own_mapping ids op is)
+AreOf-own_mapping ids (UnmapBuffer buffer) is = AreOf-nil ids
 
 pub AreOf-filter : (ids : List BufferId) (test : Mapping → Bool) (ms : List Mapping) → AreOf ids ms → AreOf ids (filter test ms)
 AreOf-filter ids test ms are = All-filter test (λ (m : Mapping). IsBackedOf ids m.backing) ms are
@@ -88,7 +103,7 @@ AreOf-more ids more ms are =
 pub IsOperationOf-more : (ids more : List BufferId) (op : PageOp) → IsOperationOf ids op → IsOperationOf (ids ++ more) op
 IsOperationOf-more ids more (Map range backing flags) is = IsBackedOf-more ids more backing is
 IsOperationOf-more ids more (Unmap range) is = is
-IsOperationOf-more ids more (UnmapBuffer buffer) is = absurd is
+IsOperationOf-more ids more (UnmapBuffer buffer) is = IsOf-more ids more buffer is
 
 pub operations_of-more : (ids more : List BufferId) (ops : List PageOp) → All (IsOperationOf ids) ops → All (IsOperationOf (ids ++ more)) ops
 operations_of-more ids more ops are = All-weaker (IsOperationOf ids) (IsOperationOf (ids ++ more)) (λ op is. IsOperationOf-more ids more op is) ops are

@@ -1,8 +1,8 @@
--- What an id finds in a list of buffers that was changed.
-use Rattle.std.proofs.Common.{◌≡◌, ◌≢◌, ℕ, zero, suc, ◌<◌, ◌≤◌, List, [], ◌∷◌, length, get_or, map, Bool, true, false, cond, not, eqb, arith, refl, sym, ◌∙◌, ap, subst, ⊎_elim, Some, None, Contains}
-use Rattle.std.specs.Option.{option_map}
+-- For callers: what an id finds in a table of buffers, and in one that was changed.
+use Rattle.std.proofs.Common.{◌≡◌, ◌≢◌, ℕ, zero, suc, ◌<◌, ◌≤◌, List, [], ◌∷◌, length, get_or, map, Bool, true, false, cond, not, eqb, arith, refl, sym, ◌∙◌, ap, subst, ⊎_elim, Some, None, Option, IsSome, Contains}
+use Rattle.std.specs.Option.{option_map, IsSomeAnd}
 use Rattle.std.specs.List.{All, filter, find, insert}
-use Rattle.std.proofs.lemmas.Bool.{cases_lt, eqb-true, eq-eqb, ne_eqb, and_parts}
+use Rattle.std.proofs.lemmas.Bool.{cases_lt, eqb-true, eq-eqb, ne_eqb, and_parts, false≢true}
 use Rattle.std.proofs.lemmas.Option.{none-some, same_Some}
 use Rattle.std.proofs.lemmas.List.Elements.{All-head, All-tail}
 use Rattle.gv_types.specs.Mapping.{is_same_id}
@@ -10,7 +10,7 @@ use Rattle.gv_types.specs.declared.mapping.BufferId.{BufferId}
 use Rattle.gv_buffers.specs.declared.usage.Usage.TheVariants.{Read}
 use Rattle.gv_buffers.specs.declared.usage.User.{User}
 use Rattle.gv_buffers.specs.Users.{HaveNoConflict}
-use Rattle.gv_buffers.specs.Table.{Buffer, Table, buffer, has_id, fresh, without, changed, only, left_by, left_everywhere, IsBuffer, IsCreated, IsTable}
+use Rattle.gv_buffers.specs.Table.{Buffer, Table, buffer, has_id, IsLive, fresh, without, changed, only, left_by, left_everywhere, IsBuffer, IsCreated, IsTable}
 
 -- a change that keeps what is looked for
 pub find-map : (test : Buffer → Bool) (f : Buffer → Buffer) (bs : List Buffer) → ((b : Buffer) → test (f b) ≡ test b) → find test (map f bs) ≡ option_map f (find test bs)
@@ -76,6 +76,36 @@ is_same_id-itself id =
 pub is_same_id-other : (a b : BufferId) → b ≢ a → is_same_id a b ≡ false
 is_same_id-other a b apart =
     elim (is_same_id a b) as (λ t. is_same_id a b ≡ t → t ≡ false) [ true ↦ (λ e. absurd (apart (sym (same_id a b e)))) | false ↦ (λ _. refl) ] refl
+
+has_id_found : (id : BufferId) (bs : List Buffer) (b : Buffer) → find (has_id id) bs ≡ Some b → has_id id b ≡ true
+has_id_found id [] b found = absurd (none-some b found)
+has_id_found id (x ∷ bs) b found =
+    elim (has_id id x) as (λ t. has_id id x ≡ t → cond t (Some x) (find (has_id id) bs) ≡ Some b → has_id id b ≡ true) [
+      | true ↦ (λ has h. subst (λ (y : Buffer). has_id id y ≡ true) (same_Some x b h) has)
+      | false ↦ (λ _ h. has_id_found id bs b h)
+    ] refl found
+
+-- the buffer that an id finds has that id
+pub found_id : (t : Table) (id : BufferId) (b : Buffer) → buffer t id ≡ Some b → b.id ≡ id
+found_id t id b found = same_id b.id id (has_id_found id t.live b found)
+
+lives_from : (count : Buffer → ℕ) (P : ℕ → Type 0) (o : Option Buffer) → IsSomeAnd (option_map count o) P → IsSome o
+lives_from count P None holds = absurd holds
+lives_from count P (Some b) holds = refl
+
+-- a buffer of whose count something is said is alive
+pub counted_lives : (t : Table) (id : BufferId) (count : Buffer → ℕ) (P : ℕ → Type 0) → IsSomeAnd (option_map count (buffer t id)) P → IsLive t id
+counted_lives t id count P holds = lives_from count P (buffer t id) holds
+
+live_found : (o : Option Buffer) → IsSome o → (b : Buffer) × (o ≡ Some b)
+live_found None lives = absurd (false≢true lives)
+live_found (Some b) lives = (b, refl)
+
+-- a live id finds a buffer, of which holds what holds of each
+pub found_live : (P : Buffer → Type 0) (t : Table) (id : BufferId) → All P t.live → IsLive t id → (b : Buffer) × (buffer t id ≡ Some b) × P b
+found_live P t id all lives =
+    let found = live_found (buffer t id) lives in
+    (found.0, found.1, found_from_All P (has_id id) t.live found.0 all found.1)
 
 pub made_is_found : (old new : Table) (id : BufferId) (pages : ℕ) → IsCreated old new id pages → buffer new id ≡ Some (fresh id pages)
 made_is_found old new id pages made =
