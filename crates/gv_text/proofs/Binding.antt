@@ -17,8 +17,8 @@ use Rattle.gv_types.specs.declared.operation.PageOp.TheVariants.{Map as MapPages
 use Rattle.gv_ranges.specs.Edit.{edited}
 use Rattle.gv_buffers.specs.Table.{Table}
 use Rattle.gv_space.specs.Counts.{by_count, counted, more_kept}
-use Rattle.gv_space.specs.Verdict.{past_end, first_of, count_met, limit_fault, apply_fault, buffer_fault as fault_in_table, backing_fault as backing_fault_in_table, operation_fault as fault_in_space}
-use Rattle.gv_space.proofs.Keeping.{pages-by_count, counted_of_counts, more_kept_of_counts}
+use Rattle.gv_space.specs.Refusal.{past_end, first_of, count_met, limit_fault, apply_fault, buffer_fault as fault_in_table, backing_fault as backing_fault_in_table, operation_fault as fault_in_space}
+use Rattle.gv_space.proofs.ByCountLemmas.{pages-by_count, counted_of_counts, more_kept_of_counts}
 use Rattle.gv_text.specs.State.{State, Declared, met, with_bind, count_live}
 use Rattle.gv_text.specs.Renamed.{renamed_mapping, renamed_op, renamed_bytes, renamed_backing, IsBackedOf, IsOperationOf}
 use Rattle.gv_text.specs.Work.{Work, IsWork, with_room, worked}
@@ -56,7 +56,7 @@ room_fault-state : (begun : Bool) (w : Work) (entries : Entries) (p : PageOp) �
 room_fault-state begun w entries p work =
     let ms : List Mapping = w.space.mappings in
     let list : length (edited (map renamed_mapping ms) (renamed_op p)) ≡ length (edited ms p) = ap (λ (xs : List Mapping). length xs) (edited-renamed ms p) ∙ length-renamed (edited ms p) in
-    let held : length (map renamed_mapping w.taken) ≡ w.space.held = length-renamed w.taken ∙ sym work.saved.held in
+    let held : length (map renamed_mapping w.taken) ≡ w.space.kept_count = length-renamed w.taken ∙ sym work.saved.kept_count in
     let range : range_of (renamed_op p) ≡ range_of p = range_of-renamed p in
     let meeting : count_met (map renamed_mapping ms) (range_of (renamed_op p)) ≡ count_met ms (range_of p) = ap (count_met (map renamed_mapping ms)) range ∙ count_met-renamed ms (range_of p) in
     let limit : w.space.limits.mappings ≡ greatest.mappings = ap (λ (l : Caps). l.mappings) work.limits in

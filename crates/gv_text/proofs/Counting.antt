@@ -8,8 +8,8 @@ use Rattle.gv_buffers.specs.Table.{Buffer, buffer, pages, has_id, uses as uses_i
 use Rattle.gv_buffers.proofs.Found.{found_from_All}
 use Rattle.gv_space.specs.Counts.{count_of}
 use Rattle.gv_space.specs.State.{IsSpace}
-use Rattle.gv_space.proofs.Counted.{same_from_is_same_id}
-use Rattle.gv_space.proofs.Tables.{found_buffer}
+use Rattle.gv_space.proofs.CountLemmas.{same_from_is_same_id}
+use Rattle.gv_space.proofs.TableLemmas.{found_buffer}
 use Rattle.gv_text.specs.State.{id_at, size_of}
 use Rattle.gv_text.specs.Renamed.{renamed_mapping, AreOf}
 use Rattle.gv_text.specs.Work.{Work, IsWork}

@@ -9,7 +9,7 @@ use Rattle.gv_types.specs.declared.mapping.Mapping.{Mapping}
 use Rattle.gv_buffers.specs.Table.{Table, Buffer, IsBuffer, pages}
 use Rattle.gv_buffers.proofs.Tables.{counted_lives}
 use Rattle.gv_space.specs.State.{IsSpace, IsPlaced, LieInside as LieInBuffer}
-use Rattle.gv_space.proofs.Tables.{found_live}
+use Rattle.gv_space.proofs.TableLemmas.{found_live}
 use Rattle.gv_text.specs.State.{texts, LieInside, IsHeld, IsBound, nothing_mapped}
 use Rattle.gv_text.specs.Renamed.{renamed_mapping, renamed_op, renamed_entry, IsOf, IsBackedOf, AreOf}
 use Rattle.gv_text.specs.Work.{Work, IsWork}

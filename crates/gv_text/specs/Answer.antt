@@ -20,8 +20,8 @@ use Rattle.gv_split.specs.Steps.{steps}
 use Rattle.gv_buffers.specs.Table.{most_made}
 use Rattle.gv_table.specs.Table.{tables_of}
 use Rattle.gv_space.specs.Counts.{count_of}
-use Rattle.gv_space.specs.State.{most_held}
-use Rattle.gv_space.specs.Verdict.{first_of, past_end, count_met}
+use Rattle.gv_space.specs.State.{most_kept}
+use Rattle.gv_space.specs.Refusal.{first_of, past_end, count_met}
 use Rattle.gv_lines.specs.Grammar.{parsed}
 use Rattle.gv_lines.specs.declared.line.Operation.{Operation}
 use Rattle.gv_lines.specs.declared.line.Operation.TheVariants.{Map as MapWords, Zero as ZeroWords, Unmap as UnmapWords}
@@ -58,7 +58,7 @@ operation_fault s op = first_of (first_fault s.area op) (pages_fault s.buffers (
 abbrev pub room_fault : State → PageOp → Option Fault
 room_fault s op =
     if nat_lt greatest.mappings (length (edited s.bound.mappings op))
-    || nat_lt most_held (length s.taken + count_met s.bound.mappings (range_of op))
+    || nat_lt most_kept (length s.taken + count_met s.bound.mappings (range_of op))
     then Some TooManyMappings
     else None
 

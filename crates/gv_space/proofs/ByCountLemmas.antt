@@ -13,7 +13,7 @@ use Rattle.gv_buffers.proofs.Tables.{counted_lives}
 use Rattle.gv_space.specs.Counts.{count_of, by_count, counted, more_used, less_used, more_kept, less_kept}
 use Rattle.gv_space.specs.Live.{IsLiveBacking}
 use Rattle.gv_space.specs.State.{LieInside, IsPlaced}
-use Rattle.gv_space.proofs.Tables.{IsKeeping, buffer-each, pages-each, IsTable-each}
+use Rattle.gv_space.proofs.TableLemmas.{IsKeeping, buffer-each, pages-each, IsTable-each}
 
 -- a change of a buffer by a number of mappings that leaves all but its counts
 pub record IsOfCounts (change : Buffer → ℕ → Buffer) : Type 0 where

@@ -3,41 +3,41 @@ use Rattle.std.specs.List.{splice}
 use Rattle.gv_types.specs.declared.mapping.Mapping.{Mapping}
 use Rattle.gv_table.specs.Table.{IsTree, gained_by}
 use Rattle.gv_table.specs.declared.page_table.PageTable.{PageTable}
-use Rattle.gv_space.specs.State.{AddressSpace, most_held}
+use Rattle.gv_space.specs.State.{AddressSpace, most_kept}
 use Rattle.gv_space.specs.Counts.{by_count, more_used, less_used, more_kept}
 use Rattle.gv_space.specs.Undo.{UndoValue}
 use Rattle.gv_space.specs.Change.{IsChanged}
 use Rattle.gv_space.specs.Ready.{IsReady}
 use Rattle.gv_space.specs.Inside.{space_of}
-use Rattle.gv_space.proofs.Keeping.{live_from_placed}
-use Rattle.gv_space.proofs.Rooms.{room_to_keep, room_to_count, run_is_counted, length-run-le-held}
-use Rattle.gv_space.proofs.Exchanges.{after, after_laid_out, after_alike, spares_are_enough, pieces_placed, pieces_are_few, state_after, space_after, change_is, change_of, taken_laid_out}
-use Rattle.gv_space.proofs.space.Space.exchange.Goals as goal
+use Rattle.gv_space.proofs.ByCountLemmas.{live_from_placed}
+use Rattle.gv_space.proofs.Rooms.{room_to_keep, room_to_count, run_is_counted, length-run-le-most_kept}
+use Rattle.gv_space.proofs.Commits.{after, after_laid_out, after_alike, spares_are_enough, pieces_placed, pieces_are_few, state_after, space_after, change_is, change_of, taken_laid_out}
+use Rattle.gv_space.proofs.space.Space.commit.Goals as goal
 
-pub exchange-requires-clause-pieces : goal.exchange-requires-clause-pieces
-exchange-requires-clause-pieces c =
+pub move_counts-requires-clause-pieces : goal.move_counts-requires-clause-pieces
+move_counts-requires-clause-pieces c =
     let s : AddressSpace = space_of c.self.inside in
     let ready : IsReady c.requires.0 s c.args.range c.args.place c.args.taken.items c.args.pieces.now c.args.spares =
     subst (λ (t : AddressSpace). IsReady c.requires.0 t c.args.range c.args.place c.args.taken.items c.args.pieces.now c.args.spares) (sym c.self.view_is) c.requires.1 in
     live_from_placed s.area s.buffers c.args.pieces.now (pieces_placed c.requires.0 s c.args.range c.args.place c.args.taken.items c.args.pieces.now c.args.spares c.self.invariant ready)
 
-pub exchange-requires-clause-keeps : goal.exchange-requires-clause-keeps
-exchange-requires-clause-keeps c =
+pub move_counts-requires-clause-keeps : goal.move_counts-requires-clause-keeps
+move_counts-requires-clause-keeps c =
     let s : AddressSpace = space_of c.self.inside in
     let ready : IsReady c.requires.0 s c.args.range c.args.place c.args.taken.items c.args.pieces.now c.args.spares =
     subst (λ (t : AddressSpace). IsReady c.requires.0 t c.args.range c.args.place c.args.taken.items c.args.pieces.now c.args.spares) (sym c.self.view_is) c.requires.1 in
-    rw c.as_slice.ensures (room_to_keep s c.args.taken.items c.self.invariant (length-run-le-held s c.args.taken.items c.args.place (length c.args.taken.items) c.self.invariant ready.taken_is))
+    rw c.as_slice.ensures (room_to_keep s c.args.taken.items c.self.invariant (length-run-le-most_kept s c.args.taken.items c.args.place (length c.args.taken.items) c.self.invariant ready.taken_is))
 
-pub exchange-requires-clause-room : goal.exchange-requires-clause-room
-exchange-requires-clause-room c =
+pub move_counts-requires-clause-room : goal.move_counts-requires-clause-room
+move_counts-requires-clause-room c =
     let s : AddressSpace = space_of c.self.inside in
     let ready : IsReady c.requires.0 s c.args.range c.args.place c.args.taken.items c.args.pieces.now c.args.spares =
     subst (λ (t : AddressSpace). IsReady c.requires.0 t c.args.range c.args.place c.args.taken.items c.args.pieces.now c.args.spares) (sym c.self.view_is) c.requires.1 in
-    let few : length c.args.pieces.now ≤ most_held = omega (arith, pieces_are_few c.requires.0 s c.args.range c.args.place c.args.taken.items c.args.pieces.now c.args.spares c.self.invariant ready) in
+    let few : length c.args.pieces.now ≤ most_kept = omega (arith, pieces_are_few c.requires.0 s c.args.range c.args.place c.args.taken.items c.args.pieces.now c.args.spares c.self.invariant ready) in
     room_to_count s c.args.pieces.now c.self.invariant few
 
-pub exchange-requires-clause-counted : goal.exchange-requires-clause-counted
-exchange-requires-clause-counted c =
+pub move_counts-requires-clause-counted : goal.move_counts-requires-clause-counted
+move_counts-requires-clause-counted c =
     let s : AddressSpace = space_of c.self.inside in
     let ready : IsReady c.requires.0 s c.args.range c.args.place c.args.taken.items c.args.pieces.now c.args.spares =
     subst (λ (t : AddressSpace). IsReady c.requires.0 t c.args.range c.args.place c.args.taken.items c.args.pieces.now c.args.spares) (sym c.self.view_is) c.requires.1 in
@@ -70,9 +70,9 @@ invariant_of-self c =
     let ready : IsReady c.requires.0 s c.args.range c.args.place c.args.taken.items c.args.pieces.now c.args.spares =
     subst (λ (t : AddressSpace). IsReady c.requires.0 t c.args.range c.args.place c.args.taken.items c.args.pieces.now c.args.spares) (sym c.self.view_is) c.requires.1 in
     let list_is : c.replace-tables.new.self.mappings ≡ after c.requires.0 s c.args.range c.args.place c.args.taken.items c.args.pieces.now c.args.spares c.self.invariant ready = rw (← c.len-count.ensures.value) c.replace-tables.ensures.mappings in
-    let buffers_is : c.exchange.new.buffers ≡ by_count less_used c.args.taken.items (by_count more_used c.args.pieces.now (by_count more_kept c.args.taken.items s.buffers)) = rw (← c.as_slice.ensures) c.exchange.ensures in
-    let state = state_after c.requires.0 s c.args.range c.args.place c.args.taken.items c.args.pieces.now c.args.spares c.self.invariant ready c.replace-tables.new.self c.exchange.new.buffers c.len-count.result list_is buffers_is c.len-count.ensures.value in
-    let new : AddressSpace = record s { mappings = c.replace-tables.new.self.mappings; room = c.replace-tables.new.self.room; buffers = c.exchange.new.buffers; held = s.held + c.len-count.result } in
+    let buffers_is : c.move_counts.new.buffers ≡ by_count less_used c.args.taken.items (by_count more_used c.args.pieces.now (by_count more_kept c.args.taken.items s.buffers)) = rw (← c.as_slice.ensures) c.move_counts.ensures in
+    let state = state_after c.requires.0 s c.args.range c.args.place c.args.taken.items c.args.pieces.now c.args.spares c.self.invariant ready c.replace-tables.new.self c.move_counts.new.buffers c.len-count.result list_is buffers_is c.len-count.ensures.value in
+    let new : AddressSpace = record s { mappings = c.replace-tables.new.self.mappings; room = c.replace-tables.new.self.room; buffers = c.move_counts.new.buffers; kept_count = s.kept_count + c.len-count.result } in
     space_after c.requires.0 s c.args.range c.args.place c.args.taken.items c.args.pieces.now c.args.spares c.self.invariant ready new c.replace-tables.new.self.room state
 
 pub invariant_of-result : goal.invariant_of-result
@@ -88,9 +88,9 @@ returns-clause-changed c =
     let ready : IsReady c.requires.0 s c.args.range c.args.place c.args.taken.items c.args.pieces.now c.args.spares =
     subst (λ (t : AddressSpace). IsReady c.requires.0 t c.args.range c.args.place c.args.taken.items c.args.pieces.now c.args.spares) (sym c.self.view_is) c.requires.1 in
     let list_is : c.replace-tables.new.self.mappings ≡ after c.requires.0 s c.args.range c.args.place c.args.taken.items c.args.pieces.now c.args.spares c.self.invariant ready = rw (← c.len-count.ensures.value) c.replace-tables.ensures.mappings in
-    let buffers_is : c.exchange.new.buffers ≡ by_count less_used c.args.taken.items (by_count more_used c.args.pieces.now (by_count more_kept c.args.taken.items s.buffers)) = rw (← c.as_slice.ensures) c.exchange.ensures in
-    let state = state_after c.requires.0 s c.args.range c.args.place c.args.taken.items c.args.pieces.now c.args.spares c.self.invariant ready c.replace-tables.new.self c.exchange.new.buffers c.len-count.result list_is buffers_is c.len-count.ensures.value in
-    let new : AddressSpace = record s { mappings = c.replace-tables.new.self.mappings; room = c.replace-tables.new.self.room; buffers = c.exchange.new.buffers; held = s.held + c.len-count.result } in
+    let buffers_is : c.move_counts.new.buffers ≡ by_count less_used c.args.taken.items (by_count more_used c.args.pieces.now (by_count more_kept c.args.taken.items s.buffers)) = rw (← c.as_slice.ensures) c.move_counts.ensures in
+    let state = state_after c.requires.0 s c.args.range c.args.place c.args.taken.items c.args.pieces.now c.args.spares c.self.invariant ready c.replace-tables.new.self c.move_counts.new.buffers c.len-count.result list_is buffers_is c.len-count.ensures.value in
+    let new : AddressSpace = record s { mappings = c.replace-tables.new.self.mappings; room = c.replace-tables.new.self.room; buffers = c.move_counts.new.buffers; kept_count = s.kept_count + c.len-count.result } in
     let owed : (table : PageTable) → IsTree (after c.requires.0 s c.args.range c.args.place c.args.taken.items c.args.pieces.now c.args.spares c.self.invariant ready) table → gained_by s.mappings table ≡ c.replace-tables.result =
     λ table tree. c.replace-tables.ensures.tables table (subst (λ (ms : List Mapping). IsTree ms table) (sym list_is) tree) in
     let room : s.room ≤ new.room = omega (arith, c.replace-tables.ensures.room) in

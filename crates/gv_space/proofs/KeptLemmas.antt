@@ -11,10 +11,11 @@ use Rattle.gv_ranges.specs.List.{run}
 use Rattle.gv_ranges.specs.Edit.{undone}
 use Rattle.gv_buffers.specs.Table.{Table, IsTable}
 use Rattle.gv_space.specs.Counts.{count_of, by_count, counted, more_kept, less_kept}
-use Rattle.gv_space.specs.State.{AddressSpace, IsPlaced, AreSaved}
+use Rattle.gv_space.specs.State.{AddressSpace, IsPlaced, AreKept}
 use Rattle.gv_space.specs.Undo.{UndoValue, released, reverted}
 use Rattle.gv_space.specs.Change.{changed_to}
-use Rattle.gv_space.proofs.Keeping.{counted_of_counts, more_kept_of_counts, less_kept_of_counts, placed-by_count, IsTable-by_count}
+use Rattle.gv_space.specs.Laws.{KeptInAnyOrder}
+use Rattle.gv_space.proofs.ByCountLemmas.{counted_of_counts, more_kept_of_counts, less_kept_of_counts, placed-by_count, IsTable-by_count}
 use Rattle.gv_space.proofs.Recounted.{UsesAre, there_and_back, kept-counted, kept-more_kept, kept-less_kept}
 
 -- the tables of `changed_to`, `reverted` and `released`
@@ -77,54 +78,54 @@ All-splice P ms pieces place past all new =
     All-append P (take place ms) (pieces ++ drop past ms) (All-take P place ms all) (All-append P pieces (drop past ms) new (All-drop P past ms all))
 
 -- what a change took out is held beside the rest
-pub AreSaved-changed : (s : AddressSpace) (ms taken saved : List Mapping) → All (IsPlaced s.area s.buffers) taken → AreSaved s saved →
-    AreSaved (changed_to ms taken s) (taken ++ saved)
-AreSaved-changed s ms taken saved placed are_saved = record {
-  placed = placed_changed ms taken s.area s.buffers (taken ++ saved) (All-append (IsPlaced s.area s.buffers) taken saved placed are_saved.placed);
-  kept = kept-counted (taken ++ saved) ms (by_count more_kept taken s.buffers) (kept-more_kept taken saved s.buffers are_saved.kept);
-  held = omega (arith, are_saved.held, length-append taken saved);
+pub AreKept-changed : (s : AddressSpace) (ms taken saved : List Mapping) → All (IsPlaced s.area s.buffers) taken → AreKept s saved →
+    AreKept (changed_to ms taken s) (taken ++ saved)
+AreKept-changed s ms taken saved placed are_kept = record {
+  placed = placed_changed ms taken s.area s.buffers (taken ++ saved) (All-append (IsPlaced s.area s.buffers) taken saved placed are_kept.placed);
+  kept = kept-counted (taken ++ saved) ms (by_count more_kept taken s.buffers) (kept-more_kept taken saved s.buffers are_kept.kept);
+  kept_count = omega (arith, are_kept.kept_count, length-append taken saved);
 }
 
 -- what is held may stand in another order
-pub AreSaved-moved : (s : AddressSpace) (newer taken older : List Mapping) → AreSaved s (newer ++ (taken ++ older)) → AreSaved s (taken ++ (newer ++ older))
-AreSaved-moved s newer taken older are_saved =
+pub kept_in_any_order : KeptInAnyOrder
+kept_in_any_order s newer taken older are_kept =
     let P : Mapping → Type 0 = IsPlaced s.area s.buffers in
-    let rest : All P (taken ++ older) = All-back P newer (taken ++ older) are_saved.placed in
+    let rest : All P (taken ++ older) = All-back P newer (taken ++ older) are_kept.placed in
     record {
-      placed = All-append P taken (newer ++ older) (All-front P taken older rest) (All-append P newer older (All-front P newer (taken ++ older) are_saved.placed) (All-back P taken older rest));
-      kept = All-weaker (λ b. b.kept ≡ count_of b.id (newer ++ (taken ++ older))) (λ b. b.kept ≡ count_of b.id (taken ++ (newer ++ older))) (λ b h. h ∙ count_of-moved b.id newer taken older) s.buffers.live are_saved.kept;
-      held = omega (arith, are_saved.held, length-append newer (taken ++ older), length-append taken older, length-append taken (newer ++ older), length-append newer older);
+      placed = All-append P taken (newer ++ older) (All-front P taken older rest) (All-append P newer older (All-front P newer (taken ++ older) are_kept.placed) (All-back P taken older rest));
+      kept = All-weaker (λ b. b.kept ≡ count_of b.id (newer ++ (taken ++ older))) (λ b. b.kept ≡ count_of b.id (taken ++ (newer ++ older))) (λ b h. h ∙ count_of-moved b.id newer taken older) s.buffers.live are_kept.kept;
+      kept_count = omega (arith, are_kept.kept_count, length-append newer (taken ++ older), length-append taken older, length-append taken (newer ++ older), length-append newer older);
     }
 
 -- once its mappings are given up, the others are held
-pub AreSaved-released : (s : AddressSpace) (taken others : List Mapping) → AreSaved s (taken ++ others) → AreSaved (released s taken) others
-AreSaved-released s taken others are_saved = record {
-  placed = placed_released taken s.area s.buffers others (All-back (IsPlaced s.area s.buffers) taken others are_saved.placed);
-  kept = kept-less_kept taken others s.buffers are_saved.kept;
-  held = omega (arith, are_saved.held, length-append taken others);
+pub AreKept-released : (s : AddressSpace) (taken others : List Mapping) → AreKept s (taken ++ others) → AreKept (released s taken) others
+AreKept-released s taken others are_kept = record {
+  placed = placed_released taken s.area s.buffers others (All-back (IsPlaced s.area s.buffers) taken others are_kept.placed);
+  kept = kept-less_kept taken others s.buffers are_kept.kept;
+  kept_count = omega (arith, are_kept.kept_count, length-append taken others);
 }
 
 -- and once a change is undone
-pub AreSaved-reverted : (s : AddressSpace) (u : UndoValue) (others : List Mapping) → AreSaved s (u.change.taken ++ others) → AreSaved (reverted s u) others
-AreSaved-reverted s u others are_saved =
+pub AreKept-reverted : (s : AddressSpace) (u : UndoValue) (others : List Mapping) → AreKept s (u.change.taken ++ others) → AreKept (reverted s u) others
+AreKept-reverted s u others are_kept =
     let taken : List Mapping = u.change.taken in
     let before : List Mapping = undone s.mappings u.change in
     record {
-      placed = placed_reverted before taken s.area s.buffers others (All-back (IsPlaced s.area s.buffers) taken others are_saved.placed);
-      kept = kept-counted others before (by_count less_kept taken s.buffers) (kept-less_kept taken others s.buffers are_saved.kept);
-      held = omega (arith, are_saved.held, length-append taken others);
+      placed = placed_reverted before taken s.area s.buffers others (All-back (IsPlaced s.area s.buffers) taken others are_kept.placed);
+      kept = kept-counted others before (by_count less_kept taken s.buffers) (kept-less_kept taken others s.buffers are_kept.kept);
+      kept_count = omega (arith, are_kept.kept_count, length-append taken others);
     }
 
 -- room says nothing of what is held
-pub AreSaved-room : (s : AddressSpace) (room : ℕ) (saved : List Mapping) → AreSaved s saved → AreSaved (record s { room = room }) saved
-AreSaved-room s room saved are_saved = record { placed = are_saved.placed; kept = are_saved.kept; held = are_saved.held }
+pub AreKept-room : (s : AddressSpace) (room : ℕ) (saved : List Mapping) → AreKept s saved → AreKept (record s { room = room }) saved
+AreKept-room s room saved are_kept = record { placed = are_kept.placed; kept = are_kept.kept; kept_count = are_kept.kept_count }
 
 -- a change, with the room that it left
-pub AreSaved-changed_room : (old new : AddressSpace) (ms taken saved : List Mapping) → new ≡ record (changed_to ms taken old) { room = new.room } →
-    All (IsPlaced old.area old.buffers) taken → AreSaved old saved → AreSaved new (taken ++ saved)
-AreSaved-changed_room old new ms taken saved state placed are_saved =
-    subst (λ (s : AddressSpace). AreSaved s (taken ++ saved)) (sym state)
-    (AreSaved-room (changed_to ms taken old) new.room (taken ++ saved) (AreSaved-changed old ms taken saved placed are_saved))
+pub AreKept-changed_room : (old new : AddressSpace) (ms taken saved : List Mapping) → new ≡ record (changed_to ms taken old) { room = new.room } →
+    All (IsPlaced old.area old.buffers) taken → AreKept old saved → AreKept new (taken ++ saved)
+AreKept-changed_room old new ms taken saved state placed are_kept =
+    subst (λ (s : AddressSpace). AreKept s (taken ++ saved)) (sym state)
+    (AreKept-room (changed_to ms taken old) new.room (taken ++ saved) (AreKept-changed old ms taken saved placed are_kept))
 
 -- To undo a change gives the space before it.
 pub reverted-changed : (old : AddressSpace) (ms : List Mapping) (room : ℕ) (u : UndoValue) → UsesAre old.mappings old.buffers → undone ms u.change ≡ old.mappings →
@@ -133,10 +134,10 @@ reverted-changed old ms room u used before =
     let taken : List Mapping = u.change.taken in
     let tables : reverted_table (undone ms u.change) taken (changed_table ms taken old.buffers) ≡ old.buffers =
     ap (λ (xs : List Mapping). reverted_table xs taken (changed_table ms taken old.buffers)) before ∙ there_and_back old.mappings ms taken old.buffers used in
-    let held : old.held + length taken - length taken ≡ old.held = omega arith in
+    let held : old.kept_count + length taken - length taken ≡ old.kept_count = omega arith in
     ap (λ (xs : List Mapping). record (reverted (record (changed_to ms taken old) { room = room }) u) { mappings = xs }) before
-    ∙ ap (λ (t : Table). record old { room = room; buffers = t; held = old.held + length taken - length taken }) tables
-    ∙ ap (λ (n : ℕ). record old { room = room; held = n }) held
+    ∙ ap (λ (t : Table). record old { room = room; buffers = t; kept_count = old.kept_count + length taken - length taken }) tables
+    ∙ ap (λ (n : ℕ). record old { room = room; kept_count = n }) held
 
 -- so does its undoing in a space that is known by an equation
 pub reverted-changed_room : (old new : AddressSpace) (ms : List Mapping) (u : UndoValue) → new ≡ record (changed_to ms u.change.taken old) { room = new.room } →

@@ -4,8 +4,8 @@ use Rattle.std.proofs.lemmas.List.Elements.{All-weaker}
 use Rattle.gv_buffers.specs.Table.{Table, most_counted}
 use Rattle.gv_space.specs.Counts.{by_count, count_of, more_used, less_kept}
 use Rattle.gv_space.specs.Live.{IsLiveBacking}
-use Rattle.gv_space.proofs.Keeping.{more_used_of_counts, less_kept_of_counts, live-by_count, All-by_count}
-use Rattle.gv_space.proofs.counts.exchange_back.Goals as goal
+use Rattle.gv_space.proofs.ByCountLemmas.{more_used_of_counts, less_kept_of_counts, live-by_count, All-by_count}
+use Rattle.gv_space.proofs.counts.move_counts_back.Goals as goal
 
 pub count_in-requires-clause-live : goal.count_in-requires-clause-live
 count_in-requires-clause-live c =

@@ -4,8 +4,8 @@ use Rattle.std.proofs.lemmas.List.Elements.{All-weaker}
 use Rattle.gv_buffers.specs.Table.{Table, most_counted}
 use Rattle.gv_space.specs.Counts.{by_count, count_of, more_used, more_kept}
 use Rattle.gv_space.specs.Live.{IsLiveBacking}
-use Rattle.gv_space.proofs.Keeping.{more_used_of_counts, more_kept_of_counts, live-by_count, All-by_count}
-use Rattle.gv_space.proofs.counts.exchange.Goals as goal
+use Rattle.gv_space.proofs.ByCountLemmas.{more_used_of_counts, more_kept_of_counts, live-by_count, All-by_count}
+use Rattle.gv_space.proofs.counts.move_counts.Goals as goal
 
 pub count_in-requires-clause-live : goal.count_in-requires-clause-live
 count_in-requires-clause-live c =

@@ -16,14 +16,14 @@ use Rattle.gv_table.specs.declared.page_table.PageTable.{PageTable}
 use Rattle.gv_table.proofs.Edits.{replaced-alike}
 use Rattle.gv_buffers.specs.Table.{Table}
 use Rattle.gv_space.specs.Counts.{by_count, counted, more_used, less_used, more_kept}
-use Rattle.gv_space.specs.State.{AddressSpace, IsSpace, IsPlaced, AreSaved}
+use Rattle.gv_space.specs.State.{AddressSpace, IsSpace, IsPlaced, AreKept}
 use Rattle.gv_space.specs.Undo.{UndoValue, IsUndoOf}
 use Rattle.gv_space.specs.Change.{changed_to, IsChanged}
 use Rattle.gv_space.specs.Ready.{IsReady}
 use Rattle.gv_space.proofs.Lengths.{length-splice}
 use Rattle.gv_space.proofs.Placed.{placed_pieces}
-use Rattle.gv_space.proofs.Recounted.{exchanged}
-use Rattle.gv_space.proofs.Saved.{All-taken, AreSaved-changed_room, reverted-changed_room}
+use Rattle.gv_space.proofs.Recounted.{moved_counts}
+use Rattle.gv_space.proofs.KeptLemmas.{All-taken, AreKept-changed_room, reverted-changed_room}
 use Rattle.gv_space.proofs.Spaces.{IsSpace-changed, IsSpace-room}
 
 module _ (inside : List Mapping) (s : AddressSpace) (range : Span) (place : ℕ) (taken pieces : List Mapping) (spares : ℕ) (space : IsSpace s) (ready : IsReady inside s range place taken pieces spares) where
@@ -70,17 +70,17 @@ module _ (inside : List Mapping) (s : AddressSpace) (range : Span) (place : ℕ)
 
   -- what the parts of the space are after the change
   pub state_after : (list : Ranges) (buffers : Table) (count : ℕ) → list.mappings ≡ after → buffers ≡ by_count less_used taken (by_count more_used pieces (by_count more_kept taken s.buffers)) → count ≡ length taken →
-      record s { mappings = list.mappings; room = list.room; buffers = buffers; held = s.held + count } ≡ record (changed_to after taken s) { room = list.room }
+      record s { mappings = list.mappings; room = list.room; buffers = buffers; kept_count = s.kept_count + count } ≡ record (changed_to after taken s) { room = list.room }
   state_after list buffers count list_is buffers_is count_is =
       let tables : buffers ≡ by_count counted after (by_count more_kept taken s.buffers) =
-      buffers_is ∙ exchanged s.mappings taken pieces place (length taken) s.buffers ready.taken_is space.used in
+      buffers_is ∙ moved_counts s.mappings taken pieces place (length taken) s.buffers ready.taken_is space.used in
       rw (list_is, tables, count_is) refl
 
   pub space_after : (new : AddressSpace) (room : ℕ) → new ≡ record (changed_to after taken s) { room = room } → IsSpace new
   space_after new room is =
       subst IsSpace (sym is)
       (IsSpace-room (changed_to after taken s) room
-      (IsSpace-changed s after taken space after_laid_out (subst (λ (ms : List Mapping). length ms ≤ s.limits.mappings) (sym after_is) ready.few) after_placed taken_placed ready.few_held))
+      (IsSpace-changed s after taken space after_laid_out (subst (λ (ms : List Mapping). length ms ≤ s.limits.mappings) (sym after_is) ready.few) after_placed taken_placed ready.few_kept))
 
   abbrev pub change_of : Undo
   change_of = record { place = place; put_in = length pieces; taken = taken }
@@ -113,18 +113,18 @@ module _ (inside : List Mapping) (s : AddressSpace) (range : Span) (place : ℕ)
       let back : undone new.mappings change_of ≡ s.mappings = rw mappings_is undone_after in
       let undo : IsUndoOf s.mappings new.mappings u = subst (λ (ms : List Mapping). IsUndoOf s.mappings ms u) (sym mappings_is) (undo_after tables owed) in
       let long : length (undone new.mappings change_of) ≡ length s.mappings = ap (λ (l : List Mapping). length l) back in
-      let keeps : (others : List Mapping) → AreSaved s others → AreSaved new (taken ++ others) =
-      λ others saved. AreSaved-changed_room s new after taken others is taken_placed saved in
+      let keeps : (others : List Mapping) → AreKept s others → AreKept new (taken ++ others) =
+      λ others saved. AreKept-changed_room s new after taken others is taken_placed saved in
       record {
         state = is;
         room = room;
         undo = undo;
-        fits = record {
+        can_revert = record {
           undo = subst (λ (ms : List Mapping). IsUndoOf ms new.mappings u) (sym back) undo;
           few = omega (arith, long, limits_is, space.few);
           room = omega (arith, long, room, ready.old_room);
-          holds = record { others = space.saved; are_saved = keeps space.saved space.are_saved };
+          kept = record { others = space.all_kept; are_kept = keeps space.all_kept space.are_kept };
         };
-        saved = keeps;
+        kept = keeps;
         back = reverted-changed_room s new after u is space.used undone_after;
       }

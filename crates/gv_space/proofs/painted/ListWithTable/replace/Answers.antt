@@ -1,6 +1,6 @@
 use Rattle.std.proofs.Common.{◌∙◌, sym}
 use Rattle.gv_table.proofs.Likeness.{tables-gained}
-use Rattle.gv_space.proofs.painted.PaintedList.replace.Goals as goal
+use Rattle.gv_space.proofs.painted.ListWithTable.replace.Goals as goal
 
 pub returns-clause-tables : goal.returns-clause-tables
 returns-clause-tables c =

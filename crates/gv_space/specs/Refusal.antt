@@ -13,7 +13,7 @@ use Rattle.gv_types.specs.declared.operation.PageOp.{PageOp}
 use Rattle.gv_types.specs.declared.operation.PageOp.TheVariants.{Map, Unmap, UnmapBuffer}
 use Rattle.gv_ranges.specs.Edit.{edited}
 use Rattle.gv_buffers.specs.Table.{Table, pages}
-use Rattle.gv_space.specs.State.{AddressSpace, most_held}
+use Rattle.gv_space.specs.State.{AddressSpace, most_kept}
 
 -- the first of two faults
 abbrev pub first_of : Option Fault → Option Fault → Option Fault
@@ -52,7 +52,7 @@ count_met ms range = length (filter (λ m. meets m.range range) ms)
 -- why the list can't become this one by a change in the range: it would be too long, or undo values hold too much
 abbrev pub limit_fault : AddressSpace → Span → List Mapping → Option Fault
 limit_fault s range ms =
-    if nat_lt s.limits.mappings (length ms) || nat_lt most_held (s.held + count_met s.mappings range)
+    if nat_lt s.limits.mappings (length ms) || nat_lt most_kept (s.kept_count + count_met s.mappings range)
     then Some TooManyMappings
     else None
 

@@ -17,10 +17,10 @@ use Rattle.gv_buffers.specs.Table.{Buffer, Table, buffer, has_id, fresh, without
 use Rattle.gv_buffers.proofs.Found.{others_stay_made, others_stay_destroyed, is_same_id-itself, is_same_id-other}
 use Rattle.gv_buffers.proofs.Tables.{counted_lives}
 use Rattle.gv_space.specs.Counts.{count_of}
-use Rattle.gv_space.specs.State.{AddressSpace, LieInside, IsPlaced, AreSaved}
-use Rattle.gv_space.proofs.Counted.{same_from_is_same_id, count_of-none, none_from_count_of}
-use Rattle.gv_space.proofs.Tables.{found_live, IsFound}
-use Rattle.gv_space.proofs.Keeping.{KeepsSize, IsPlaced-kept}
+use Rattle.gv_space.specs.State.{AddressSpace, LieInside, IsPlaced, AreKept}
+use Rattle.gv_space.proofs.CountLemmas.{same_from_is_same_id, count_of-none, none_from_count_of}
+use Rattle.gv_space.proofs.TableLemmas.{found_live, IsFound}
+use Rattle.gv_space.proofs.ByCountLemmas.{KeepsSize, IsPlaced-kept}
 use Rattle.gv_space.proofs.Recounted.{UsesAre, KeptAre}
 
 abbrev IsBelow : Buffer → Buffer → Type 0
@@ -75,12 +75,12 @@ kept_made a old new id size saved made placed kept =
     All-made (λ b. b.kept ≡ count_of b.id saved) old new id size made kept (sym (count_of_made a old new id size saved made placed))
 
 -- undo values hold what they held
-pub AreSaved-made : (s : AddressSpace) (new : Table) (id : BufferId) (size : ℕ) (saved : List Mapping) → IsCreated s.buffers new id size → AreSaved s saved →
-    AreSaved (record s { buffers = new }) saved
-AreSaved-made s new id size saved made are_saved = record {
-  placed = placed_made s.area s.buffers new id size saved made are_saved.placed;
-  kept = kept_made s.area s.buffers new id size saved made are_saved.placed are_saved.kept;
-  held = are_saved.held;
+pub AreKept-made : (s : AddressSpace) (new : Table) (id : BufferId) (size : ℕ) (saved : List Mapping) → IsCreated s.buffers new id size → AreKept s saved →
+    AreKept (record s { buffers = new }) saved
+AreKept-made s new id size saved made are_kept = record {
+  placed = placed_made s.area s.buffers new id size saved made are_kept.placed;
+  kept = kept_made s.area s.buffers new id size saved made are_kept.placed are_kept.kept;
+  kept_count = are_kept.kept_count;
 }
 
 -- a buffer that nothing names
@@ -144,12 +144,12 @@ pub kept_destroyed : (t : Table) (id : BufferId) (saved : List Mapping) → Kept
 kept_destroyed t id saved kept = All-filter (λ b. not (has_id id b)) (λ b. b.kept ≡ count_of b.id saved) t.live kept
 
 -- undo values hold what they held
-pub AreSaved-destroyed : (s : AddressSpace) (id : BufferId) (saved : List Mapping) → destroy_fault s.buffers id ≡ None → AreSaved s saved →
-    AreSaved (record s { buffers = without id s.buffers }) saved
-AreSaved-destroyed s id saved none are_saved = record {
-  placed = placed_destroyed s.area s.buffers id saved (kept_of_destroyed s.buffers id saved none are_saved.kept) are_saved.placed;
-  kept = kept_destroyed s.buffers id saved are_saved.kept;
-  held = are_saved.held;
+pub AreKept-destroyed : (s : AddressSpace) (id : BufferId) (saved : List Mapping) → destroy_fault s.buffers id ≡ None → AreKept s saved →
+    AreKept (record s { buffers = without id s.buffers }) saved
+AreKept-destroyed s id saved none are_kept = record {
+  placed = placed_destroyed s.area s.buffers id saved (kept_of_destroyed s.buffers id saved none are_kept.kept) are_kept.placed;
+  kept = kept_destroyed s.buffers id saved are_kept.kept;
+  kept_count = are_kept.kept_count;
 }
 
 pairs_head : (x : Buffer) (xs : List Buffer) → AllPairs IsBelow (x ∷ xs) → All (IsBelow x) xs

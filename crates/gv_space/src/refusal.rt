@@ -2,7 +2,7 @@
 ghost use Rattle.std.specs.Prelude.{◌≡◌, IsOk, MatchOption};
 ghost use Rattle.gv_types.specs.Operation.{IsChecked};
 ghost use Rattle.gv_buffers.specs.Table.{pages as size_of};
-ghost use Rattle.gv_space.specs.Verdict.{buffer_fault, dead_fault, past_end};
+ghost use Rattle.gv_space.specs.Refusal.{buffer_fault, dead_fault, past_end};
 
 use gv_buffers::Buffers;
 use gv_types::{Backing, BufferId, Fault, PageOp};
