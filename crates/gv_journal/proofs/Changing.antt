@@ -8,8 +8,8 @@ use Rattle.gv_types.specs.declared.mapping.Mapping.{Mapping}
 use Rattle.gv_types.specs.declared.operation.PageOp.{PageOp}
 use Rattle.gv_ranges.specs.List.{at}
 use Rattle.gv_ranges.specs.Edit.{edited, edited_by_all, undone}
-use Rattle.gv_space.specs.State.{AddressSpace, AreSaved, IsUnchanged}
-use Rattle.gv_space.specs.Undo.{UndoValue, IsUndoOf, HoldsWhatWas, reverted}
+use Rattle.gv_space.specs.State.{AddressSpace, AreKept, IsUnchanged}
+use Rattle.gv_space.specs.Undo.{UndoValue, IsUndoOf, TookWhatWas, reverted}
 use Rattle.gv_space.specs.Change.{IsChanged, changed_to}
 use Rattle.gv_journal.specs.Undoing.{taken_by, undone_by, reverted_by, AreRevertible}
 use Rattle.gv_journal.specs.Applying.{met, after_op, after_all, AreChanges, AreApplied}
@@ -27,9 +27,9 @@ reverted_by-room s room [] = refl
 reverted_by-room s room (u ∷ us) = reverted_by-room (reverted s u) room us
 
 -- what is saved stays saved with other room
-pub AreSaved-room : (old new : AddressSpace) (saved : List Mapping) → new ≡ record old { room = new.room } → AreSaved old saved → AreSaved new saved
-AreSaved-room old new saved is h =
-    subst (λ (s : AddressSpace). AreSaved s saved) (sym is) (record { placed = h.placed; kept = h.kept; held = h.held })
+pub AreKept-room : (old new : AddressSpace) (saved : List Mapping) → new ≡ record old { room = new.room } → AreKept old saved → AreKept new saved
+AreKept-room old new saved is h =
+    subst (λ (s : AddressSpace). AreKept s saved) (sym is) (record { placed = h.placed; kept = h.kept; kept_count = h.kept_count })
 
 pub AreChanges-none : (s : AddressSpace) → AreChanges s s []
 AreChanges-none s = record { room = omega arith; revertible = tt; list = refl; kept = λ others saved. saved; back = refl }
@@ -43,12 +43,12 @@ AreChanges-more old mid new ms u us was did undone_is =
     record {
       room = omega (arith, was.room, did.room);
       revertible = (
-        record { undo = did.fits.undo; few = did.fits.few; room_for = did.fits.room },
+        record { undo = did.can_revert.undo; few = did.can_revert.few; room_for = did.can_revert.room },
         subst (λ (xs : List Mapping). AreRevertible new.limits.mappings new.room xs us) (sym undone_is)
             (subst (λ (n : ℕ). AreRevertible n new.room mid.mappings us) (sym limit_is) others),
       );
       list = ap (λ (xs : List Mapping). undone_by xs us) undone_is ∙ was.list;
-      kept = λ xs saved. subst (λ (all : List Mapping). AreSaved new all) (sym (append_assoc u.change.taken (taken_by us) xs)) (did.saved (taken_by us ++ xs) (was.kept xs saved));
+      kept = λ xs saved. subst (λ (all : List Mapping). AreKept new all) (sym (append_assoc u.change.taken (taken_by us) xs)) (did.kept (taken_by us ++ xs) (was.kept xs saved));
       back = ap (λ (s : AddressSpace). reverted_by s us) did.back ∙ reverted_by-room mid new.room us ∙ ap (λ (s : AddressSpace). record s { room = new.room }) was.back;
     }
 
@@ -63,7 +63,7 @@ AreChanges-room old mid new us was same =
       revertible = subst (λ (xs : List Mapping). AreRevertible new.limits.mappings new.room xs us) (sym list_is)
           (subst (λ (n : ℕ). AreRevertible n new.room mid.mappings us) (sym limit_is) roomy);
       list = ap (λ (xs : List Mapping). undone_by xs us) list_is ∙ was.list;
-      kept = λ xs saved. AreSaved-room mid new (taken_by us ++ xs) same.state (was.kept xs saved);
+      kept = λ xs saved. AreKept-room mid new (taken_by us ++ xs) same.state (was.kept xs saved);
       back = ap (λ (s : AddressSpace). reverted_by s us) same.state ∙ reverted_by-room mid new.room us ∙ ap (λ (s : AddressSpace). record s { room = new.room }) was.back;
     }
 
@@ -89,7 +89,7 @@ state_after mid new op u did range_is =
 pub AreApplied-more : (old mid new : AddressSpace) (ops : List PageOp) (us : List UndoValue) (op : PageOp) (u : UndoValue) → AreApplied old mid ops us →
     IsChanged mid new (edited mid.mappings op) u → u.range ≡ range_of op →
     ((page : ℕ) → IsPage page → at new.mappings page ≡ after op (at mid.mappings) page) →
-    HoldsWhatWas mid.mappings u → undone new.mappings u.change ≡ mid.mappings → AreApplied old new (op ∷ ops) (u ∷ us)
+    TookWhatWas mid.mappings u → undone new.mappings u.change ≡ mid.mappings → AreApplied old new (op ∷ ops) (u ∷ us)
 AreApplied-more old mid new ops us op u was did range_is says holds undone_is =
     let mid_list : mid.mappings ≡ edited_by_all ops old.mappings = list_applied old mid ops was.state in
     let new_list : new.mappings ≡ edited mid.mappings op = ap (λ (s : AddressSpace). s.mappings) did.state in

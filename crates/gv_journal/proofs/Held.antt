@@ -10,7 +10,7 @@ use Rattle.gv_journal.specs.Items.{entries}
 use Rattle.gv_journal.specs.State.{FitsSpace}
 use Rattle.gv_journal.specs.declared.item.Item.{Item}
 use Rattle.gv_journal.proofs.Lists.{last_first}
-use Rattle.gv_journal.proofs.Changing.{AreSaved-room}
+use Rattle.gv_journal.proofs.Changing.{AreKept-room}
 use Rattle.gv_journal.proofs.Histories.{Rewinds-room}
 
 -- the newest item comes first
@@ -60,5 +60,5 @@ fits_room s t j same fits =
       rewinds = subst (λ (ms : List Mapping). Rewinds t.limits.mappings t.room j.first ms j.items (base ms j.items)) (sym list_is)
           (subst (λ (n : ℕ). Rewinds n t.room j.first s.mappings j.items below) (sym limit_is)
           (Rewinds-room s.limits.mappings s.room t.room j.first s.mappings j.items below same.room fits.rewinds));
-      kept = AreSaved-room s t (kept_by j.items) same.state fits.kept;
+      kept = AreKept-room s t (kept_by j.items) same.state fits.kept;
     }

@@ -5,8 +5,8 @@ use Rattle.std.proofs.lemmas.List.Elements.{All-head, All-tail}
 use Rattle.std.specs.List.{All}
 use Rattle.gv_types.specs.declared.mapping.Entry.{Entry}
 use Rattle.gv_types.specs.declared.mapping.Mapping.{Mapping}
-use Rattle.gv_space.specs.State.{AddressSpace, AreSaved}
-use Rattle.gv_space.specs.Undo.{UndoValue, Holds, reverted, released}
+use Rattle.gv_space.specs.State.{AddressSpace, AreKept}
+use Rattle.gv_space.specs.Undo.{UndoValue, AreAmongKept, reverted, released}
 use Rattle.gv_journal.specs.Undoing.{taken_by, undone_by, reverted_by, AreRevertible}
 use Rattle.gv_journal.specs.History.{undos_of, kept_by, base, Translates, UndoSavesTheView, Rewinds}
 use Rattle.gv_journal.specs.Items.{Journaled, numbered}
@@ -44,9 +44,9 @@ held_keep all spent gone =
 
 -- an item's mappings are given up
 pub kept_without : (s new : AddressSpace) (items : List Item) (item : Item) (older : List Item) → items ≡ item ∷ older →
-    ((others : List Mapping) → AreSaved s (taken_by (undos_of item) ++ others) → AreSaved new others) → AreSaved s (kept_by items) → AreSaved new (kept_by older)
+    ((others : List Mapping) → AreKept s (taken_by (undos_of item) ++ others) → AreKept new others) → AreKept s (kept_by items) → AreKept new (kept_by older)
 kept_without s new items item older is spent saved =
-    spent (kept_by older) (subst (λ (xs : List Item). AreSaved s (kept_by xs)) is saved)
+    spent (kept_by older) (subst (λ (xs : List Item). AreKept s (kept_by xs)) is saved)
 
 pub released_without : (s new : AddressSpace) (items : List Item) (item : Item) (older : List Item) → items ≡ item ∷ older →
     new ≡ released s (taken_by (undos_of item)) → released new (kept_by older) ≡ released s (kept_by items)
@@ -55,8 +55,8 @@ released_without s new items item older is state =
     ∙ released-released s (taken_by (undos_of item)) (kept_by older)
     ∙ ap (λ (xs : List Item). released s (kept_by xs)) (sym is)
 
-pub newest_held : (s : AddressSpace) (items : List Item) (item : Item) (older : List Item) → items ≡ item ∷ older → AreSaved s (kept_by items) → Holds s (taken_by (undos_of item))
-newest_held s items item older is saved = record { others = kept_by older; are_saved = subst (λ (xs : List Item). AreSaved s (kept_by xs)) is saved }
+pub newest_held : (s : AddressSpace) (items : List Item) (item : Item) (older : List Item) → items ≡ item ∷ older → AreKept s (kept_by items) → AreAmongKept s (taken_by (undos_of item))
+newest_held s items item older is saved = record { others = kept_by older; are_kept = subst (λ (xs : List Item). AreKept s (kept_by xs)) is saved }
 
 -- a space that is reverted has its limits and its room
 pub reverted_by-limit : (s : AddressSpace) (us : List UndoValue) → (reverted_by s us).limits.mappings ≡ s.limits.mappings
@@ -76,7 +76,7 @@ Rewinds-room limit room more first ms (item ∷ older) below le h =
 
 -- the newest item is taken back
 fits_back : (s t : AddressSpace) (limit first : ℕ) (item : Item) (older : List Item) →
-    FitsSpace s (record { limit = limit; first = first; items = item ∷ older }) → t ≡ reverted_by s (undos_of item) → AreSaved t (kept_by older) →
+    FitsSpace s (record { limit = limit; first = first; items = item ∷ older }) → t ≡ reverted_by s (undos_of item) → AreKept t (kept_by older) →
     FitsSpace t (record { limit = limit; first = first; items = older })
 fits_back s t limit first item older fits state kept =
     let list_is : t.mappings ≡ undone_by s.mappings (undos_of item) = ap (λ (x : AddressSpace). x.mappings) state ∙ reverted_by-mappings s (undos_of item) in
@@ -93,7 +93,7 @@ fits_back s t limit first item older fits state kept =
     }
 
 pub fits_rewound : (s t : AddressSpace) (old new : Journaled) (item : Item) → old ≡ record new { items = item ∷ new.items } →
-    FitsSpace s old → t ≡ reverted_by s (undos_of item) → AreSaved t (kept_by new.items) → FitsSpace t new
+    FitsSpace s old → t ≡ reverted_by s (undos_of item) → AreKept t (kept_by new.items) → FitsSpace t new
 fits_rewound s t old new item is fits state kept =
     fits_back s t new.limit new.first item new.items (subst (λ (j : Journaled). FitsSpace s j) is fits) state kept
 

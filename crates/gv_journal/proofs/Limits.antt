@@ -18,8 +18,8 @@ use Rattle.gv_types.specs.declared.operation.PageOp.TheVariants.{Unmap}
 use Rattle.gv_ranges.specs.Edit.{edited}
 use Rattle.gv_buffers.specs.Table.{pages}
 use Rattle.gv_space.specs.Counts.{ranges_of}
-use Rattle.gv_space.specs.State.{AddressSpace, IsSpace, IsPlaced, most_held}
-use Rattle.gv_space.specs.Verdict.{first_of, dead_fault, limit_fault, count_met}
+use Rattle.gv_space.specs.State.{AddressSpace, IsSpace, IsPlaced, most_kept}
+use Rattle.gv_space.specs.Refusal.{first_of, dead_fault, limit_fault, count_met}
 use Rattle.gv_journal.specs.Applying.{after_op, after_all}
 use Rattle.gv_journal.specs.Verdict.{limits_fault, turn_fault}
 use Rattle.gv_journal.specs.Work.{IsUnmapAll, IsTurnRefused}
@@ -38,7 +38,7 @@ limit_or_none true = inr refl
 limit_or_none false = inl refl
 
 is_limit : (s : AddressSpace) (range : Span) (ms : List Mapping) → IsLimit (limit_fault s range ms)
-is_limit s range ms = limit_or_none (nat_lt s.limits.mappings (length ms) || nat_lt most_held (s.held + count_met s.mappings range))
+is_limit s range ms = limit_or_none (nat_lt s.limits.mappings (length ms) || nat_lt most_kept (s.kept_count + count_met s.mappings range))
 
 first_limit : (a b : Option Fault) → IsLimit a → IsLimit b → IsLimit (first_of a b)
 first_limit a b (inl none) other = subst (λ (o : Option Fault). IsLimit (first_of o b)) (sym none) other

@@ -11,7 +11,7 @@ use Rattle.gv_types.specs.declared.operation.Op.TheVariants.{Map, MapZero, Unmap
 use Rattle.gv_types.specs.declared.operation.PageOp.{PageOp}
 use Rattle.gv_ranges.specs.Edit.{edited}
 use Rattle.gv_space.specs.State.{AddressSpace}
-use Rattle.gv_space.specs.Verdict.{first_of, operation_fault, limit_fault, apply_fault}
+use Rattle.gv_space.specs.Refusal.{first_of, operation_fault, limit_fault, apply_fault}
 use Rattle.gv_journal.specs.Applying.{does}
 use Rattle.gv_journal.specs.Verdict.{limits_fault, turn_fault}
 use Rattle.gv_journal.specs.Work.{IsTurnRefused}

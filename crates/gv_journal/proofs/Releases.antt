@@ -32,9 +32,9 @@ each_twice (b ∷ bs) first later =
 -- mappings given up one list after the other
 pub released-released : (s : AddressSpace) (first later : List Mapping) → released (released s first) later ≡ released s (first ++ later)
 released-released s first later =
-    let held_is : s.held - length first - length later ≡ s.held - length (first ++ later) = omega (arith, length-append first later) in
-    ap (λ (n : ℕ). record (released (released s first) later) { held = n }) held_is
-    ∙ ap (λ (live : List Buffer). record s { buffers = record s.buffers { live = live }; held = s.held - length (first ++ later) }) (each_twice s.buffers.live first later)
+    let count_is : s.kept_count - length first - length later ≡ s.kept_count - length (first ++ later) = omega (arith, length-append first later) in
+    ap (λ (n : ℕ). record (released (released s first) later) { kept_count = n }) count_is
+    ∙ ap (λ (live : List Buffer). record s { buffers = record s.buffers { live = live }; kept_count = s.kept_count - length (first ++ later) }) (each_twice s.buffers.live first later)
 
 less_none : (bs : List Buffer) → map (λ (b : Buffer). less_kept b (count_of b.id [])) bs ≡ bs
 less_none [] = refl
@@ -45,5 +45,5 @@ less_none (b ∷ bs) =
 -- nothing given up
 pub released-none : (s : AddressSpace) → released s [] ≡ s
 released-none s =
-    let held_is : s.held - 0 ≡ s.held = omega arith in
-    ap (λ (n : ℕ). record (released s []) { held = n }) held_is ∙ ap (λ (live : List Buffer). record s { buffers = record s.buffers { live = live } }) (less_none s.buffers.live)
+    let count_is : s.kept_count - 0 ≡ s.kept_count = omega arith in
+    ap (λ (n : ℕ). record (released s []) { kept_count = n }) count_is ∙ ap (λ (live : List Buffer). record s { buffers = record s.buffers { live = live } }) (less_none s.buffers.live)

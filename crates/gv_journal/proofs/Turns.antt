@@ -9,7 +9,7 @@ use Rattle.gv_types.specs.declared.operation.Op.{Op}
 use Rattle.gv_types.specs.declared.operation.PageOp.{PageOp}
 use Rattle.gv_ranges.specs.Edit.{edited_by_all}
 use Rattle.gv_space.specs.State.{AddressSpace}
-use Rattle.gv_space.specs.Verdict.{first_of, operation_fault}
+use Rattle.gv_space.specs.Refusal.{first_of, operation_fault}
 use Rattle.gv_journal.specs.Applying.{after_op, after_all, does, all_do}
 use Rattle.gv_journal.specs.Verdict.{turn_fault, refusal, refused_or, verdict_from, ComesBefore, IsUnmapAllAt}
 use Rattle.gv_journal.specs.Work.{IsTurnRefused, IsUnmapAll, IsRefusedInTurn}

@@ -1,25 +1,25 @@
 -- Undo values spent in turn.
 use Rattle.std.proofs.Common.{◌≡◌, List, [], ◌∷◌, ◌++◌, refl, ap, sym, ◌∙◌, subst, append_assoc}
 use Rattle.gv_types.specs.declared.mapping.Mapping.{Mapping}
-use Rattle.gv_space.specs.State.{AddressSpace, AreSaved}
-use Rattle.gv_space.specs.Undo.{UndoValue, Holds, Fits, reverted, released}
+use Rattle.gv_space.specs.State.{AddressSpace, AreKept}
+use Rattle.gv_space.specs.Undo.{UndoValue, AreAmongKept, CanRevert, reverted, released}
 use Rattle.gv_journal.specs.Undoing.{taken_by, undone_by, reverted_by, AreRevertible}
 use Rattle.gv_journal.proofs.Releases.{released-released}
 
 -- what the first of them keeps is kept
-pub first_held : (s : AddressSpace) (u : UndoValue) (older : List UndoValue) → Holds s (taken_by (u ∷ older)) → Holds s u.change.taken
+pub first_held : (s : AddressSpace) (u : UndoValue) (older : List UndoValue) → AreAmongKept s (taken_by (u ∷ older)) → AreAmongKept s u.change.taken
 first_held s u older holds = record {
   others = taken_by older ++ holds.others;
-  are_saved = subst (λ (ms : List Mapping). AreSaved s ms) (append_assoc u.change.taken (taken_by older) holds.others) holds.are_saved;
+  are_kept = subst (λ (ms : List Mapping). AreKept s ms) (append_assoc u.change.taken (taken_by older) holds.others) holds.are_kept;
 }
 
 -- the first of them can be reverted
 pub first_fits : (s : AddressSpace) (us : List UndoValue) (u : UndoValue) (older : List UndoValue) → us ≡ u ∷ older →
-    AreRevertible s.limits.mappings s.room s.mappings us → Holds s (taken_by us) → Fits s u
+    AreRevertible s.limits.mappings s.room s.mappings us → AreAmongKept s (taken_by us) → CanRevert s u
 first_fits s us u older is revertible holds =
     let turn = subst (λ (vs : List UndoValue). AreRevertible s.limits.mappings s.room s.mappings vs) is revertible in
-    let held = subst (λ (vs : List UndoValue). Holds s (taken_by vs)) is holds in
-    record { undo = turn.0.undo; few = turn.0.few; room = turn.0.room_for; holds = first_held s u older held }
+    let held = subst (λ (vs : List UndoValue). AreAmongKept s (taken_by vs)) is holds in
+    record { undo = turn.0.undo; few = turn.0.few; room = turn.0.room_for; kept = first_held s u older held }
 
 -- then the others can
 pub others_revertible : (s new : AddressSpace) (us : List UndoValue) (u : UndoValue) (older : List UndoValue) → us ≡ u ∷ older → new ≡ reverted s u →
@@ -30,11 +30,11 @@ others_revertible s new us u older is state revertible =
 
 -- what others keep stays kept once the first is spent
 pub others_kept : (s new : AddressSpace) (us : List UndoValue) (u : UndoValue) (older : List UndoValue) (others : List Mapping) → us ≡ u ∷ older →
-    ((xs : List Mapping) → AreSaved s (u.change.taken ++ xs) → AreSaved new xs) → AreSaved s (taken_by us ++ others) → AreSaved new (taken_by older ++ others)
+    ((xs : List Mapping) → AreKept s (u.change.taken ++ xs) → AreKept new xs) → AreKept s (taken_by us ++ others) → AreKept new (taken_by older ++ others)
 others_kept s new us u older others is spent saved =
     spent (taken_by older ++ others)
-    (subst (λ (ms : List Mapping). AreSaved s ms) (append_assoc u.change.taken (taken_by older) others)
-    (subst (λ (vs : List UndoValue). AreSaved s (taken_by vs ++ others)) is saved))
+    (subst (λ (ms : List Mapping). AreKept s ms) (append_assoc u.change.taken (taken_by older) others)
+    (subst (λ (vs : List UndoValue). AreKept s (taken_by vs ++ others)) is saved))
 
 -- the first reverted and then the others is all of them reverted
 pub reverted_in_turn : (s new : AddressSpace) (us : List UndoValue) (u : UndoValue) (older : List UndoValue) → us ≡ u ∷ older → new ≡ reverted s u →
@@ -54,5 +54,5 @@ pub reverted_by-mappings : (s : AddressSpace) (us : List UndoValue) → (reverte
 reverted_by-mappings s [] = refl
 reverted_by-mappings s (u ∷ older) = reverted_by-mappings (reverted s u) older
 
-pub first_of_all_held : (s : AddressSpace) (us : List UndoValue) (u : UndoValue) (older : List UndoValue) → us ≡ u ∷ older → Holds s (taken_by us) → Holds s u.change.taken
-first_of_all_held s us u older is holds = first_held s u older (subst (λ (vs : List UndoValue). Holds s (taken_by vs)) is holds)
+pub first_of_all_held : (s : AddressSpace) (us : List UndoValue) (u : UndoValue) (older : List UndoValue) → us ≡ u ∷ older → AreAmongKept s (taken_by us) → AreAmongKept s u.change.taken
+first_of_all_held s us u older is holds = first_held s u older (subst (λ (vs : List UndoValue). AreAmongKept s (taken_by vs)) is holds)

@@ -11,7 +11,7 @@ use Rattle.gv_types.specs.declared.operation.PageOp.{PageOp}
 use Rattle.gv_types.specs.declared.operation.PageOp.TheVariants.{Unmap}
 use Rattle.gv_ranges.specs.Edit.{edited}
 use Rattle.gv_space.specs.State.{AddressSpace}
-use Rattle.gv_space.specs.Verdict.{first_of, operation_fault, apply_fault, limit_fault}
+use Rattle.gv_space.specs.Refusal.{first_of, operation_fault, apply_fault, limit_fault}
 
 -- an unmap of pages, in bytes
 abbrev pub unmap_of : Span → Op

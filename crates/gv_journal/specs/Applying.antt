@@ -11,7 +11,7 @@ use Rattle.gv_types.specs.declared.operation.PageOp.TheVariants.{Unmap as UnmapP
 use Rattle.gv_ranges.specs.List.{at}
 use Rattle.gv_ranges.specs.Edit.{edited, edited_by_all}
 use Rattle.gv_space.specs.Counts.{ranges_of}
-use Rattle.gv_space.specs.State.{AddressSpace, AreSaved}
+use Rattle.gv_space.specs.State.{AddressSpace, AreKept}
 use Rattle.gv_space.specs.Undo.{UndoValue}
 use Rattle.gv_space.specs.Change.{changed_to}
 use Rattle.gv_journal.specs.Undoing.{taken_by, undone_by, reverted_by, AreRevertible}
@@ -48,7 +48,7 @@ pub record AreChanges (old new : AddressSpace) (us : List UndoValue) : Type 0 wh
   pub room : old.room ≤ new.room
   pub revertible : AreRevertible new.limits.mappings new.room new.mappings us
   pub list : undone_by new.mappings us ≡ old.mappings
-  pub kept : (others : List Mapping) → AreSaved old others → AreSaved new (taken_by us ++ others)
+  pub kept : (others : List Mapping) → AreKept old others → AreKept new (taken_by us ++ others)
   pub back : reverted_by new us ≡ record old { room = new.room }
 
 -- So did these operations.

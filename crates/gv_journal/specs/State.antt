@@ -1,7 +1,7 @@
 -- When the values of a journal fit an address space.
 use Rattle.std.specs.Prelude.{ℕ, Option}
 use Rattle.gv_types.specs.declared.mapping.Entry.{Entry}
-use Rattle.gv_space.specs.State.{AddressSpace, AreSaved}
+use Rattle.gv_space.specs.State.{AddressSpace, AreKept}
 use Rattle.gv_journal.specs.Items.{Journaled, entries}
 use Rattle.gv_journal.specs.History.{base, kept_by, Translates, UndoSavesTheView, Rewinds}
 
@@ -11,7 +11,7 @@ pub record FitsOver (s : AddressSpace) (j : Journaled) (below : ℕ → Option E
   pub translates : Translates s.mappings (entries j) below
   pub saves : UndoSavesTheView (entries j) below
   pub rewinds : Rewinds s.limits.mappings s.room j.first s.mappings j.items below
-  pub kept : AreSaved s (kept_by j.items)
+  pub kept : AreKept s (kept_by j.items)
 
 -- so it is over what lies under the oldest item
 abbrev pub FitsSpace : AddressSpace → Journaled → Type 0

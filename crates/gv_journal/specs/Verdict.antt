@@ -10,7 +10,7 @@ use Rattle.gv_types.specs.declared.operation.Op.TheVariants.{UnmapBuffer}
 use Rattle.gv_types.specs.declared.operation.PageOp.{PageOp}
 use Rattle.gv_ranges.specs.Edit.{edited}
 use Rattle.gv_space.specs.State.{AddressSpace}
-use Rattle.gv_space.specs.Verdict.{first_of, operation_fault, limit_fault}
+use Rattle.gv_space.specs.Refusal.{first_of, operation_fault, limit_fault}
 use Rattle.gv_journal.specs.Items.{Journaled, next}
 use Rattle.gv_journal.specs.Applying.{after_op, after_all, does}
 use Rattle.gv_journal.specs.declared.refusal.Refusal.{Refusal}

@@ -7,9 +7,9 @@ ghost use Rattle.gv_types.specs.declared.mapping.Mapping.{Mapping};
 ghost use Rattle.gv_types.specs.declared.operation.PageOp.TheVariants.{Unmap as UnmapPages};
 ghost use Rattle.gv_types.specs.declared.operation.Op.TheVariants.{UnmapBuffer};
 ghost use Rattle.gv_ranges.specs.Edit.{edited};
-ghost use Rattle.gv_space.specs.State.{AddressSpace, AreSaved, IsUnchanged};
-ghost use Rattle.gv_space.specs.Verdict.{apply_fault, limit_fault};
-ghost use Rattle.gv_space.specs.Undo.{Holds};
+ghost use Rattle.gv_space.specs.State.{AddressSpace, AreKept, IsUnchanged};
+ghost use Rattle.gv_space.specs.Refusal.{apply_fault, limit_fault};
+ghost use Rattle.gv_space.specs.Undo.{AreAmongKept};
 ghost use Rattle.gv_journal.specs.Undoing.{taken_by, reverted_by, AreRevertible};
 ghost use Rattle.gv_journal.specs.Applying.{after_op, after_all, does, all_do, AreApplied};
 ghost use Rattle.gv_journal.specs.Verdict.{turn_fault, verdict_from};
@@ -180,7 +180,7 @@ fn apply_op(
 /// Applies the operations of a request in order, or none of them.
 pub fn apply_all(alloc: Global, space: &mut Space, ops: &[Op]) -> Result<Work, Refusal>
     requires few { length ops.now ≤ 256 }
-    requires kept { (kept : List Mapping) × AreSaved space.old kept }
+    requires kept { (kept : List Mapping) × AreKept space.old kept }
     ensures accepted { OnOk result (verdict_from 0 space.old ops.now ≡ None) }
     ensures refused { IfErr result (IsRefusedInTurn space.old ops.now) }
     ensures applied { IfOk result (λ w. AreApplied space.old space.new (reverse w.ops.items) (reverse w.undos.items)) }
@@ -215,7 +215,7 @@ pub fn apply_all(alloc: Global, space: &mut Space, ops: &[Op]) -> Result<Work, R
 /// Takes back what was done so far. It takes no memory.
 fn give_back(space: &mut Space, work: Work)
     requires revertible { AreRevertible space.old.limits.mappings space.old.room space.old.mappings (reverse work.undos.items) }
-    requires kept { Holds space.old (taken_by (reverse work.undos.items)) }
+    requires kept { AreAmongKept space.old (taken_by (reverse work.undos.items)) }
     ensures { space.new ≡ reverted_by space.old (reverse work.undos.items) }
 {
     let Work { ops: _, undos } = work;

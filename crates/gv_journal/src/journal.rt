@@ -41,7 +41,7 @@ impl Model for Journal {
 }
 
 impl Journal {
-    ghost use Rattle.gv_space.specs.State.{AddressSpace, AreSaved, IsUnchanged};
+    ghost use Rattle.gv_space.specs.State.{AddressSpace, AreKept, IsUnchanged};
     ghost use Rattle.gv_space.specs.Undo.{released};
     ghost use Rattle.gv_journal.specs.Items.{next};
     ghost use Rattle.gv_journal.specs.History.{back, kept_by};
@@ -168,9 +168,9 @@ impl Journal {
 
     /// Gives up all undo values: what was bound stays. It takes no memory.
     pub fn close(self, space: &mut Space)
-        requires { AreSaved space.old (kept_by self.items) }
+        requires { AreKept space.old (kept_by self.items) }
         ensures state { space.new ≡ released space.old (kept_by self.items) }
-        ensures kept { AreSaved space.new [] }
+        ensures kept { AreKept space.new [] }
     {
         let Journal {
             items,

@@ -1,6 +1,6 @@
 use Rattle.std.proofs.Common.{◌≡◌, reverse, sym}
 use Rattle.gv_types.specs.Operation.{in_pages}
-use Rattle.gv_space.specs.Verdict.{apply_fault}
+use Rattle.gv_space.specs.Refusal.{apply_fault}
 use Rattle.gv_journal.proofs.Lists.{last_first}
 use Rattle.gv_journal.proofs.Changing.{AreApplied-more, AreApplied-room, state_after}
 use Rattle.gv_journal.proofs.Passing.{passed_on}

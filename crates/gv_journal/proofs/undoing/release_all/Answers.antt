@@ -10,13 +10,13 @@ pub release-requires : goal.release-requires
 release-requires c =
     let is = last_first c.loop-undo.undos.items c.pop.new.self.items c.in-Some.undo c.in-Some.ensures.items in
     first_of_all_held c.loop-undo.space _ c.in-Some.undo _ is
-    (record { others = c.requires.others; are_saved = c.loop-undo.invariant.kept c.requires.others c.requires.are_saved })
+    (record { others = c.requires.others; are_kept = c.loop-undo.invariant.kept c.requires.others c.requires.are_kept })
 
 pub loop-undo-preserved : goal.loop-undo-preserved
 loop-undo-preserved c =
     let is = last_first c.loop-undo.undos.items c.pop.new.self.items c.in-Some.undo c.in-Some.ensures.items in
     record {
-      kept = λ others saved. others_kept c.loop-undo.space _ _ c.in-Some.undo _ others is c.release.ensures.saved (c.loop-undo.invariant.kept others saved);
+      kept = λ others saved. others_kept c.loop-undo.space _ _ c.in-Some.undo _ others is c.release.ensures.kept (c.loop-undo.invariant.kept others saved);
       rest = cc (released_in_turn c.loop-undo.space _ _ c.in-Some.undo _ is c.release.ensures.state);
     }
 

@@ -1,13 +1,13 @@
 use Rattle.std.proofs.Common.{◌≡◌, ◌++◌, List, reverse}
 use Rattle.gv_types.specs.declared.mapping.Mapping.{Mapping}
-use Rattle.gv_space.specs.State.{AreSaved}
+use Rattle.gv_space.specs.State.{AreKept}
 use Rattle.gv_space.specs.Undo.{released}
 use Rattle.gv_journal.specs.Undoing.{taken_by}
 use Rattle.gv_journal.proofs.undoing.release_all.Given as goal
 
 abbrev pub invariant-loop-undo : goal.invariant-loop-undo
 invariant-loop-undo l = record {
-  kept : (others : List Mapping) → AreSaved l.fn.space (taken_by (reverse l.fn.undos.items) ++ others) → AreSaved l.space (taken_by (reverse l.undos.items) ++ others);
+  kept : (others : List Mapping) → AreKept l.fn.space (taken_by (reverse l.fn.undos.items) ++ others) → AreKept l.space (taken_by (reverse l.undos.items) ++ others);
   rest : released l.space (taken_by (reverse l.undos.items)) ≡ released l.fn.space (taken_by (reverse l.fn.undos.items));
 }
 

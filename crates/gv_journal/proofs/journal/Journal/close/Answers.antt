@@ -1,5 +1,5 @@
 use Rattle.std.proofs.Common.{◌≡◌, List, [], reverse, sym, ◌∙◌, ap, subst, rules}
-use Rattle.gv_space.specs.State.{AreSaved}
+use Rattle.gv_space.specs.State.{AreKept}
 use Rattle.gv_types.specs.declared.mapping.Mapping.{Mapping}
 use Rattle.gv_space.specs.Undo.{released}
 use Rattle.gv_journal.specs.Items.{Journaled}
@@ -15,7 +15,7 @@ loop-undos-init c =
     let same : kept_by (reverse c.self.inside.items.items) ≡ kept_by c.args.self.items =
     held_keep c.self.inside.items.items c.self.inside.spent c.self.invariant.spent_items ∙ ap (λ (j : Journaled). kept_by j.items) c.self.view_is in
     record {
-      kept = subst (λ (ms : List Mapping). AreSaved c.args.space.now ms) (sym same) c.requires;
+      kept = subst (λ (ms : List Mapping). AreKept c.args.space.now ms) (sym same) c.requires;
       rest = ap (λ (ms : List Mapping). released c.args.space.now ms) same;
     }
 

@@ -1,12 +1,12 @@
 use Rattle.std.proofs.Common.{◌≡◌, reverse}
-use Rattle.gv_space.specs.State.{AreSaved}
+use Rattle.gv_space.specs.State.{AreKept}
 use Rattle.gv_space.specs.Undo.{released}
 use Rattle.gv_journal.specs.History.{kept_by}
 use Rattle.gv_journal.proofs.journal.Journal.close.Given as goal
 
 abbrev pub invariant-loop-undos : goal.invariant-loop-undos
 invariant-loop-undos l = record {
-  kept : AreSaved l.space (kept_by (reverse l.items.items));
+  kept : AreKept l.space (kept_by (reverse l.items.items));
   rest : released l.space (kept_by (reverse l.items.items)) ≡ released l.fn.space (kept_by l.fn.self.items);
 }
 
