@@ -24,7 +24,7 @@ pub fn program<R: Env + AllocGlobal + Input + Print + Eprint>(rt: &R) -> u8
     ensures { IsStatus result }
 {
     if !is_stack_there(DONE) {
-        return told(rt, ProgramFault::OutOfMemory);
+        return told(rt, ProgramFault::Script(ScriptFault::OutOfMemory));
     }
     let words = match arguments(rt) {
         Ok(words) => words,
