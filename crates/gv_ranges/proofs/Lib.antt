@@ -11,3 +11,4 @@ pub mod Meeting
 pub mod Rests
 pub mod MeetingLemmas
 pub mod PlaceLemmas
+pub mod RenamingLemmas

@@ -17,12 +17,12 @@ use std::marker::Model;
 
 /// The list of mappings and the page table, which is always that of the list.
 #[derive(Drop)]
-pub struct PaintedList {
+pub struct ListWithTable {
     list: RangeList,
     table: PageTable,
 }
 
-impl Model for PaintedList {
+impl Model for ListWithTable {
     ghost use Rattle.gv_ranges.specs.List.{Ranges};
     ghost use Rattle.gv_table.specs.Table.{IsTree};
 
@@ -33,13 +33,13 @@ impl Model for PaintedList {
     ghost invariant = { λ p. IsTree p.list.mappings p.table };
 }
 
-impl PaintedList {
+impl ListWithTable {
     /// No mapping and no table. It takes no memory.
-    pub fn new(alloc: Global) -> PaintedList
+    pub fn new(alloc: Global) -> ListWithTable
         ensures mappings { result.mappings ≡ [] }
         ensures room { result.room ≡ 0 }
     {
-        PaintedList {
+        ListWithTable {
             list: RangeList::new(alloc),
             table: PageTable::new(),
         }

@@ -5,7 +5,7 @@ ghost use Rattle.gv_types.specs.Span.{end_of, IsInSpace};
 ghost use Rattle.gv_types.specs.declared.mapping.Mapping.{Mapping};
 ghost use Rattle.gv_ranges.specs.List.{IsLaidOut};
 ghost use Rattle.gv_ranges.specs.Edit.{clipped};
-ghost use Rattle.gv_space.specs.Verdict.{count_met};
+ghost use Rattle.gv_space.specs.Refusal.{count_met};
 
 use crate::meeting::Meeting;
 use gv_types::{Mapping, OutOfMemory, PageRange};

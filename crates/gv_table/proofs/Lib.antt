@@ -17,3 +17,4 @@ pub mod Edits
 pub mod Likeness
 pub mod Fewness
 pub mod Tallies
+pub mod RenamingLemmas

@@ -1,6 +1,5 @@
-use Rattle.std.proofs.Common.{◌≡◌, ℕ, List, [], ◌∷◌, ◌++◌, append_assoc, Result, Ok, Err, OnOk, sym, ◌∙◌, ap}
+use Rattle.std.proofs.Common.{◌≡◌, ℕ, List, ◌++◌, append_assoc, Result, Ok, Err, OnOk, ◌∙◌, ap}
 use Rattle.std.specs.Prelude.{codes, decimal, string_bytes}
-use Rattle.gv_text.specs.Reply.{tables_reply}
 use Rattle.gv_text.proofs.reply.write_tables.Goals as goal
 
 -- texts that are appended one after another

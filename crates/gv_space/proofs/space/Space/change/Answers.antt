@@ -7,7 +7,7 @@ use Rattle.gv_ranges.specs.Edit.{restored}
 use Rattle.gv_space.specs.State.{AddressSpace, IsPlaced}
 use Rattle.gv_space.specs.Change.{IsChanged}
 use Rattle.gv_space.specs.Ready.{IsMeeting, IsReady}
-use Rattle.gv_space.specs.Verdict.{limit_fault}
+use Rattle.gv_space.specs.Refusal.{limit_fault}
 use Rattle.gv_space.specs.Inside.{space_of}
 use Rattle.gv_space.proofs.Faults.{no_fault}
 use Rattle.gv_space.proofs.Readying.{inside, inside_sorted, ready_from, changed_before}
@@ -23,8 +23,8 @@ spare-requires c =
     let middle : c.between_rests-inside.result.now ≡ within = c.between_rests-inside.ensures within (c.as_slice-pieces.ensures ∙ c.in_ok-pieces.ensures) in
     subst IsLaidOut (sym middle) (inside_sorted (space_of c.self.inside) c.args.range c.args.saved.now c.self.invariant c.requires.laid_out)
 
-pub exchange-requires : goal.exchange-requires
-exchange-requires c =
+pub commit-requires : goal.commit-requires
+commit-requires c =
     let s : AddressSpace = space_of c.self.inside in
     let list_is : c.list.result.now ≡ c.self.inside.painted = c.list.ensures in
     let meeting : IsMeeting s.mappings c.args.range c.of-meeting.result =
@@ -80,7 +80,7 @@ returns-clause-changed c =
     ready_from s c.args.range c.args.saved.now c.self.invariant c.requires.laid_out c.reserve.new.self c.of-meeting.result c.in_ok-taken.taken.items c.as_slice-pieces.result.now
     c.in_ok-spares.spares c.saturating_sub.result placed meeting taken_is pieces_is c.reserve.ensures.unchanged.mappings c.in_ok-reserve.ensures.ok fits none
     (λ ms table laid alike has tree. c.in_ok-spares.ensures.enough ms table laid alike (has ∙ sym middle) tree) in
-    let is : IsChanged s c.exchange.new.self (restored s.mappings c.args.range c.args.saved.now) c.exchange.result =
-    changed_before s list c.exchange.new.self within c.args.range c.of-meeting.result.place c.in_ok-taken.taken.items c.as_slice-pieces.result.now c.in_ok-spares.spares c.exchange.result
-    c.self.invariant c.reserve.ensures.unchanged.mappings c.reserve.ensures.unchanged.room ready c.exchange.ensures.changed in
-    subst (λ (t : AddressSpace). IsChanged t c.exchange.new.self (restored t.mappings c.args.range c.args.saved.now) c.exchange.result) c.self.view_is is
+    let is : IsChanged s c.commit.new.self (restored s.mappings c.args.range c.args.saved.now) c.commit.result =
+    changed_before s list c.commit.new.self within c.args.range c.of-meeting.result.place c.in_ok-taken.taken.items c.as_slice-pieces.result.now c.in_ok-spares.spares c.commit.result
+    c.self.invariant c.reserve.ensures.unchanged.mappings c.reserve.ensures.unchanged.room ready c.commit.ensures.changed in
+    subst (λ (t : AddressSpace). IsChanged t c.commit.new.self (restored t.mappings c.args.range c.args.saved.now) c.commit.result) c.self.view_is is
