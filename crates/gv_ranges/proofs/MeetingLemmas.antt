@@ -7,9 +7,9 @@ use Rattle.gv_types.specs.Span.{end_of}
 use Rattle.gv_types.specs.declared.mapping.Mapping.{Mapping}
 use Rattle.gv_ranges.specs.List.{at, run}
 use Rattle.gv_ranges.specs.Laws.{MeetingRunSays}
-use Rattle.gv_ranges.proofs.Clip.{at-append_none, at-append_left}
-use Rattle.gv_ranges.proofs.Lookup.{at_none}
-use Rattle.gv_ranges.proofs.Replaced.{split_at_run}
+use Rattle.gv_ranges.proofs.ClipLemmas.{at-append_none, at-append_left}
+use Rattle.gv_ranges.proofs.LookupLemmas.{at_none}
+use Rattle.gv_ranges.proofs.ReplacedLemmas.{split_at_run}
 
 -- mappings that begin past a page say nothing of it
 at_begun_past : (ms : List Mapping) (page : ℕ) → All (λ m. page < m.range.first) ms → at ms page ≡ None

@@ -7,8 +7,8 @@ use Rattle.std.specs.List.{All}
 use Rattle.gv_types.specs.Span.{end_of}
 use Rattle.gv_types.specs.declared.mapping.Mapping.{Mapping}
 use Rattle.gv_ranges.specs.List.{at, IsLaidOut, AreEnded, IsPlaceOf}
-use Rattle.gv_ranges.proofs.Lookup.{firsts_rise, ends_rise, end_before_first, at_gap, at_none}
-use Rattle.gv_ranges.proofs.Parts.{All-take_within, All-drop_within, All-take_at, All-drop_at}
+use Rattle.gv_ranges.proofs.LookupLemmas.{firsts_rise, ends_rise, end_before_first, at_gap, at_none}
+use Rattle.gv_ranges.proofs.PartLemmas.{All-take_within, All-drop_within, All-take_at, All-drop_at}
 
 split : (i n : ℕ) → i < n + 1 → (i < n) ⊎ (i ≡ n)
 split i n below = grind arith

@@ -12,7 +12,7 @@ use Rattle.gv_ranges.specs.List.{at, IsLaidOut, IsLaidOutFrom}
 use Rattle.gv_ranges.specs.Edit.{clipped, replaced, edited, restored}
 use Rattle.gv_types.specs.Renamed.{renamed_entry, renamed_mapping, renamed_op, IsOperationOf, IsBackedOf, AreOf}
 use Rattle.gv_types.specs.declared.mapping.BufferId.{BufferId}
-use Rattle.gv_ranges.proofs.Kept.{clip_is_piece, All-clipped}
+use Rattle.gv_ranges.proofs.KeptLemmas.{clip_is_piece, All-clipped}
 use Rattle.gv_types.proofs.RenamingLemmas.{part-renamed, clip-renamed, range_of-renamed, own_mapping-renamed, IsMapping-renamed}
 use Rattle.gv_types.proofs.IdLemmas.{IsBackedOf-advanced, AreOf-append, AreOf-own_mapping}
 

@@ -8,7 +8,7 @@ mod rest;
 mod search;
 
 pub use range_list::RangeList;
-pub use rest::{rest_before, rest_behind};
+pub use rest::{next_rest, prev_rest};
 
 #[cfg(test)]
 mod tests;

@@ -2,7 +2,7 @@
 ghost use Rattle.std.specs.Prelude.{◌≡◌, ◌+◌, ◌*◌, ◌<◌, ◌≤◌, [], length, max, OnOk, OnErr};
 
 use crate::replace::replace_run;
-use crate::search::{entry_at, meeting_run};
+use crate::search::{entry_at, overlapping_run};
 use gv_types::{Entry, Mapping, OutOfMemory, PageRange};
 use std::alloc::Global;
 use std::marker::Model;
@@ -83,7 +83,7 @@ impl RangeList {
     pub fn overlapping(&self, range: PageRange) -> (usize, usize)
         ensures { IsMeetingRun self.now.mappings range result.0 result.1 }
     {
-        meeting_run(&self.mappings, range)
+        overlapping_run(&self.mappings, range)
     }
 
     /// Replaces `out_count` mappings from `place` on by `pieces`. It takes no memory: the room has

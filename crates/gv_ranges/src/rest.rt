@@ -11,7 +11,7 @@ use gv_types::{Mapping, SPACE_PAGES};
 
 /// What of a run lies below `page`, where each of its mappings ends past the page: at most the
 /// rest of the first.
-pub fn rest_before(run: &[Mapping], page: u64) -> Option<Mapping>
+pub fn prev_rest(run: &[Mapping], page: u64) -> Option<Mapping>
     requires laid_out { IsLaidOut run.now }
     requires past { All (λ m. page < end_of m.range) run.now }
     ensures { option_to_list result ≡ clipped 0 page run.now }
@@ -21,7 +21,7 @@ pub fn rest_before(run: &[Mapping], page: u64) -> Option<Mapping>
 
 /// What of a run lies at `page` or behind it, where each of its mappings begins before the page: at
 /// most the rest of the last.
-pub fn rest_behind(run: &[Mapping], page: u64) -> Option<Mapping>
+pub fn next_rest(run: &[Mapping], page: u64) -> Option<Mapping>
     requires laid_out { IsLaidOut run.now }
     requires before { All (λ m. m.range.first < page) run.now }
     ensures { option_to_list result ≡ clipped page PAGES run.now }

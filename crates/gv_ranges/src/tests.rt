@@ -11,7 +11,7 @@ ghost use Rattle.gv_ranges.specs.Examples.{MapOverThree, MapAtSamePages, UnmapOf
 ghost use Rattle.gv_ranges.specs.Examples.{RestsKeepFlags, RestsOfZeros, NeighboursStayApart};
 ghost use Rattle.gv_ranges.specs.Examples.{RestoreOfPieces};
 
-use crate::{RangeList, laws, rest_before, rest_behind};
+use crate::{RangeList, laws, next_rest, prev_rest};
 use gv_types::{Backing, BufferId, Flags, Mapping, OutOfMemory, PageOp, PageRange};
 use std::alloc::Global;
 use std::test::Fail;
@@ -96,9 +96,9 @@ fn replacement(alloc: Global, run: &[Mapping], op: &PageOp) -> Result<Vec<Mappin
 {
     let range = op.range();
     let mut pieces = Vec::new(alloc);
-    add(&mut pieces, rest_before(run, range.first()))?;
+    add(&mut pieces, prev_rest(run, range.first()))?;
     add(&mut pieces, op.own_mapping())?;
-    add(&mut pieces, rest_behind(run, range.end()))?;
+    add(&mut pieces, next_rest(run, range.end()))?;
     Ok(pieces)
 }
 
@@ -142,9 +142,9 @@ fn edits_leave_rests(rt: HostRuntime) -> Result<(), Fail> {
 #[test]
 fn rests_of_one_mapping(rt: HostRuntime) -> Result<(), Fail> {
     let run = [mapping(0, 4, 7).ok_or("mapping")?];
-    let before = rest_before(&run, 1).ok_or("before")?;
+    let before = prev_rest(&run, 1).ok_or("before")?;
     assert_eq!(rt; row(&before), Some((0, 1, 7)));
-    let behind = rest_behind(&run, 3).ok_or("behind")?;
+    let behind = next_rest(&run, 3).ok_or("behind")?;
     assert_eq!(rt; row(&behind), Some((3, 1, 10)));
     Ok(())
 }

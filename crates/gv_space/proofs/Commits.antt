@@ -7,14 +7,14 @@ use Rattle.gv_types.specs.declared.mapping.Mapping.{Mapping}
 use Rattle.gv_ranges.specs.List.{AreEnded, IsLaidOut, Ranges}
 use Rattle.gv_ranges.proofs.PlaceLemmas.{met-ended}
 use Rattle.gv_ranges.specs.Edit.{Undo, replaced, undone}
-use Rattle.gv_ranges.proofs.Kept.{All-replaced}
-use Rattle.gv_ranges.proofs.Order.{laid_out-replaced}
-use Rattle.gv_ranges.proofs.Replaced.{all_mappings, replaced_run_in_place, undone-replaced}
-use Rattle.gv_ranges.proofs.Rests.{laid_out-take, laid_out-drop}
+use Rattle.gv_ranges.proofs.KeptLemmas.{All-replaced}
+use Rattle.gv_ranges.proofs.OrderLemmas.{laid_out-replaced}
+use Rattle.gv_ranges.proofs.ReplacedLemmas.{all_mappings, replaced_run_in_place, undone-replaced}
+use Rattle.gv_ranges.proofs.RestLemmas.{laid_out-take, laid_out-drop}
 use Rattle.gv_table.specs.Reads.{AreAlikeOutside}
 use Rattle.gv_table.specs.Table.{IsTree, gained_by}
 use Rattle.gv_table.specs.declared.page_table.PageTable.{PageTable}
-use Rattle.gv_table.proofs.Edits.{replaced-alike}
+use Rattle.gv_table.proofs.EditLemmas.{replaced-alike}
 use Rattle.gv_buffers.specs.Table.{Table}
 use Rattle.gv_space.specs.Counts.{by_count, counted, more_used, less_used, more_kept}
 use Rattle.gv_space.specs.State.{AddressSpace, IsSpace, IsPlaced, AreKept}

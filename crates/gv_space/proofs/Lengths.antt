@@ -10,11 +10,11 @@ use Rattle.gv_types.specs.Mapping.{IsMapping}
 use Rattle.gv_types.specs.declared.mapping.Mapping.{Mapping}
 use Rattle.gv_ranges.specs.List.{IsLaidOut, IsLaidOutFrom, IsMeetingRun, run}
 use Rattle.gv_ranges.specs.Edit.{clipped, restored}
-use Rattle.gv_ranges.proofs.Changes.{restored_run_in_place}
-use Rattle.gv_ranges.proofs.Meeting.{filter_meets}
+use Rattle.gv_ranges.proofs.ChangeLemmas.{restored_run_in_place}
+use Rattle.gv_ranges.proofs.OverlapLemmas.{filter_meets}
 use Rattle.gv_space.specs.Refusal.{count_met}
-use Rattle.gv_space.specs.Ready.{IsMeeting}
-use Rattle.gv_space.specs.declared.meeting.Meeting.{Meeting}
+use Rattle.gv_space.specs.Ready.{IsOverlap}
+use Rattle.gv_space.specs.declared.overlap.Overlap.{Overlap}
 
 -- a mapping has a piece in a range exactly where it meets it
 pub length-clipped : (range : Span) (low : ℕ) (ms : List Mapping) → IsInSpace range → IsLaidOutFrom low ms →
@@ -55,16 +55,16 @@ length-splice ms pieces place count within =
     rw (length-append (take place ms) (pieces ++ drop (place + count) ms), length-append pieces (drop (place + count) ms), front, back) (omega arith)
 
 -- the run gives way to its rests and what is put in
-pub length-restored : (ms saved : List Mapping) (range : Span) (meeting : Meeting) → IsLaidOut ms → IsLaidOut saved → IsInSpace range →
-    IsMeeting ms range meeting →
+pub length-restored : (ms saved : List Mapping) (range : Span) (overlap : Overlap) → IsLaidOut ms → IsLaidOut saved → IsInSpace range →
+    IsOverlap ms range overlap →
     length (restored ms range saved) ≡
-    length ms - meeting.count + (length (option_to_list meeting.before) + length (option_to_list meeting.behind)) + count_met saved range
-length-restored ms saved range meeting laid saved_laid in_space is =
-    let here : List Mapping = run ms meeting.place meeting.count in
+    length ms - overlap.count + (length (option_to_list overlap.prev) + length (option_to_list overlap.next)) + count_met saved range
+length-restored ms saved range overlap laid saved_laid in_space is =
+    let here : List Mapping = run ms overlap.place overlap.count in
     let inside : length (clipped range.first (end_of range) saved) ≡ count_met saved range = length-clipped range 0 saved in_space saved_laid in
-    let pieces : length (restored here range saved) ≡ length (option_to_list meeting.before) + count_met saved range + length (option_to_list meeting.behind) =
+    let pieces : length (restored here range saved) ≡ length (option_to_list overlap.prev) + count_met saved range + length (option_to_list overlap.next) =
     length-append (clipped 0 range.first here ++ clipped range.first (end_of range) saved) (clipped (end_of range) PAGES here) ∙
-    rw (length-append (clipped 0 range.first here) (clipped range.first (end_of range) saved), inside, is.before, is.behind) refl in
-    let spliced : length (restored ms range saved) + meeting.count ≡ length ms + length (restored here range saved) =
-    rw (restored_run_in_place ms saved range meeting.place meeting.count laid is.met) (length-splice ms (restored here range saved) meeting.place meeting.count is.met.within) in
+    rw (length-append (clipped 0 range.first here) (clipped range.first (end_of range) saved), inside, is.prev, is.next) refl in
+    let spliced : length (restored ms range saved) + overlap.count ≡ length ms + length (restored here range saved) =
+    rw (restored_run_in_place ms saved range overlap.place overlap.count laid is.met) (length-splice ms (restored here range saved) overlap.place overlap.count is.met.within) in
     omega (arith, spliced, pieces, is.met.within)

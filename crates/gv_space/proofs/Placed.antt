@@ -7,7 +7,7 @@ use Rattle.gv_types.specs.Bounds.{Area, meets_region}
 use Rattle.gv_types.specs.Mapping.{piece, advanced}
 use Rattle.gv_types.specs.declared.mapping.Backing.{Backing}
 use Rattle.gv_types.specs.declared.mapping.Backing.TheVariants.{Buffer, Zero}
-use Rattle.gv_ranges.proofs.Kept.{HoldsOfPieces, clip_is_piece}
+use Rattle.gv_ranges.proofs.KeptLemmas.{HoldsOfPieces, clip_is_piece}
 use Rattle.gv_buffers.specs.Table.{Table, pages}
 use Rattle.gv_space.specs.State.{IsPlaced, LieInside}
 

@@ -9,19 +9,19 @@ use Rattle.gv_types.specs.declared.fault.Fault.TheVariants.{TooManyMappings}
 use Rattle.gv_types.specs.declared.mapping.Mapping.{Mapping}
 use Rattle.gv_ranges.specs.List.{IsLaidOut, IsMeetingRun, Ranges, run}
 use Rattle.gv_ranges.specs.Edit.{LieIn, clipped, replaced, restored}
-use Rattle.gv_ranges.proofs.Kept.{All-clipped}
-use Rattle.gv_ranges.proofs.Order.{laid_out-clipped, laid_out-replaced, lie_in-clipped}
-use Rattle.gv_ranges.proofs.Replaced.{all_mappings}
+use Rattle.gv_ranges.proofs.KeptLemmas.{All-clipped}
+use Rattle.gv_ranges.proofs.OrderLemmas.{laid_out-clipped, laid_out-replaced, lie_in-clipped}
+use Rattle.gv_ranges.proofs.ReplacedLemmas.{all_mappings}
 use Rattle.gv_table.specs.Reads.{AreAlikeOutside}
 use Rattle.gv_table.specs.Table.{IsTree, gained_by}
 use Rattle.gv_table.specs.declared.page_table.PageTable.{PageTable}
-use Rattle.gv_table.proofs.Edits.{replaced-alike, replaced-pieces}
+use Rattle.gv_table.proofs.EditLemmas.{replaced-alike, replaced-pieces}
 use Rattle.gv_space.specs.State.{AddressSpace, IsSpace, IsPlaced, most_kept}
 use Rattle.gv_space.specs.Undo.{UndoValue, IsUndoOf}
 use Rattle.gv_space.specs.Change.{IsChanged}
-use Rattle.gv_space.specs.Ready.{IsMeeting, IsReady}
+use Rattle.gv_space.specs.Ready.{IsOverlap, IsReady}
 use Rattle.gv_space.specs.Refusal.{count_met, limit_fault}
-use Rattle.gv_space.specs.declared.meeting.Meeting.{Meeting}
+use Rattle.gv_space.specs.declared.overlap.Overlap.{Overlap}
 use Rattle.gv_space.proofs.Lengths.{length-run, count_met-run}
 use Rattle.gv_space.proofs.Limits.{too_long, held_too_much}
 use Rattle.gv_space.proofs.Commits.{after_is}
@@ -56,25 +56,25 @@ module _ (s : AddressSpace) (range : Span) (saved : List Mapping) (space : IsSpa
       All-clipped (IsPlaced s.area s.buffers) range.first (end_of range) saved
       (λ k d below n is. placed_pieces s.area s.buffers range.first (end_of range) _ n (mappings k d below) (placed k d below) is)
 
-  pub ready_from : (list : Ranges) (meeting : Meeting) (taken pieces : List Mapping) (spares more : ℕ) → All (IsPlaced s.area s.buffers) saved →
-      IsMeeting s.mappings range meeting → taken ≡ run s.mappings meeting.place meeting.count →
-      pieces ≡ option_to_list meeting.before ++ inside ++ option_to_list meeting.behind →
+  pub ready_from : (list : Ranges) (overlap : Overlap) (taken pieces : List Mapping) (spares more : ℕ) → All (IsPlaced s.area s.buffers) saved →
+      IsOverlap s.mappings range overlap → taken ≡ run s.mappings overlap.place overlap.count →
+      pieces ≡ option_to_list overlap.prev ++ inside ++ option_to_list overlap.next →
       list.mappings ≡ s.mappings → length list.mappings + more ≤ list.room → length pieces ≤ length taken + more →
       limit_fault s range (restored s.mappings range saved) ≡ None →
       ((ms : List Mapping) (table : PageTable) → IsLaidOut ms → AreAlikeOutside range s.mappings ms → clipped range.first (end_of range) ms ≡ inside → IsTree s.mappings table → gained_by ms table ≤ spares) →
-      IsReady inside (record s { mappings = list.mappings; room = list.room }) range meeting.place taken pieces spares
-  ready_from list meeting taken pieces spares more placed is taken_is pieces_is same room fits none enough =
+      IsReady inside (record s { mappings = list.mappings; room = list.room }) range overlap.place taken pieces spares
+  ready_from list overlap taken pieces spares more placed is taken_is pieces_is same room fits none enough =
       let lie : LieIn range inside = lie_in-clipped range saved in
       let limits = limits_kept s range (restored s.mappings range saved) none in
-      let long : length taken ≡ meeting.count = ap (λ (l : List Mapping). length l) taken_is ∙ length-run s.mappings meeting.place meeting.count is.met.within in
-      let met : count_met s.mappings range ≡ meeting.count = count_met-run s.mappings range meeting.place meeting.count is.met in
-      let ready : IsReady inside (record s { room = list.room }) range meeting.place taken pieces spares = record {
+      let long : length taken ≡ overlap.count = ap (λ (l : List Mapping). length l) taken_is ∙ length-run s.mappings overlap.place overlap.count is.met.within in
+      let met : count_met s.mappings range ≡ overlap.count = count_met-run s.mappings range overlap.place overlap.count is.met in
+      let ready : IsReady inside (record s { room = list.room }) range overlap.place taken pieces spares = record {
         sorted = inside_sorted;
         lie = lie;
         placed = inside_placed placed;
-        met = subst (λ (n : ℕ). IsMeetingRun s.mappings range meeting.place n) (sym long) is.met;
-        taken_is = subst (λ (n : ℕ). taken ≡ run s.mappings meeting.place n) (sym long) taken_is;
-        pieces_are = pieces_is ∙ rw (is.before, is.behind, taken_is) refl;
+        met = subst (λ (n : ℕ). IsMeetingRun s.mappings range overlap.place n) (sym long) is.met;
+        taken_is = subst (λ (n : ℕ). taken ≡ run s.mappings overlap.place n) (sym long) taken_is;
+        pieces_are = pieces_is ∙ rw (is.prev, is.next, taken_is) refl;
         room = omega (arith, ap (λ (l : List Mapping). length l) same, room, fits);
         old_room = omega (arith, ap (λ (l : List Mapping). length l) same, room);
         few = limits.0;
@@ -82,7 +82,7 @@ module _ (s : AddressSpace) (range : Span) (saved : List Mapping) (space : IsSpa
         enough = λ table tree. enough (replaced s.mappings range inside) table (laid_out-replaced s.mappings range inside space.laid_out inside_sorted lie)
             (replaced-alike s.mappings inside range space.laid_out lie) (replaced-pieces s.mappings inside range space.laid_out inside_sorted lie) tree;
       } in
-      subst (λ (ms : List Mapping). IsReady inside (record s { mappings = ms; room = list.room }) range meeting.place taken pieces spares) (sym same) ready
+      subst (λ (ms : List Mapping). IsReady inside (record s { mappings = ms; room = list.room }) range overlap.place taken pieces spares) (sym same) ready
 
 -- What room was made before a change is the change's own.
 pub changed_before : (s : AddressSpace) (list : Ranges) (new : AddressSpace) (within : List Mapping) (range : Span) (place : ℕ) (taken pieces : List Mapping) (spares : ℕ) (u : UndoValue) →

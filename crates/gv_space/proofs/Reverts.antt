@@ -5,11 +5,11 @@ use Rattle.gv_types.specs.declared.mapping.Mapping.{Mapping}
 use Rattle.gv_ranges.specs.List.{AreEnded, Ranges, run}
 use Rattle.gv_ranges.proofs.PlaceLemmas.{ended-unspliced}
 use Rattle.gv_ranges.specs.Edit.{replaced, undone}
-use Rattle.gv_ranges.proofs.Replaced.{replaced_run_in_place, undone-replaced}
+use Rattle.gv_ranges.proofs.ReplacedLemmas.{replaced_run_in_place, undone-replaced}
 use Rattle.gv_table.specs.Reads.{AreAlikeOutside}
 use Rattle.gv_table.specs.Table.{IsTree, gained_by}
 use Rattle.gv_table.specs.declared.page_table.PageTable.{PageTable}
-use Rattle.gv_table.proofs.Edits.{replaced-alike, alike-mutual}
+use Rattle.gv_table.proofs.EditLemmas.{replaced-alike, alike-mutual}
 use Rattle.gv_buffers.specs.Table.{Table, most_counted}
 use Rattle.gv_space.specs.Counts.{count_of, by_count, counted, more_used, less_used, less_kept}
 use Rattle.gv_space.specs.Live.{IsLiveBacking}

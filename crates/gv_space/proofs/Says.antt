@@ -8,8 +8,8 @@ use Rattle.gv_types.specs.declared.operation.PageOp.{PageOp}
 use Rattle.gv_types.specs.declared.operation.PageOp.TheVariants.{Map, Unmap, UnmapBuffer}
 use Rattle.gv_ranges.specs.List.{at}
 use Rattle.gv_ranges.specs.Edit.{clipped, replaced, edited, restored}
-use Rattle.gv_ranges.proofs.Clip.{clip_whole}
-use Rattle.gv_ranges.proofs.Changes.{at-edited}
+use Rattle.gv_ranges.proofs.ClipLemmas.{clip_whole}
+use Rattle.gv_ranges.proofs.ChangeLemmas.{at-edited}
 use Rattle.gv_space.specs.State.{AddressSpace}
 use Rattle.gv_space.specs.Undo.{UndoValue, IsUndoOf, TookWhatWas}
 use Rattle.gv_ranges.proofs.MeetingLemmas.{at_run}

@@ -10,13 +10,13 @@ use Rattle.gv_ranges.specs.Edit.{LieIn, clipped, replaced}
 use Rattle.gv_table.specs.declared.page_table.PageTable.{PageTable}
 use Rattle.gv_table.specs.Table.{IsTree, gained_by}
 use Rattle.gv_space.specs.State.{AddressSpace, IsPlaced, most_kept}
-use Rattle.gv_space.specs.declared.meeting.Meeting.{Meeting}
+use Rattle.gv_space.specs.declared.overlap.Overlap.{Overlap}
 
 -- the run of a list that meets a range, and the rests of it on both sides
-pub record IsMeeting (ms : List Mapping) (range : Span) (meeting : Meeting) : Type 0 where
-  pub met : IsMeetingRun ms range meeting.place meeting.count
-  pub before : option_to_list meeting.before ≡ clipped 0 range.first (run ms meeting.place meeting.count)
-  pub behind : option_to_list meeting.behind ≡ clipped (end_of range) PAGES (run ms meeting.place meeting.count)
+pub record IsOverlap (ms : List Mapping) (range : Span) (overlap : Overlap) : Type 0 where
+  pub met : IsMeetingRun ms range overlap.place overlap.count
+  pub prev : option_to_list overlap.prev ≡ clipped 0 range.first (run ms overlap.place overlap.count)
+  pub next : option_to_list overlap.next ≡ clipped (end_of range) PAGES (run ms overlap.place overlap.count)
 
 -- The run that meets a range is to give way to the pieces inside it and the rests on both sides. There is room for them,
 -- no limit is passed, and the spare tables are enough.

@@ -4,13 +4,13 @@
 
 mod counts;
 pub mod laws;
-mod meeting;
+mod overlap;
 mod painted;
 mod pieces;
 mod ranges;
+mod refusal;
 mod space;
 mod undo;
-mod refusal;
 
 pub use space::Space;
 pub use undo::OpUndo;

@@ -7,7 +7,7 @@ ghost use Rattle.gv_ranges.specs.List.{IsLaidOut};
 ghost use Rattle.gv_ranges.specs.Edit.{clipped};
 ghost use Rattle.gv_space.specs.Refusal.{count_met};
 
-use crate::meeting::Meeting;
+use crate::overlap::Overlap;
 use gv_types::{Mapping, OutOfMemory, PageRange};
 use smallvec::SmallVec;
 use std::alloc::Global;
@@ -55,34 +55,34 @@ fn push_clipped(
 /// What stands where the range met the list, with what of the saved mappings lies in it: the rests on both sides of that.
 pub fn with_rests(
     alloc: Global,
-    meeting: &Meeting,
+    overlap: &Overlap,
     saved: &[Mapping],
     range: PageRange,
 ) -> Result<Incoming, OutOfMemory>
     requires { IsLaidOut saved.now }
-    ensures { IfOk result (λ p. p.items ≡ option_to_list meeting.now.before
-        ++ clipped range.first (end_of range) saved.now ++ option_to_list meeting.now.behind) }
+    ensures { IfOk result (λ p. p.items ≡ option_to_list overlap.now.prev
+        ++ clipped range.first (end_of range) saved.now ++ option_to_list overlap.now.next) }
 {
     let mut pieces = SmallVec::new(alloc);
-    if let Some(rest) = meeting.before {
+    if let Some(rest) = overlap.prev {
         pieces.push(rest)?;
     }
     push_clipped(&mut pieces, saved, range)?;
-    if let Some(rest) = meeting.behind {
+    if let Some(rest) = overlap.next {
         pieces.push(rest)?;
     }
     Ok(pieces)
 }
 
 /// The pieces between the rests.
-pub fn between_rests<'a>(meeting: &Meeting, pieces: &'a [Mapping]) -> &'a [Mapping]
+pub fn between_rests<'a>(overlap: &Overlap, pieces: &'a [Mapping]) -> &'a [Mapping]
     requires { (inside : List Mapping) × (pieces.now
-        ≡ option_to_list meeting.now.before ++ inside ++ option_to_list meeting.now.behind) }
+        ≡ option_to_list overlap.now.prev ++ inside ++ option_to_list overlap.now.next) }
     ensures { (inside : List Mapping) → pieces.now
-        ≡ option_to_list meeting.now.before ++ inside ++ option_to_list meeting.now.behind
+        ≡ option_to_list overlap.now.prev ++ inside ++ option_to_list overlap.now.next
         → result.now ≡ inside }
 {
-    let start = usize::from(meeting.before.is_some());
-    let end = pieces.len() - usize::from(meeting.behind.is_some());
+    let start = usize::from(overlap.prev.is_some());
+    let end = pieces.len() - usize::from(overlap.next.is_some());
     &pieces[start..end]
 }

@@ -59,7 +59,7 @@ impl Space {
     ghost use Rattle.gv_space.specs.Refusal.{operation_fault, dead_fault, limit_fault, apply_fault};
     ghost use Rattle.gv_space.specs.Undo.{AreAmongKept, TookWhatWas, CanRevert, IsUndoOf, released, reverted};
     ghost use Rattle.gv_space.specs.Change.{IsChanged};
-    ghost use Rattle.gv_space.specs.Ready.{IsMeeting, IsReady};
+    ghost use Rattle.gv_space.specs.Ready.{IsOverlap, IsReady};
 
     /// A space of no mapping and no buffer. It is small: room for mappings, tables and buffers comes with them.
     /// `OutOfMemory` where the system refuses the first room for buffers.

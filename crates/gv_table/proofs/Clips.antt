@@ -6,7 +6,7 @@ use Rattle.gv_types.specs.Span.{Span, span, end_of, meets, lies_in}
 use Rattle.gv_types.specs.declared.mapping.Mapping.{Mapping}
 use Rattle.gv_ranges.specs.List.{IsLaidOut, IsLaidOutFrom}
 use Rattle.gv_ranges.specs.Edit.{clipped}
-use Rattle.gv_ranges.proofs.Clip.{leb_iff, part-piece}
+use Rattle.gv_ranges.proofs.ClipLemmas.{leb_iff, part-piece}
 use Rattle.gv_table.specs.Reads.{any_meets, covering, AreAlikeOutside}
 use Rattle.gv_table.proofs.Spans.{meets-after, meets-before, apart-cases, lies-bounds, lies-not-low, lies-not-high}
 use Rattle.gv_table.proofs.Covered.{true-or-false}

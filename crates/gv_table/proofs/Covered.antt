@@ -7,8 +7,8 @@ use Rattle.gv_types.specs.declared.mapping.Backing.TheVariants.{Buffer, Zero}
 use Rattle.gv_types.specs.declared.mapping.Entry.{Entry}
 use Rattle.gv_types.specs.declared.mapping.Mapping.{Mapping}
 use Rattle.gv_ranges.specs.List.{at, IsLaidOutFrom}
-use Rattle.gv_ranges.proofs.Lookup.{first_above}
-use Rattle.gv_ranges.proofs.Clip.{advanced-advanced}
+use Rattle.gv_ranges.proofs.LookupLemmas.{first_above}
+use Rattle.gv_ranges.proofs.ClipLemmas.{advanced-advanced}
 use Rattle.gv_table.specs.Reads.{any_meets, covering, entry_after, IsReadBy}
 use Rattle.gv_table.proofs.Spans.{meets-bounds, meets-after, meets-before, apart-cases, lies-bounds, lies-from, lies-not-low, lies-not-high, covers-lies}
 

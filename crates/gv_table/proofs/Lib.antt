@@ -13,8 +13,8 @@ pub mod Matches
 pub mod Painted
 pub mod Needs
 pub mod Foresight
-pub mod Edits
-pub mod Likeness
+pub mod EditLemmas
+pub mod LikenessLemmas
 pub mod Fewness
-pub mod Tallies
+pub mod Counting
 pub mod RenamingLemmas

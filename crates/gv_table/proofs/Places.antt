@@ -4,8 +4,8 @@ use Rattle.std.proofs.lemmas.Bool.{cases_lt}
 use Rattle.gv_types.specs.Span.{Span, end_of, meets}
 use Rattle.gv_types.specs.declared.mapping.Mapping.{Mapping}
 use Rattle.gv_ranges.specs.List.{IsLaidOut, AreEnded, IsPlaceOf}
-use Rattle.gv_ranges.proofs.Lookup.{is_mapping, firsts_rise, ends_rise}
-use Rattle.gv_ranges.proofs.Parts.{All-take_at, All-drop_at, All-take_within, All-drop_within}
+use Rattle.gv_ranges.proofs.LookupLemmas.{is_mapping, firsts_rise, ends_rise}
+use Rattle.gv_ranges.proofs.PartLemmas.{All-take_at, All-drop_at, All-take_within, All-drop_within}
 use Rattle.gv_table.specs.Reads.{any_meets, IsReadBy, EndsBefore, IsNeighbour}
 use Rattle.gv_table.proofs.Spans.{meets-bounds, meets-from, meets-after, meets-before}
 use Rattle.gv_table.proofs.Covered.{met-none, met-at}

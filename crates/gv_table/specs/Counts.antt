@@ -3,7 +3,7 @@ use Rattle.std.specs.Prelude.{◌≡◌, ◌⊎◌, ℕ, zero, suc, ◌+◌, ◌
 use Rattle.gv_types.specs.Span.{Span, meets, lies_in}
 use Rattle.gv_types.specs.declared.mapping.Mapping.{Mapping}
 use Rattle.gv_types.specs.Page.{PAGES}
-use Rattle.gv_table.specs.declared.tally.Tally.{Tally}
+use Rattle.gv_table.specs.declared.table_counts.TableCounts.{TableCounts}
 use Rattle.gv_table.specs.declared.slot.Slot.{Slot}
 use Rattle.gv_table.specs.declared.slot.Slot.TheVariants.{Empty}
 use Rattle.gv_table.specs.Levels.{slots_per_table, pages_of, slot_pages}
@@ -42,19 +42,19 @@ abbrev pub one_if_new : ℕ → ℕ → Bool → ℕ
 one_if_new target level true = 0
 one_if_new target level false = one_if (nat_eq target level)
 
--- how many tables a tally has at a level
-abbrev pub count_at : Tally → ℕ → ℕ
-count_at tally target = slice_index_or tally.counts target 0
+-- how many tables a counts has at a level
+abbrev pub count_at : TableCounts → ℕ → ℕ
+count_at counts target = slice_index_or counts.by_level target 0
 
--- a tally has the tables of the slot, and at each level no more others than there are pages outside the slot
-pub record IsPartOf (tally : Tally) (level : ℕ) (slot : Slot) : Type 0 where
-  pub counted : (target : ℕ) → tables_at target level slot ≤ count_at tally target
-  pub room : (target : ℕ) → count_at tally target + pages_of level ≤ PAGES + tables_at target level slot
+-- a counts has the tables of the slot, and at each level no more others than there are pages outside the slot
+pub record IsPartOf (counts : TableCounts) (level : ℕ) (slot : Slot) : Type 0 where
+  pub counted : (target : ℕ) → tables_at target level slot ≤ count_at counts target
+  pub room : (target : ℕ) → count_at counts target + pages_of level ≤ PAGES + tables_at target level slot
 
 -- the same of a row of slots, with room for the table that it is in
-pub record IsRowOf (tally : Tally) (level : ℕ) (row : List Slot) : Type 0 where
-  pub counted : (target : ℕ) → row_tables_at target level row ≤ count_at tally target
-  pub room : (target : ℕ) → count_at tally target + slots_per_table * pages_of level ≤ PAGES + 1 + row_tables_at target level row
+pub record IsRowOf (counts : TableCounts) (level : ℕ) (row : List Slot) : Type 0 where
+  pub counted : (target : ℕ) → row_tables_at target level row ≤ count_at counts target
+  pub room : (target : ℕ) → count_at counts target + slots_per_table * pages_of level ≤ PAGES + 1 + row_tables_at target level row
 
 -- how many tables of the tree of the mappings, in the slot at a level and first page, have slots at the target level
 unfoldable pub tables_wanted : List Mapping → ℕ → ℕ → ℕ → ℕ

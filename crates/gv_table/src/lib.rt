@@ -11,7 +11,7 @@ mod release;
 mod slot;
 mod spare;
 mod spares;
-mod tally;
+mod table_counts;
 mod walk;
 mod wanted;
 

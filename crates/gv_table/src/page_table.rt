@@ -14,7 +14,7 @@ use crate::place::advance;
 use crate::slot::Slot;
 use crate::spare::needed_in;
 use crate::spares::Spares;
-use crate::tally::Tally;
+use crate::table_counts::TableCounts;
 use crate::walk::walk_tree;
 use gv_ranges::RangeList;
 use gv_types::{Entry, Fault, Mapping, PageRange, SPACE_PAGES};
@@ -25,8 +25,8 @@ use std::alloc::Global;
 #[derive(Drop)]
 pub struct PageTable {
     root: Slot,
-    tally: Tally,
-    ghost counted: { (target : ℕ) → count_at tally target ≡ tables_at target top_level root },
+    counts: TableCounts,
+    ghost counted: { (target : ℕ) → count_at counts target ≡ tables_at target top_level root },
 }
 
 impl PageTable {
@@ -39,7 +39,7 @@ impl PageTable {
     {
         PageTable {
             root: Slot::Empty,
-            tally: Tally::new(),
+            counts: TableCounts::new(),
         }
     }
 
@@ -59,7 +59,7 @@ impl PageTable {
         ensures standing { result ≡ tables_by_level self.now }
         ensures wanted { (ms : List Mapping) → IsTree ms self.now → result ≡ tables_of ms }
     {
-        self.tally.descending()
+        self.counts.descending()
     }
 
     /// Empty tables for a paint after which the list holds these pieces in the range: enough for
@@ -121,7 +121,7 @@ impl PageTable {
             range,
             place,
             spares,
-            &mut self.tally,
+            &mut self.counts,
         )
     }
 }

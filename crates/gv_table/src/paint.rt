@@ -22,7 +22,7 @@ use crate::place::advance;
 use crate::release::release;
 use crate::slot::Slot;
 use crate::spares::Spares;
-use crate::tally::Tally;
+use crate::table_counts::TableCounts;
 use crate::walk::entry_after;
 use crate::wanted::{Wanted, slot_wanted};
 use gv_types::{Entry, Mapping, PageRange};
@@ -61,13 +61,18 @@ fn filled(entry: Option<Entry>, pages: u64, spares: &mut Spares) -> Box<[Slot; S
     slots
 }
 
-/// The table of a slot, or a spare one with the parts of what the slot held, which the tally then
+/// The table of a slot, or a spare one with the parts of what the slot held, which the counts then
 /// counts.
-fn divide(slot: Slot, level: usize, spares: &mut Spares, tally: &mut Tally) -> Box<[Slot; SLOTS]>
+fn divide(
+    slot: Slot,
+    level: usize,
+    spares: &mut Spares,
+    counts: &mut TableCounts,
+) -> Box<[Slot; SLOTS]>
     requires some { 0 < level }
     requires known { level ≤ top_level }
     requires enough { one_if_not (is_table slot) ≤ spares.old }
-    requires part { IsPartOf tally.old level slot }
+    requires part { IsPartOf counts.old level slot }
     ensures parts { (ms : List Mapping) (first : ℕ) → IsLaidOut ms → IsTreeOf ms level first slot
         → (k : ℕ) → k < slots_per_table
         → IsTreeOf ms (level - 1) (first + k * pages_of (level - 1))
@@ -75,14 +80,14 @@ fn divide(slot: Slot, level: usize, spares: &mut Spares, tally: &mut Tally) -> B
     ensures tables { (k : ℕ) → k < slots_per_table
         → HasSameTables (child slot k) (slice_index_or result.value k Empty) }
     ensures taken { spares.new + one_if_not (is_table slot) ≡ spares.old }
-    ensures counted { (target : ℕ) → count_at tally.new target
-        ≡ count_at tally.old target + one_if_new target (level - 1) (is_table slot) }
+    ensures counted { (target : ℕ) → count_at counts.new target
+        ≡ count_at counts.old target + one_if_new target (level - 1) (is_table slot) }
 {
     let entry = slot.entry();
     match slot {
         Slot::Table(slots) => slots,
         Slot::Empty | Slot::Zero { .. } | Slot::Buffer { .. } => {
-            tally.raise(level - 1);
+            counts.raise(level - 1);
             filled(entry, pages_of(level - 1), spares)
         }
     }
@@ -99,7 +104,7 @@ pub fn paint_slot(
     range: PageRange,
     place: usize,
     spares: &mut Spares,
-    tally: &mut Tally,
+    counts: &mut TableCounts,
 ) -> u64
     requires known { level ≤ top_level }
     requires in_space { end_of (slot_pages level first) ≤ PAGES }
@@ -108,24 +113,24 @@ pub fn paint_slot(
     requires met { IsTrue (meets (slot_pages level first) range) }
     requires outside { IsTreeOutside mappings.now range level first slot.old }
     requires enough { gained mappings.now level first slot.old ≤ spares.old }
-    requires part { IsPartOf tally.old level slot.old }
+    requires part { IsPartOf counts.old level slot.old }
     ensures lost { result ≡ lost mappings.now level first slot.old }
     ensures tree { IsTreeOf mappings.now level first slot.new }
     ensures exchanged { spares.new + gained mappings.now level first slot.old
         ≡ spares.old + lost mappings.now level first slot.old }
-    ensures counted { (target : ℕ) → count_at tally.new target + tables_at target level slot.old
-        ≡ count_at tally.old target + tables_at target level slot.new }
+    ensures counted { (target : ℕ) → count_at counts.new target + tables_at target level slot.old
+        ≡ count_at counts.old target + tables_at target level slot.new }
 {
     match slot_wanted(mappings, range, place, level, first) {
-        Wanted::Nothing => release(slot, level, spares, tally),
+        Wanted::Nothing => release(slot, level, spares, counts),
         Wanted::Entry(entry) => {
-            let lost = release(slot, level, spares, tally);
+            let lost = release(slot, level, spares, counts);
             *slot = Slot::leaf(entry);
             lost
         }
         Wanted::Table => {
             let old = mem::replace(slot, Slot::Empty);
-            let mut slots = divide(old, level, spares, tally);
+            let mut slots = divide(old, level, spares, counts);
             let lost = paint_row(
                 &mut slots,
                 level - 1,
@@ -134,7 +139,7 @@ pub fn paint_slot(
                 range,
                 place,
                 spares,
-                tally,
+                counts,
             );
             *slot = Slot::Table(slots);
             lost
@@ -152,7 +157,7 @@ fn paint_row(
     range: PageRange,
     place: usize,
     spares: &mut Spares,
-    tally: &mut Tally,
+    counts: &mut TableCounts,
 ) -> u64
     requires known { level ≤ root_level }
     requires in_space { first + slots_per_table * pages_of level ≤ PAGES }
@@ -163,14 +168,14 @@ fn paint_row(
         → IsTreeOutside mappings.now range level (first + k * pages_of level)
         (slice_index_or slots.old k Empty) }
     requires enough { row_gained mappings.now level first slots.old ≤ spares.old }
-    requires part { IsRowOf tally.old level slots.old }
+    requires part { IsRowOf counts.old level slots.old }
     ensures lost { result ≡ row_lost mappings.now level first slots.old }
     ensures tree { (k : ℕ) → k < slots_per_table → IsTreeOf mappings.now level
         (first + k * pages_of level) (slice_index_or slots.new k Empty) }
     ensures exchanged { spares.new + row_gained mappings.now level first slots.old
         ≡ spares.old + row_lost mappings.now level first slots.old }
-    ensures counted { (target : ℕ) → count_at tally.new target + row_tables_at target level slots.old
-        ≡ count_at tally.old target + row_tables_at target level slots.new }
+    ensures counted { (target : ℕ) → count_at counts.new target + row_tables_at target level slots.old
+        ≡ count_at counts.old target + row_tables_at target level slots.new }
 {
     let pages = pages_of(level);
     let (low, high) = slots_met(level, first, range);
@@ -187,7 +192,7 @@ fn paint_row(
             range,
             place,
             spares,
-            tally,
+            counts,
         );
     }
     lost

@@ -7,18 +7,18 @@ ghost use Rattle.gv_table.specs.Counts.{tables_in, tables_at, count_at};
 use crate::levels::SLOTS;
 use crate::slot::Slot;
 use crate::spares::Spares;
-use crate::tally::Tally;
+use crate::table_counts::TableCounts;
 use std::mem;
 
-/// Empties a slot, takes its tables off the tally, and puts them to the spares: how many they were.
-pub fn release(slot: &mut Slot, level: usize, spares: &mut Spares, tally: &mut Tally) -> u64
+/// Empties a slot, takes its tables off the counts, and puts them to the spares: how many they were.
+pub fn release(slot: &mut Slot, level: usize, spares: &mut Spares, counts: &mut TableCounts) -> u64
     requires known { level ≤ top_level }
-    requires counted { (target : ℕ) → tables_at target level slot.old ≤ count_at tally.old target }
+    requires counted { (target : ℕ) → tables_at target level slot.old ≤ count_at counts.old target }
     ensures count { result ≡ tables_in level slot.old }
     ensures emptied { slot.new ≡ Empty }
     ensures put { spares.new ≡ spares.old + tables_in level slot.old }
-    ensures counted { (target : ℕ) → count_at tally.new target + tables_at target level slot.old
-        ≡ count_at tally.old target }
+    ensures counted { (target : ℕ) → count_at counts.new target + tables_at target level slot.old
+        ≡ count_at counts.old target }
 {
     if level == 0 {
         *slot = Slot::Empty;
@@ -28,10 +28,10 @@ pub fn release(slot: &mut Slot, level: usize, spares: &mut Spares, tally: &mut T
         Slot::Table(mut slots) => {
             let mut count = 1;
             for index in 0..SLOTS {
-                count += release(&mut slots[index], level - 1, spares, tally);
+                count += release(&mut slots[index], level - 1, spares, counts);
             }
             spares.put(slots);
-            tally.lower(level - 1);
+            counts.lower(level - 1);
             count
         }
         Slot::Empty | Slot::Zero { .. } | Slot::Buffer { .. } => 0,

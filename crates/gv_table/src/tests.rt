@@ -11,7 +11,7 @@ ghost use Rattle.gv_table.specs.Reads.{AreAlikeOutside};
 ghost use Rattle.gv_table.specs.Table.{IsTree, FitsOutside, gained_by};
 
 use crate::{PageTable, Spares, laws};
-use gv_ranges::{RangeList, rest_before, rest_behind};
+use gv_ranges::{RangeList, next_rest, prev_rest};
 use gv_types::{Backing, BufferId, Fault, Flags, Mapping, OutOfMemory, PageOp, PageRange};
 use std::alloc::Global;
 use std::test::Fail;
@@ -59,9 +59,9 @@ fn replacement(alloc: Global, run: &[Mapping], op: &PageOp) -> Result<Vec<Mappin
 {
     let range = op.range();
     let mut pieces = Vec::new(alloc);
-    add(&mut pieces, rest_before(run, range.first()))?;
+    add(&mut pieces, prev_rest(run, range.first()))?;
     add(&mut pieces, op.own_mapping())?;
-    add(&mut pieces, rest_behind(run, range.end()))?;
+    add(&mut pieces, next_rest(run, range.end()))?;
     Ok(pieces)
 }
 

@@ -14,8 +14,8 @@ use Rattle.gv_types.specs.declared.operation.PageOp.{PageOp}
 use Rattle.gv_types.specs.declared.operation.PageOp.TheVariants.{Map as MapOp, Unmap as UnmapOp, UnmapBuffer}
 use Rattle.gv_ranges.specs.List.{at, IsLaidOut}
 use Rattle.gv_ranges.specs.Edit.{edited}
-use Rattle.gv_ranges.proofs.Kept.{clip_is_piece, HoldsOfPieces, All-edited}
-use Rattle.gv_ranges.proofs.Replaced.{all_mappings}
+use Rattle.gv_ranges.proofs.KeptLemmas.{clip_is_piece, HoldsOfPieces, All-edited}
+use Rattle.gv_ranges.proofs.ReplacedLemmas.{all_mappings}
 use Rattle.gv_split.specs.Steps.{gives_way, step_in, step_of, steps, continues_mapping}
 use Rattle.gv_split.specs.declared.step.Step.TheVariants.{Unmap, Remap, Map}
 use Rattle.gv_text.specs.State.{LieInside, IsHeld}

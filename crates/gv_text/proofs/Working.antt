@@ -10,7 +10,7 @@ use Rattle.gv_types.specs.declared.mapping.Mapping.{Mapping}
 use Rattle.gv_types.specs.declared.operation.PageOp.{PageOp}
 use Rattle.gv_ranges.specs.List.{at}
 use Rattle.gv_ranges.specs.Edit.{edited}
-use Rattle.gv_ranges.proofs.Meeting.{filter_meets}
+use Rattle.gv_ranges.proofs.OverlapLemmas.{filter_meets}
 use Rattle.gv_buffers.specs.Table.{Table, fresh, has_id, destroy_fault, without, IsCreated}
 use Rattle.gv_space.specs.Counts.{by_count, counted, more_kept}
 use Rattle.gv_space.specs.State.{AddressSpace, AreKept}

@@ -10,14 +10,14 @@ ghost use Rattle.gv_ranges.specs.Edit.{restored};
 ghost use Rattle.gv_space.specs.State.{IsPlaced, IsUnchanged};
 ghost use Rattle.gv_space.specs.Refusal.{operation_fault, limit_fault};
 ghost use Rattle.gv_space.specs.Change.{IsChanged};
-ghost use Rattle.gv_space.specs.Ready.{IsMeeting, IsReady};
+ghost use Rattle.gv_space.specs.Ready.{IsOverlap, IsReady};
 
 use super::{MAX_KEPT, Space};
 use crate::counts;
-use crate::meeting::Meeting;
+use crate::overlap::Overlap;
 use crate::pieces::{Pieces, between_rests, count_in_range, with_rests};
-use crate::undo::OpUndo;
 use crate::refusal::check_buffer;
+use crate::undo::OpUndo;
 use gv_table::Spares;
 use gv_types::{Fault, Mapping, Op, PageOp, PageRange};
 use smallvec::SmallVec;
@@ -45,17 +45,19 @@ impl Space {
     fn check_limits(
         &self,
         range: PageRange,
-        meeting: &Meeting,
+        overlap: &Overlap,
         saved: &[Mapping],
     ) -> Result<(), Fault>
         requires laid_out { IsLaidOut saved.now }
-        requires meeting { IsMeeting self.now.mappings range meeting.now }
+        requires overlap { IsOverlap self.now.mappings range overlap.now }
         ensures { MatchOption (limit_fault self.now range (restored self.now.mappings range saved.now))
             (IsOk result) (λ fault. result ≡ Err fault) }
     {
         let inside = count_in_range(saved, range);
-        let after = self.mappings().len() - meeting.count + meeting.count_rests() + inside;
-        if after as u64 > self.limits.mappings() || self.kept_count + meeting.count as u64 > MAX_KEPT {
+        let after = self.mappings().len() - overlap.count + overlap.count_rests() + inside;
+        if after as u64 > self.limits.mappings()
+            || self.kept_count + overlap.count as u64 > MAX_KEPT
+        {
             return Err(Fault::TooManyMappings);
         }
         Ok(())
@@ -77,14 +79,14 @@ impl Space {
         ensures range { IfOk result (λ undo. undo.range ≡ range) }
         ensures unchanged { OnErr result (IsUnchanged self.old self.new) }
     {
-        let meeting = Meeting::of(self.painted.list(), range);
-        self.check_limits(range, &meeting, saved)?;
-        let place = meeting.place;
-        let run = &self.mappings()[place..place + meeting.count];
+        let overlap = Overlap::of(self.painted.list(), range);
+        self.check_limits(range, &overlap, saved)?;
+        let place = overlap.place;
+        let run = &self.mappings()[place..place + overlap.count];
         let taken = SmallVec::from_slice(alloc, run)?;
-        let pieces = with_rests(alloc, &meeting, saved, range)?;
+        let pieces = with_rests(alloc, &overlap, saved, range)?;
         let pieces = pieces.as_slice();
-        let inside = between_rests(&meeting, pieces);
+        let inside = between_rests(&overlap, pieces);
         let spares = self.painted.spare(alloc, range, inside)?;
         self.painted
             .reserve(pieces.len().saturating_sub(taken.len()))?;

@@ -1,4 +1,4 @@
-use Rattle.gv_ranges.proofs.Changes.{at-edited, at-edited_by_all, laid_out-edited, edited_run_in_place, undone-edited}
+use Rattle.gv_ranges.proofs.ChangeLemmas.{at-edited, at-edited_by_all, laid_out-edited, edited_run_in_place, undone-edited}
 use Rattle.gv_ranges.proofs.laws.edits.Goals as goal
 
 pub returns : goal.returns

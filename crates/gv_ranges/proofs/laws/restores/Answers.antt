@@ -1,4 +1,4 @@
-use Rattle.gv_ranges.proofs.Changes.{at-restored, laid_out-restored, restored_run_in_place, undone-restored}
+use Rattle.gv_ranges.proofs.ChangeLemmas.{at-restored, laid_out-restored, restored_run_in_place, undone-restored}
 use Rattle.gv_ranges.proofs.laws.restores.Goals as goal
 
 pub returns : goal.returns

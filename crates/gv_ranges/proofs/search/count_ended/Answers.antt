@@ -3,7 +3,7 @@ use Rattle.std.proofs.lemmas.List.{get_or_default}
 use Rattle.std.proofs.lemmas.Option.{get_or_from_slice_get}
 use Rattle.gv_types.specs.Span.{end_of}
 use Rattle.gv_ranges.proofs.Places.{placed-last, placed-next, placed-here}
-use Rattle.gv_ranges.proofs.Rests.{some_of_last}
+use Rattle.gv_ranges.proofs.RestLemmas.{some_of_last}
 use Rattle.gv_ranges.proofs.search.count_ended.Goals as goal
 
 pub returns-then-end-page : goal.returns-then-end-page

@@ -4,7 +4,7 @@ use Rattle.gv_types.specs.declared.mapping.Mapping.{Mapping}
 use Rattle.gv_ranges.specs.Edit.{clipped}
 use Rattle.gv_types.specs.Mapping.{clip, IsMapping}
 use Rattle.gv_types.specs.Span.{end_of}
-use Rattle.gv_ranges.proofs.Replaced.{all_mappings}
+use Rattle.gv_ranges.proofs.ReplacedLemmas.{all_mappings}
 use Rattle.gv_space.proofs.Clips.{grown_by_none, grown_by_piece}
 use Rattle.gv_space.proofs.pieces.push_clipped.Goals as goal
 

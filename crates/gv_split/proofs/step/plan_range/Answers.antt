@@ -8,8 +8,8 @@ use Rattle.gv_types.specs.Span.{meets}
 use Rattle.gv_types.specs.Operation.{range_of, own_mapping}
 use Rattle.gv_types.specs.declared.mapping.Mapping.{Mapping}
 use Rattle.gv_ranges.specs.List.{IsMeetingRun, run}
-use Rattle.gv_ranges.proofs.Replaced.{all_mappings}
-use Rattle.gv_ranges.proofs.Meeting.{filter_meets}
+use Rattle.gv_ranges.proofs.ReplacedLemmas.{all_mappings}
+use Rattle.gv_ranges.proofs.OverlapLemmas.{filter_meets}
 use Rattle.gv_split.specs.Steps.{step_in}
 use Rattle.gv_split.specs.declared.step.Step.TheVariants.{Map}
 use Rattle.gv_split.proofs.step.plan_range.Goals as goal

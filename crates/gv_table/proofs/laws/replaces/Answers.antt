@@ -1,4 +1,4 @@
-use Rattle.gv_table.proofs.Edits.{replaced-alike, alike-mutual, replaced-pieces}
+use Rattle.gv_table.proofs.EditLemmas.{replaced-alike, alike-mutual, replaced-pieces}
 use Rattle.gv_table.proofs.laws.replaces.Goals as goal
 
 pub returns : goal.returns

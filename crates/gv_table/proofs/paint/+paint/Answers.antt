@@ -16,7 +16,7 @@ use Rattle.gv_table.proofs.Painted.{painted-below, painted-above, painted-gained
 use Rattle.gv_table.proofs.Places.{ended-later, place-ended}
 use Rattle.gv_table.proofs.Rows.{row-other, row-here}
 use Rattle.gv_table.proofs.Slots.{is_table-Empty, is_table-leaf}
-use Rattle.gv_table.proofs.Tallies.{divided-row, divided-counted, row-part, row-counted}
+use Rattle.gv_table.proofs.Counting.{divided-row, divided-counted, row-part, row-counted}
 use Rattle.gv_table.proofs.Spans.{meets-before}
 use Rattle.gv_table.proofs.Sums.{sum_below-at, sum_below-same}
 use Rattle.gv_table.proofs.Trees.{IsTreeOf-nothing, IsTreeOf-leaf, IsTreeOf-table, outside-apart}
@@ -76,8 +76,8 @@ paint_row-paint_slot-lost-requires t c =
                       (c.requires.outside c.loop-index.index below)),
                   (
                     omega (arith, here, part, c.loop-index.invariant.enough),
-                    subst (λ (s : Slot). IsPartOf c.loop-index.tally c.args.level s) (sym slot)
-                        (row-part c.args.tally.now c.loop-index.tally c.args.level c.loop-index.index c.args.slots.now c.loop-index.slots below c.requires.part c.loop-index.invariant.standing),
+                    subst (λ (s : Slot). IsPartOf c.loop-index.counts c.args.level s) (sym slot)
+                        (row-part c.args.counts.now c.loop-index.counts c.args.level c.loop-index.index c.args.slots.now c.loop-index.slots below c.requires.part c.loop-index.invariant.standing),
                   ),
                 ),
               ),
@@ -117,7 +117,7 @@ paint_row-loop-index-preserved t c =
       untouched = painted-above ms c.args.level c.args.first i c.args.slots.now row after same inv.untouched c.requires.laid_out here;
       enough = omega (arith, g1, g2, l1, l2, g, l, inv.enough, c.paint_slot-lost.ensures.exchanged);
       counted = omega (arith, l1, l2, l, inv.counted, c.paint_slot-lost.ensures.lost);
-      standing = row-counted c.args.tally.now c.loop-index.tally c.paint_slot-lost.new.tally c.args.level i c.args.slots.now row after below same inv.standing
+      standing = row-counted c.args.counts.now c.loop-index.counts c.paint_slot-lost.new.counts c.args.level i c.args.slots.now row after below same inv.standing
           (λ target.
           let old = ap (λ (s : Slot). tables_at target c.args.level s) read in
           let end = ap (λ (s : Slot). tables_at target c.args.level s) new in
@@ -221,9 +221,9 @@ paint_slot-paint_row-lost-requires t c =
                   },
                   (
                     omega (arith, gains, gain, one, c.divide-slots.ensures.taken, c.requires.enough),
-                    divided-row c.args.tally.now c.divide-slots.new.tally c.args.level c.args.slot.now c.deref_mut.result.now some c.requires.part
+                    divided-row c.args.counts.now c.divide-slots.new.counts c.args.level c.args.slot.now c.deref_mut.result.now some c.requires.part
                         (λ target. c.divide-slots.ensures.counted target ∙
-                        ap (λ (s : Slot). count_at c.args.tally.now target + one_if_new target (c.args.level - 1) (is_table s)) old)
+                        ap (λ (s : Slot). count_at c.args.counts.now target + one_if_new target (c.args.level - 1) (is_table s)) old)
                         (λ target k below. ap (λ (s : Slot). tables_at target (c.args.level - 1) s) (first-of k) ∙
                         sym (tables_at-same target (c.args.level - 1) _ _ (c.divide-slots.ensures.tables k below)) ∙
                         ap (λ (s : Slot). tables_at target (c.args.level - 1) (child s k)) old),
@@ -263,9 +263,9 @@ paint_slot-returns-in-Table-clause-counted t c =
     let first-of : (k : ℕ) → slice_index_or c.deref_mut.result.now k Empty ≡ slice_index_or c.divide-slots.result.value k Empty =
     λ k. ap (λ (l : List Slot). slice_index_or l k Empty) c.deref_mut.ensures.value in
     let old = c.replace-old.ensures.value in
-    divided-counted c.args.tally.now c.divide-slots.new.tally c.paint_row-lost.new.tally c.args.level c.args.slot.now c.deref_mut.result.now _ some
+    divided-counted c.args.counts.now c.divide-slots.new.counts c.paint_row-lost.new.counts c.args.level c.args.slot.now c.deref_mut.result.now _ some
     (λ target. c.divide-slots.ensures.counted target ∙
-    ap (λ (s : Slot). count_at c.args.tally.now target + one_if_new target (c.args.level - 1) (is_table s)) old)
+    ap (λ (s : Slot). count_at c.args.counts.now target + one_if_new target (c.args.level - 1) (is_table s)) old)
     (λ target k below. ap (λ (s : Slot). tables_at target (c.args.level - 1) s) (first-of k) ∙
     sym (tables_at-same target (c.args.level - 1) _ _ (c.divide-slots.ensures.tables k below)) ∙
     ap (λ (s : Slot). tables_at target (c.args.level - 1) (child s k)) old)

@@ -23,7 +23,7 @@ invariant-paint_row-loop-index l = record {
       l.lost + sum_below 512 (λ k. lost l.mappings l.level (l.first + k * pages_of l.level) (slice_index_or l.slots k Empty)) ≡
       l.initial.lost + sum_below 512 (λ k. lost l.mappings l.level (l.first + k * pages_of l.level) (slice_index_or l.initial.slots k Empty));
   standing : (target : ℕ) →
-      count_at l.tally target + row_tables_at target l.level l.initial.slots ≡ count_at l.initial.tally target + row_tables_at target l.level l.slots;
+      count_at l.counts target + row_tables_at target l.level l.initial.slots ≡ count_at l.initial.counts target + row_tables_at target l.level l.slots;
   exchanged :
       l.spares + sum_below 512 (λ k. gained l.mappings l.level (l.first + k * pages_of l.level) (slice_index_or l.initial.slots k Empty)) +
       sum_below 512 (λ k. lost l.mappings l.level (l.first + k * pages_of l.level) (slice_index_or l.slots k Empty)) ≡

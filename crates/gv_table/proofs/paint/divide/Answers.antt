@@ -6,14 +6,14 @@ use Rattle.gv_table.specs.Tree.{is_table, child, IsTreeOf}
 use Rattle.gv_table.specs.Counts.{one_if_not, one_if_new}
 use Rattle.gv_table.proofs.PagesOf.{pages_of-below, pages_of-bound}
 use Rattle.gv_table.proofs.Slots.{is_table-Table, is_table-Empty, no-table, child-Table, child-other}
-use Rattle.gv_table.proofs.Tallies.{part-room}
+use Rattle.gv_table.proofs.Counting.{part-room}
 use Rattle.gv_table.proofs.Trees.{read-parts, divided-parts}
 use Rattle.gv_table.proofs.paint.divide.Goals as goal
 
 pub raise-requires : goal.raise-requires
 raise-requires c = record {
   known = omega (arith, c.requires.known);
-  room = part-room c.args.tally.now c.args.level (c.args.level - 1) c.args.slot c.requires.part (no-table c.args.slot c.in-Empty.is);
+  room = part-room c.args.counts.now c.args.level (c.args.level - 1) c.args.slot c.requires.part (no-table c.args.slot c.in-Empty.is);
 }
 
 pub filled-requires : goal.filled-requires

@@ -13,6 +13,6 @@ invariant-loop-index l = record {
   above : (k : ℕ) → l.index ≤ k → slice_index_or l.slots.value k Empty ≡ slice_index_or l.initial.slots.value k Empty;
   counted : l.count ≡ l.initial.count + sum_below l.index (λ k. tables_in (l.level - 1) (slice_index_or l.initial.slots.value k Empty));
   standing : (target : ℕ) →
-      count_at l.tally target + sum_below l.index (λ k. tables_at target (l.level - 1) (slice_index_or l.initial.slots.value k Empty)) ≡ count_at l.initial.tally target;
+      count_at l.counts target + sum_below l.index (λ k. tables_at target (l.level - 1) (slice_index_or l.initial.slots.value k Empty)) ≡ count_at l.initial.counts target;
   put : l.spares ≡ l.initial.spares + sum_below l.index (λ k. tables_in (l.level - 1) (slice_index_or l.initial.slots.value k Empty));
 }

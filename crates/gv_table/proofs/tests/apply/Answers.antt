@@ -6,10 +6,10 @@ use Rattle.gv_types.specs.declared.mapping.Mapping.{Mapping}
 use Rattle.gv_types.specs.declared.operation.PageOp.{PageOp}
 use Rattle.gv_ranges.specs.List.{IsLaidOut}
 use Rattle.gv_ranges.specs.Edit.{edited}
-use Rattle.gv_ranges.proofs.Changes.{laid_out-edited}
+use Rattle.gv_ranges.proofs.ChangeLemmas.{laid_out-edited}
 use Rattle.gv_table.specs.Reads.{AreAlikeOutside}
 use Rattle.gv_table.specs.Table.{FitsOutside, gained_by}
-use Rattle.gv_table.proofs.Edits.{edited-alike, edited-own}
+use Rattle.gv_table.proofs.EditLemmas.{edited-alike, edited-own}
 use Rattle.gv_table.proofs.tests.apply.Goals as goal
 
 pub sway-requires-clause-new : goal.sway-requires-clause-new

@@ -1,6 +1,6 @@
 use Rattle.std.proofs.Common.{◌+◌, ◌-◌, ◌∙◌}
-use Rattle.gv_ranges.proofs.Changes.{laid_out-edited, spliced_edit}
-use Rattle.gv_ranges.proofs.Rests.{laid_out-take, laid_out-drop}
+use Rattle.gv_ranges.proofs.ChangeLemmas.{laid_out-edited, spliced_edit}
+use Rattle.gv_ranges.proofs.RestLemmas.{laid_out-take, laid_out-drop}
 use Rattle.gv_table.proofs.tests.edit.Goals as goal
 
 pub replacement-requires-clause-laid_out : goal.replacement-requires-clause-laid_out

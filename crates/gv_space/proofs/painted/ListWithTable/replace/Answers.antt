@@ -1,6 +1,6 @@
 use Rattle.std.proofs.Common.{◌+◌, ◌∙◌, sym, subst}
 use Rattle.gv_ranges.specs.List.{AreEnded, Ranges}
-use Rattle.gv_table.proofs.Likeness.{tables-gained}
+use Rattle.gv_table.proofs.LikenessLemmas.{tables-gained}
 use Rattle.gv_ranges.proofs.PlaceLemmas.{ended-spliced}
 use Rattle.gv_space.proofs.painted.ListWithTable.replace.Goals as goal
 

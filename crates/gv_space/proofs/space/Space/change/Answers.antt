@@ -6,7 +6,7 @@ use Rattle.gv_ranges.specs.List.{IsLaidOut, Ranges, run}
 use Rattle.gv_ranges.specs.Edit.{restored}
 use Rattle.gv_space.specs.State.{AddressSpace, IsPlaced}
 use Rattle.gv_space.specs.Change.{IsChanged}
-use Rattle.gv_space.specs.Ready.{IsMeeting, IsReady}
+use Rattle.gv_space.specs.Ready.{IsOverlap, IsReady}
 use Rattle.gv_space.specs.Refusal.{limit_fault}
 use Rattle.gv_space.specs.Inside.{space_of}
 use Rattle.gv_space.proofs.Faults.{no_fault}
@@ -27,14 +27,14 @@ pub commit-requires : goal.commit-requires
 commit-requires c =
     let s : AddressSpace = space_of c.self.inside in
     let list_is : c.list.result.now ≡ c.self.inside.painted = c.list.ensures in
-    let meeting : IsMeeting s.mappings c.args.range c.of-meeting.result =
-    subst (λ (l : Ranges). IsMeeting l.mappings c.args.range c.of-meeting.result) list_is c.of-meeting.ensures in
-    let size : c.of-meeting.result.place + c.of-meeting.result.count - c.of-meeting.result.place ≡ c.of-meeting.result.count = omega arith in
-    let taken_now : c.in_ok-taken.taken.items ≡ run c.args.self.now.mappings c.of-meeting.result.place c.of-meeting.result.count =
+    let overlap : IsOverlap s.mappings c.args.range c.of-overlap.result =
+    subst (λ (l : Ranges). IsOverlap l.mappings c.args.range c.of-overlap.result) list_is c.of-overlap.ensures in
+    let size : c.of-overlap.result.place + c.of-overlap.result.count - c.of-overlap.result.place ≡ c.of-overlap.result.count = omega arith in
+    let taken_now : c.in_ok-taken.taken.items ≡ run c.args.self.now.mappings c.of-overlap.result.place c.of-overlap.result.count =
     rw (c.mappings.ensures.value, size) at c.in_ok-taken.ensures.ok in
-    let taken_is : c.in_ok-taken.taken.items ≡ run s.mappings c.of-meeting.result.place c.of-meeting.result.count =
-    subst (λ (t : AddressSpace). c.in_ok-taken.taken.items ≡ run t.mappings c.of-meeting.result.place c.of-meeting.result.count) (sym c.self.view_is) taken_now in
-    let pieces_is : c.as_slice-pieces.result.now ≡ option_to_list c.of-meeting.result.before ++ inside s c.args.range c.args.saved.now c.self.invariant c.requires.laid_out ++ option_to_list c.of-meeting.result.behind =
+    let taken_is : c.in_ok-taken.taken.items ≡ run s.mappings c.of-overlap.result.place c.of-overlap.result.count =
+    subst (λ (t : AddressSpace). c.in_ok-taken.taken.items ≡ run t.mappings c.of-overlap.result.place c.of-overlap.result.count) (sym c.self.view_is) taken_now in
+    let pieces_is : c.as_slice-pieces.result.now ≡ option_to_list c.of-overlap.result.prev ++ inside s c.args.range c.args.saved.now c.self.invariant c.requires.laid_out ++ option_to_list c.of-overlap.result.next =
     c.as_slice-pieces.ensures ∙ c.in_ok-pieces.ensures in
     let middle : c.between_rests-inside.result.now ≡ inside s c.args.range c.args.saved.now c.self.invariant c.requires.laid_out =
     c.between_rests-inside.ensures (inside s c.args.range c.args.saved.now c.self.invariant c.requires.laid_out) pieces_is in
@@ -46,8 +46,8 @@ commit-requires c =
     let fits : length c.as_slice-pieces.result.now ≤ length c.in_ok-taken.taken.items + c.saturating_sub.result =
     omega (arith, c.len.ensures.value, c.saturating_sub.ensures) in (
       inside s c.args.range c.args.saved.now c.self.invariant c.requires.laid_out,
-      ready_from s c.args.range c.args.saved.now c.self.invariant c.requires.laid_out c.reserve.new.self c.of-meeting.result c.in_ok-taken.taken.items c.as_slice-pieces.result.now
-          c.in_ok-spares.spares c.saturating_sub.result placed meeting taken_is pieces_is c.reserve.ensures.unchanged.mappings c.in_ok-reserve.ensures.ok fits none
+      ready_from s c.args.range c.args.saved.now c.self.invariant c.requires.laid_out c.reserve.new.self c.of-overlap.result c.in_ok-taken.taken.items c.as_slice-pieces.result.now
+          c.in_ok-spares.spares c.saturating_sub.result placed overlap taken_is pieces_is c.reserve.ensures.unchanged.mappings c.in_ok-reserve.ensures.ok fits none
           (λ ms table laid alike has tree. c.in_ok-spares.ensures.enough ms table laid alike (has ∙ sym middle) tree),
     )
 
@@ -55,14 +55,14 @@ pub returns-clause-changed : goal.returns-clause-changed
 returns-clause-changed c =
     let s : AddressSpace = space_of c.self.inside in
     let list_is : c.list.result.now ≡ c.self.inside.painted = c.list.ensures in
-    let meeting : IsMeeting s.mappings c.args.range c.of-meeting.result =
-    subst (λ (l : Ranges). IsMeeting l.mappings c.args.range c.of-meeting.result) list_is c.of-meeting.ensures in
-    let size : c.of-meeting.result.place + c.of-meeting.result.count - c.of-meeting.result.place ≡ c.of-meeting.result.count = omega arith in
-    let taken_now : c.in_ok-taken.taken.items ≡ run c.args.self.now.mappings c.of-meeting.result.place c.of-meeting.result.count =
+    let overlap : IsOverlap s.mappings c.args.range c.of-overlap.result =
+    subst (λ (l : Ranges). IsOverlap l.mappings c.args.range c.of-overlap.result) list_is c.of-overlap.ensures in
+    let size : c.of-overlap.result.place + c.of-overlap.result.count - c.of-overlap.result.place ≡ c.of-overlap.result.count = omega arith in
+    let taken_now : c.in_ok-taken.taken.items ≡ run c.args.self.now.mappings c.of-overlap.result.place c.of-overlap.result.count =
     rw (c.mappings.ensures.value, size) at c.in_ok-taken.ensures.ok in
-    let taken_is : c.in_ok-taken.taken.items ≡ run s.mappings c.of-meeting.result.place c.of-meeting.result.count =
-    subst (λ (t : AddressSpace). c.in_ok-taken.taken.items ≡ run t.mappings c.of-meeting.result.place c.of-meeting.result.count) (sym c.self.view_is) taken_now in
-    let pieces_is : c.as_slice-pieces.result.now ≡ option_to_list c.of-meeting.result.before ++ inside s c.args.range c.args.saved.now c.self.invariant c.requires.laid_out ++ option_to_list c.of-meeting.result.behind =
+    let taken_is : c.in_ok-taken.taken.items ≡ run s.mappings c.of-overlap.result.place c.of-overlap.result.count =
+    subst (λ (t : AddressSpace). c.in_ok-taken.taken.items ≡ run t.mappings c.of-overlap.result.place c.of-overlap.result.count) (sym c.self.view_is) taken_now in
+    let pieces_is : c.as_slice-pieces.result.now ≡ option_to_list c.of-overlap.result.prev ++ inside s c.args.range c.args.saved.now c.self.invariant c.requires.laid_out ++ option_to_list c.of-overlap.result.next =
     c.as_slice-pieces.ensures ∙ c.in_ok-pieces.ensures in
     let middle : c.between_rests-inside.result.now ≡ inside s c.args.range c.args.saved.now c.self.invariant c.requires.laid_out =
     c.between_rests-inside.ensures (inside s c.args.range c.args.saved.now c.self.invariant c.requires.laid_out) pieces_is in
@@ -76,11 +76,11 @@ returns-clause-changed c =
     let list : Ranges = c.reserve.new.self in
     let within : List Mapping = inside s c.args.range c.args.saved.now c.self.invariant c.requires.laid_out in
     let old : AddressSpace = record s { mappings = list.mappings; room = list.room } in
-    let ready : IsReady within old c.args.range c.of-meeting.result.place c.in_ok-taken.taken.items c.as_slice-pieces.result.now c.in_ok-spares.spares =
-    ready_from s c.args.range c.args.saved.now c.self.invariant c.requires.laid_out c.reserve.new.self c.of-meeting.result c.in_ok-taken.taken.items c.as_slice-pieces.result.now
-    c.in_ok-spares.spares c.saturating_sub.result placed meeting taken_is pieces_is c.reserve.ensures.unchanged.mappings c.in_ok-reserve.ensures.ok fits none
+    let ready : IsReady within old c.args.range c.of-overlap.result.place c.in_ok-taken.taken.items c.as_slice-pieces.result.now c.in_ok-spares.spares =
+    ready_from s c.args.range c.args.saved.now c.self.invariant c.requires.laid_out c.reserve.new.self c.of-overlap.result c.in_ok-taken.taken.items c.as_slice-pieces.result.now
+    c.in_ok-spares.spares c.saturating_sub.result placed overlap taken_is pieces_is c.reserve.ensures.unchanged.mappings c.in_ok-reserve.ensures.ok fits none
     (λ ms table laid alike has tree. c.in_ok-spares.ensures.enough ms table laid alike (has ∙ sym middle) tree) in
     let is : IsChanged s c.commit.new.self (restored s.mappings c.args.range c.args.saved.now) c.commit.result =
-    changed_before s list c.commit.new.self within c.args.range c.of-meeting.result.place c.in_ok-taken.taken.items c.as_slice-pieces.result.now c.in_ok-spares.spares c.commit.result
+    changed_before s list c.commit.new.self within c.args.range c.of-overlap.result.place c.in_ok-taken.taken.items c.as_slice-pieces.result.now c.in_ok-spares.spares c.commit.result
     c.self.invariant c.reserve.ensures.unchanged.mappings c.reserve.ensures.unchanged.room ready c.commit.ensures.changed in
     subst (λ (t : AddressSpace). IsChanged t c.commit.new.self (restored t.mappings c.args.range c.args.saved.now) c.commit.result) c.self.view_is is

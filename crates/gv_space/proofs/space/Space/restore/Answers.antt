@@ -6,7 +6,7 @@ use Rattle.gv_types.specs.Span.{covers}
 use Rattle.gv_types.specs.declared.mapping.Mapping.{Mapping}
 use Rattle.gv_ranges.specs.List.{at}
 use Rattle.gv_ranges.specs.Edit.{restored}
-use Rattle.gv_ranges.proofs.Changes.{at-restored}
+use Rattle.gv_ranges.proofs.ChangeLemmas.{at-restored}
 use Rattle.gv_space.specs.State.{AddressSpace}
 use Rattle.gv_space.specs.Undo.{UndoValue, TookWhatWas}
 use Rattle.gv_space.proofs.Says.{holds_what_was}

@@ -1,5 +1,5 @@
 use Rattle.std.proofs.Common.{◌∙◌}
-use Rattle.gv_table.proofs.Likeness.{tables-wanted}
+use Rattle.gv_table.proofs.LikenessLemmas.{tables-wanted}
 use Rattle.gv_table.proofs.page_table.PageTable.tables.Goals as goal
 
 pub returns-clause-standing : goal.returns-clause-standing

@@ -1,5 +1,5 @@
 use Rattle.std.proofs.Common.{sym}
-use Rattle.gv_ranges.proofs.Lookup.{at_past}
+use Rattle.gv_ranges.proofs.LookupLemmas.{at_past}
 use Rattle.gv_table.proofs.page_table.PageTable.walk.Goals as goal
 
 pub returns-then-page-ge-SPACE_PAGES : goal.returns-then-page-ge-SPACE_PAGES

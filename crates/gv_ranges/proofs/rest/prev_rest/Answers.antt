@@ -1,7 +1,7 @@
 use Rattle.std.proofs.Common.{◌∙◌, ap, sym}
 use Rattle.std.specs.Option.{option_to_list}
-use Rattle.gv_ranges.proofs.Rests.{rest_of_first}
-use Rattle.gv_ranges.proofs.rest.rest_before.Goals as goal
+use Rattle.gv_ranges.proofs.RestLemmas.{rest_of_first}
+use Rattle.gv_ranges.proofs.rest.prev_rest.Goals as goal
 
 pub returns : goal.returns
 returns c =

@@ -11,7 +11,7 @@ use Rattle.gv_types.specs.Mapping.{clip, IsMapping}
 use Rattle.gv_types.specs.declared.mapping.Mapping.{Mapping}
 use Rattle.gv_ranges.specs.List.{at, IsLaidOut, IsLaidOutFrom, IsMeetingRun, run}
 use Rattle.gv_ranges.specs.Edit.{clipped, replaced, LieIn, undone}
-use Rattle.gv_ranges.proofs.Clip.{at-clipped, at-clipped_out, at-append_none, at-append_left, clip_whole, clip_none}
+use Rattle.gv_ranges.proofs.ClipLemmas.{at-clipped, at-clipped_out, at-append_none, at-append_left, clip_whole, clip_none}
 use Rattle.gv_ranges.proofs.Splices.{drop-splice}
 
 -- the ends of a run that lies in another

@@ -12,9 +12,9 @@ use Rattle.gv_types.specs.declared.operation.PageOp.TheVariants.{Map, Unmap, Unm
 use Rattle.gv_ranges.specs.List.{at, IsLaidOut, IsMeetingRun, run}
 use Rattle.gv_ranges.specs.Edit.{clipped, edited, edited_by_all, LieIn}
 use Rattle.gv_ranges.specs.Laws.{EditedListSays, EditedListIsViewed, EditedListIsLaidOut, EditedRunInPlace, UndoneEditIsOld, RestoredListSays, RestoredListIsLaidOut, RestoredRunInPlace, UndoneRestoreIsOld}
-use Rattle.gv_ranges.proofs.Clip.{at-clipped}
-use Rattle.gv_ranges.proofs.Replaced.{at-replaced, replaced_run_in_place, undone-replaced}
-use Rattle.gv_ranges.proofs.Order.{laid_out-clipped, laid_out-replaced, lie_in-clipped}
+use Rattle.gv_ranges.proofs.ClipLemmas.{at-clipped}
+use Rattle.gv_ranges.proofs.ReplacedLemmas.{at-replaced, replaced_run_in_place, undone-replaced}
+use Rattle.gv_ranges.proofs.OrderLemmas.{laid_out-clipped, laid_out-replaced, lie_in-clipped}
 
 -- a choice whose first answer is the same where it is taken
 cond_then : {X : Type 0} (b : Bool) (x y z : X) → (b ≡ true → x ≡ y) → cond b x z ≡ cond b y z

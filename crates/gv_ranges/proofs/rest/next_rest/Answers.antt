@@ -1,8 +1,8 @@
 use Rattle.std.proofs.Common.{◌∙◌, ap, sym}
 use Rattle.std.specs.Option.{option_to_list}
 use Rattle.gv_types.specs.Page.{PAGES}
-use Rattle.gv_ranges.proofs.Rests.{last_is_mapping, rest_of_last}
-use Rattle.gv_ranges.proofs.rest.rest_behind.Goals as goal
+use Rattle.gv_ranges.proofs.RestLemmas.{last_is_mapping, rest_of_last}
+use Rattle.gv_ranges.proofs.rest.next_rest.Goals as goal
 
 pub clip-requires : goal.clip-requires
 clip-requires c = last_is_mapping c.args.run.now c.in_ok-last.field-0.now c.in_ok-last.ensures.value c.requires.laid_out

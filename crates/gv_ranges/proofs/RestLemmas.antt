@@ -10,9 +10,9 @@ use Rattle.gv_types.specs.Mapping.{clip, IsMapping}
 use Rattle.gv_types.specs.declared.mapping.Mapping.{Mapping}
 use Rattle.gv_ranges.specs.List.{IsLaidOut, IsLaidOutFrom}
 use Rattle.gv_ranges.specs.Edit.{clipped}
-use Rattle.gv_ranges.proofs.Clip.{clip_none}
-use Rattle.gv_ranges.proofs.Lookup.{first_above, is_mapping}
-use Rattle.gv_ranges.proofs.Replaced.{LiesOutside, clipped_none}
+use Rattle.gv_ranges.proofs.ClipLemmas.{clip_none}
+use Rattle.gv_ranges.proofs.LookupLemmas.{first_above, is_mapping}
+use Rattle.gv_ranges.proofs.ReplacedLemmas.{LiesOutside, clipped_none}
 
 -- an order from a later page is one from an earlier page
 pub laid_out_lower : (ms : List Mapping) (low low' : ℕ) → low' ≤ low → IsLaidOutFrom low ms → IsLaidOutFrom low' ms

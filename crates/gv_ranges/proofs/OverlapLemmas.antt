@@ -7,7 +7,7 @@ use Rattle.std.specs.List.{All, filter}
 use Rattle.gv_types.specs.Span.{Span, meets}
 use Rattle.gv_types.specs.declared.mapping.Mapping.{Mapping}
 use Rattle.gv_ranges.specs.List.{IsMeetingRun, run}
-use Rattle.gv_ranges.proofs.Replaced.{split_at_run}
+use Rattle.gv_ranges.proofs.ReplacedLemmas.{split_at_run}
 
 filter_all : {X : Type 0} (p : X → Bool) (xs : List X) → All (λ x. p x ≡ true) xs → filter p xs ≡ xs
 filter_all p [] all = refl

@@ -12,10 +12,10 @@ use Rattle.gv_types.specs.Operation.{range_of, own_mapping, IsPageOp}
 use Rattle.gv_types.specs.declared.operation.PageOp.{PageOp}
 use Rattle.gv_types.specs.declared.operation.PageOp.TheVariants.{Map, Unmap, UnmapBuffer}
 use Rattle.gv_ranges.specs.Edit.{LieIn, clipped, replaced, edited}
-use Rattle.gv_ranges.proofs.Clip.{clip_whole}
-use Rattle.gv_ranges.proofs.Kept.{clip_is_piece, All-clipped}
-use Rattle.gv_ranges.proofs.Order.{IsMapping-piece}
-use Rattle.gv_ranges.proofs.Replaced.{clipped_none, all_mappings}
+use Rattle.gv_ranges.proofs.ClipLemmas.{clip_whole}
+use Rattle.gv_ranges.proofs.KeptLemmas.{clip_is_piece, All-clipped}
+use Rattle.gv_ranges.proofs.OrderLemmas.{IsMapping-piece}
+use Rattle.gv_ranges.proofs.ReplacedLemmas.{clipped_none, all_mappings}
 use Rattle.gv_table.specs.Reads.{AreAlikeOutside}
 use Rattle.gv_table.specs.Laws.{ReplacedListIsAlike, ReplacedListHasPieces, AlikeIsMutual}
 use Rattle.gv_table.proofs.Spans.{lies-bounds, lies-from}

@@ -1,9 +1,9 @@
--- A tally as tables come and go.
+-- A counts as tables come and go.
 use Rattle.std.proofs.Common.{◌≡◌, ◌≢◌, ℕ, ◌+◌, ◌-◌, ◌<◌, false, nat_eq, List, slice_index_or, Box, Global, arith, ap}
 use Rattle.gv_types.specs.Page.{PAGES}
 use Rattle.gv_table.specs.declared.slot.Slot.{Slot}
 use Rattle.gv_table.specs.declared.slot.Slot.TheVariants.{Empty, Table}
-use Rattle.gv_table.specs.declared.tally.Tally.{Tally}
+use Rattle.gv_table.specs.declared.table_counts.TableCounts.{TableCounts}
 use Rattle.gv_table.specs.Levels.{pages_of}
 use Rattle.gv_table.specs.Tree.{is_table, child}
 use Rattle.gv_table.specs.Counts.{tables_at, row_tables_at, count_at, one_if, one_if_new, IsPartOf, IsRowOf}
@@ -13,8 +13,8 @@ use Rattle.gv_table.proofs.PagesOf.{pages_of-some, pages_of-below}
 use Rattle.gv_table.proofs.Sums.{sum_below-at, sum_below-same, sum_below-change, sum_below-few-but}
 
 -- there is room for a table in place of a slot that is none
-pub part-room : (tally : Tally) (level target : ℕ) (slot : Slot) → IsPartOf tally level slot → is_table slot ≡ false → count_at tally target < PAGES
-part-room tally level target slot part other =
+pub part-room : (counts : TableCounts) (level target : ℕ) (slot : Slot) → IsPartOf counts level slot → is_table slot ≡ false → count_at counts target < PAGES
+part-room counts level target slot part other =
     let none = tables_at-other target level slot other in
     let some = pages_of-some level in
     let room = part.room target in
@@ -28,8 +28,8 @@ row-parts target level slot row some same =
     let parts = tables_at-parts target level slot some in
     omega (arith, sums, parts)
 
--- a slot made a table: the tally counts its row
-pub divided-row : (before after : Tally) (level : ℕ) (slot : Slot) (row : List Slot) → 0 < level → IsPartOf before level slot →
+-- a slot made a table: the counts counts its row
+pub divided-row : (before after : TableCounts) (level : ℕ) (slot : Slot) (row : List Slot) → 0 < level → IsPartOf before level slot →
     ((target : ℕ) → count_at after target ≡ count_at before target + one_if_new target (level - 1) (is_table slot)) →
     ((t k : ℕ) → k < 512 → tables_at t (level - 1) (slice_index_or row k Empty) ≡ tables_at t (level - 1) (child slot k)) →
     IsRowOf after (level - 1) row
@@ -48,8 +48,8 @@ divided-row before after level slot row some part made same = record {
       omega (arith, parts, counts, all, small, pages);
 }
 
--- the slot is a table, and the tally has the tables of its row
-pub divided-counted : (before made after : Tally) (level : ℕ) (slot : Slot) (row : List Slot) (slots : Box (List Slot) Global) → 0 < level →
+-- the slot is a table, and the counts has the tables of its row
+pub divided-counted : (before made after : TableCounts) (level : ℕ) (slot : Slot) (row : List Slot) (slots : Box (List Slot) Global) → 0 < level →
     ((target : ℕ) → count_at made target ≡ count_at before target + one_if_new target (level - 1) (is_table slot)) →
     ((t k : ℕ) → k < 512 → tables_at t (level - 1) (slice_index_or row k Empty) ≡ tables_at t (level - 1) (child slot k)) →
     ((target : ℕ) → count_at after target + row_tables_at target (level - 1) row ≡ count_at made target + row_tables_at target (level - 1) slots.value) →
@@ -61,8 +61,8 @@ divided-counted before made after level slot row slots some raised same painted 
     let end = painted target in
     omega (arith, parts, whole, counts, end)
 
--- a row of which some slots are painted: the next one is a part of the tally
-pub row-part : (before now : Tally) (level i : ℕ) (old row : List Slot) → i < 512 → IsRowOf before level old →
+-- a row of which some slots are painted: the next one is a part of the counts
+pub row-part : (before now : TableCounts) (level i : ℕ) (old row : List Slot) → i < 512 → IsRowOf before level old →
     ((target : ℕ) → count_at now target + row_tables_at target level old ≡ count_at before target + row_tables_at target level row) →
     IsPartOf now level (slice_index_or row i Empty)
 row-part before now level i old row below part counted = record {
@@ -80,7 +80,7 @@ row-part before now level i old row below part counted = record {
 }
 
 -- and one more of them is painted
-pub row-counted : (before now next : Tally) (level i : ℕ) (old row after : List Slot) → i < 512 →
+pub row-counted : (before now next : TableCounts) (level i : ℕ) (old row after : List Slot) → i < 512 →
     ((k : ℕ) → k ≢ i → slice_index_or after k Empty ≡ slice_index_or row k Empty) →
     ((target : ℕ) → count_at now target + row_tables_at target level old ≡ count_at before target + row_tables_at target level row) →
     ((target : ℕ) → count_at next target + tables_at target level (slice_index_or row i Empty) ≡ count_at now target + tables_at target level (slice_index_or after i Empty)) →

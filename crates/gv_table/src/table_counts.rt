@@ -8,17 +8,17 @@ use crate::levels::TOP_LEVEL;
 
 /// How many tables stand at each level, from level 0 on, kept as tables come and go.
 #[derive(Drop)]
-pub struct Tally {
-    counts: [u64; TOP_LEVEL],
+pub struct TableCounts {
+    by_level: [u64; TOP_LEVEL],
 }
 
-impl Tally {
+impl TableCounts {
     /// No table at any level.
-    pub fn new() -> Tally
+    pub fn new() -> TableCounts
         ensures { (target : ℕ) → count_at result target ≡ 0 }
     {
-        Tally {
-            counts: [0; TOP_LEVEL],
+        TableCounts {
+            by_level: [0; TOP_LEVEL],
         }
     }
 
@@ -29,7 +29,7 @@ impl Tally {
         ensures { (target : ℕ) → count_at self.new target
             ≡ count_at self.old target + one_if (nat_eq target level) }
     {
-        self.counts[level] += 1;
+        self.by_level[level] += 1;
     }
 
     /// One table fewer at the level.
@@ -39,7 +39,7 @@ impl Tally {
         ensures { (target : ℕ) → count_at self.new target + one_if (nat_eq target level)
             ≡ count_at self.old target }
     {
-        self.counts[level] -= 1;
+        self.by_level[level] -= 1;
     }
 
     /// The counts at the levels 4, 3, 2, 1 and 0.
@@ -47,7 +47,7 @@ impl Tally {
         ensures { result ≡ count_at self.now 4 ∷ count_at self.now 3 ∷ count_at self.now 2
             ∷ count_at self.now 1 ∷ count_at self.now 0 ∷ [] }
     {
-        let [zero, one, two, three, four] = self.counts;
+        let [zero, one, two, three, four] = self.by_level;
         [four, three, two, one, zero]
     }
 }

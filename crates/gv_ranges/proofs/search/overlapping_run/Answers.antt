@@ -1,6 +1,6 @@
 use Rattle.std.proofs.Common.{arith, ◌≡◌, ◌+◌, ◌-◌, ◌≤◌}
-use Rattle.gv_ranges.proofs.Lookup.{ended_before_begun, run_meets}
-use Rattle.gv_ranges.proofs.search.meeting_run.Goals as goal
+use Rattle.gv_ranges.proofs.LookupLemmas.{ended_before_begun, run_meets}
+use Rattle.gv_ranges.proofs.search.overlapping_run.Goals as goal
 
 pub overflow_sub-result : goal.overflow_sub-result
 overflow_sub-result c =
