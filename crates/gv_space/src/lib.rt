@@ -14,6 +14,3 @@ mod refusal;
 
 pub use space::Space;
 pub use undo::OpUndo;
-
-#[cfg(test)]
-mod tests;
