@@ -17,6 +17,6 @@ pub mod Rooms
 pub mod LivesLemmas
 pub mod Jobs
 pub mod Spaces
-pub mod Unchanged
+pub mod UnchangedLemmas
 pub mod UsesFound
 pub mod RenamingLemmas

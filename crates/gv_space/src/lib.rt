@@ -14,6 +14,3 @@ mod undo;
 
 pub use space::Space;
 pub use undo::OpUndo;
-
-#[cfg(test)]
-mod tests;
