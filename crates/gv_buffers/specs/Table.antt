@@ -1,4 +1,4 @@
--- The live buffers, with their counts and users, and what calls make of them.
+-- What contracts see of `Buffers` (`Table`): the live buffers, with their counts and users, and what calls make of them.
 use Rattle.std.specs.Prelude.{◌≡◌, ◌≢◌, ℕ, ◌+◌, ◌-◌, ◌^◌, ◌<◌, ◌≤◌, Bool, not, ◌||◌, ◌==◌, nat_lt, nat_le, if◌then◌else◌, List, [], map, length, filter, find, insert, Option, Some, None, IsSome}
 use Rattle.std.specs.List.{All, AllPairs}
 use Rattle.std.specs.Option.{option_map}
