@@ -123,13 +123,13 @@ abbrev pub with_count : Counter → ℕ → Buffer → Buffer
 with_count Uses n b = record b { uses = n }
 with_count Kept n b = record b { kept = n }
 
--- one mapping more
-abbrev pub raised : Counter → Buffer → Buffer
-raised counter b = with_count counter (count counter b + 1) b
+-- so many mappings more
+abbrev pub raised : Counter → ℕ → Buffer → Buffer
+raised counter n b = with_count counter (count counter b + n) b
 
--- one mapping less
-abbrev pub lowered : Counter → Buffer → Buffer
-lowered counter b = with_count counter (count counter b - 1) b
+-- so many mappings less
+abbrev pub lowered : Counter → ℕ → Buffer → Buffer
+lowered counter n b = with_count counter (count counter b - n) b
 
 abbrev pub conflict_fault : Option ℕ → Option Fault
 conflict_fault None = None
