@@ -11,8 +11,8 @@ use Rattle.gv_types.specs.declared.mapping.Mapping.{Mapping}
 use Rattle.gv_buffers.specs.Table.{Buffer, Table, buffer, changed, only, has_id}
 use Rattle.gv_space.specs.Counts.{count_of, by_count, more_used, less_used, more_kept, less_kept}
 use Rattle.gv_space.specs.Live.{IsLiveBacking}
-use Rattle.gv_space.proofs.Counted.{is_same_id-symmetric, count_of-more, count_of-front_lt}
-use Rattle.gv_space.proofs.Tables.{each-each, each-same, each-itself, buffer-each, found_live}
+use Rattle.gv_space.proofs.CountLemmas.{is_same_id-symmetric, count_of-more, count_of-front_lt}
+use Rattle.gv_space.proofs.TableLemmas.{each-each, each-same, each-itself, buffer-each, found_live}
 
 -- a change of a buffer by a number of mappings, which may be made one mapping at a time
 pub record IsCounting (change : Buffer → ℕ → Buffer) : Type 0 where
@@ -96,14 +96,14 @@ holds_at : (field : Buffer → ℕ) (Q : ℕ → Type 0) (f : Buffer → Buffer)
 holds_at field Q f b o is holds = subst (λ (x : Option Buffer). IsSomeAnd (option_map field x) Q) (sym is) holds
 
 -- what a call in a loop that counts requires: the buffer is alive, and so is room for one more of all the mappings
-pub can_count : (change : Buffer → ℕ → Buffer) (field : Buffer → ℕ) (Fits : Buffer → ℕ → Type 0) (Q : ℕ → Type 0) → IsCounting change →
-    ((b : Buffer) (n k : ℕ) → n < k → Fits b k → Q (field (change b n))) →
+pub can_count : (change : Buffer → ℕ → Buffer) (field : Buffer → ℕ) (CanRevert : Buffer → ℕ → Type 0) (Q : ℕ → Type 0) → IsCounting change →
+    ((b : Buffer) (n k : ℕ) → n < k → CanRevert b k → Q (field (change b n))) →
     (t now : Table) (ms : List Mapping) (i : ℕ) (m : Mapping) (id : BufferId) (page : ℕ) → i < length ms → m ≡ get_or ms i m → m.backing ≡ BufferPages id page →
-    All (λ x. IsLiveBacking t x.backing) ms → All (λ b. Fits b (count_of b.id ms)) t.live → now ≡ by_count change (take i ms) t →
+    All (λ x. IsLiveBacking t x.backing) ms → All (λ b. CanRevert b (count_of b.id ms)) t.live → now ≡ by_count change (take i ms) t →
     IsSomeAnd (option_map field (buffer now id)) Q
-can_count change field Fits Q counting enough t now ms i m id page within is of live room so_far =
+can_count change field CanRevert Q counting enough t now ms i m id page within is of live room so_far =
     let lives : IsLiveBacking t (BufferPages id page) = rw (← is, of) at (live i m within) in
-    let found = found_live (λ b. Fits b (count_of b.id ms)) t id room lives in
+    let found = found_live (λ b. CanRevert b (count_of b.id ms)) t id room lives in
     let b : Buffer = found.b in
     let mine : is_of b.id m.backing ≡ true = ap (is_of b.id) of ∙ is_same_id-symmetric id b.id ∙ found.same_id in
     let fewer : count_of b.id (take i ms) < count_of b.id ms = count_of-front_lt b.id ms i m within is mine in

@@ -4,7 +4,7 @@ use Rattle.std.specs.Prelude.{IsOk, MatchOption}
 use Rattle.gv_types.specs.declared.fault.Fault.{Fault}
 use Rattle.gv_types.specs.Bounds.{unless_fault}
 use Rattle.gv_types.specs.declared.operation.PageOp.{PageOp}
-use Rattle.gv_space.specs.Verdict.{first_of}
+use Rattle.gv_space.specs.Refusal.{first_of}
 
 module _ {X Y : Type 0} (P : Type 0) (r : Result X Fault) (s : Result Y Fault) (fault : Fault) (refused : r ≡ Err fault) (same : s ≡ Err fault) where
   not_ok : IsOk r → P

@@ -8,9 +8,9 @@ use Rattle.gv_types.specs.declared.mapping.Mapping.{Mapping}
 use Rattle.gv_buffers.specs.declared.usage.Usage.{Usage}
 use Rattle.gv_buffers.specs.Table.{Buffer, Table, has_id, only, changed, joined_by, left_by, left_everywhere}
 use Rattle.gv_space.specs.Counts.{count_of}
-use Rattle.gv_space.specs.State.{AddressSpace, IsPlaced, AreSaved}
-use Rattle.gv_space.proofs.Tables.{each, IsKeeping, pages-each}
-use Rattle.gv_space.proofs.Keeping.{placed-kept}
+use Rattle.gv_space.specs.State.{AddressSpace, IsPlaced, AreKept}
+use Rattle.gv_space.proofs.TableLemmas.{each, IsKeeping, pages-each}
+use Rattle.gv_space.proofs.ByCountLemmas.{placed-kept}
 use Rattle.gv_space.proofs.Recounted.{UsesAre, KeptAre}
 
 -- a change of a buffer that leaves its id, its size and its counts
@@ -53,16 +53,16 @@ kept_used f t saved of_users kept =
     (All-weaker (λ b. b.kept ≡ count_of b.id saved) (λ b. (f b).kept ≡ count_of (f b).id saved) (λ b h. same_count saved _ _ _ _ (of_users.keeping.id b) (of_users.kept b) h) t.live kept)
 
 -- undo values hold what they held
-AreSaved-used : (f : Buffer → Buffer) (s : AddressSpace) (saved : List Mapping) → IsOfUsers f → AreSaved s saved → AreSaved (record s { buffers = each f s.buffers }) saved
-AreSaved-used f s saved of_users are_saved = record {
-  placed = placed_used f s.area s.buffers saved of_users are_saved.placed;
-  kept = kept_used f s.buffers saved of_users are_saved.kept;
-  held = are_saved.held;
+AreKept-used : (f : Buffer → Buffer) (s : AddressSpace) (saved : List Mapping) → IsOfUsers f → AreKept s saved → AreKept (record s { buffers = each f s.buffers }) saved
+AreKept-used f s saved of_users are_kept = record {
+  placed = placed_used f s.area s.buffers saved of_users are_kept.placed;
+  kept = kept_used f s.buffers saved of_users are_kept.kept;
+  kept_count = are_kept.kept_count;
 }
 
-pub AreSaved-joined : (s : AddressSpace) (id : BufferId) (job : ℕ) (usage : Usage) (saved : List Mapping) → AreSaved s saved →
-    AreSaved (record s { buffers = changed id (joined_by job usage) s.buffers }) saved
-AreSaved-joined s id job usage saved are_saved = AreSaved-used (only id (joined_by job usage)) s saved (joined_of_users id job usage) are_saved
+pub AreKept-joined : (s : AddressSpace) (id : BufferId) (job : ℕ) (usage : Usage) (saved : List Mapping) → AreKept s saved →
+    AreKept (record s { buffers = changed id (joined_by job usage) s.buffers }) saved
+AreKept-joined s id job usage saved are_kept = AreKept-used (only id (joined_by job usage)) s saved (joined_of_users id job usage) are_kept
 
-pub AreSaved-left : (s : AddressSpace) (job : ℕ) (saved : List Mapping) → AreSaved s saved → AreSaved (record s { buffers = left_everywhere job s.buffers }) saved
-AreSaved-left s job saved are_saved = AreSaved-used (left_by job) s saved (left_of_users job) are_saved
+pub AreKept-left : (s : AddressSpace) (job : ℕ) (saved : List Mapping) → AreKept s saved → AreKept (record s { buffers = left_everywhere job s.buffers }) saved
+AreKept-left s job saved are_kept = AreKept-used (left_by job) s saved (left_of_users job) are_kept

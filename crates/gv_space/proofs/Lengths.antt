@@ -12,7 +12,7 @@ use Rattle.gv_ranges.specs.List.{IsLaidOut, IsLaidOutFrom, IsMeetingRun, run}
 use Rattle.gv_ranges.specs.Edit.{clipped, restored}
 use Rattle.gv_ranges.proofs.Changes.{restored_run_in_place}
 use Rattle.gv_ranges.proofs.Meeting.{filter_meets}
-use Rattle.gv_space.specs.Verdict.{count_met}
+use Rattle.gv_space.specs.Refusal.{count_met}
 use Rattle.gv_space.specs.Ready.{IsMeeting}
 use Rattle.gv_space.specs.declared.meeting.Meeting.{Meeting}
 

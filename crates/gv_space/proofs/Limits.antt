@@ -5,8 +5,8 @@ use Rattle.std.proofs.lemmas.Bool.{lt-ltb, le-ltb}
 use Rattle.gv_types.specs.Span.{Span}
 use Rattle.gv_types.specs.declared.fault.Fault.TheVariants.{TooManyMappings}
 use Rattle.gv_types.specs.declared.mapping.Mapping.{Mapping}
-use Rattle.gv_space.specs.State.{AddressSpace, most_held}
-use Rattle.gv_space.specs.Verdict.{count_met, limit_fault}
+use Rattle.gv_space.specs.State.{AddressSpace, most_kept}
+use Rattle.gv_space.specs.Refusal.{count_met, limit_fault}
 
 second_holds : (a : Bool) → (if a || true then Some TooManyMappings else None) ≡ Some TooManyMappings
 second_holds true = refl
@@ -16,8 +16,8 @@ module _ (s : AddressSpace) (range : Span) (ms : List Mapping) where
   pub too_long : s.limits.mappings < length ms → limit_fault s range ms ≡ Some TooManyMappings
   too_long more = rw (lt-ltb s.limits.mappings (length ms) more) refl
 
-  pub held_too_much : most_held < s.held + count_met s.mappings range → limit_fault s range ms ≡ Some TooManyMappings
-  held_too_much more = rw (lt-ltb most_held (s.held + count_met s.mappings range) more) (second_holds (nat_lt s.limits.mappings (length ms)))
+  pub held_too_much : most_kept < s.kept_count + count_met s.mappings range → limit_fault s range ms ≡ Some TooManyMappings
+  held_too_much more = rw (lt-ltb most_kept (s.kept_count + count_met s.mappings range) more) (second_holds (nat_lt s.limits.mappings (length ms)))
 
-  pub within_limits : length ms ≤ s.limits.mappings → s.held + count_met s.mappings range ≤ most_held → limit_fault s range ms ≡ None
-  within_limits few few_held = rw (le-ltb s.limits.mappings (length ms) few, le-ltb most_held (s.held + count_met s.mappings range) few_held) refl
+  pub within_limits : length ms ≤ s.limits.mappings → s.kept_count + count_met s.mappings range ≤ most_kept → limit_fault s range ms ≡ None
+  within_limits few few_kept = rw (le-ltb s.limits.mappings (length ms) few, le-ltb most_kept (s.kept_count + count_met s.mappings range) few_kept) refl

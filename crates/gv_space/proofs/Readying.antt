@@ -16,30 +16,30 @@ use Rattle.gv_table.specs.Reads.{AreAlikeOutside}
 use Rattle.gv_table.specs.Table.{IsTree, gained_by}
 use Rattle.gv_table.specs.declared.page_table.PageTable.{PageTable}
 use Rattle.gv_table.proofs.Edits.{replaced-alike, replaced-pieces}
-use Rattle.gv_space.specs.State.{AddressSpace, IsSpace, IsPlaced, most_held}
+use Rattle.gv_space.specs.State.{AddressSpace, IsSpace, IsPlaced, most_kept}
 use Rattle.gv_space.specs.Undo.{UndoValue, IsUndoOf}
 use Rattle.gv_space.specs.Change.{IsChanged}
 use Rattle.gv_space.specs.Ready.{IsMeeting, IsReady}
-use Rattle.gv_space.specs.Verdict.{count_met, limit_fault}
+use Rattle.gv_space.specs.Refusal.{count_met, limit_fault}
 use Rattle.gv_space.specs.declared.meeting.Meeting.{Meeting}
 use Rattle.gv_space.proofs.Lengths.{length-run, count_met-run}
 use Rattle.gv_space.proofs.Limits.{too_long, held_too_much}
-use Rattle.gv_space.proofs.Exchanges.{after_is}
+use Rattle.gv_space.proofs.Commits.{after_is}
 use Rattle.gv_space.proofs.Spaces.{IsSpace-room}
 use Rattle.gv_space.proofs.Placed.{placed_pieces}
 
 -- a change that meets no fault stays within the limits
 pub limits_kept : (s : AddressSpace) (range : Span) (ms : List Mapping) → limit_fault s range ms ≡ None →
-    (length ms ≤ s.limits.mappings) × (s.held + count_met s.mappings range ≤ most_held)
+    (length ms ≤ s.limits.mappings) × (s.kept_count + count_met s.mappings range ≤ most_kept)
 limits_kept s range ms none = (
   ⊎_elim
       (λ (more : s.limits.mappings < length ms). let wrong : Some TooManyMappings ≡ None = sym (too_long s range ms more) ∙ none in absurd cc)
       (λ (few : length ms ≤ s.limits.mappings). few)
       (cases_lt s.limits.mappings (length ms)),
   ⊎_elim
-      (λ (more : most_held < s.held + count_met s.mappings range). let wrong : Some TooManyMappings ≡ None = sym (held_too_much s range ms more) ∙ none in absurd cc)
-      (λ (few : s.held + count_met s.mappings range ≤ most_held). few)
-      (cases_lt most_held (s.held + count_met s.mappings range)),
+      (λ (more : most_kept < s.kept_count + count_met s.mappings range). let wrong : Some TooManyMappings ≡ None = sym (held_too_much s range ms more) ∙ none in absurd cc)
+      (λ (few : s.kept_count + count_met s.mappings range ≤ most_kept). few)
+      (cases_lt most_kept (s.kept_count + count_met s.mappings range)),
 )
 
 module _ (s : AddressSpace) (range : Span) (saved : List Mapping) (space : IsSpace s) (saved_laid : IsLaidOut saved) where
@@ -78,7 +78,7 @@ module _ (s : AddressSpace) (range : Span) (saved : List Mapping) (space : IsSpa
         room = omega (arith, ap (λ (l : List Mapping). length l) same, room, fits);
         old_room = omega (arith, ap (λ (l : List Mapping). length l) same, room);
         few = limits.0;
-        few_held = omega (arith, limits.1, long, met);
+        few_kept = omega (arith, limits.1, long, met);
         enough = λ table tree. enough (replaced s.mappings range inside) table (laid_out-replaced s.mappings range inside space.laid_out inside_sorted lie)
             (replaced-alike s.mappings inside range space.laid_out lie) (replaced-pieces s.mappings inside range space.laid_out inside_sorted lie) tree;
       } in
@@ -100,7 +100,7 @@ changed_before s list new within range place taken pieces spares u space same ro
       state = is'.state;
       room = omega (arith, room, is'.room);
       undo = subst (λ (ms : List Mapping). IsUndoOf ms new.mappings u) same is'.undo;
-      fits = is'.fits;
-      saved = λ others saved. is'.saved others (record { placed = saved.placed; kept = saved.kept; held = saved.held });
+      can_revert = is'.can_revert;
+      kept = λ others saved. is'.kept others (record { placed = saved.placed; kept = saved.kept; kept_count = saved.kept_count });
       back = is'.back ∙ ap (λ (ms : List Mapping). record s { mappings = ms; room = new.room }) same;
     }

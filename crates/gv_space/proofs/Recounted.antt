@@ -5,9 +5,9 @@ use Rattle.gv_types.specs.declared.mapping.Mapping.{Mapping}
 use Rattle.gv_ranges.specs.List.{run}
 use Rattle.gv_buffers.specs.Table.{Buffer, Table}
 use Rattle.gv_space.specs.Counts.{count_of, by_count, counted, more_used, less_used, more_kept, less_kept}
-use Rattle.gv_space.proofs.Counted.{count_of-append, count_of-splice}
-use Rattle.gv_space.proofs.Tables.{each-each, each-same, each-itself}
-use Rattle.gv_space.proofs.Keeping.{All-by_count}
+use Rattle.gv_space.proofs.CountLemmas.{count_of-append, count_of-splice}
+use Rattle.gv_space.proofs.TableLemmas.{each-each, each-same, each-itself}
+use Rattle.gv_space.proofs.ByCountLemmas.{All-by_count}
 
 -- `uses` counts a list
 abbrev pub UsesAre : List Mapping → Table → Type 0
@@ -59,14 +59,14 @@ recounted ms taken pieces place count t is used =
     ap (λ (n : ℕ). record b { uses = n }) total)
 
 -- the same where the run is kept in an undo value
-pub exchanged : (ms taken pieces : List Mapping) (place count : ℕ) (t : Table) → taken ≡ run ms place count → UsesAre ms t →
+pub moved_counts : (ms taken pieces : List Mapping) (place count : ℕ) (t : Table) → taken ≡ run ms place count → UsesAre ms t →
     by_count less_used taken (by_count more_used pieces (by_count more_kept taken t)) ≡ by_count counted (splice ms place (place + count) pieces) (by_count more_kept taken t)
-exchanged ms taken pieces place count t is used = recounted ms taken pieces place count (by_count more_kept taken t) is (uses-more_kept ms taken t used)
+moved_counts ms taken pieces place count t is used = recounted ms taken pieces place count (by_count more_kept taken t) is (uses-more_kept ms taken t used)
 
 -- and where a run comes back out of one
-pub exchanged_back : (ms pieces taken : List Mapping) (place put_in : ℕ) (t : Table) → pieces ≡ run ms place put_in → UsesAre ms t →
+pub moved_back : (ms pieces taken : List Mapping) (place put_in : ℕ) (t : Table) → pieces ≡ run ms place put_in → UsesAre ms t →
     by_count less_used pieces (by_count more_used taken (by_count less_kept taken t)) ≡ by_count counted (splice ms place (place + put_in) taken) (by_count less_kept taken t)
-exchanged_back ms pieces taken place put_in t is used = recounted ms pieces taken place put_in (by_count less_kept taken t) is (uses-less_kept ms taken t used)
+moved_back ms pieces taken place put_in t is used = recounted ms pieces taken place put_in (by_count less_kept taken t) is (uses-less_kept ms taken t used)
 
 -- there and back again
 pub there_and_back : (old new taken : List Mapping) (t : Table) → UsesAre old t →

@@ -21,7 +21,7 @@ use Rattle.gv_ranges.proofs.RenamingLemmas.{edited-renamed}
 use Rattle.gv_buffers.specs.Table.{Table, pages}
 use Rattle.gv_space.specs.Counts.{count_of}
 use Rattle.gv_space.specs.State.{AddressSpace}
-use Rattle.gv_space.specs.Verdict.{first_of, past_end, dead_fault, backing_fault, buffer_fault, operation_fault, count_met, limit_fault, apply_fault}
+use Rattle.gv_space.specs.Refusal.{first_of, past_end, dead_fault, backing_fault, buffer_fault, operation_fault, count_met, limit_fault, apply_fault}
 
 pub count_of-renamed : (ids : List BufferId) (id : BufferId) (ms : List Mapping) → IsOf ids id → AreOf ids ms →
     count_of (renamed id) (map renamed_mapping ms) ≡ count_of id ms
@@ -47,7 +47,7 @@ pub record IsRenamed (ids : List BufferId) (new s : AddressSpace) : Type 0 where
   pub area : new.area ≡ s.area
   pub limits : new.limits ≡ s.limits
   pub mappings : new.mappings ≡ map renamed_mapping s.mappings
-  pub held : new.held ≡ s.held
+  pub kept_count : new.kept_count ≡ s.kept_count
   pub sizes : TellsSizes ids new.buffers s.buffers
 
 -- the first fault of an operation
@@ -65,7 +65,7 @@ pub limit_fault-renamed : (ids : List BufferId) (new s : AddressSpace) (range : 
 limit_fault-renamed ids new s range ms is =
     let list : length (map renamed_mapping ms) ≡ length ms = length-renamed ms in
     let meeting : count_met new.mappings range ≡ count_met s.mappings range = ap (λ (xs : List Mapping). count_met xs range) is.mappings ∙ count_met-renamed s.mappings range in
-    rw (is.limits, is.held, list, meeting) refl
+    rw (is.limits, is.kept_count, list, meeting) refl
 
 -- why an operation is not applied
 pub apply_fault-renamed : (ids : List BufferId) (new s : AddressSpace) (op : Op) → IsRenamed ids new s → IsOperationOf ids (in_pages op) →

@@ -2,7 +2,8 @@
 use Rattle.std.proofs.Common.{◌≡◌, ℕ, ◌+◌, ◌-◌, ◌≤◌, List, length, arith, refl, sym, subst, ap, ◌∙◌}
 use Rattle.std.specs.List.{All, splice}
 use Rattle.gv_types.specs.declared.mapping.Mapping.{Mapping}
-use Rattle.gv_ranges.specs.List.{Ranges, run}
+use Rattle.gv_ranges.specs.List.{AreEnded, Ranges, run}
+use Rattle.gv_ranges.proofs.PlaceLemmas.{ended-unspliced}
 use Rattle.gv_ranges.specs.Edit.{replaced, undone}
 use Rattle.gv_ranges.proofs.Replaced.{replaced_run_in_place, undone-replaced}
 use Rattle.gv_table.specs.Reads.{AreAlikeOutside}
@@ -13,12 +14,12 @@ use Rattle.gv_buffers.specs.Table.{Table, most_counted}
 use Rattle.gv_space.specs.Counts.{count_of, by_count, counted, more_used, less_used, less_kept}
 use Rattle.gv_space.specs.Live.{IsLiveBacking}
 use Rattle.gv_space.specs.State.{AddressSpace, IsSpace, IsPlaced}
-use Rattle.gv_space.specs.Undo.{UndoValue, IsUndoOf, Fits, reverted}
-use Rattle.gv_space.proofs.Keeping.{live_from_placed}
+use Rattle.gv_space.specs.Undo.{UndoValue, IsUndoOf, CanRevert, reverted}
+use Rattle.gv_space.proofs.ByCountLemmas.{live_from_placed}
 use Rattle.gv_space.proofs.Lengths.{length-splice}
-use Rattle.gv_space.proofs.Recounted.{exchanged_back}
-use Rattle.gv_space.proofs.Rooms.{room_to_count, run_is_counted, saved_are_kept, length-taken-le-held}
-use Rattle.gv_space.proofs.Saved.{All-front, All-splice, All-taken}
+use Rattle.gv_space.proofs.Recounted.{moved_back}
+use Rattle.gv_space.proofs.Rooms.{room_to_count, run_is_counted, saved_are_kept, length-taken-le-most_kept}
+use Rattle.gv_space.proofs.KeptLemmas.{All-front, All-splice, All-taken}
 use Rattle.gv_space.proofs.Spaces.{IsSpace-reverted}
 
 -- to undo a change gives the list before it
@@ -27,7 +28,7 @@ undone_is before now u is =
     let old = undone-replaced before u.range is.pieces u.change.place (length u.change.taken) is.laid_out is.met in
     rw (is.made, is.put_in) (rw (← is.taken) at old)
 
-module _ (s : AddressSpace) (u : UndoValue) (space : IsSpace s) (fits : Fits s u) where
+module _ (s : AddressSpace) (u : UndoValue) (space : IsSpace s) (fits : CanRevert s u) where
   -- the list before the change
   abbrev pub old : List Mapping
   old = undone s.mappings u.change
@@ -40,6 +41,12 @@ module _ (s : AddressSpace) (u : UndoValue) (space : IsSpace s) (fits : Fits s u
   made_in_place =
       fits.undo.made ∙
       rw (← fits.undo.taken) at (replaced_run_in_place old u.range fits.undo.pieces u.change.place (length u.change.taken) fits.undo.laid_out fits.undo.met)
+
+  pub ended : AreEnded s.mappings u.range.first u.change.place
+  ended =
+      let inside = fits.undo.met.within in
+      ended-unspliced old s.mappings (replaced u.change.taken u.range fits.undo.pieces) u.range.first u.change.place (u.change.place + length u.change.taken)
+      (omega (arith, inside)) made_in_place fits.undo.met.before
 
   pub within : u.change.place + u.change.put_in ≤ length s.mappings
   within =
@@ -59,7 +66,7 @@ module _ (s : AddressSpace) (u : UndoValue) (space : IsSpace s) (fits : Fits s u
   tables_are_enough table tree = omega (arith, fits.undo.tables table tree)
 
   taken_placed : All (IsPlaced s.area s.buffers) u.change.taken
-  taken_placed = All-front (IsPlaced s.area s.buffers) u.change.taken fits.holds.others fits.holds.are_saved.placed
+  taken_placed = All-front (IsPlaced s.area s.buffers) u.change.taken fits.kept.others fits.kept.are_kept.placed
 
   pub taken_live : All (λ m. IsLiveBacking s.buffers m.backing) u.change.taken
   taken_live = live_from_placed s.area s.buffers u.change.taken taken_placed
@@ -68,24 +75,24 @@ module _ (s : AddressSpace) (u : UndoValue) (space : IsSpace s) (fits : Fits s u
   gone_live = live_from_placed s.area s.buffers gone (All-taken (IsPlaced s.area s.buffers) s.mappings gone u.change.place u.change.put_in refl space.placed)
 
   pub taken_kept : All (λ b. count_of b.id u.change.taken ≤ b.kept) s.buffers.live
-  taken_kept = saved_are_kept s u.change.taken fits.holds.others fits.holds.are_saved
+  taken_kept = saved_are_kept s u.change.taken fits.kept.others fits.kept.are_kept
 
   pub room_for_taken : All (λ b. b.uses + count_of b.id u.change.taken ≤ most_counted) s.buffers.live
-  room_for_taken = room_to_count s u.change.taken space (length-taken-le-held s u.change.taken fits.holds.others space fits.holds.are_saved)
+  room_for_taken = room_to_count s u.change.taken space (length-taken-le-most_kept s u.change.taken fits.kept.others space fits.kept.are_kept)
 
   pub gone_counted : All (λ b. count_of b.id gone ≤ b.uses) s.buffers.live
   gone_counted = run_is_counted s gone u.change.place u.change.put_in space refl
 
   pub state_before : (list : Ranges) (buffers : Table) (count : ℕ) → list.mappings ≡ old → list.room ≡ s.room →
       buffers ≡ by_count less_used gone (by_count more_used u.change.taken (by_count less_kept u.change.taken s.buffers)) → count ≡ length u.change.taken →
-      record s { mappings = list.mappings; room = list.room; buffers = buffers; held = s.held - count } ≡ reverted s u
+      record s { mappings = list.mappings; room = list.room; buffers = buffers; kept_count = s.kept_count - count } ≡ reverted s u
   state_before list buffers count list_is room_is buffers_is count_is =
       let tables : buffers ≡ by_count counted old (by_count less_kept u.change.taken s.buffers) =
-      buffers_is ∙ exchanged_back s.mappings gone u.change.taken u.change.place u.change.put_in s.buffers refl space.used in
+      buffers_is ∙ moved_back s.mappings gone u.change.taken u.change.place u.change.put_in s.buffers refl space.used in
       rw (list_is, room_is, tables, count_is) refl
 
   pub space_before : IsSpace (reverted s u)
   space_before =
-      IsSpace-reverted s u fits.holds.others space fits.undo.laid_out fits.few
+      IsSpace-reverted s u fits.kept.others space fits.undo.laid_out fits.few
       (All-splice (IsPlaced s.area s.buffers) s.mappings u.change.taken u.change.place (u.change.place + u.change.put_in) space.placed taken_placed)
-      fits.holds.are_saved
+      fits.kept.are_kept

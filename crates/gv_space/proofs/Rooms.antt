@@ -6,8 +6,8 @@ use Rattle.gv_types.specs.declared.mapping.Mapping.{Mapping}
 use Rattle.gv_ranges.specs.List.{run}
 use Rattle.gv_buffers.specs.Table.{most_counted}
 use Rattle.gv_space.specs.Counts.{count_of}
-use Rattle.gv_space.specs.State.{AddressSpace, IsSpace, AreSaved, most_held}
-use Rattle.gv_space.proofs.Counted.{count_of-append, count_of-le-length, count_of-run-le}
+use Rattle.gv_space.specs.State.{AddressSpace, IsSpace, AreKept, most_kept}
+use Rattle.gv_space.proofs.CountLemmas.{count_of-append, count_of-le-length, count_of-run-le}
 
 length-run-le : (ms : List Mapping) (place count : ℕ) → length (run ms place count) ≤ length ms
 length-run-le ms place count =
@@ -20,25 +20,25 @@ length-mappings : (s : AddressSpace) → IsSpace s → length s.mappings ≤ 104
 length-mappings s space = omega (arith, space.few, space.limits.1)
 
 -- and so is a run of it
-pub length-run-le-held : (s : AddressSpace) (taken : List Mapping) (place count : ℕ) → IsSpace s → taken ≡ run s.mappings place count → length taken ≤ most_held
-length-run-le-held s taken place count space is =
+pub length-run-le-most_kept : (s : AddressSpace) (taken : List Mapping) (place count : ℕ) → IsSpace s → taken ≡ run s.mappings place count → length taken ≤ most_kept
+length-run-le-most_kept s taken place count space is =
     let same : length taken ≡ length (run s.mappings place count) = ap (λ (xs : List Mapping). length xs) is in
     omega (arith, same, length-run-le s.mappings place count, length-mappings s space)
 
 -- and so is what one of the undo values holds
-pub length-taken-le-held : (s : AddressSpace) (taken others : List Mapping) → IsSpace s → AreSaved s (taken ++ others) → length taken ≤ most_held
-length-taken-le-held s taken others space are_saved = omega (arith, are_saved.held, space.few_held, length-append taken others)
+pub length-taken-le-most_kept : (s : AddressSpace) (taken others : List Mapping) → IsSpace s → AreKept s (taken ++ others) → length taken ≤ most_kept
+length-taken-le-most_kept s taken others space are_kept = omega (arith, are_kept.kept_count, space.few_kept, length-append taken others)
 
 -- there is room for so many more mappings in undo values
-pub room_to_keep : (s : AddressSpace) (taken : List Mapping) → IsSpace s → length taken ≤ most_held →
+pub room_to_keep : (s : AddressSpace) (taken : List Mapping) → IsSpace s → length taken ≤ most_kept →
     All (λ b. b.kept + count_of b.id taken ≤ most_counted) s.buffers.live
 room_to_keep s taken space few k d within =
     let id : BufferId = (slice_index_or s.buffers.live k d).id in
-    let kept = space.are_saved.kept k d within in
-    omega (arith, kept, space.are_saved.held, space.few_held, count_of-le-length id taken, count_of-le-length id space.saved, few)
+    let kept = space.are_kept.kept k d within in
+    omega (arith, kept, space.are_kept.kept_count, space.few_kept, count_of-le-length id taken, count_of-le-length id space.all_kept, few)
 
 -- and in the list
-pub room_to_count : (s : AddressSpace) (pieces : List Mapping) → IsSpace s → length pieces ≤ most_held →
+pub room_to_count : (s : AddressSpace) (pieces : List Mapping) → IsSpace s → length pieces ≤ most_kept →
     All (λ b. b.uses + count_of b.id pieces ≤ most_counted) s.buffers.live
 room_to_count s pieces space few k d within =
     let id : BufferId = (slice_index_or s.buffers.live k d).id in
@@ -55,9 +55,9 @@ run_is_counted s taken place count space is k d within =
     omega (arith, used, same, count_of-run-le id s.mappings place count)
 
 -- and saved mappings in undo values
-pub saved_are_kept : (s : AddressSpace) (taken others : List Mapping) → AreSaved s (taken ++ others) →
+pub saved_are_kept : (s : AddressSpace) (taken others : List Mapping) → AreKept s (taken ++ others) →
     All (λ b. count_of b.id taken ≤ b.kept) s.buffers.live
-saved_are_kept s taken others are_saved k d within =
+saved_are_kept s taken others are_kept k d within =
     let id : BufferId = (slice_index_or s.buffers.live k d).id in
-    let kept = are_saved.kept k d within in
+    let kept = are_kept.kept k d within in
     omega (arith, kept, count_of-append id taken others)

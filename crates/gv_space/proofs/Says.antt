@@ -11,12 +11,12 @@ use Rattle.gv_ranges.specs.Edit.{clipped, replaced, edited, restored}
 use Rattle.gv_ranges.proofs.Clip.{clip_whole}
 use Rattle.gv_ranges.proofs.Changes.{at-edited}
 use Rattle.gv_space.specs.State.{AddressSpace}
-use Rattle.gv_space.specs.Undo.{UndoValue, IsUndoOf, HoldsWhatWas}
+use Rattle.gv_space.specs.Undo.{UndoValue, IsUndoOf, TookWhatWas}
 use Rattle.gv_ranges.proofs.MeetingLemmas.{at_run}
 use Rattle.gv_space.specs.Change.{IsChanged}
 
 -- what an undo value holds says what the list before the change said of its range
-pub holds_what_was : (old new : List Mapping) (u : UndoValue) → IsUndoOf old new u → HoldsWhatWas old u
+pub holds_what_was : (old new : List Mapping) (u : UndoValue) → IsUndoOf old new u → TookWhatWas old u
 holds_what_was old new u is page covered =
     ap (λ (ms : List Mapping). at ms page) is.taken ∙ at_run old u.range u.change.place (length u.change.taken) page is.met covered
 

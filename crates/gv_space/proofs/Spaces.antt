@@ -11,13 +11,13 @@ use Rattle.gv_ranges.specs.Edit.{undone}
 use Rattle.gv_buffers.specs.declared.usage.Usage.{Usage}
 use Rattle.gv_buffers.specs.Table.{Table, changed, joined_by, left_by, left_everywhere, only, without, destroy_fault, no_buffers, IsBuffer, IsCreated, IsTable}
 use Rattle.gv_space.specs.Counts.{count_of, by_count, more_kept, less_kept}
-use Rattle.gv_space.specs.State.{AddressSpace, IsPlaced, IsSpace, AreSaved, most_held, new_space}
+use Rattle.gv_space.specs.State.{AddressSpace, IsPlaced, IsSpace, AreKept, most_kept, new_space}
 use Rattle.gv_space.specs.Undo.{UndoValue, released, reverted}
 use Rattle.gv_space.specs.Change.{changed_to}
 use Rattle.gv_space.proofs.Recounted.{UsesAre, uses-counted, uses-less_kept}
-use Rattle.gv_space.proofs.Saved.{AreSaved-changed, AreSaved-released, AreSaved-reverted, changed_is_table, reverted_is_table, released_is_table, placed_changed, placed_reverted, placed_released}
-use Rattle.gv_space.proofs.Lives.{placed_made, uses_made, AreSaved-made, count_of_destroyed, placed_destroyed, uses_destroyed, AreSaved-destroyed, IsTable-without}
-use Rattle.gv_space.proofs.Jobs.{joined_of_users, left_of_users, placed_used, uses_used, AreSaved-joined, AreSaved-left}
+use Rattle.gv_space.proofs.KeptLemmas.{AreKept-changed, AreKept-released, AreKept-reverted, changed_is_table, reverted_is_table, released_is_table, placed_changed, placed_reverted, placed_released}
+use Rattle.gv_space.proofs.LivesLemmas.{placed_made, uses_made, AreKept-made, count_of_destroyed, placed_destroyed, uses_destroyed, AreKept-destroyed, IsTable-without}
+use Rattle.gv_space.proofs.Jobs.{joined_of_users, left_of_users, placed_used, uses_used, AreKept-joined, AreKept-left}
 
 -- no buffers make a table
 IsTable-no_buffers : (limit : ℕ) → IsFromOneTo greatest.buffers limit → IsTable (no_buffers limit)
@@ -33,9 +33,9 @@ IsSpace-new area limits within = record {
   placed = All-nil (IsPlaced area (no_buffers limits.buffers));
   buffers = IsTable-no_buffers limits.buffers within.0;
   used = All-nil (λ b. b.uses ≡ 0);
-  saved = [];
-  are_saved = record { placed = All-nil (IsPlaced area (no_buffers limits.buffers)); kept = All-nil (λ b. b.kept ≡ 0); held = refl };
-  few_held = omega arith;
+  all_kept = [];
+  are_kept = record { placed = All-nil (IsPlaced area (no_buffers limits.buffers)); kept = All-nil (λ b. b.kept ≡ 0); kept_count = refl };
+  few_kept = omega arith;
 }
 
 -- room says nothing of what always holds
@@ -47,59 +47,59 @@ IsSpace-room s room space = record {
   placed = space.placed;
   buffers = space.buffers;
   used = space.used;
-  saved = space.saved;
-  are_saved = record { placed = space.are_saved.placed; kept = space.are_saved.kept; held = space.are_saved.held };
-  few_held = space.few_held;
+  all_kept = space.all_kept;
+  are_kept = record { placed = space.are_kept.placed; kept = space.are_kept.kept; kept_count = space.are_kept.kept_count };
+  few_kept = space.few_kept;
 }
 
 -- a space with another list, whose mappings are counted and kept
 pub IsSpace-changed : (s : AddressSpace) (ms taken : List Mapping) → IsSpace s → IsLaidOut ms → length ms ≤ s.limits.mappings →
-    All (IsPlaced s.area s.buffers) ms → All (IsPlaced s.area s.buffers) taken → s.held + length taken ≤ most_held → IsSpace (changed_to ms taken s)
-IsSpace-changed s ms taken space laid_out few placed taken_placed few_held = record {
+    All (IsPlaced s.area s.buffers) ms → All (IsPlaced s.area s.buffers) taken → s.kept_count + length taken ≤ most_kept → IsSpace (changed_to ms taken s)
+IsSpace-changed s ms taken space laid_out few placed taken_placed few_kept = record {
   limits = space.limits;
   laid_out = laid_out;
   few = few;
   placed = placed_changed ms taken s.area s.buffers ms placed;
   buffers = changed_is_table ms taken s.buffers space.buffers;
   used = uses-counted ms (by_count more_kept taken s.buffers);
-  saved = taken ++ space.saved;
-  are_saved = AreSaved-changed s ms taken space.saved taken_placed space.are_saved;
-  few_held = few_held;
+  all_kept = taken ++ space.all_kept;
+  are_kept = AreKept-changed s ms taken space.all_kept taken_placed space.are_kept;
+  few_kept = few_kept;
 }
 
 -- a change undone
 pub IsSpace-reverted : (s : AddressSpace) (u : UndoValue) (others : List Mapping) → IsSpace s → IsLaidOut (undone s.mappings u.change) →
-    length (undone s.mappings u.change) ≤ s.limits.mappings → All (IsPlaced s.area s.buffers) (undone s.mappings u.change) → AreSaved s (u.change.taken ++ others) →
+    length (undone s.mappings u.change) ≤ s.limits.mappings → All (IsPlaced s.area s.buffers) (undone s.mappings u.change) → AreKept s (u.change.taken ++ others) →
     IsSpace (reverted s u)
-IsSpace-reverted s u others space laid_out few placed are_saved = record {
+IsSpace-reverted s u others space laid_out few placed are_kept = record {
   limits = space.limits;
   laid_out = laid_out;
   few = few;
   placed = placed_reverted (undone s.mappings u.change) u.change.taken s.area s.buffers (undone s.mappings u.change) placed;
   buffers = reverted_is_table (undone s.mappings u.change) u.change.taken s.buffers space.buffers;
   used = uses-counted (undone s.mappings u.change) (by_count less_kept u.change.taken s.buffers);
-  saved = others;
-  are_saved = AreSaved-reverted s u others are_saved;
-  few_held = omega (arith, space.few_held);
+  all_kept = others;
+  are_kept = AreKept-reverted s u others are_kept;
+  few_kept = omega (arith, space.few_kept);
 }
 
 -- an undo value's mappings given up
-pub IsSpace-released : (s : AddressSpace) (taken others : List Mapping) → IsSpace s → AreSaved s (taken ++ others) → IsSpace (released s taken)
-IsSpace-released s taken others space are_saved = record {
+pub IsSpace-released : (s : AddressSpace) (taken others : List Mapping) → IsSpace s → AreKept s (taken ++ others) → IsSpace (released s taken)
+IsSpace-released s taken others space are_kept = record {
   limits = space.limits;
   laid_out = space.laid_out;
   few = space.few;
   placed = placed_released taken s.area s.buffers s.mappings space.placed;
   buffers = released_is_table taken s.buffers space.buffers;
   used = uses-less_kept s.mappings taken s.buffers space.used;
-  saved = others;
-  are_saved = AreSaved-released s taken others are_saved;
-  few_held = omega (arith, space.few_held);
+  all_kept = others;
+  are_kept = AreKept-released s taken others are_kept;
+  few_kept = omega (arith, space.few_kept);
 }
 
 -- other buffers
 IsSpace-with_buffers : (s : AddressSpace) (new : Table) → IsSpace s → IsTable new → All (IsPlaced s.area new) s.mappings → UsesAre s.mappings new →
-    ((saved : List Mapping) → AreSaved s saved → AreSaved (record s { buffers = new }) saved) → IsSpace (record s { buffers = new })
+    ((saved : List Mapping) → AreKept s saved → AreKept (record s { buffers = new }) saved) → IsSpace (record s { buffers = new })
 IsSpace-with_buffers s new space table placed used saves = record {
   limits = space.limits;
   laid_out = space.laid_out;
@@ -107,16 +107,16 @@ IsSpace-with_buffers s new space table placed used saves = record {
   placed = placed;
   buffers = table;
   used = used;
-  saved = space.saved;
-  are_saved = saves space.saved space.are_saved;
-  few_held = space.few_held;
+  all_kept = space.all_kept;
+  are_kept = saves space.all_kept space.are_kept;
+  few_kept = space.few_kept;
 }
 
 -- a buffer made
 pub IsSpace-made : (s : AddressSpace) (new : Table) (id : BufferId) (size : ℕ) → IsCreated s.buffers new id size → IsTable new → IsSpace s → IsSpace (record s { buffers = new })
 IsSpace-made s new id size made table space =
     IsSpace-with_buffers s new space table (placed_made s.area s.buffers new id size s.mappings made space.placed)
-    (uses_made s.area s.buffers new id size s.mappings made space.placed space.used) (λ saved are_saved. AreSaved-made s new id size saved made are_saved)
+    (uses_made s.area s.buffers new id size s.mappings made space.placed space.used) (λ saved are_kept. AreKept-made s new id size saved made are_kept)
 
 -- a buffer destroyed
 pub IsSpace-destroyed : (s : AddressSpace) (id : BufferId) → destroy_fault s.buffers id ≡ None → IsSpace s → IsSpace (record s { buffers = without id s.buffers })
@@ -124,7 +124,7 @@ IsSpace-destroyed s id none space =
     let unnamed : count_of id s.mappings ≡ 0 = count_of_destroyed s.buffers id s.mappings none space.used in
     IsSpace-with_buffers s (without id s.buffers) space (IsTable-without s.buffers id space.buffers)
     (placed_destroyed s.area s.buffers id s.mappings unnamed space.placed) (uses_destroyed s.buffers id s.mappings space.used)
-    (λ saved are_saved. AreSaved-destroyed s id saved none are_saved)
+    (λ saved are_kept. AreKept-destroyed s id saved none are_kept)
 
 -- a job that joined a buffer
 pub IsSpace-joined : (s : AddressSpace) (id : BufferId) (job : ℕ) (usage : Usage) → IsTable (changed id (joined_by job usage) s.buffers) → IsSpace s →
@@ -133,10 +133,10 @@ IsSpace-joined s id job usage table space =
     IsSpace-with_buffers s (changed id (joined_by job usage) s.buffers) space table
     (placed_used (only id (joined_by job usage)) s.area s.buffers s.mappings (joined_of_users id job usage) space.placed)
     (uses_used (only id (joined_by job usage)) s.buffers s.mappings (joined_of_users id job usage) space.used)
-    (λ saved are_saved. AreSaved-joined s id job usage saved are_saved)
+    (λ saved are_kept. AreKept-joined s id job usage saved are_kept)
 
 -- a job that left every buffer
 pub IsSpace-left : (s : AddressSpace) (job : ℕ) → IsTable (left_everywhere job s.buffers) → IsSpace s → IsSpace (record s { buffers = left_everywhere job s.buffers })
 IsSpace-left s job table space =
     IsSpace-with_buffers s (left_everywhere job s.buffers) space table (placed_used (left_by job) s.area s.buffers s.mappings (left_of_users job) space.placed)
-    (uses_used (left_by job) s.buffers s.mappings (left_of_users job) space.used) (λ saved are_saved. AreSaved-left s job saved are_saved)
+    (uses_used (left_by job) s.buffers s.mappings (left_of_users job) space.used) (λ saved are_kept. AreKept-left s job saved are_kept)

@@ -2,32 +2,32 @@
 use Rattle.std.proofs.Common.{◌≡◌, ℕ, ◌≤◌, List, ◌++◌, Result, Ok, Err, IfOk, arith, sym, subst, ◌∙◌, ap}
 use Rattle.gv_types.specs.declared.fault.Fault.{Fault}
 use Rattle.gv_types.specs.declared.mapping.Mapping.{Mapping}
-use Rattle.gv_space.specs.State.{AddressSpace, AreSaved, IsUnchanged}
-use Rattle.gv_space.specs.Undo.{UndoValue, Fits, Holds, reverted}
+use Rattle.gv_space.specs.State.{AddressSpace, AreKept, IsUnchanged}
+use Rattle.gv_space.specs.Undo.{UndoValue, CanRevert, AreAmongKept, reverted}
 use Rattle.gv_space.specs.Change.{IsChanged}
 
 -- saved mappings
-pub AreSaved-unchanged : (old new : AddressSpace) (ms : List Mapping) → IsUnchanged old new → AreSaved old ms → AreSaved new ms
-AreSaved-unchanged old new ms unchanged are_saved =
-    subst (λ (s : AddressSpace). AreSaved s ms) (sym unchanged.state)
-    (record { placed = are_saved.placed; kept = are_saved.kept; held = are_saved.held })
+pub AreKept-unchanged : (old new : AddressSpace) (ms : List Mapping) → IsUnchanged old new → AreKept old ms → AreKept new ms
+AreKept-unchanged old new ms unchanged are_kept =
+    subst (λ (s : AddressSpace). AreKept s ms) (sym unchanged.state)
+    (record { placed = are_kept.placed; kept = are_kept.kept; kept_count = are_kept.kept_count })
 
 -- those of an undo value
-pub Holds-unchanged : (old new : AddressSpace) (ms : List Mapping) → IsUnchanged old new → Holds old ms → Holds new ms
-Holds-unchanged old new ms unchanged holds =
-    record { others = holds.others; are_saved = AreSaved-unchanged old new (ms ++ holds.others) unchanged holds.are_saved }
+pub AreAmongKept-unchanged : (old new : AddressSpace) (ms : List Mapping) → IsUnchanged old new → AreAmongKept old ms → AreAmongKept new ms
+AreAmongKept-unchanged old new ms unchanged holds =
+    record { others = holds.others; are_kept = AreKept-unchanged old new (ms ++ holds.others) unchanged holds.are_kept }
 
 -- an undo value that fits
-pub Fits-unchanged : (old new : AddressSpace) (u : UndoValue) → IsUnchanged old new → Fits old u → Fits new u
-Fits-unchanged old new u unchanged fits =
-    subst (λ (s : AddressSpace). Fits s u) (sym unchanged.state)
+pub CanRevert-unchanged : (old new : AddressSpace) (u : UndoValue) → IsUnchanged old new → CanRevert old u → CanRevert new u
+CanRevert-unchanged old new u unchanged fits =
+    subst (λ (s : AddressSpace). CanRevert s u) (sym unchanged.state)
     (record {
       undo = fits.undo;
       few = fits.few;
       room = omega (arith, fits.room, unchanged.room);
-      holds = record {
-        others = fits.holds.others;
-        are_saved = record { placed = fits.holds.are_saved.placed; kept = fits.holds.are_saved.kept; held = fits.holds.are_saved.held };
+      kept = record {
+        others = fits.kept.others;
+        are_kept = record { placed = fits.kept.are_kept.placed; kept = fits.kept.are_kept.kept; kept_count = fits.kept.are_kept.kept_count };
       };
     })
 
@@ -38,9 +38,9 @@ changed_with_room old new room ms u more changed = record {
   state = changed.state;
   room = omega (arith, more, changed.room);
   undo = changed.undo;
-  fits = changed.fits;
-  saved = λ others are_saved.
-      changed.saved others (record { placed = are_saved.placed; kept = are_saved.kept; held = are_saved.held });
+  can_revert = changed.can_revert;
+  kept = λ others are_kept.
+      changed.kept others (record { placed = are_kept.placed; kept = are_kept.kept; kept_count = are_kept.kept_count });
   back = changed.back;
 }
 

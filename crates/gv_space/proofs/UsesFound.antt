@@ -6,8 +6,8 @@ use Rattle.gv_types.specs.declared.mapping.Mapping.{Mapping}
 use Rattle.gv_buffers.specs.Table.{Buffer, Table, uses, IsLive}
 use Rattle.gv_buffers.proofs.FoundLemmas.{counted_lives}
 use Rattle.gv_space.specs.Counts.{count_of}
-use Rattle.gv_space.proofs.Counted.{same_from_is_same_id}
-use Rattle.gv_space.proofs.Tables.{found_live}
+use Rattle.gv_space.proofs.CountLemmas.{same_from_is_same_id}
+use Rattle.gv_space.proofs.TableLemmas.{found_live}
 use Rattle.gv_space.proofs.Recounted.{UsesAre}
 
 -- it is how many mappings of the list are of the buffer

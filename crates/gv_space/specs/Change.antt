@@ -2,8 +2,8 @@
 use Rattle.std.specs.Prelude.{◌≡◌, ◌+◌, ◌≤◌, ◌++◌, List, length}
 use Rattle.gv_types.specs.declared.mapping.Mapping.{Mapping}
 use Rattle.gv_space.specs.Counts.{by_count, counted, more_kept}
-use Rattle.gv_space.specs.State.{AddressSpace, AreSaved}
-use Rattle.gv_space.specs.Undo.{UndoValue, IsUndoOf, Fits, reverted}
+use Rattle.gv_space.specs.State.{AddressSpace, AreKept}
+use Rattle.gv_space.specs.Undo.{UndoValue, IsUndoOf, CanRevert, reverted}
 
 -- the space with another list, counted anew, and the mappings that were taken out kept in an undo value
 abbrev pub changed_to : List Mapping → List Mapping → AddressSpace → AddressSpace
@@ -11,7 +11,7 @@ changed_to ms taken s =
     record s {
       mappings = ms;
       buffers = by_count counted ms (by_count more_kept taken s.buffers);
-      held = s.held + length taken;
+      kept_count = s.kept_count + length taken;
     }
 
 -- The list became this one, no room was given up, and the undo value fits: it holds what the change took out, and undoing
@@ -20,6 +20,6 @@ pub record IsChanged (old new : AddressSpace) (ms : List Mapping) (u : UndoValue
   pub state : new ≡ record (changed_to ms u.change.taken old) { room = new.room }
   pub room : old.room ≤ new.room
   pub undo : IsUndoOf old.mappings new.mappings u
-  pub fits : Fits new u
-  pub saved : (others : List Mapping) → AreSaved old others → AreSaved new (u.change.taken ++ others)
+  pub can_revert : CanRevert new u
+  pub kept : (others : List Mapping) → AreKept old others → AreKept new (u.change.taken ++ others)
   pub back : reverted new u ≡ record old { room = new.room }

@@ -10,7 +10,7 @@ space_of s =
       mappings = s.painted.mappings;
       room = s.painted.room;
       buffers = s.buffers;
-      held = s.held;
+      kept_count = s.kept_count;
     }
 
 abbrev pub IsSound : Inside → Type 0

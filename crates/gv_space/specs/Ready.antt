@@ -9,7 +9,7 @@ use Rattle.gv_ranges.specs.List.{IsLaidOut, IsMeetingRun, run}
 use Rattle.gv_ranges.specs.Edit.{LieIn, clipped, replaced}
 use Rattle.gv_table.specs.declared.page_table.PageTable.{PageTable}
 use Rattle.gv_table.specs.Table.{IsTree, gained_by}
-use Rattle.gv_space.specs.State.{AddressSpace, IsPlaced, most_held}
+use Rattle.gv_space.specs.State.{AddressSpace, IsPlaced, most_kept}
 use Rattle.gv_space.specs.declared.meeting.Meeting.{Meeting}
 
 -- the run of a list that meets a range, and the rests of it on both sides
@@ -30,5 +30,5 @@ pub record IsReady (inside : List Mapping) (s : AddressSpace) (range : Span) (pl
   pub room : length s.mappings + length pieces ≤ s.room + length taken
   pub old_room : length s.mappings ≤ s.room
   pub few : length (replaced s.mappings range inside) ≤ s.limits.mappings
-  pub few_held : s.held + length taken ≤ most_held
+  pub few_kept : s.kept_count + length taken ≤ most_kept
   pub enough : (table : PageTable) → IsTree s.mappings table → gained_by (replaced s.mappings range inside) table ≤ spares

@@ -19,11 +19,11 @@ pub record AddressSpace : Type 0 where
   pub mappings : List Mapping
   pub room : ℕ
   pub buffers : Table
-  pub held : ℕ
+  pub kept_count : ℕ
 
 -- undo values hold no more mappings than this
-abbrev pub most_held : ℕ
-most_held = 2 ^ 62
+abbrev pub most_kept : ℕ
+most_kept = 2 ^ 62
 
 -- pages that stand behind a mapping are pages of a live buffer
 abbrev pub LieInside : Table → Backing → ℕ → Type 0
@@ -36,11 +36,11 @@ pub record IsPlaced (a : Area) (t : Table) (m : Mapping) : Type 0 where
   pub off_region : meets_region a.reserved m.range ≡ false
   pub inside : LieInside t m.backing m.range.count
 
--- the mappings that undo values hold: each is placed, `kept` counts them by buffer, and `held` all of them
-pub record AreSaved (s : AddressSpace) (saved : List Mapping) : Type 0 where
-  pub placed : All (IsPlaced s.area s.buffers) saved
-  pub kept : All (λ b. b.kept ≡ count_of b.id saved) s.buffers.live
-  pub held : s.held ≡ length saved
+-- all mappings kept in undo values: each is placed, `kept` counts them by buffer, and `kept_count` all of them
+pub record AreKept (s : AddressSpace) (ms : List Mapping) : Type 0 where
+  pub placed : All (IsPlaced s.area s.buffers) ms
+  pub kept : All (λ b. b.kept ≡ count_of b.id ms) s.buffers.live
+  pub kept_count : s.kept_count ≡ length ms
 
 -- what always holds of an address space: `uses` counts its list, and `kept` some mappings that undo values hold
 pub record IsSpace (s : AddressSpace) : Type 0 where
@@ -50,14 +50,14 @@ pub record IsSpace (s : AddressSpace) : Type 0 where
   pub placed : All (IsPlaced s.area s.buffers) s.mappings
   pub buffers : IsTable s.buffers
   pub used : All (λ b. b.uses ≡ count_of b.id s.mappings) s.buffers.live
-  pub saved : List Mapping
-  pub are_saved : AreSaved s saved
-  pub few_held : s.held ≤ most_held
+  pub all_kept : List Mapping
+  pub are_kept : AreKept s all_kept
+  pub few_kept : s.kept_count ≤ most_kept
 
 -- an address space of no mapping and no buffer
 abbrev pub new_space : Area → Caps → AddressSpace
 new_space area limits =
-    record { area = area; limits = limits; mappings = []; room = 0; buffers = no_buffers limits.buffers; held = 0 }
+    record { area = area; limits = limits; mappings = []; room = 0; buffers = no_buffers limits.buffers; kept_count = 0 }
 
 -- the same, and no less room
 pub record IsUnchanged (old new : AddressSpace) : Type 0 where

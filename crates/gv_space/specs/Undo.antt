@@ -7,7 +7,7 @@ use Rattle.gv_ranges.specs.Edit.{Undo, LieIn, replaced, undone}
 use Rattle.gv_table.specs.declared.page_table.PageTable.{PageTable}
 use Rattle.gv_table.specs.Table.{IsTree, gained_by}
 use Rattle.gv_space.specs.Counts.{by_count, counted, less_kept}
-use Rattle.gv_space.specs.State.{AddressSpace, AreSaved}
+use Rattle.gv_space.specs.State.{AddressSpace, AreKept}
 
 -- what contracts see of an `OpUndo`: the change of the list, the range that it was made in, and how many tables that
 -- left the tree it owns
@@ -30,25 +30,25 @@ pub record IsUndoOf (old new : List Mapping) (u : UndoValue) : Type 0 where
   pub put_in : u.change.put_in ≡ length (replaced u.change.taken u.range pieces)
   pub tables : (table : PageTable) → IsTree new table → gained_by old table ≡ u.tables
 
--- what an undo value holds says of each page of its range what the list before the change said
-abbrev pub HoldsWhatWas : List Mapping → UndoValue → Type 0
-HoldsWhatWas before u = (page : ℕ) → IsTrue (covers u.range page) → at u.change.taken page ≡ at before page
+-- what was taken says of each page of the range what the list before the change said
+abbrev pub TookWhatWas : List Mapping → UndoValue → Type 0
+TookWhatWas before u = (page : ℕ) → IsTrue (covers u.range page) → at u.change.taken page ≡ at before page
 
 -- these mappings are among those that undo values hold
-pub record Holds (s : AddressSpace) (ms : List Mapping) : Type 0 where
+pub record AreAmongKept (s : AddressSpace) (ms : List Mapping) : Type 0 where
   pub others : List Mapping
-  pub are_saved : AreSaved s (ms ++ others)
+  pub are_kept : AreKept s (ms ++ others)
 
 -- the list is the one that the change left, there is room for the one before it, and its mappings are counted
-pub record Fits (s : AddressSpace) (u : UndoValue) : Type 0 where
+pub record CanRevert (s : AddressSpace) (u : UndoValue) : Type 0 where
   pub undo : IsUndoOf (undone s.mappings u.change) s.mappings u
   pub few : length (undone s.mappings u.change) ≤ s.limits.mappings
   pub room : length (undone s.mappings u.change) ≤ s.room
-  pub holds : Holds s u.change.taken
+  pub kept : AreAmongKept s u.change.taken
 
 -- the space once an undo value's mappings are given up: they are kept no longer
 abbrev pub released : AddressSpace → List Mapping → AddressSpace
-released s taken = record s { buffers = by_count less_kept taken s.buffers; held = s.held - length taken }
+released s taken = record s { buffers = by_count less_kept taken s.buffers; kept_count = s.kept_count - length taken }
 
 -- the space once a change is undone: the list before it, counted anew, and what was taken out is kept no longer
 abbrev pub reverted : AddressSpace → UndoValue → AddressSpace
@@ -57,5 +57,5 @@ reverted s u =
     record s {
       mappings = before;
       buffers = by_count counted before (by_count less_kept u.change.taken s.buffers);
-      held = s.held - length u.change.taken;
+      kept_count = s.kept_count - length u.change.taken;
     }

@@ -63,7 +63,7 @@ pub fn unkeep(buffers: &mut Buffers, mappings: &[Mapping])
 }
 
 /// Counts a run of the list that gives way to `pieces` and comes into an undo value.
-pub fn exchange(buffers: &mut Buffers, taken: &[Mapping], pieces: &[Mapping])
+pub fn move_counts(buffers: &mut Buffers, taken: &[Mapping], pieces: &[Mapping])
     requires taken { All (λ m. IsLiveBacking buffers.old m.backing) taken.now }
     requires pieces { All (λ m. IsLiveBacking buffers.old m.backing) pieces.now }
     requires keeps { All (λ b. b.kept + count_of b.id taken.now ≤ most_counted) buffers.old.live }
@@ -78,7 +78,7 @@ pub fn exchange(buffers: &mut Buffers, taken: &[Mapping], pieces: &[Mapping])
 }
 
 /// Counts a run that comes back out of an undo value into the list, where `pieces` give way to it.
-pub fn exchange_back(buffers: &mut Buffers, pieces: &[Mapping], taken: &[Mapping])
+pub fn move_counts_back(buffers: &mut Buffers, pieces: &[Mapping], taken: &[Mapping])
     requires taken { All (λ m. IsLiveBacking buffers.old m.backing) taken.now }
     requires pieces { All (λ m. IsLiveBacking buffers.old m.backing) pieces.now }
     requires kept { All (λ b. count_of b.id taken.now ≤ b.kept) buffers.old.live }

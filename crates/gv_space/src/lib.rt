@@ -10,7 +10,7 @@ mod pieces;
 mod ranges;
 mod space;
 mod undo;
-mod verdict;
+mod refusal;
 
 pub use space::Space;
 pub use undo::OpUndo;

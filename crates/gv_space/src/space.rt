@@ -7,7 +7,7 @@ ghost use Rattle.gv_types.specs.Span.{covers};
 ghost use Rattle.gv_types.specs.Operation.{has_range, in_pages, own_mapping, range_of, after, IsChecked};
 ghost use Rattle.gv_types.specs.declared.mapping.Mapping.{Mapping};
 
-use crate::painted::PaintedList;
+use crate::painted::ListWithTable;
 use crate::undo::OpUndo;
 use crate::{counts, ranges};
 use gv_buffers::{Buffers, Usage};
@@ -20,7 +20,7 @@ mod buffers;
 mod change;
 
 /// Undo values of one space hold at most so many mappings.
-const MAX_HELD: u64 = 1 << 62;
+const MAX_KEPT: u64 = 1 << 62;
 
 /// One GPU address space: a list of mappings as a `drm_gpuvm` of DRM GPUVM keeps it, the page table that is always the
 /// list's, and the buffers, whose counts of mappings are always right. One operation edits all three; its undo value
@@ -29,9 +29,9 @@ const MAX_HELD: u64 = 1 << 62;
 pub struct Space {
     bounds: Bounds,
     limits: Limits,
-    painted: PaintedList,
+    painted: ListWithTable,
     buffers: Buffers,
-    held: u64,
+    kept_count: u64,
 }
 
 impl Model for Space {
@@ -55,9 +55,9 @@ impl Space {
     ghost use Rattle.gv_table.specs.Table.{tables_of, IsTree, IsHeldAt};
     ghost use Rattle.gv_table.specs.declared.page_table.PageTable.{PageTable};
     ghost use Rattle.gv_space.specs.Counts.{count_of, ranges_of};
-    ghost use Rattle.gv_space.specs.State.{new_space, AreSaved, IsPlaced, IsSpace, IsUnchanged};
-    ghost use Rattle.gv_space.specs.Verdict.{operation_fault, dead_fault, limit_fault, apply_fault};
-    ghost use Rattle.gv_space.specs.Undo.{Holds, HoldsWhatWas, Fits, IsUndoOf, released, reverted};
+    ghost use Rattle.gv_space.specs.State.{new_space, AreKept, IsPlaced, IsSpace, IsUnchanged};
+    ghost use Rattle.gv_space.specs.Refusal.{operation_fault, dead_fault, limit_fault, apply_fault};
+    ghost use Rattle.gv_space.specs.Undo.{AreAmongKept, TookWhatWas, CanRevert, IsUndoOf, released, reverted};
     ghost use Rattle.gv_space.specs.Change.{IsChanged};
     ghost use Rattle.gv_space.specs.Ready.{IsMeeting, IsReady};
 
@@ -71,9 +71,9 @@ impl Space {
         Ok(Space {
             bounds,
             limits,
-            painted: PaintedList::new(alloc),
+            painted: ListWithTable::new(alloc),
             buffers,
-            held: 0,
+            kept_count: 0,
         })
     }
 
@@ -156,7 +156,7 @@ impl Space {
         ensures range { IfOk result (λ undo. undo.range ≡ range_of (in_pages op.now)) }
         ensures says { IfOk result (λ _. (page : ℕ) → IsPage page
             → at self.new.mappings page ≡ after (in_pages op.now) (at self.old.mappings) page) }
-        ensures taken { IfOk result (HoldsWhatWas self.old.mappings) }
+        ensures taken { IfOk result (TookWhatWas self.old.mappings) }
         ensures undone { IfOk result (λ undo. undone self.new.mappings undo.change ≡ self.old.mappings) }
         ensures unchanged { OnErr result (IsUnchanged self.old self.new) }
     {
@@ -179,7 +179,7 @@ impl Space {
         range: PageRange,
         saved: &OpUndo,
     ) -> Result<OpUndo, Fault>
-        requires { Holds self.old saved.now.change.taken }
+        requires { AreAmongKept self.old saved.now.change.taken }
         ensures fault { MatchOption (limit_fault self.old range (restored self.old.mappings range saved.now.change.taken))
             (IsOkUnless result Fault.OutOfMemory) (λ fault. result ≡ Err fault) }
         ensures changed { IfOk result (λ undo. IsChanged self.old self.new
@@ -187,7 +187,7 @@ impl Space {
         ensures range { IfOk result (λ undo. undo.range ≡ range) }
         ensures says { IfOk result (λ _. (page : ℕ) → IsPage page → at self.new.mappings page
             ≡ (if covers range page then at saved.now.change.taken page else at self.old.mappings page)) }
-        ensures taken { IfOk result (HoldsWhatWas self.old.mappings) }
+        ensures taken { IfOk result (TookWhatWas self.old.mappings) }
         ensures undone { IfOk result (λ undo. undone self.new.mappings undo.change ≡ self.old.mappings) }
         ensures unchanged { OnErr result (IsUnchanged self.old self.new) }
     {
@@ -198,12 +198,12 @@ impl Space {
     /// boundaries included, as are the page table and the counts. It takes no memory. The list has to be the one that the
     /// change left.
     pub fn revert(&mut self, undo: OpUndo)
-        requires { Fits self.old undo }
+        requires { CanRevert self.old undo }
         ensures state { self.new ≡ reverted self.old undo }
         ensures undone { (before : List Mapping)
             → IsUndoOf before self.old.mappings undo → self.new.mappings ≡ before }
-        ensures saved { (others : List Mapping)
-            → AreSaved self.old (undo.change.taken ++ others) → AreSaved self.new others }
+        ensures kept { (others : List Mapping)
+            → AreKept self.old (undo.change.taken ++ others) → AreKept self.new others }
     {
         let OpUndo {
             place,
@@ -213,19 +213,19 @@ impl Space {
             tables,
         } = undo;
         let pieces = &self.painted.list().mappings()[place..place + put_in];
-        counts::exchange_back(&mut self.buffers, pieces, taken.as_slice());
+        counts::move_counts_back(&mut self.buffers, pieces, taken.as_slice());
         let _lost = self
             .painted
             .replace(range, place, put_in, taken.as_slice(), tables);
-        self.held -= taken.len() as u64;
+        self.kept_count -= taken.len() as u64;
     }
 
     /// Gives up the mappings that an undo value keeps: the change stays. It takes no memory.
     pub fn release(&mut self, undo: OpUndo)
-        requires { Holds self.old undo.change.taken }
+        requires { AreAmongKept self.old undo.change.taken }
         ensures state { self.new ≡ released self.old undo.change.taken }
-        ensures saved { (others : List Mapping)
-            → AreSaved self.old (undo.change.taken ++ others) → AreSaved self.new others }
+        ensures kept { (others : List Mapping)
+            → AreKept self.old (undo.change.taken ++ others) → AreKept self.new others }
     {
         let OpUndo {
             place: _,
@@ -235,6 +235,6 @@ impl Space {
             tables: _,
         } = undo;
         counts::unkeep(&mut self.buffers, taken.as_slice());
-        self.held -= taken.len() as u64;
+        self.kept_count -= taken.len() as u64;
     }
 }

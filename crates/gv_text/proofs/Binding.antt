@@ -12,9 +12,9 @@ use Rattle.gv_types.specs.declared.operation.PageOp.{PageOp}
 use Rattle.gv_ranges.specs.Edit.{edited}
 use Rattle.gv_buffers.specs.Table.{Table}
 use Rattle.gv_space.specs.Counts.{by_count, counted, more_kept}
-use Rattle.gv_space.specs.Verdict.{operation_fault, apply_fault}
+use Rattle.gv_space.specs.Refusal.{operation_fault, apply_fault}
 use Rattle.gv_space.proofs.RenamingLemmas.{operation_fault-renamed, apply_fault-renamed}
-use Rattle.gv_space.proofs.Keeping.{pages-by_count, counted_of_counts, more_kept_of_counts}
+use Rattle.gv_space.proofs.ByCountLemmas.{pages-by_count, counted_of_counts, more_kept_of_counts}
 use Rattle.gv_text.specs.State.{State, Declared, met, with_bind, count_live}
 use Rattle.gv_types.specs.Renamed.{renamed_mapping, renamed_op, renamed_bytes, IsOperationOf}
 use Rattle.gv_text.specs.Work.{Work, IsWork, with_room, worked}

@@ -9,7 +9,7 @@ use Rattle.gv_types.specs.declared.operation.Op.{Op}
 use Rattle.gv_split.specs.Steps.{steps}
 use Rattle.gv_split.specs.declared.step.Step.{Step}
 use Rattle.gv_space.specs.State.{IsSpace, IsPlaced}
-use Rattle.gv_space.specs.Verdict.{operation_fault}
+use Rattle.gv_space.specs.Refusal.{operation_fault}
 use Rattle.gv_text.specs.State.{texts}
 use Rattle.gv_types.specs.Renamed.{renamed_mapping, renamed_bytes, IsOperationOf}
 use Rattle.gv_split.specs.Renamed.{renamed_step}

@@ -82,6 +82,6 @@ space_renamed begun w entries work = record {
   area = refl;
   limits = sym work.limits;
   mappings = refl;
-  held = length-renamed w.taken ∙ sym work.saved.held;
+  kept_count = length-renamed w.taken ∙ sym work.saved.kept_count;
   sizes = tells_sizes begun w entries;
 }

@@ -13,7 +13,7 @@ use Rattle.gv_text.specs.State.{State, names_of}
 use Rattle.gv_types.specs.Renamed.{renamed_mapping}
 use Rattle.gv_text.specs.Reply.{refused_request, refused_reply, lines_reply, mapping_text, step_text}
 use Rattle.gv_text.specs.Answer.{Told, answer, answer_if, named, map_reply, begun}
-use Rattle.gv_space.specs.Verdict.{operation_fault, apply_fault}
+use Rattle.gv_space.specs.Refusal.{operation_fault, apply_fault}
 use Rattle.gv_text.specs.Space.{space_of}
 use Rattle.gv_text.specs.Calls.{AnswersNamed, IsFaultOf, Binds, Plans}
 use Rattle.gv_text.proofs.RenamedReplies.{mapping_lines-renamed, step_lines-renamed}

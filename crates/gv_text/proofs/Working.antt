@@ -13,12 +13,12 @@ use Rattle.gv_ranges.specs.Edit.{edited}
 use Rattle.gv_ranges.proofs.Meeting.{filter_meets}
 use Rattle.gv_buffers.specs.Table.{Table, fresh, has_id, destroy_fault, without, IsCreated}
 use Rattle.gv_space.specs.Counts.{by_count, counted, more_kept}
-use Rattle.gv_space.specs.State.{AddressSpace, AreSaved}
+use Rattle.gv_space.specs.State.{AddressSpace, AreKept}
 use Rattle.gv_space.specs.Undo.{UndoValue}
 use Rattle.gv_space.specs.Change.{IsChanged, changed_to}
-use Rattle.gv_space.proofs.Keeping.{All-by_count}
-use Rattle.gv_space.proofs.Lives.{AreSaved-made, AreSaved-destroyed}
-use Rattle.gv_space.proofs.Saved.{AreSaved-room}
+use Rattle.gv_space.proofs.ByCountLemmas.{All-by_count}
+use Rattle.gv_space.proofs.LivesLemmas.{AreKept-made, AreKept-destroyed}
+use Rattle.gv_space.proofs.KeptLemmas.{AreKept-room}
 use Rattle.gv_text.specs.State.{met}
 use Rattle.gv_text.specs.Work.{Work, IsWork, taken_by, with_room, worked}
 use Rattle.gv_text.proofs.Faults.{no_fault}
@@ -28,9 +28,9 @@ pub taken_by_more : (undos : List UndoValue) (u : UndoValue) → taken_by (undos
 taken_by_more [] u = sym (append-nil u.change.taken)
 taken_by_more (x ∷ undos) u = rw (taken_by_more undos u) (append_assoc u.change.taken (taken_by undos) x.change.taken)
 
-pub saved_split : (s : AddressSpace) (undos left : List UndoValue) (u : UndoValue) → undos ≡ left ++ u ∷ [] → AreSaved s (taken_by undos) →
-    AreSaved s (u.change.taken ++ taken_by left)
-saved_split s undos left u is saved = subst (AreSaved s) (ap taken_by is ∙ taken_by_more left u) saved
+pub saved_split : (s : AddressSpace) (undos left : List UndoValue) (u : UndoValue) → undos ≡ left ++ u ∷ [] → AreKept s (taken_by undos) →
+    AreKept s (u.change.taken ++ taken_by left)
+saved_split s undos left u is saved = subst (AreKept s) (ap taken_by is ∙ taken_by_more left u) saved
 
 -- a change takes out the mappings that meet its range
 taken_is : (old new : AddressSpace) (ms : List Mapping) (u : UndoValue) → IsChanged old new ms u → u.change.taken ≡ met old.mappings u.range
@@ -48,7 +48,7 @@ pub IsWork-applied : (w : Work) (new : AddressSpace) (op : PageOp) (u : UndoValu
 IsWork-applied w new op u work changed says = record {
   limits = ap (λ (s : AddressSpace). s.limits) changed.state ∙ work.limits;
   limit = ap (λ (s : AddressSpace). s.buffers.limit) changed.state ∙ work.limit;
-  saved = changed.saved w.taken work.saved;
+  saved = changed.kept w.taken work.saved;
   idle = subst (λ (s : AddressSpace). All (λ b. b.users ≡ []) s.buffers.live) (sym changed.state) (idle-changed (edited w.space.mappings op) u.change.taken w.space.buffers work.idle);
   newest = λ page in_space. says page in_space ∙ rw (work.newest page in_space) refl;
 }
@@ -66,7 +66,7 @@ pub IsWork-room : (w : Work) (room : ℕ) → IsWork w → IsWork (with_room roo
 IsWork-room w room work = record {
   limits = work.limits;
   limit = work.limit;
-  saved = AreSaved-room w.space room w.taken work.saved;
+  saved = AreKept-room w.space room w.taken work.saved;
   idle = work.idle;
   newest = work.newest;
 }
@@ -90,7 +90,7 @@ IsWork-made : (w : Work) (new : Table) (id : BufferId) (size : ℕ) → IsWork w
 IsWork-made w new id size work made = record {
   limits = work.limits;
   limit = ap (λ (t : Table). t.limit) made.state ∙ work.limit;
-  saved = AreSaved-made w.space new id size w.taken made work.saved;
+  saved = AreKept-made w.space new id size w.taken made work.saved;
   idle = idle-made w.space.buffers new id size made work.idle;
   newest = work.newest;
 }
@@ -105,7 +105,7 @@ IsWork-without : (w : Work) (id : BufferId) → IsWork w → destroy_fault w.spa
 IsWork-without w id work none = record {
   limits = work.limits;
   limit = work.limit;
-  saved = AreSaved-destroyed w.space id w.taken none work.saved;
+  saved = AreKept-destroyed w.space id w.taken none work.saved;
   idle = All-filter (λ b. not (has_id id b)) (λ b. b.users ≡ []) w.space.buffers.live work.idle;
   newest = work.newest;
 }

@@ -14,7 +14,7 @@ use Rattle.gv_ranges.specs.List.{at}
 use Rattle.gv_split.specs.Steps.{steps}
 use Rattle.gv_buffers.specs.Table.{Buffer as LiveBuffer, buffer, create_fault, destroy_fault}
 use Rattle.gv_table.specs.Table.{tables_of}
-use Rattle.gv_space.specs.Verdict.{operation_fault, apply_fault}
+use Rattle.gv_space.specs.Refusal.{operation_fault, apply_fault}
 use Rattle.gv_lines.specs.Grammar.{parsed}
 use Rattle.gv_lines.specs.declared.line.Operation.{Operation}
 use Rattle.gv_lines.specs.declared.line.Operation.TheVariants.{Map as MapWords, Zero as ZeroWords, Unmap as UnmapWords}

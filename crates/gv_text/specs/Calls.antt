@@ -9,7 +9,7 @@ use Rattle.gv_types.specs.declared.operation.Op.{Op}
 use Rattle.gv_split.specs.Steps.{steps}
 use Rattle.gv_split.specs.declared.step.Step.{Step}
 use Rattle.gv_buffers.specs.Table.{create_fault, destroy_fault}
-use Rattle.gv_space.specs.Verdict.{operation_fault, apply_fault}
+use Rattle.gv_space.specs.Refusal.{operation_fault, apply_fault}
 use Rattle.gv_text.specs.State.{State, names_of, id_at, with_bind}
 use Rattle.gv_split.specs.Renamed.{renamed_step}
 use Rattle.gv_text.specs.Reply.{IsHeldStep}

@@ -44,5 +44,5 @@ space_of s =
       mappings = s.bound.mappings;
       room = 0;
       buffers = table_of s;
-      held = length s.taken;
+      kept_count = length s.taken;
     }

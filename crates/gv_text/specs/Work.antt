@@ -7,7 +7,7 @@ use Rattle.gv_types.specs.Operation.{range_of}
 use Rattle.gv_types.specs.declared.mapping.Mapping.{Mapping}
 use Rattle.gv_types.specs.declared.operation.PageOp.{PageOp}
 use Rattle.gv_ranges.specs.Edit.{edited}
-use Rattle.gv_space.specs.State.{AddressSpace, AreSaved, new_space}
+use Rattle.gv_space.specs.State.{AddressSpace, AreKept, new_space}
 use Rattle.gv_space.specs.Undo.{UndoValue}
 use Rattle.gv_space.specs.Change.{changed_to}
 use Rattle.gv_text.specs.State.{Bound, SaysWhatTheNewestSays, met}
@@ -37,7 +37,7 @@ new_work area = record { space = new_space area greatest; accepted = []; taken =
 pub record IsWork (w : Work) : Type 0 where
   pub limits : w.space.limits ≡ greatest
   pub limit : w.space.buffers.limit ≡ greatest.buffers
-  pub saved : AreSaved w.space w.taken
+  pub saved : AreKept w.space w.taken
   pub idle : All (λ b. b.users ≡ []) w.space.buffers.live
   pub newest : SaysWhatTheNewestSays (bound_of w)
 

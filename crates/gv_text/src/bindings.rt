@@ -38,7 +38,7 @@ impl Model for Bindings {
 impl Bindings {
     ghost use Rattle.gv_buffers.specs.Table.{create_fault, destroy_fault, without, IsCreated};
     ghost use Rattle.gv_space.specs.State.{IsSpace};
-    ghost use Rattle.gv_space.specs.Verdict.{apply_fault};
+    ghost use Rattle.gv_space.specs.Refusal.{apply_fault};
     ghost use Rattle.gv_text.specs.Work.{IsWork, new_work, with_room, worked};
 
     pub fn new(alloc: Global, bounds: Bounds) -> Result<Self, OutOfMemory>

@@ -5,8 +5,8 @@ ghost use Rattle.gv_types.specs.declared.mapping.Mapping.{Mapping};
 ghost use Rattle.gv_buffers.specs.Table.{uses, kept, pages, create_fault, destroy_fault, join_fault};
 ghost use Rattle.gv_buffers.specs.Table.{without, changed, joined_by, left_everywhere, IsCreated};
 ghost use Rattle.gv_space.specs.Counts.{count_of, ranges_of};
-ghost use Rattle.gv_space.specs.State.{AreSaved};
-ghost use Rattle.gv_space.specs.Verdict.{dead_fault};
+ghost use Rattle.gv_space.specs.State.{AreKept};
+ghost use Rattle.gv_space.specs.Refusal.{dead_fault};
 
 use super::Space;
 use crate::ranges;
@@ -59,7 +59,7 @@ impl Space {
         ensures ok { IfOk result (λ id. IsCreated self.old.buffers self.new.buffers id pages) }
         ensures rest { self.new ≡ record self.old { buffers = self.new.buffers } }
         ensures err { OnErr result (self.new ≡ self.old) }
-        ensures saved { (kept : List Mapping) → AreSaved self.old kept → AreSaved self.new kept }
+        ensures kept { (ms : List Mapping) → AreKept self.old ms → AreKept self.new ms }
     {
         self.buffers.create(alloc, pages)
     }
@@ -71,7 +71,7 @@ impl Space {
             (IsOk result) (λ fault. result ≡ Err fault) }
         ensures ok { OnOk result (self.new ≡ record self.old { buffers = without id self.old.buffers }) }
         ensures err { OnErr result (self.new ≡ self.old) }
-        ensures saved { (kept : List Mapping) → AreSaved self.old kept → AreSaved self.new kept }
+        ensures kept { (ms : List Mapping) → AreKept self.old ms → AreKept self.new ms }
     {
         self.buffers.destroy(id)
     }
@@ -85,7 +85,7 @@ impl Space {
         ensures ok { OnOk result
             (self.new ≡ record self.old { buffers = changed id (joined_by job usage) self.old.buffers }) }
         ensures err { OnErr result (self.new ≡ self.old) }
-        ensures saved { (kept : List Mapping) → AreSaved self.old kept → AreSaved self.new kept }
+        ensures kept { (ms : List Mapping) → AreKept self.old ms → AreKept self.new ms }
     {
         self.buffers.join(alloc, id, job, usage)
     }
@@ -93,7 +93,7 @@ impl Space {
     /// Removes a job from the users of every buffer. It takes no memory.
     pub fn leave(&mut self, job: u64)
         ensures state { self.new ≡ record self.old { buffers = left_everywhere job self.old.buffers } }
-        ensures saved { (kept : List Mapping) → AreSaved self.old kept → AreSaved self.new kept }
+        ensures kept { (ms : List Mapping) → AreKept self.old ms → AreKept self.new ms }
     {
         self.buffers.leave(job);
     }

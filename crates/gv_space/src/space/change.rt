@@ -8,16 +8,16 @@ ghost use Rattle.gv_types.specs.declared.mapping.Mapping.{Mapping};
 ghost use Rattle.gv_ranges.specs.List.{IsLaidOut};
 ghost use Rattle.gv_ranges.specs.Edit.{restored};
 ghost use Rattle.gv_space.specs.State.{IsPlaced, IsUnchanged};
-ghost use Rattle.gv_space.specs.Verdict.{operation_fault, limit_fault};
+ghost use Rattle.gv_space.specs.Refusal.{operation_fault, limit_fault};
 ghost use Rattle.gv_space.specs.Change.{IsChanged};
 ghost use Rattle.gv_space.specs.Ready.{IsMeeting, IsReady};
 
-use super::{MAX_HELD, Space};
+use super::{MAX_KEPT, Space};
 use crate::counts;
 use crate::meeting::Meeting;
-use crate::pieces::{Pieces, clip_to_range, count_in_range, with_rests};
+use crate::pieces::{Pieces, between_rests, count_in_range, with_rests};
 use crate::undo::OpUndo;
-use crate::verdict::check_buffer;
+use crate::refusal::check_buffer;
 use gv_table::Spares;
 use gv_types::{Fault, Mapping, Op, PageOp, PageRange};
 use smallvec::SmallVec;
@@ -55,7 +55,7 @@ impl Space {
     {
         let inside = count_in_range(saved, range);
         let after = self.mappings().len() - meeting.count + meeting.count_rests() + inside;
-        if after as u64 > self.limits.mappings() || self.held + meeting.count as u64 > MAX_HELD {
+        if after as u64 > self.limits.mappings() || self.kept_count + meeting.count as u64 > MAX_KEPT {
             return Err(Fault::TooManyMappings);
         }
         Ok(())
@@ -82,16 +82,17 @@ impl Space {
         let place = meeting.place;
         let run = &self.mappings()[place..place + meeting.count];
         let taken = SmallVec::from_slice(alloc, run)?;
-        let inside = clip_to_range(alloc, saved, range)?;
-        let pieces = with_rests(alloc, &meeting, inside.as_slice())?;
-        let spares = self.painted.spare(alloc, range, inside.as_slice())?;
+        let pieces = with_rests(alloc, &meeting, saved, range)?;
+        let pieces = pieces.as_slice();
+        let inside = between_rests(&meeting, pieces);
+        let spares = self.painted.spare(alloc, range, inside)?;
         self.painted
             .reserve(pieces.len().saturating_sub(taken.len()))?;
-        Ok(self.exchange(range, place, taken, pieces.as_slice(), spares))
+        Ok(self.commit(range, place, taken, pieces, spares))
     }
 
     /// The change, for which all room is there.
-    fn exchange(
+    fn commit(
         &mut self,
         range: PageRange,
         place: usize,
@@ -105,9 +106,9 @@ impl Space {
         ensures range { result.range ≡ range }
     {
         let count = taken.len();
-        counts::exchange(&mut self.buffers, taken.as_slice(), pieces);
+        counts::move_counts(&mut self.buffers, taken.as_slice(), pieces);
         let tables = self.painted.replace(range, place, count, pieces, spares);
-        self.held += count as u64;
+        self.kept_count += count as u64;
         OpUndo {
             place,
             put_in: pieces.len(),

@@ -4,7 +4,7 @@ ghost use Rattle.gv_types.specs.Operation.{in_pages};
 ghost use Rattle.gv_types.specs.declared.mapping.Mapping.{Mapping};
 ghost use Rattle.gv_ranges.specs.Edit.{edited};
 ghost use Rattle.gv_space.specs.Change.{IsChanged};
-ghost use Rattle.gv_space.specs.State.{AreSaved, IsUnchanged};
+ghost use Rattle.gv_space.specs.State.{AreKept, IsUnchanged};
 
 use crate::{OpUndo, Space};
 use gv_types::{
@@ -102,7 +102,7 @@ pub fn apply(alloc: Global, space: &mut Space, op: &Op) -> Result<OpUndo, Fault>
 
 /// Applies an operation for good.
 pub fn bind(alloc: Global, space: &mut Space, op: &Op) -> Result<(), Fault>
-    ensures saved { (ms : List Mapping) → AreSaved space.old ms → AreSaved space.new ms }
+    ensures kept { (ms : List Mapping) → AreKept space.old ms → AreKept space.new ms }
 {
     let undo = apply(alloc, space, op)?;
     space.release(undo);

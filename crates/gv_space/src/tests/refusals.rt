@@ -4,7 +4,7 @@ ghost use Rattle.gv_types.specs.Operation.{in_pages};
 ghost use Rattle.gv_ranges.specs.Edit.{edited, restored};
 ghost use Rattle.gv_space.specs.Change.{IsChanged};
 ghost use Rattle.gv_space.specs.State.{IsUnchanged};
-ghost use Rattle.gv_space.specs.Undo.{Holds};
+ghost use Rattle.gv_space.specs.Undo.{AreAmongKept};
 
 use super::fixtures::{Sight, apply, look, map, map_zero, unmap};
 use crate::{OpUndo, Space};
@@ -110,7 +110,7 @@ fn restore_at_last(
     saved: &OpUndo,
     id: &BufferId,
 ) -> Result<OpUndo, Fault>
-    requires { Holds space.old saved.now.change.taken }
+    requires { AreAmongKept space.old saved.now.change.taken }
     ensures changed { IfOk result (λ undo. IsChanged space.old space.new
         (restored space.old.mappings range saved.now.change.taken) undo) }
     ensures unchanged { OnErr result (IsUnchanged space.old space.new) }
@@ -135,7 +135,7 @@ fn restore_all(
     saved: &OpUndo,
     id: &BufferId,
 ) -> Result<(), Fail>
-    requires { Holds space.old saved.now.change.taken }
+    requires { AreAmongKept space.old saved.now.change.taken }
     ensures { IsUnchanged space.old space.new }
 {
     let before = whole_of(space, id);

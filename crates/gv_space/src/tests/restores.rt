@@ -1,6 +1,6 @@
 //! Older mappings that come back to a range.
 ghost use Rattle.gv_space.specs.State.{IsUnchanged};
-ghost use Rattle.gv_space.specs.Undo.{Holds};
+ghost use Rattle.gv_space.specs.Undo.{AreAmongKept};
 
 use super::fixtures::{apply, bind, has_list, map, map_zero, mapping, unmap, whole_space, zeros};
 use crate::{OpUndo, Space};
@@ -18,7 +18,7 @@ fn restore_and_back(
     saved: &OpUndo,
     wanted: &[Option<Mapping>],
 ) -> Result<(), Fail>
-    requires { Holds space.old saved.now.change.taken }
+    requires { AreAmongKept space.old saved.now.change.taken }
     ensures { IsUnchanged space.old space.new }
 {
     let undo = space.restore(alloc, range.ok_or("range")?, saved)?;
@@ -35,8 +35,8 @@ fn restore_parts(
     saved: &OpUndo,
     id: &BufferId,
 ) -> Result<(), Fail>
-    requires { Holds space.old saved.now.change.taken }
-    ensures { Holds space.new saved.now.change.taken }
+    requires { AreAmongKept space.old saved.now.change.taken }
+    ensures { AreAmongKept space.new saved.now.change.taken }
 {
     bind(alloc, space, &map_zero(1, 2))?;
     let clipped = [mapping(1, 2, id, 1)];
@@ -67,8 +67,8 @@ fn saved_pages_come_back(rt: HostRuntime) -> Result<(), Fail> {
 
 /// Why the two pages at page 1 can't be restored.
 fn refused(alloc: Global, space: &mut Space, saved: &OpUndo) -> Result<Option<Fault>, Fail>
-    requires { Holds space.old saved.now.change.taken }
-    ensures { Holds space.new saved.now.change.taken }
+    requires { AreAmongKept space.old saved.now.change.taken }
+    ensures { AreAmongKept space.new saved.now.change.taken }
 {
     bind(alloc, space, &map_zero(0, 4))?;
     let range = PageRange::new(1, 2).ok_or("range")?;

@@ -1,6 +1,6 @@
 //! Random operations, each compared with the model.
 ghost use Rattle.std.specs.Prelude.{◌<◌, IfOk};
-ghost use Rattle.gv_space.specs.Undo.{Fits, Holds, released, reverted};
+ghost use Rattle.gv_space.specs.Undo.{CanRevert, AreAmongKept, released, reverted};
 
 use super::fixtures::{apply, bind};
 use super::model::{Model, PLACES, Setting, count_of, entry_behind, range_of};
@@ -149,10 +149,10 @@ fn apply_both(
     space: &mut Space,
     course: &Course,
 ) -> Result<(OpUndo, OpUndo), Fail>
-    ensures second { IfOk result (λ undos. Fits space.new undos.1) }
-    ensures first { IfOk result (λ undos. Fits (reverted space.new undos.1) undos.0) }
+    ensures second { IfOk result (λ undos. CanRevert space.new undos.1) }
+    ensures first { IfOk result (λ undos. CanRevert (reverted space.new undos.1) undos.0) }
     ensures held { IfOk result (λ undos.
-        Holds (released space.new undos.1.change.taken) undos.0.change.taken) }
+        AreAmongKept (released space.new undos.1.change.taken) undos.0.change.taken) }
 {
     let first = apply(alloc, space, &course.ops[0])?;
     expect(rt, space, &course.one, &course.kept_by_first);
@@ -206,8 +206,8 @@ fn restore_after(
     course: &Course,
     stays: bool,
 ) -> Result<(), Fail>
-    requires { Holds space.old saved.now.change.taken }
-    ensures { Holds space.new saved.now.change.taken }
+    requires { AreAmongKept space.old saved.now.change.taken }
+    ensures { AreAmongKept space.new saved.now.change.taken }
 {
     expect(rt, space, &course.one, &course.kept_by_first);
     bind(alloc, space, &course.ops[1])?;

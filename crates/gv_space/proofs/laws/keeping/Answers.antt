@@ -1,5 +1,5 @@
-use Rattle.gv_space.proofs.SavedLemmas.{saved_moved}
+use Rattle.gv_space.proofs.KeptLemmas.{kept_in_any_order}
 use Rattle.gv_space.proofs.laws.keeping.Goals as goal
 
 pub returns : goal.returns
-returns c = saved_moved
+returns c = kept_in_any_order

@@ -7,7 +7,7 @@ use Rattle.gv_ranges.specs.List.{at}
 use Rattle.gv_ranges.specs.Edit.{restored}
 use Rattle.gv_space.specs.Change.{IsChanged}
 use Rattle.gv_space.proofs.Faults.{first_passed_on}
-use Rattle.gv_space.specs.Undo.{HoldsWhatWas}
+use Rattle.gv_space.specs.Undo.{TookWhatWas}
 use Rattle.gv_space.proofs.Says.{says_after, holds_what_was}
 use Rattle.gv_space.proofs.space.Space.apply.Goals as goal
 
@@ -39,7 +39,7 @@ returns-in-Some-clause-taken c =
     let old = c.args.self.now in
     IfOk-weaker c.change.result
     (λ undo. IsChanged old c.change.new.self (restored old.mappings c.range.result (c.in-Some.own ∷ [])) undo)
-    (HoldsWhatWas old.mappings)
+    (TookWhatWas old.mappings)
     (λ undo changed. holds_what_was old.mappings c.change.new.self.mappings undo changed.undo)
     c.change.ensures.changed
 
@@ -48,6 +48,6 @@ returns-in-None-clause-taken c =
     let old = c.args.self.now in
     IfOk-weaker c.change-in-None.result
     (λ undo. IsChanged old c.change-in-None.new.self (restored old.mappings c.range-in-None.result []) undo)
-    (HoldsWhatWas old.mappings)
+    (TookWhatWas old.mappings)
     (λ undo changed. holds_what_was old.mappings c.change-in-None.new.self.mappings undo changed.undo)
     c.change-in-None.ensures.changed

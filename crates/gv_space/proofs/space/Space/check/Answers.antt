@@ -1,7 +1,7 @@
 use Rattle.std.proofs.Common.{◌≡◌, Some, refl, sym, ◌∙◌}
 use Rattle.gv_types.specs.Bounds.{first_fault}
 use Rattle.gv_types.specs.Operation.{in_pages}
-use Rattle.gv_space.specs.Verdict.{operation_fault, buffer_fault}
+use Rattle.gv_space.specs.Refusal.{operation_fault, buffer_fault}
 use Rattle.gv_space.specs.Inside.{space_of}
 use Rattle.gv_space.specs.State.{AddressSpace}
 use Rattle.gv_space.proofs.Faults.{first_refused}

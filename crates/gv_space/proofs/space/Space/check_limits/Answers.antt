@@ -5,7 +5,7 @@ use Rattle.gv_space.specs.State.{AddressSpace}
 use Rattle.gv_space.proofs.Lengths.{length-restored, count_met-run}
 use Rattle.gv_space.proofs.Limits.{too_long, held_too_much, within_limits}
 use Rattle.gv_space.proofs.space.Space.check_limits.Goals as goal
-use Rattle.gv_space.proofs.space.Space.check_limits.Goals.{then-after-mappings-via-then-after-mappings, then-after-mappings-via-else-after-mappings+then-self-meeting-gt-MAX_HELD}
+use Rattle.gv_space.proofs.space.Space.check_limits.Goals.{then-after-mappings-via-then-after-mappings, then-after-mappings-via-else-after-mappings+then-self-meeting-gt-MAX_KEPT}
 
 pub returns-then-after-mappings : goal.returns-then-after-mappings
 returns-then-after-mappings c =
@@ -15,13 +15,13 @@ returns-then-after-mappings c =
     c.count_in_range-inside.ensures.in_space c.requires.meeting in
     let met = count_met-run s.mappings c.args.range c.args.meeting.now.place c.args.meeting.now.count c.requires.meeting.met in
     let limit = ap (λ (t : AddressSpace). t.limits.mappings) c.self.view_is in
-    let held = ap (λ (t : AddressSpace). t.held) c.self.view_is in
+    let kept_count = ap (λ (t : AddressSpace). t.kept_count) c.self.view_is in
     let len = ap (λ (l : List Mapping). length l) c.mappings.ensures.value in
     elim c.then-after-mappings.branch [
       | then-after-mappings-via-then-after-mappings w ↦
           rw (too_long s c.args.range ms (omega (arith, long, limit, len, w.if-after-mappings.true, c.mappings-2.ensures.value, c.count_rests.ensures, c.count_in_range-inside.ensures.count))) refl
-      | then-after-mappings-via-else-after-mappings+then-self-meeting-gt-MAX_HELD w ↦
-          rw (held_too_much s c.args.range ms (omega (arith, met, held, w.if-self-meeting-gt-MAX_HELD.true))) refl
+      | then-after-mappings-via-else-after-mappings+then-self-meeting-gt-MAX_KEPT w ↦
+          rw (held_too_much s c.args.range ms (omega (arith, met, kept_count, w.if-self-meeting-gt-MAX_KEPT.true))) refl
     ]
 
 pub returns : goal.returns
@@ -32,8 +32,8 @@ returns c =
     c.count_in_range-inside.ensures.in_space c.requires.meeting in
     let met = count_met-run s.mappings c.args.range c.args.meeting.now.place c.args.meeting.now.count c.requires.meeting.met in
     let limit = ap (λ (t : AddressSpace). t.limits.mappings) c.self.view_is in
-    let held = ap (λ (t : AddressSpace). t.held) c.self.view_is in
+    let kept_count = ap (λ (t : AddressSpace). t.kept_count) c.self.view_is in
     let len = ap (λ (l : List Mapping). length l) c.mappings.ensures.value in
     rw (within_limits s c.args.range ms
     (omega (arith, long, limit, len, c.if-after-mappings.false, c.mappings-2.ensures.value, c.count_rests.ensures, c.count_in_range-inside.ensures.count))
-    (omega (arith, met, held, c.if-self-meeting-gt-MAX_HELD.false))) refl
+    (omega (arith, met, kept_count, c.if-self-meeting-gt-MAX_KEPT.false))) refl

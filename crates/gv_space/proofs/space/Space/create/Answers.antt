@@ -4,9 +4,9 @@ use Rattle.gv_types.specs.declared.fault.Fault.{Fault}
 use Rattle.gv_types.specs.declared.mapping.BufferId.{BufferId}
 use Rattle.gv_buffers.specs.Table.{Table, IsCreated, IsTable}
 use Rattle.gv_types.specs.declared.mapping.Mapping.{Mapping}
-use Rattle.gv_space.specs.State.{AddressSpace, AreSaved, IsSpace}
+use Rattle.gv_space.specs.State.{AddressSpace, AreKept, IsSpace}
 use Rattle.gv_space.specs.Inside.{space_of}
-use Rattle.gv_space.proofs.Lives.{AreSaved-made}
+use Rattle.gv_space.proofs.LivesLemmas.{AreKept-made}
 use Rattle.gv_space.proofs.Spaces.{IsSpace-made}
 use Rattle.gv_space.proofs.space.Space.create.Goals as goal
 
@@ -20,11 +20,11 @@ invariant_of-self c =
     after c.create.result (space_of c.self.inside) c.create.new.self c.args.pages c.self.invariant c.create.ensures.ok c.create.ensures.table c.create.ensures.err
 
 saves : (r : Result BufferId Fault) (s : AddressSpace) (new : Table) (pages : ℕ) → IfOk r (λ id. IsCreated s.buffers new id pages) → OnErr r (new ≡ s.buffers) →
-    (kept : List Mapping) → AreSaved s kept → AreSaved (record s { buffers = new }) kept
-saves (Ok id) s new pages made same kept are_saved = AreSaved-made s new id pages kept made are_saved
-saves (Err fault) s new pages made same kept are_saved = subst (λ (t : Table). AreSaved (record s { buffers = t }) kept) (sym same) are_saved
+    (kept : List Mapping) → AreKept s kept → AreKept (record s { buffers = new }) kept
+saves (Ok id) s new pages made same kept are_kept = AreKept-made s new id pages kept made are_kept
+saves (Err fault) s new pages made same kept are_kept = subst (λ (t : Table). AreKept (record s { buffers = t }) kept) (sym same) are_kept
 
-pub returns-clause-saved : goal.returns-clause-saved
-returns-clause-saved c = λ kept are_saved.
+pub returns-clause-kept : goal.returns-clause-kept
+returns-clause-kept c = λ kept are_kept.
     saves c.create.result (space_of c.self.inside) c.create.new.self c.args.pages c.create.ensures.ok c.create.ensures.err kept
-    (subst (λ (t : AddressSpace). AreSaved t kept) (sym c.self.view_is) are_saved)
+    (subst (λ (t : AddressSpace). AreKept t kept) (sym c.self.view_is) are_kept)

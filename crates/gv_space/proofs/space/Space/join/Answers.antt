@@ -4,9 +4,9 @@ use Rattle.gv_types.specs.declared.mapping.BufferId.{BufferId}
 use Rattle.gv_buffers.specs.declared.usage.Usage.{Usage}
 use Rattle.gv_buffers.specs.Table.{Table, changed, joined_by, IsTable}
 use Rattle.gv_types.specs.declared.mapping.Mapping.{Mapping}
-use Rattle.gv_space.specs.State.{AddressSpace, AreSaved, IsSpace}
+use Rattle.gv_space.specs.State.{AddressSpace, AreKept, IsSpace}
 use Rattle.gv_space.specs.Inside.{space_of}
-use Rattle.gv_space.proofs.Jobs.{AreSaved-joined}
+use Rattle.gv_space.proofs.Jobs.{AreKept-joined}
 use Rattle.gv_space.proofs.Spaces.{IsSpace-joined}
 use Rattle.gv_space.proofs.space.Space.join.Goals as goal
 
@@ -21,11 +21,11 @@ invariant_of-self c =
     after c.join.result (space_of c.self.inside) c.join.new.self c.args.id c.args.job c.args.usage c.self.invariant c.join.ensures.table c.join.ensures.ok c.join.ensures.err
 
 saves : {X : Type 0} (r : Result X Fault) (s : AddressSpace) (new : Table) (id : BufferId) (job : ℕ) (usage : Usage) →
-    OnOk r (new ≡ changed id (joined_by job usage) s.buffers) → OnErr r (new ≡ s.buffers) → (kept : List Mapping) → AreSaved s kept → AreSaved (record s { buffers = new }) kept
-saves (Ok x) s new id job usage ok same kept are_saved = subst (λ (t : Table). AreSaved (record s { buffers = t }) kept) (sym ok) (AreSaved-joined s id job usage kept are_saved)
-saves (Err f) s new id job usage ok same kept are_saved = subst (λ (t : Table). AreSaved (record s { buffers = t }) kept) (sym same) are_saved
+    OnOk r (new ≡ changed id (joined_by job usage) s.buffers) → OnErr r (new ≡ s.buffers) → (kept : List Mapping) → AreKept s kept → AreKept (record s { buffers = new }) kept
+saves (Ok x) s new id job usage ok same kept are_kept = subst (λ (t : Table). AreKept (record s { buffers = t }) kept) (sym ok) (AreKept-joined s id job usage kept are_kept)
+saves (Err f) s new id job usage ok same kept are_kept = subst (λ (t : Table). AreKept (record s { buffers = t }) kept) (sym same) are_kept
 
-pub returns-clause-saved : goal.returns-clause-saved
-returns-clause-saved c = λ kept are_saved.
+pub returns-clause-kept : goal.returns-clause-kept
+returns-clause-kept c = λ kept are_kept.
     saves c.join.result (space_of c.self.inside) c.join.new.self c.args.id c.args.job c.args.usage c.join.ensures.ok c.join.ensures.err kept
-    (subst (λ (t : AddressSpace). AreSaved t kept) (sym c.self.view_is) are_saved)
+    (subst (λ (t : AddressSpace). AreKept t kept) (sym c.self.view_is) are_kept)

@@ -8,7 +8,7 @@ use Rattle.gv_ranges.specs.List.{at}
 use Rattle.gv_ranges.specs.Edit.{restored}
 use Rattle.gv_ranges.proofs.Changes.{at-restored}
 use Rattle.gv_space.specs.State.{AddressSpace}
-use Rattle.gv_space.specs.Undo.{UndoValue, HoldsWhatWas}
+use Rattle.gv_space.specs.Undo.{UndoValue, TookWhatWas}
 use Rattle.gv_space.proofs.Says.{holds_what_was}
 use Rattle.gv_space.specs.Change.{IsChanged}
 use Rattle.gv_space.proofs.space.Space.restore.Goals as goal
@@ -33,6 +33,6 @@ returns-clause-taken c =
     let old = c.args.self.now in
     IfOk-weaker c.change.result
     (λ undo. IsChanged old c.change.new.self (restored old.mappings c.args.range c.as_slice.result.now) undo)
-    (HoldsWhatWas old.mappings)
+    (TookWhatWas old.mappings)
     (λ undo changed. holds_what_was old.mappings c.change.new.self.mappings undo changed.undo)
     c.change.ensures.changed

@@ -6,8 +6,8 @@ returns-then-stays g c =
     let older = c.args.saved.now.change.taken ++ c.requires.others in
     record {
       others = c.requires.others;
-      are_saved = c.release.ensures.saved older
-          (c.in_ok-undo.ensures.changed.saved older (c.bind.ensures.saved older c.requires.are_saved));
+      are_kept = c.release.ensures.kept older
+          (c.in_ok-undo.ensures.changed.kept older (c.bind.ensures.kept older c.requires.are_kept));
     }
 
 pub returns : goal.returns
@@ -15,6 +15,6 @@ returns g c =
     let older = c.args.saved.now.change.taken ++ c.requires.others in
     record {
       others = c.requires.others;
-      are_saved = c.revert.ensures.saved older
-          (c.in_ok-undo.ensures.changed.saved older (c.bind.ensures.saved older c.requires.are_saved));
+      are_kept = c.revert.ensures.kept older
+          (c.in_ok-undo.ensures.changed.kept older (c.bind.ensures.kept older c.requires.are_kept));
     }

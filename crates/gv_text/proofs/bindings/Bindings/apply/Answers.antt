@@ -1,7 +1,7 @@
 use Rattle.std.proofs.lemmas.Result.{err_from_is_err_and}
 use Rattle.gv_types.specs.Operation.{in_pages}
 use Rattle.gv_space.specs.Undo.{UndoValue}
-use Rattle.gv_space.specs.Verdict.{apply_fault}
+use Rattle.gv_space.specs.Refusal.{apply_fault}
 use Rattle.gv_text.specs.Work.{Work, taken_by}
 use Rattle.gv_text.proofs.Faults.{fault_passed}
 use Rattle.gv_text.proofs.Working.{taken_by_more, IsWork-applied, worked-applied}

@@ -5,10 +5,10 @@ use Rattle.gv_text.proofs.bindings.Bindings.close.Goals as goal
 pub release-requires : goal.release-requires
 release-requires c = record {
   others = taken_by c.pop.new.self.items;
-  are_saved = saved_split c.loop-undo.space c.loop-undo.undos.items c.pop.new.self.items c.in-Some.undo c.in-Some.ensures.items c.loop-undo.invariant;
+  are_kept = saved_split c.loop-undo.space c.loop-undo.undos.items c.pop.new.self.items c.in-Some.undo c.in-Some.ensures.items c.loop-undo.invariant;
 }
 
 pub loop-undo-preserved : goal.loop-undo-preserved
 loop-undo-preserved c =
-    c.release.ensures.saved (taken_by c.pop.new.self.items)
+    c.release.ensures.kept (taken_by c.pop.new.self.items)
     (saved_split c.loop-undo.space c.loop-undo.undos.items c.pop.new.self.items c.in-Some.undo c.in-Some.ensures.items c.loop-undo.invariant)

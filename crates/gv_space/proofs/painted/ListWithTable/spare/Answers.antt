@@ -1,0 +1,26 @@
+use Rattle.std.proofs.Common.{◌≡◌, ◌≤◌, subst, ℕ, List}
+use Rattle.std.proofs.lemmas.Result.{IfOk-weaker}
+use Rattle.gv_types.specs.Span.{end_of}
+use Rattle.gv_types.specs.declared.mapping.Mapping.{Mapping}
+use Rattle.gv_ranges.specs.List.{IsLaidOut}
+use Rattle.gv_ranges.specs.Edit.{clipped}
+use Rattle.gv_table.specs.Reads.{AreAlikeOutside}
+use Rattle.gv_table.specs.Table.{IsTree, FitsOutside, gained_by}
+use Rattle.gv_table.specs.declared.page_table.PageTable.{PageTable}
+use Rattle.gv_table.proofs.Likeness.{tables-gained}
+use Rattle.gv_space.proofs.painted.ListWithTable.spare.Goals as goal
+
+pub returns-clause-enough : goal.returns-clause-enough
+returns-clause-enough c =
+    let range = c.args.range in
+    let now = c.args.self.now.mappings in
+    let inside = c.self.inside.table in
+    let laid_now : IsLaidOut now = rw (← c.self.view_is) c.mappings-mappings.ensures.laid_out in
+    let tree_now : IsTree now inside = rw (← c.self.view_is) c.self.invariant in
+    IfOk-weaker c.spare.result
+    (λ spares. (ms : List Mapping) → IsLaidOut ms → FitsOutside ms range inside → clipped range.first (end_of range) ms ≡ c.args.pieces.now → gained_by ms inside ≤ spares)
+    (λ spares. (ms : List Mapping) (table : PageTable) → IsLaidOut ms → AreAlikeOutside range now ms → clipped range.first (end_of range) ms ≡ c.args.pieces.now → IsTree now table → gained_by ms table ≤ spares)
+    (λ spares enough ms table laid alike has tree.
+    let fits : FitsOutside ms range inside = record { earlier = now; laid_out = laid_now; alike = alike; tree = tree_now } in
+    subst (λ (n : ℕ). n ≤ spares) (tables-gained now ms inside table tree_now tree) (enough ms laid fits has))
+    c.spare.ensures.enough
