@@ -1,4 +1,4 @@
--- What a table of buffers keeps of its slots, and what contracts see of them. No public clause cites this module.
+-- How `Buffers` are seen as a `Table`, and what they keep of their slots. No public clause cites this module.
 use Rattle.std.specs.Prelude.{◌≡◌, ℕ, ◌≤◌, Some}
 use Rattle.slab.specs.Slab.{slab_len}
 use Rattle.gv_types.specs.Limits.{greatest, IsFromOneTo}

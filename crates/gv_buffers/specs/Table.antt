@@ -1,4 +1,4 @@
--- The live buffers, with their counts and users, and what calls make of them.
+-- What contracts see of `Buffers` (`Table`): the live buffers, with their counts and users, and what calls make of them.
 use Rattle.std.specs.Prelude.{◌≡◌, ◌≢◌, ℕ, ◌+◌, ◌-◌, ◌^◌, ◌<◌, ◌≤◌, Bool, not, ◌||◌, ◌==◌, nat_lt, nat_le, if◌then◌else◌, List, [], map, length, filter, find, insert, Option, Some, None, IsSome}
 use Rattle.std.specs.List.{All, AllPairs}
 use Rattle.std.specs.Option.{option_map}
@@ -123,13 +123,13 @@ abbrev pub with_count : Counter → ℕ → Buffer → Buffer
 with_count Uses n b = record b { uses = n }
 with_count Kept n b = record b { kept = n }
 
--- one mapping more
-abbrev pub raised : Counter → Buffer → Buffer
-raised counter b = with_count counter (count counter b + 1) b
+-- so many mappings more
+abbrev pub raised : Counter → ℕ → Buffer → Buffer
+raised counter n b = with_count counter (count counter b + n) b
 
--- one mapping less
-abbrev pub lowered : Counter → Buffer → Buffer
-lowered counter b = with_count counter (count counter b - 1) b
+-- so many mappings less
+abbrev pub lowered : Counter → ℕ → Buffer → Buffer
+lowered counter n b = with_count counter (count counter b - n) b
 
 abbrev pub conflict_fault : Option ℕ → Option Fault
 conflict_fault None = None

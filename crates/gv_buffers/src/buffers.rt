@@ -138,7 +138,7 @@ impl Buffers {
     /// Counts one more mapping in the list. It takes no memory.
     pub fn count_in(&mut self, id: BufferId)
         requires { IsSomeAnd (uses self.old id) (λ count. count < most_counted) }
-        ensures { self.new ≡ changed id (raised Counter.Uses) self.old }
+        ensures { self.new ≡ changed id (raised Counter.Uses 1) self.old }
     {
         self.raise(Counter::Uses, id);
     }
@@ -146,7 +146,7 @@ impl Buffers {
     /// Counts one mapping less in the list. It takes no memory.
     pub fn count_out(&mut self, id: BufferId)
         requires { IsSomeAnd (uses self.old id) (λ count. 0 < count) }
-        ensures { self.new ≡ changed id (lowered Counter.Uses) self.old }
+        ensures { self.new ≡ changed id (lowered Counter.Uses 1) self.old }
     {
         self.lower(Counter::Uses, id);
     }
@@ -154,7 +154,7 @@ impl Buffers {
     /// Counts one more mapping in undo values. It takes no memory.
     pub fn keep(&mut self, id: BufferId)
         requires { IsSomeAnd (kept self.old id) (λ count. count < most_counted) }
-        ensures { self.new ≡ changed id (raised Counter.Kept) self.old }
+        ensures { self.new ≡ changed id (raised Counter.Kept 1) self.old }
     {
         self.raise(Counter::Kept, id);
     }
@@ -162,7 +162,7 @@ impl Buffers {
     /// Counts one mapping less in undo values. It takes no memory.
     pub fn unkeep(&mut self, id: BufferId)
         requires { IsSomeAnd (kept self.old id) (λ count. 0 < count) }
-        ensures { self.new ≡ changed id (lowered Counter.Kept) self.old }
+        ensures { self.new ≡ changed id (lowered Counter.Kept 1) self.old }
     {
         self.lower(Counter::Kept, id);
     }
@@ -178,7 +178,7 @@ impl Buffers {
     /// Counts one mapping more.
     fn raise(&mut self, counter: Counter, id: BufferId)
         requires { IsSomeAnd (counted counter self.old id) (λ count. count < most_counted) }
-        ensures { self.new ≡ changed id (raised counter) self.old }
+        ensures { self.new ≡ changed id (raised counter 1) self.old }
     {
         self.slots[id.index as usize].raise(counter);
     }
@@ -186,7 +186,7 @@ impl Buffers {
     /// Counts one mapping less.
     fn lower(&mut self, counter: Counter, id: BufferId)
         requires { IsSomeAnd (counted counter self.old id) (λ count. 0 < count) }
-        ensures { self.new ≡ changed id (lowered counter) self.old }
+        ensures { self.new ≡ changed id (lowered counter 1) self.old }
     {
         self.slots[id.index as usize].lower(counter);
     }

@@ -41,7 +41,7 @@ impl LiveBuffer {
     /// Counts one mapping more.
     pub fn raise(&mut self, counter: Counter)
         requires { count counter (buffer_at 0 self.old) < most_counted }
-        ensures { (index : ℕ) → buffer_at index self.new ≡ raised counter (buffer_at index self.old) }
+        ensures { (index : ℕ) → buffer_at index self.new ≡ raised counter 1 (buffer_at index self.old) }
     {
         match counter {
             Counter::Uses => self.uses += 1,
@@ -52,7 +52,7 @@ impl LiveBuffer {
     /// Counts one mapping less.
     pub fn lower(&mut self, counter: Counter)
         requires { 0 < count counter (buffer_at 0 self.old) }
-        ensures { (index : ℕ) → buffer_at index self.new ≡ lowered counter (buffer_at index self.old) }
+        ensures { (index : ℕ) → buffer_at index self.new ≡ lowered counter 1 (buffer_at index self.old) }
     {
         match counter {
             Counter::Uses => self.uses -= 1,

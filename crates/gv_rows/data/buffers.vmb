@@ -27,7 +27,7 @@ destroy spare
 destroy spare
 uses spare
 
-# A bind is refused at its operation 0, the only one that it has; nothing else counts operations.
+# A bind is refused at an operation, counted from 0; it has one. A plan is refused as a bind would be, without a number.
 bind map 0x10000 0x1000 spare 0x0
 plan map 0x10000 0x1000 spare 0x0
 bind map 0x10000 0x2000 depth 0x1000

@@ -16,7 +16,7 @@ use std::{fs, io};
 
 const EXAMPLES: [&str; 6] = ["first", "replace", "keep", "bounds", "tables", "buffers"];
 
-/// The examples that the pictures of the repository's page of pictures, in the order of the page.
+/// The examples that the page of pictures draws, in its order.
 const PICTURES: [&str; 3] = ["first", "replace", "keep"];
 
 fn main(rt: HostRuntime) -> io::Result<ExitCode> {

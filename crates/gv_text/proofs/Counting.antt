@@ -1,7 +1,6 @@
 -- How many mappings of a declared buffer there are, and why it can't be destroyed.
 use Rattle.std.proofs.Common.{◌≡◌, ℕ, Bool, List, [], map, Option, Some, None, option_map, refl, sym, ap, ◌∙◌}
 use Rattle.std.specs.Option.{option_zip}
-use Rattle.std.proofs.lemmas.Option.{same_Some}
 use Rattle.gv_types.specs.declared.mapping.BufferId.{BufferId}
 use Rattle.gv_types.specs.declared.mapping.Mapping.{Mapping}
 use Rattle.gv_buffers.specs.Table.{Buffer, buffer, pages, has_id, uses as uses_in_table, kept as kept_in_table, destroy_fault}

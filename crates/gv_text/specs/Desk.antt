@@ -1,7 +1,6 @@
--- What a desk keeps of its parts. No public clause cites this module.
+-- How a `Desk` is seen as a `State`, and what it keeps of its parts. No public clause cites this module.
 use Rattle.std.specs.Prelude.{◌≡◌, ℕ, ◌+◌, Bool, false, List, [], ◌∷◌, map, length, Option}
 use Rattle.std.specs.List.{All}
-use Rattle.gv_types.specs.Bounds.{whole_area}
 use Rattle.gv_types.specs.declared.mapping.BufferId.{BufferId}
 use Rattle.gv_buffers.specs.Table.{Table, pages}
 use Rattle.gv_text.specs.State.{State, Declared, count_live}
@@ -51,9 +50,9 @@ pub record IsDeclared (w : Work) (entries : List (List ℕ × BufferId)) : Type 
   pub accepted : All (IsOperationOf (ids_of entries)) w.accepted
   pub taken : AreOf (ids_of entries) w.taken
 
--- nothing is declared and nothing done
+-- nothing is declared and nothing done, in whatever bounds
 pub record IsFresh (w : Work) (entries : List (List ℕ × BufferId)) : Type 0 where
-  pub nothing_done : w ≡ new_work whole_area
+  pub nothing_done : w ≡ new_work w.space.area
   pub nothing_declared : entries ≡ []
 
 -- the parts agree, and before the first line nothing has happened

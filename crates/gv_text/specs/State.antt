@@ -1,4 +1,5 @@
--- What stands between two lines of a script. A buffer is known by its place among the declared ones alone.
+-- What contracts see of a `Desk` (`State`), of `Names` (`Register`) and of a `History` (`Past`): what stands between two lines of
+-- a script. A buffer is known by its place among the declared ones alone.
 use Rattle.std.specs.Prelude.{◌≡◌, ℕ, zero, suc, ◌+◌, ◌≤◌, Bool, false, List, [], ◌∷◌, ◌++◌, Option, None, IsSome, is_some, slice_get, option_and_then, position, map, filter, length, bytes_eq}
 use Rattle.gv_types.specs.Page.{IsPage, pages_per_buffer}
 use Rattle.gv_types.specs.Span.{Span, meets}

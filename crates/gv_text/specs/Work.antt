@@ -1,4 +1,4 @@
--- What a script has done to its address space, with the ids that the space gave.
+-- What contracts see of `Bindings` (`Work`): what a script has done to its address space, with the ids that the space gave.
 use Rattle.std.specs.Prelude.{◌≡◌, ℕ, List, [], ◌∷◌, ◌++◌}
 use Rattle.std.specs.List.{All}
 use Rattle.gv_types.specs.Bounds.{Area}

@@ -1,6 +1,8 @@
 //! The address space of a script, with the operations that changed it.
 ghost use Rattle.std.specs.Prelude.{◌≡◌, ◌+◌, [], length, IsTrue, IsOk, IsOkUnless, IfOk, OnOk, OnErr, MatchOption};
+ghost use Rattle.gv_types.specs.Limits.{greatest};
 ghost use Rattle.gv_types.specs.Operation.{has_range, in_pages};
+ghost use Rattle.gv_space.specs.State.{new_space};
 
 use crate::history::History;
 use gv_space::{OpUndo, Space};
@@ -42,14 +44,11 @@ impl Bindings {
     pub fn new(alloc: Global, bounds: Bounds) -> Result<Self, OutOfMemory>
         ensures { IfOk result (λ b. b ≡ new_work bounds) }
     {
-        match Space::new(alloc, bounds, Limits::full()) {
-            Ok(space) => Ok(Bindings {
-                space,
-                accepted: History::new(alloc),
-                undos: Vec::new(alloc),
-            }),
-            Err(_) => Err(OutOfMemory),
-        }
+        Ok(Bindings {
+            space: new_space(alloc, bounds)?,
+            accepted: History::new(alloc),
+            undos: Vec::new(alloc),
+        })
     }
 
     /// Sets the bounds, where nothing is done.
@@ -59,13 +58,8 @@ impl Bindings {
         ensures ok { OnOk result (self.new ≡ new_work bounds) }
         ensures err { OnErr result (self.new ≡ self.old) }
     {
-        match Space::new(alloc, bounds, Limits::full()) {
-            Ok(space) => {
-                self.space = space;
-                Ok(())
-            }
-            Err(_) => Err(OutOfMemory),
-        }
+        self.space = new_space(alloc, bounds)?;
+        Ok(())
     }
 
     /// The address space.
@@ -74,6 +68,7 @@ impl Bindings {
         ensures space { IsSpace self.now.space }
         ensures work { IsWork self.now }
     {
+        // For the prover: what `mappings` ensures of the space.
         let _mappings = self.space.mappings();
         &self.space
     }
@@ -118,10 +113,7 @@ impl Bindings {
         ensures err { OnErr result (self.new ≡ with_room self.new.space.room self.old) }
     {
         let room = (self.accepted.reserve(), self.undos.reserve(1));
-        let undo = match self.space.apply(alloc, op) {
-            Ok(undo) => undo,
-            Err(fault) => return Err(fault),
-        };
+        let undo = self.space.apply(alloc, op)?;
         if let (Ok(()), Ok(())) = room {
             self.accepted.push(*op);
             self.undos.push_reserved(undo);
@@ -142,5 +134,16 @@ impl Bindings {
             space.release(undo);
         }
         undos.destroy_empty();
+    }
+}
+
+/// An address space of the greatest limits, which fails for want of memory alone.
+fn new_space(alloc: Global, bounds: Bounds) -> Result<Space, OutOfMemory>
+    ensures { IfOk result (λ space. space ≡ new_space bounds greatest) }
+{
+    match Space::new(alloc, bounds, Limits::full()) {
+        Ok(space) => Ok(space),
+        // No `?`: a fault of the space is none of this.
+        Err(_) => Err(OutOfMemory),
     }
 }

@@ -47,14 +47,11 @@ impl Desk {
     pub fn new(alloc: Global) -> Result<Self, OutOfMemory>
         ensures { IfOk result (λ desk. desk ≡ start) }
     {
-        match Bindings::new(alloc, Bounds::whole()) {
-            Ok(bindings) => Ok(Desk {
-                begun: false,
-                bindings,
-                names: Names::new(alloc),
-            }),
-            Err(error) => Err(error),
-        }
+        Ok(Desk {
+            begun: false,
+            bindings: Bindings::new(alloc, Bounds::whole())?,
+            names: Names::new(alloc),
+        })
     }
 
     /// Whether a line has run that is neither empty nor a comment.
@@ -74,11 +71,9 @@ impl Desk {
     /// Sets the bounds, where no line has run.
     pub fn set_bounds(&mut self, alloc: Global, bounds: Bounds) -> Result<(), OutOfMemory>
         requires { self.old.begun ≡ false }
-        ensures { OnOk result (self.new ≡ record self.old { begun = true; area = bounds }) }
+        ensures { OnOk result (self.new ≡ record self.old { area = bounds }) }
     {
-        self.bindings.set_bounds(alloc, bounds)?;
-        self.begun = true;
-        Ok(())
+        self.bindings.set_bounds(alloc, bounds)
     }
 
     /// The names of the declared buffers.
@@ -98,6 +93,7 @@ impl Desk {
         if self.names.id_of(&name).is_some() {
             return None;
         }
+        // For the prover: what `space` ensures of the work.
         let _space = self.bindings.space();
         if self.names.reserve().is_err() {
             return Some(Err(Fault::OutOfMemory));
@@ -115,9 +111,8 @@ impl Desk {
         ensures { AnswersNamed (place_of self.old.buffers name.now) result
             (λ place r. Destroys self.old place r self.new) }
     {
-        let Some(id) = self.names.id_of(name) else {
-            return None;
-        };
+        let id = self.names.id_of(name)?;
+        // For the prover: what `space` ensures of the work.
         let _space = self.bindings.space();
         Some(self.bindings.destroy(id))
     }
@@ -127,9 +122,7 @@ impl Desk {
     pub fn uses(&self, name: &Name) -> Option<Option<(u64, u64)>>
         ensures { AnswersNamed (place_of self.now.buffers name.now) result (λ place r. r ≡ uses_at self.now place) }
     {
-        let Some(id) = self.names.id_of(name) else {
-            return None;
-        };
+        let id = self.names.id_of(name)?;
         let space = self.bindings.space();
         let same = id;
         Some(space.uses(id).zip(space.kept(same)))
@@ -141,9 +134,8 @@ impl Desk {
         requires { self.old.begun ≡ true }
         ensures { AnswersNamed (named self.old.buffers operation.now) result (λ op r. Binds self.old op r self.new) }
     {
-        let Some(op) = named(&self.names, operation) else {
-            return None;
-        };
+        let op = named(&self.names, operation)?;
+        // For the prover: what `space` ensures of the work.
         let _space = self.bindings.space();
         let number = self.bindings.count();
         if let Err(fault) = self.bindings.apply(alloc, &op) {
@@ -157,9 +149,7 @@ impl Desk {
     pub fn plan(&self, alloc: Global, operation: &Operation) -> Option<Result<Vec<Step>, Fault>>
         ensures { AnswersNamed (named self.now.buffers operation.now) result (λ op r. Plans self.now op r) }
     {
-        let Some(op) = named(&self.names, operation) else {
-            return None;
-        };
+        let op = named(&self.names, operation)?;
         Some(self.bindings.space().plan(alloc, &op))
     }
 

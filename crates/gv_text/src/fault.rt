@@ -3,6 +3,7 @@ ghost use Rattle.std.specs.Prelude.{◌≡◌};
 ghost use Rattle.gv_text.specs.declared.fault.ScriptFault.TheVariants as fault;
 
 use crate::device::{ReadFault, WriteFault};
+use gv_types::OutOfMemory;
 use std::alloc::AllocError;
 
 /// Why a script was not run to its end.
@@ -37,6 +38,14 @@ impl From<AllocError> for ScriptFault {
     ghost from_gives = { λ _ e. e ≡ fault.OutOfMemory };
 
     fn from(_error: AllocError) -> ScriptFault {
+        ScriptFault::OutOfMemory
+    }
+}
+
+impl From<OutOfMemory> for ScriptFault {
+    ghost from_gives = { λ _ e. e ≡ fault.OutOfMemory };
+
+    fn from(_error: OutOfMemory) -> ScriptFault {
         ScriptFault::OutOfMemory
     }
 }

@@ -101,6 +101,7 @@ fn space(
         return Err(LineFault::Bad);
     };
     desk.set_bounds(alloc, bounds)?;
+    desk.begin();
     Ok(out.push_str("ok\n")?)
 }
 

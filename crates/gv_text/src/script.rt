@@ -12,7 +12,6 @@ use crate::output::Output;
 use crate::run::{LineFault, run_text};
 use crate::transfer::read_script;
 use gv_lines::split_once;
-use gv_types::OutOfMemory;
 use std::alloc::Global;
 
 /// Reads a whole script, then runs its lines one after another and writes the reply of each.
@@ -69,10 +68,7 @@ fn run_lines<W: Sink>(
     ensures ends { Ends script.now (W.written writer.old) (append_known (W.written writer.new) output.new) result }
     ensures fault { TellsWrites (W.failed writer.old) (W.failed writer.new) result }
 {
-    let mut desk = match Desk::new(alloc) {
-        Ok(desk) => desk,
-        Err(OutOfMemory) => return Err(ScriptFault::OutOfMemory),
-    };
+    let mut desk = Desk::new(alloc)?;
     let outcome = run_each(alloc, &mut desk, script, output, writer);
     desk.close();
     outcome
@@ -96,10 +92,7 @@ fn run_each<W: Sink>(
     let mut rest = script;
     let mut done: u64 = 0;
     while let Some((line, after)) = split_once(rest, b'\n') {
-        let ran = run_line(alloc, desk, line, done + 1, &mut reply, output, writer);
-        if let Err(fault) = ran {
-            return Err(fault);
-        }
+        run_line(alloc, desk, line, done + 1, &mut reply, output, writer)?;
         rest = after;
         done += 1;
     }

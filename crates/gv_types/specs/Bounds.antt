@@ -1,4 +1,4 @@
--- Which operations an address space allows.
+-- What contracts see of `Bounds` (`Area`), and which operations they allow.
 use Rattle.std.specs.Prelude.{◌≡◌, ℕ, ◌%◌, Bool, true, false, not, ◌&&◌, ◌==◌, if◌then◌else◌, Option, Some, None, Result, Ok, Err}
 use Rattle.gv_types.specs.Page.{PAGES, bytes_per_page}
 use Rattle.gv_types.specs.Span.{Span, span, meets, lies_in, is_in_space}

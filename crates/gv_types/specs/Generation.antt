@@ -1,4 +1,4 @@
--- A number of 64 bits in two halves.
+-- What contracts see of a `Generation`: a number of 64 bits, which stands in two halves.
 use Rattle.std.specs.Prelude.{◌≡◌, ℕ, ◌+◌, ◌*◌, ◌/◌, ◌%◌, ◌^◌, ◌<◌}
 use Rattle.std.proofs.Common.{arith, refl}
 use Rattle.gv_types.specs.declared.generation.Generation.TheInside.{Inside}

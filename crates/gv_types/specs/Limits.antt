@@ -1,4 +1,4 @@
--- How many things of each kind an address space may hold.
+-- What contracts see of `Limits` (`Caps`): how many things of each kind an address space may hold.
 use Rattle.std.specs.Prelude.{ℕ, ◌≤◌}
 
 pub record Caps : Type 0 where

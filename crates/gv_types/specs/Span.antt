@@ -1,4 +1,4 @@
--- A run of pages, and what it covers.
+-- What contracts see of a `PageRange` (`Span`): a run of pages, and what it covers.
 use Rattle.std.specs.Prelude.{ℕ, ◌+◌, ◌<◌, ◌≤◌, Bool, ◌&&◌, nat_lt, nat_le}
 use Rattle.gv_types.specs.Page.{PAGES}
 

@@ -1,31 +1,36 @@
 use Rattle.std.proofs.Common.{◌≡◌, ◌∙◌, ◌++◌, ◌+◌, [], Err, arith, refl}
 use Rattle.std.proofs.KnownBytes.{Appends-trans}
 use Rattle.gv_lines.proofs.PartsLemmas.{parts_some}
+use Rattle.std.proofs.lemmas.Result.{err_from_is_err_and}
 use Rattle.gv_text.specs.Script.{one_if}
 use Rattle.gv_text.proofs.Front.{front_more}
 use Rattle.gv_text.proofs.Outcomes.{outcome_of_run}
 use Rattle.gv_text.proofs.Ends.{line_ends, tells_from, stops_at, empty_from}
 use Rattle.gv_text.proofs.script.run_each.Goals as goal
 
-pub returns-in-Err-clause-ends : goal.returns-in-Err-clause-ends
-returns-in-Err-clause-ends g c =
+pub returns-in_err-run_line-clause-ends : goal.returns-in_err-run_line-clause-ends
+returns-in_err-run_line-clause-ends g c =
+    let p = err_from_is_err_and c.from_residual.result c.from_residual.ensures.1 in
     let front = rw c.in-Some.ensures.parts at c.loop-line.invariant.front in
-    line_ends (Unit {0}) (Unit {0}) _ _ _ _ _ _ _ c.run_line-ran.new.desk _ _ _ _ c.requires.short front (parts_some 10 c.in-Some.after.now) c.loop-line.invariant.wrote c.in-Err.ensures.ends
+    rw (p.1, p.2)
+    (line_ends (Unit {0}) (Unit {0}) _ _ _ _ _ _ _ c.run_line.new.desk _ _ _ _ c.requires.short front (parts_some 10 c.in-Some.after.now) c.loop-line.invariant.wrote c.in_err-run_line.ensures.ends)
 
-pub returns-in-Err-clause-fault : goal.returns-in-Err-clause-fault
-returns-in-Err-clause-fault g c =
-    tells_from {T = Unit {0}} _ _ (g.W.Sink.failed c.run_line-ran.new.writer) (Err c.in-Err.fault) c.loop-line.invariant.flag c.in-Err.ensures.fault
+pub returns-in_err-run_line-clause-fault : goal.returns-in_err-run_line-clause-fault
+returns-in_err-run_line-clause-fault g c =
+    let p = err_from_is_err_and c.from_residual.result c.from_residual.ensures.1 in
+    rw p.1
+    (tells_from {T = Unit {0}} _ _ (g.W.Sink.failed c.run_line.new.writer) (Err p.0) c.loop-line.invariant.flag (rw (← p.2) at c.in_err-run_line.ensures.fault))
 
 pub loop-line-preserved : goal.loop-line-preserved
 loop-line-preserved g c =
     let front = rw c.in-Some.ensures.parts at c.loop-line.invariant.front in
-    let ran = c.in_default-ran.ensures.ends in
+    let ran = c.in_ok-run_line.ensures.ends in
     record {
       text = c.loop-line.invariant.text ++ ran.1;
       refusals = c.loop-line.invariant.refusals + one_if ran.0;
       front = front_more _ _ _ _ _ _ _ _ _ _ front ran.2;
       wrote = Appends-trans _ _ _ _ _ c.loop-line.invariant.wrote ran.3;
-      flag = c.in_default-ran.ensures.fault ∙ c.loop-line.invariant.flag;
+      flag = c.in_ok-run_line.ensures.fault ∙ c.loop-line.invariant.flag;
       left = omega (arith, c.in-Some.ensures.shorter);
     }
 

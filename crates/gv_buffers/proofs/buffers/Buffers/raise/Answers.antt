@@ -15,12 +15,12 @@ raise-requires c =
 
 pub returns : goal.returns
 returns c =
-    (moved c.self.inside c.args.self.now c.args.id c.index_mut.result.now _ (raised c.args.counter) c.self.invariant c.self.view_is
+    (moved c.self.inside c.args.self.now c.args.id c.index_mut.result.now _ (raised c.args.counter 1) c.self.invariant c.self.view_is
     (counted_lives c.args.self.now c.args.id (count c.args.counter) (λ n. n < most_counted) c.requires) c.index_mut.ensures.value (c.raise.ensures c.args.id.index)
     (λ made b. IsBuffer-with_count c.args.counter (count c.args.counter b + 1) made b) (λ b. users-with_count c.args.counter (count c.args.counter b + 1) b)).table
 
 pub invariant_of-self : goal.invariant_of-self
 invariant_of-self c =
-    (moved c.self.inside c.args.self.now c.args.id c.index_mut.result.now _ (raised c.args.counter) c.self.invariant c.self.view_is
+    (moved c.self.inside c.args.self.now c.args.id c.index_mut.result.now _ (raised c.args.counter 1) c.self.invariant c.self.view_is
     (counted_lives c.args.self.now c.args.id (count c.args.counter) (λ n. n < most_counted) c.requires) c.index_mut.ensures.value (c.raise.ensures c.args.id.index)
     (λ made b. IsBuffer-with_count c.args.counter (count c.args.counter b + 1) made b) (λ b. users-with_count c.args.counter (count c.args.counter b + 1) b)).sound
