@@ -9,7 +9,7 @@ use Rattle.std.proofs.Math.Seq.{take-append_seam}
 use Rattle.std.specs.List.{All}
 use Rattle.std.specs.Prelude.{is_some, IsTrue, ◌↔◌, ◌==◌}
 use Rattle.std.specs.Borrow.{Bor}
-use Rattle.gv_lines.proofs.Parts.{none_left}
+use Rattle.gv_lines.proofs.PartsLemmas.{none_left}
 use Rattle.gv_lines.specs.Words.{parts_left, words, is_separator, clauses}
 
 -- no line has more words than one above its bytes

@@ -1,16 +1,16 @@
 //! A tree made that of a list, inside a range.
 ghost use Rattle.std.specs.Prelude.{◌≡◌, ◌+◌, ◌-◌, ◌*◌, ◌<◌, ◌≤◌, ℕ, false, IsTrue};
-ghost use Rattle.std.specs.Prelude.{List, slice_index_or};
+ghost use Rattle.std.specs.Prelude.{List, None, IfSome, slice_index_or};
+ghost use Rattle.gv_table.specs.Chain.{AreEmpty};
 ghost use Rattle.gv_types.specs.Page.{PAGES};
 ghost use Rattle.gv_types.specs.Span.{span, meets, end_of};
 ghost use Rattle.gv_types.specs.declared.mapping.Mapping.{Mapping};
-ghost use Rattle.gv_ranges.specs.List.{IsLaidOut};
-ghost use Rattle.gv_table.specs.declared.slot.Slot.TheVariants.{Empty, Leaf};
+ghost use Rattle.gv_ranges.specs.List.{IsLaidOut, IsPlaceOf, AreEnded};
+ghost use Rattle.gv_table.specs.declared.slot.Slot.TheVariants.{Empty};
 ghost use Rattle.gv_table.specs.Levels.{top_level, root_level, slots_per_table, pages_of};
-ghost use Rattle.gv_table.specs.Levels.{slot_pages};
-ghost use Rattle.gv_table.specs.Near.{IsNear};
+ghost use Rattle.gv_table.specs.Levels.{slot_pages, entered};
 ghost use Rattle.gv_table.specs.Reads.{entry_after};
-ghost use Rattle.gv_table.specs.Tree.{IsTreeOf, IsTreeOutside, is_table, child};
+ghost use Rattle.gv_table.specs.Tree.{IsTreeOf, IsTreeOutside, is_table, child, leaf};
 ghost use Rattle.gv_table.specs.Counts.{gained, lost, row_gained, row_lost};
 ghost use Rattle.gv_table.specs.Counts.{one_if_not, one_if_new, HasSameTables};
 ghost use Rattle.gv_table.specs.Counts.{tables_at, row_tables_at, count_at};
@@ -18,14 +18,14 @@ ghost use Rattle.gv_table.specs.Counts.{IsPartOf, IsRowOf};
 ghost use Rattle.gv_types.specs.Mapping.{HasSmallPages};
 
 use crate::levels::{SLOTS, pages_of, slots_met};
-use crate::near::Near;
+use crate::place::advance;
 use crate::release::release;
 use crate::slot::Slot;
 use crate::spares::Spares;
 use crate::tally::Tally;
 use crate::walk::entry_after;
 use crate::wanted::{Wanted, slot_wanted};
-use gv_types::{Entry, Mapping};
+use gv_types::{Entry, Mapping, PageRange};
 use std::mem;
 
 /// Makes the slots the parts of a leaf, each of `pages` pages.
@@ -35,11 +35,30 @@ fn spread(slots: &mut [Slot; SLOTS], entry: &Entry, pages: u64)
         → is_table (slice_index_or slots.new k Empty) ≡ false }
     ensures entries { HasSmallPages entry.now.backing (slots_per_table * pages)
         → (k : ℕ) → k < slots_per_table
-        → slice_index_or slots.new k Empty ≡ Leaf (entry_after entry.now (k * pages)) }
+        → slice_index_or slots.new k Empty ≡ leaf (entry_after entry.now (k * pages)) }
 {
     for index in 0..SLOTS {
-        slots[index] = Slot::Leaf(entry_after(entry, index as u64 * pages));
+        slots[index] = Slot::leaf(entry_after(entry, index as u64 * pages));
     }
+}
+
+/// A spare table, with the parts of the entry, where there is one.
+fn filled(entry: Option<Entry>, pages: u64, spares: &mut Spares) -> Box<[Slot; SLOTS]>
+    requires bound { slots_per_table * pages ≤ PAGES }
+    requires some { 0 < spares.old }
+    ensures empty { entry ≡ None → AreEmpty result.value }
+    ensures leaves { (k : ℕ) → k < slots_per_table
+        → is_table (slice_index_or result.value k Empty) ≡ false }
+    ensures entries { IfSome entry (λ e. HasSmallPages e.backing (slots_per_table * pages)
+        → (k : ℕ) → k < slots_per_table
+        → slice_index_or result.value k Empty ≡ leaf (entry_after e (k * pages))) }
+    ensures taken { spares.new + 1 ≡ spares.old }
+{
+    let mut slots = spares.take();
+    if let Some(entry) = entry {
+        spread(&mut slots, &entry, pages);
+    }
+    slots
 }
 
 /// The table of a slot, or a spare one with the parts of what the slot held, which the tally then
@@ -59,17 +78,12 @@ fn divide(slot: Slot, level: usize, spares: &mut Spares, tally: &mut Tally) -> B
     ensures counted { (target : ℕ) → count_at tally.new target
         ≡ count_at tally.old target + one_if_new target (level - 1) (is_table slot) }
 {
+    let entry = slot.entry();
     match slot {
         Slot::Table(slots) => slots,
-        Slot::Empty => {
+        Slot::Empty | Slot::Zero { .. } | Slot::Buffer { .. } => {
             tally.raise(level - 1);
-            spares.take()
-        }
-        Slot::Leaf(entry) => {
-            tally.raise(level - 1);
-            let mut slots = spares.take();
-            spread(&mut slots, &entry, pages_of(level - 1));
-            slots
+            filled(entry, pages_of(level - 1), spares)
         }
     }
 }
@@ -82,16 +96,17 @@ pub fn paint_slot(
     level: usize,
     first: u64,
     mappings: &[Mapping],
-    near: &Near,
+    range: PageRange,
+    place: usize,
     spares: &mut Spares,
     tally: &mut Tally,
 ) -> u64
     requires known { level ≤ top_level }
     requires in_space { end_of (slot_pages level first) ≤ PAGES }
     requires laid_out { IsLaidOut mappings.now }
-    requires near { IsNear mappings.now near.now }
-    requires met { IsTrue (meets (slot_pages level first) near.now.range) }
-    requires outside { IsTreeOutside mappings.now near.now.range level first slot.old }
+    requires place { IsPlaceOf mappings.now (entered range first) place }
+    requires met { IsTrue (meets (slot_pages level first) range) }
+    requires outside { IsTreeOutside mappings.now range level first slot.old }
     requires enough { gained mappings.now level first slot.old ≤ spares.old }
     requires part { IsPartOf tally.old level slot.old }
     ensures lost { result ≡ lost mappings.now level first slot.old }
@@ -101,17 +116,26 @@ pub fn paint_slot(
     ensures counted { (target : ℕ) → count_at tally.new target + tables_at target level slot.old
         ≡ count_at tally.old target + tables_at target level slot.new }
 {
-    match slot_wanted(mappings, near, level, first) {
+    match slot_wanted(mappings, range, place, level, first) {
         Wanted::Nothing => release(slot, level, spares, tally),
         Wanted::Entry(entry) => {
             let lost = release(slot, level, spares, tally);
-            *slot = Slot::Leaf(entry);
+            *slot = Slot::leaf(entry);
             lost
         }
         Wanted::Table => {
             let old = mem::replace(slot, Slot::Empty);
             let mut slots = divide(old, level, spares, tally);
-            let lost = paint_row(&mut slots, level - 1, first, mappings, near, spares, tally);
+            let lost = paint_row(
+                &mut slots,
+                level - 1,
+                first,
+                mappings,
+                range,
+                place,
+                spares,
+                tally,
+            );
             *slot = Slot::Table(slots);
             lost
         }
@@ -125,17 +149,18 @@ fn paint_row(
     level: usize,
     first: u64,
     mappings: &[Mapping],
-    near: &Near,
+    range: PageRange,
+    place: usize,
     spares: &mut Spares,
     tally: &mut Tally,
 ) -> u64
     requires known { level ≤ root_level }
     requires in_space { first + slots_per_table * pages_of level ≤ PAGES }
     requires laid_out { IsLaidOut mappings.now }
-    requires near { IsNear mappings.now near.now }
-    requires met { IsTrue (meets (span first (slots_per_table * pages_of level)) near.now.range) }
+    requires place { AreEnded mappings.now (entered range first) place }
+    requires met { IsTrue (meets (span first (slots_per_table * pages_of level)) range) }
     requires outside { (k : ℕ) → k < slots_per_table
-        → IsTreeOutside mappings.now near.now.range level (first + k * pages_of level)
+        → IsTreeOutside mappings.now range level (first + k * pages_of level)
         (slice_index_or slots.old k Empty) }
     requires enough { row_gained mappings.now level first slots.old ≤ spares.old }
     requires part { IsRowOf tally.old level slots.old }
@@ -148,16 +173,19 @@ fn paint_row(
         ≡ count_at tally.old target + row_tables_at target level slots.new }
 {
     let pages = pages_of(level);
-    let (low, high) = slots_met(level, first, near.range);
+    let (low, high) = slots_met(level, first, range);
+    let mut place = place;
     let mut lost = 0;
     for index in low..high {
         let start = first + index as u64 * pages;
+        place = advance(mappings, place, start.max(range.first()));
         lost += paint_slot(
             &mut slots[index],
             level,
             start,
             mappings,
-            near,
+            range,
+            place,
             spares,
             tally,
         );
