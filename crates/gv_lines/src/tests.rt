@@ -238,7 +238,7 @@ fn repeated(alloc: Global, first: &str, more: &str, count: usize) -> Result<Stri
 
 #[test]
 fn refuses_other_lines(rt: HostRuntime) {
-    let rows: [&[u8]; 36] = [
+    let rows: [&[u8]; 37] = [
         b"at 18446744073709551616",
         b"at 0x00000000000000000",
         b"at 0x",
@@ -268,6 +268,7 @@ fn refuses_other_lines(rt: HostRuntime) {
         b"map\r",
         b"maps",
         b"# \x80",
+        b"\x80",
         b"bind at 0",
         b"map 0",
         b"at 0x00000000000000001",
