@@ -1,63 +1,16 @@
 -- The lines of the language.
-use Rattle.std.specs.Prelude.{ℕ, Bool, true, false, List, [], ◌∷◌, Option, Some, None, ◌==◌, if◌then◌else◌, codes, bytes_eq}
+use Rattle.std.specs.Prelude.{ℕ, List, [], ◌∷◌, Option, Some, None, ◌==◌, if◌then◌else◌, codes, bytes_eq}
 use Rattle.std.specs.List.{list_all}
 use Rattle.std.specs.Char.{is_ascii}
-use Rattle.gv_lines.specs.Words.{words, first_name, first_number}
+use Rattle.gv_lines.specs.Chain.{◌>>=◌}
+use Rattle.gv_lines.specs.Words.{words, clauses, first_name, first_number, queue_of, ended}
+use Rattle.gv_lines.specs.Operation.{planned_operation}
+use Rattle.gv_lines.specs.Clause.{point_of, bind_clauses, clauses_read}
+use Rattle.gv_lines.specs.Job.{accesses_read}
 use Rattle.gv_lines.specs.declared.keyword.Keyword.{Keyword}
 use Rattle.gv_lines.specs.declared.keyword.Keyword.TheVariants as keyword
-use Rattle.gv_lines.specs.declared.line.Operation.{Operation}
-use Rattle.gv_lines.specs.declared.line.Operation.TheVariants as operation
 use Rattle.gv_lines.specs.declared.line.Line.{Line}
-use Rattle.gv_lines.specs.declared.line.Line.TheVariants.{Silent, Space, Buffer, Destroy, Uses, Bind, Plan, Map, At, Tables}
-
-infixl 10 ◌>>=◌
-abbrev pub ◌>>=◌ : {A B : Type 0} → Option A → (A → Option B) → Option B
-None >>= f = None
-(Some x) >>= f = f x
-
--- the value, where no word is left
-abbrev pub ended : {A : Type 0} → List (List ℕ) → A → Option A
-ended [] value = Some value
-ended (word ∷ more) value = None
-
--- whether ro stands at the end, and nothing else may
-abbrev pub read_only_end : List (List ℕ) → Option Bool
-read_only_end [] = Some false
-read_only_end (word ∷ more) = if bytes_eq word (codes "ro") then ended more true else None
-
--- map ADDR LEN NAME OFFSET, or map ADDR LEN NAME OFFSET ro
-abbrev pub map_operation : List (List ℕ) → Option Operation
-map_operation words = do
-  addr ← first_number words
-  len ← first_number addr.1
-  buffer ← first_name len.1
-  offset ← first_number buffer.1
-  read_only ← read_only_end offset.1
-  Some (operation.Map addr.0 len.0 buffer.0 offset.0 read_only)
-
--- zero ADDR LEN, or zero ADDR LEN ro
-abbrev pub zero_operation : List (List ℕ) → Option Operation
-zero_operation words = do
-  addr ← first_number words
-  len ← first_number addr.1
-  read_only ← read_only_end len.1
-  Some (operation.Zero addr.0 len.0 read_only)
-
--- unmap ADDR LEN
-abbrev pub unmap_operation : List (List ℕ) → Option Operation
-unmap_operation words = do
-  addr ← first_number words
-  len ← first_number addr.1
-  ended len.1 (operation.Unmap addr.0 len.0)
-
--- OPERATION, by its first word
-abbrev pub operation_of : List (List ℕ) → Option Operation
-operation_of [] = None
-operation_of (first ∷ more) =
-    if bytes_eq first (codes "map") then map_operation more
-    else if bytes_eq first (codes "zero") then zero_operation more
-    else if bytes_eq first (codes "unmap") then unmap_operation more
-    else None
+use Rattle.gv_lines.specs.declared.line.Line.TheVariants.{Silent, Space, Limits, Buffer, Destroy, Uses, Timeline, Raise, Value, Bind, Plan, Map, At, Tables, Rewind, Journal, Withdraw, Settle, Told, Job, End}
 
 -- space START LEN RSTART RLEN
 abbrev pub space_line : List (List ℕ) → Option Line
@@ -67,6 +20,14 @@ space_line words = do
   reserved_start ← first_number len.1
   reserved_len ← first_number reserved_start.1
   ended reserved_len.1 (Space start.0 len.0 reserved_start.0 reserved_len.0)
+
+-- limits BUFFERS MAPPINGS ITEMS
+abbrev pub limits_line : List (List ℕ) → Option Line
+limits_line words = do
+  buffers ← first_number words
+  mappings ← first_number buffers.1
+  items ← first_number mappings.1
+  ended items.1 (Limits buffers.0 mappings.0 items.0)
 
 -- buffer NAME PAGES
 abbrev pub buffer_line : List (List ℕ) → Option Line
@@ -87,17 +48,35 @@ uses_line words = do
   name ← first_name words
   ended name.1 (Uses name.0)
 
--- bind OPERATION
+-- timeline NAME
+abbrev pub timeline_line : List (List ℕ) → Option Line
+timeline_line words = do
+  name ← first_name words
+  ended name.1 (Timeline name.0)
+
+-- raise NAME NUM
+abbrev pub raise_line : List (List ℕ) → Option Line
+raise_line words = do
+  point ← point_of words
+  Some (Raise point)
+
+-- value NAME
+abbrev pub value_line : List (List ℕ) → Option Line
+value_line words = do
+  name ← first_name words
+  ended name.1 (Value name.0)
+
+-- bind, or bind CLAUSE ; CLAUSE ..
 abbrev pub bind_line : List (List ℕ) → Option Line
 bind_line words = do
-  change ← operation_of words
-  Some (Bind change)
+  read ← clauses_read (bind_clauses words)
+  Some (Bind read)
 
 -- plan OPERATION
 abbrev pub plan_line : List (List ℕ) → Option Line
 plan_line words = do
-  change ← operation_of words
-  Some (Plan change)
+  operation ← planned_operation words
+  Some (Plan operation)
 
 -- map
 abbrev pub map_line : List (List ℕ) → Option Line
@@ -113,31 +92,92 @@ at_line words = do
 abbrev pub tables_line : List (List ℕ) → Option Line
 tables_line words = ended words Tables
 
+-- rewind
+abbrev pub rewind_line : List (List ℕ) → Option Line
+rewind_line words = ended words Rewind
+
+-- journal
+abbrev pub journal_line : List (List ℕ) → Option Line
+journal_line words = ended words Journal
+
+-- withdraw NUM
+abbrev pub withdraw_line : List (List ℕ) → Option Line
+withdraw_line words = do
+  entry ← first_number words
+  ended entry.1 (Withdraw entry.0)
+
+-- settle NUM
+abbrev pub settle_line : List (List ℕ) → Option Line
+settle_line words = do
+  to ← first_number words
+  ended to.1 (Settle to.0)
+
+-- told NUM, below the number of queues
+abbrev pub told_line : List (List ℕ) → Option Line
+told_line words = do
+  number ← first_number words
+  queue ← queue_of number.0
+  ended number.1 (Told queue)
+
+-- job ACCESS ; ACCESS ..
+abbrev pub job_line : List (List ℕ) → Option Line
+job_line words = do
+  accesses ← accesses_read (clauses words)
+  Some (Job accesses)
+
+-- end NUM
+abbrev pub end_line : List (List ℕ) → Option Line
+end_line words = do
+  job ← first_number words
+  ended job.1 (End job.0)
+
 -- the keyword that a word is
 abbrev pub keyword_of : List ℕ → Option Keyword
 keyword_of word =
     if bytes_eq word (codes "space") then Some keyword.Space
+    else if bytes_eq word (codes "limits") then Some keyword.Limits
     else if bytes_eq word (codes "buffer") then Some keyword.Buffer
     else if bytes_eq word (codes "destroy") then Some keyword.Destroy
     else if bytes_eq word (codes "uses") then Some keyword.Uses
+    else if bytes_eq word (codes "timeline") then Some keyword.Timeline
+    else if bytes_eq word (codes "raise") then Some keyword.Raise
+    else if bytes_eq word (codes "value") then Some keyword.Value
     else if bytes_eq word (codes "bind") then Some keyword.Bind
     else if bytes_eq word (codes "plan") then Some keyword.Plan
     else if bytes_eq word (codes "map") then Some keyword.Map
     else if bytes_eq word (codes "at") then Some keyword.At
     else if bytes_eq word (codes "tables") then Some keyword.Tables
+    else if bytes_eq word (codes "rewind") then Some keyword.Rewind
+    else if bytes_eq word (codes "journal") then Some keyword.Journal
+    else if bytes_eq word (codes "withdraw") then Some keyword.Withdraw
+    else if bytes_eq word (codes "settle") then Some keyword.Settle
+    else if bytes_eq word (codes "told") then Some keyword.Told
+    else if bytes_eq word (codes "job") then Some keyword.Job
+    else if bytes_eq word (codes "end") then Some keyword.End
     else None
 
 -- a line that begins with this keyword, by the words behind it
 abbrev pub line_of : Keyword → List (List ℕ) → Option Line
 line_of keyword.Space = space_line
+line_of keyword.Limits = limits_line
 line_of keyword.Buffer = buffer_line
 line_of keyword.Destroy = destroy_line
 line_of keyword.Uses = uses_line
+line_of keyword.Timeline = timeline_line
+line_of keyword.Raise = raise_line
+line_of keyword.Value = value_line
 line_of keyword.Bind = bind_line
 line_of keyword.Plan = plan_line
 line_of keyword.Map = map_line
 line_of keyword.At = at_line
 line_of keyword.Tables = tables_line
+line_of keyword.Rewind = rewind_line
+line_of keyword.Journal = journal_line
+line_of keyword.Withdraw = withdraw_line
+line_of keyword.Settle = settle_line
+line_of keyword.Told = told_line
+line_of keyword.Job = job_line
+line_of keyword.End = end_line
 
 -- a line by its words
 abbrev pub worded : List (List ℕ) → Option Line

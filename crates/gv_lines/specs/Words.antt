@@ -3,6 +3,7 @@ use Rattle.std.specs.Prelude.{ℕ, ◌+◌, ◌-◌, ◌*◌, ◌^◌, Bool, fal
 use Rattle.std.specs.List.{slice_split, list_all, starts_with}
 use Rattle.std.specs.Char.{is_ascii_lowercase, is_ascii_digit}
 use Rattle.std.specs.Borrow.{Bor}
+use Rattle.gv_lines.specs.Chain.{◌>>=◌}
 use Rattle.gv_lines.specs.Hex.{number_limit, hex_digits}
 
 -- the parts of a text between the places of a byte
@@ -21,6 +22,22 @@ space_byte = 32
 -- The parts of a line between its spaces. Between two spaces in a row, and at an end with a space, is the empty word.
 abbrev pub words : List ℕ → List (List ℕ)
 words line = parts space_byte line
+
+-- the word that stands between two clauses
+abbrev pub separator : List ℕ
+separator = codes ";"
+
+abbrev pub is_separator : List ℕ → Bool
+is_separator word = bytes_eq word separator
+
+-- The words of each clause: those between the separators. Between two separators in a row, and at an end with a separator, is the empty clause.
+abbrev pub clauses : List (List ℕ) → List (List (List ℕ))
+clauses words = slice_split is_separator words
+
+-- what is left of some words behind the last clause, in clauses
+abbrev pub clauses_left : Option (List (List ℕ)) → List (List (List ℕ))
+clauses_left None = []
+clauses_left (Some words) = clauses words
 
 -- how many bytes a name has at most
 abbrev pub name_bytes : ℕ
@@ -70,13 +87,32 @@ digits_of base digits =
     if nat_lt 0 (length digits) && list_all (is_digit base) digits && nat_lt (value_of base digits) number_limit
     then Some (value_of base digits) else None
 
--- 0x and some hexadecimal digits, or decimal digits without a leading zero
+-- decimal digits without a leading zero
+unfoldable pub decimal_of : List ℕ → Option ℕ
+decimal_of word =
+    if starts_with (λ a b. a == b) word (codes "0") && nat_lt 1 (length word) then None
+    else digits_of decimal_base word
+
+-- 0x and some hexadecimal digits, or a decimal number
 unfoldable pub number_of : List ℕ → Option ℕ
 number_of word =
     if starts_with (λ a b. a == b) word (codes "0x")
     then (if nat_le (length (drop 2 word)) hex_digits then digits_of hex_base (drop 2 word) else None)
-    else if starts_with (λ a b. a == b) word (codes "0") && nat_lt 1 (length word) then None
-    else digits_of decimal_base word
+    else decimal_of word
+
+-- how many queues there are, numbered from 0
+abbrev pub queues : ℕ
+queues = 16
+
+-- the queue of a number, if there is one
+abbrev pub queue_of : ℕ → Option ℕ
+queue_of number = if nat_lt number queues then Some number else None
+
+-- the queue that a word names, by a decimal number
+abbrev pub queue_named : List ℕ → Option ℕ
+queue_named word = do
+  number ← decimal_of word
+  queue_of number
 
 -- what the first word was read as, and the other words
 abbrev pub with_rest : {X : Type 0} → Option X → List (List ℕ) → Option (X × List (List ℕ))
@@ -92,3 +128,13 @@ first_name (word ∷ more) = with_rest (name_of word) more
 abbrev pub first_number : List (List ℕ) → Option (ℕ × List (List ℕ))
 first_number [] = None
 first_number (word ∷ more) = with_rest (number_of word) more
+
+-- the first word, if it names a queue, and the other words
+abbrev pub first_queue : List (List ℕ) → Option (ℕ × List (List ℕ))
+first_queue [] = None
+first_queue (word ∷ more) = with_rest (queue_named word) more
+
+-- the value, where no word is left
+abbrev pub ended : {A : Type 0} → List (List ℕ) → A → Option A
+ended [] value = Some value
+ended (word ∷ more) value = None

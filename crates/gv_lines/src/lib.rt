@@ -2,16 +2,28 @@
 //! hexadecimal.
 #![tactic(auto)]
 
+mod clause;
+mod clauses;
 mod hex;
+mod job;
 mod keyword;
 mod line;
 mod name;
 mod number;
+mod operation;
+mod parse;
+mod point;
 mod words;
 
+pub use clause::Clause;
+pub use clauses::ClauseList;
 pub use hex::write_hex;
-pub use line::{Line, Operation, parse_line};
+pub use job::{Access, AccessList};
+pub use line::Line;
 pub use name::Name;
+pub use operation::Operation;
+pub use parse::parse_line;
+pub use point::NamedPoint;
 pub use words::split_once;
 
 #[cfg(test)]

@@ -1,7 +1,7 @@
 //! Numbers in decimal, and in hexadecimal behind 0x.
 ghost use Rattle.std.specs.Prelude.{◌≡◌, ◌≤◌, ◌+◌, ◌*◌, MatchOption};
 ghost use Rattle.gv_lines.specs.Hex.{number_limit};
-ghost use Rattle.gv_lines.specs.Words.{number_of, digits_of, digit_value, hex_base};
+ghost use Rattle.gv_lines.specs.Words.{number_of, decimal_of, digits_of, digit_value, hex_base};
 
 const DECIMAL_BASE: u64 = 10;
 
@@ -20,6 +20,14 @@ pub fn number_of(word: &[u8]) -> Option<u64>
         }
         return digits_of(HEX_BASE, digits);
     }
+    decimal_of(word)
+}
+
+/// The decimal number that a word is, if it is one below 2^64.
+#[tactic(auto, unfolding(crate::specs::Words::decimal_of))]
+pub fn decimal_of(word: &[u8]) -> Option<u64>
+    ensures { result ≡ decimal_of word.now }
+{
     if word.len() > 1 && word[0] == b'0' {
         return None;
     }

@@ -1,25 +1,31 @@
-//! A line cut into words.
+//! A line cut into words, and words cut into clauses.
 ghost use Rattle.std.specs.Prelude.{◌≡◌, ◌∷◌, [], List, ℕ, None, Some, MatchOption, IsTrue, ◌↔◌};
 ghost use Rattle.std.specs.Prelude.{◌==◌, ◌<◌, length, position, IfSome};
-ghost use Rattle.gv_lines.specs.Words.{words, parts, parts_left, first_name, first_number};
+ghost use Rattle.gv_lines.specs.Words.{words, clauses, clauses_left, parts, parts_left};
+ghost use Rattle.gv_lines.specs.Words.{first_name, first_number, first_queue, queue_of};
 
 use super::name::Name;
-use super::number::number_of;
+use super::number::{decimal_of, number_of};
 use std::marker::Model;
 
-/// The words of a line that are left.
-#[derive(Drop)]
+const QUEUES: u64 = 16;
+
+/// Words that are left: those of the text, but no more than the limit.
+#[derive(Drop, Debug)]
 pub struct Words<'a> {
     rest: Option<&'a [u8]>,
+    limit: usize,
 }
 
 impl<'a> Model for Words<'a> {
-    ghost use Rattle.std.specs.Prelude.{List, ℕ};
+    ghost use Rattle.std.specs.Prelude.{List, ℕ, take, ◌<◌, ◌^◌};
     ghost use Rattle.gv_lines.specs.Words.{space_byte, parts_left};
 
     ghost Value = { List (List ℕ) };
 
-    ghost view = { λ left. parts_left space_byte left.rest };
+    ghost view = { λ left. take left.limit (parts_left space_byte left.rest) };
+
+    ghost invariant = { λ left. left.limit < 2 ^ 64 };
 }
 
 impl<'a> Words<'a> {
@@ -27,14 +33,22 @@ impl<'a> Words<'a> {
     pub fn new(line: &'a [u8]) -> Self
         ensures { result ≡ words line.entry.now }
     {
-        Words { rest: Some(line) }
+        Words {
+            rest: Some(line),
+            limit: line.len() + 1,
+        }
     }
 
     /// The next word, if one is left.
     pub fn take_word(&mut self) -> Option<&'a [u8]>
-        ensures { MatchOption result (self.old ≡ []) (λ word. self.old ≡ word.now ∷ self.new) }
+        ensures { MatchOption result ((self.old ≡ []) × (self.new ≡ []))
+            (λ word. self.old ≡ word.now ∷ self.new) }
     {
+        if self.limit == 0 {
+            return None;
+        }
         let text = self.rest?;
+        self.limit -= 1;
         match split_once(text, b' ') {
             Some((word, rest)) => {
                 self.rest = Some(rest);
@@ -63,12 +77,112 @@ impl<'a> Words<'a> {
         number_of(self.take_word()?)
     }
 
+    /// The next word, which has to name a queue.
+    pub fn take_queue(&mut self) -> Option<u64>
+        ensures { MatchOption result (first_queue self.old ≡ None)
+            (λ queue. first_queue self.old ≡ Some (queue, self.new)) }
+    {
+        queue_of(decimal_of(self.take_word()?)?)
+    }
+
     /// Whether no word is left.
     pub fn is_done(&self) -> bool
         ensures { IsTrue result ↔ (self.now ≡ []) }
     {
-        self.rest.is_none()
+        self.limit == 0 || self.rest.is_none()
     }
+
+    /// The same words.
+    pub fn again(&self) -> Words<'a>
+        ensures { result ≡ self.now }
+    {
+        Words {
+            rest: self.rest,
+            limit: self.limit,
+        }
+    }
+
+    /// The words before the first separator, and where there is one, those behind it.
+    fn split(self) -> (Words<'a>, Option<Words<'a>>)
+        ensures { MatchOption result.1 (clauses self.entry ≡ result.0 ∷ [])
+            (λ more. clauses self.entry ≡ result.0 ∷ clauses more) }
+    {
+        let rest = self.rest;
+        let limit = self.limit;
+        let mut left = Words { rest, limit };
+        let mut before: usize = 0;
+        while let Some(word) = left.take_word() {
+            if word == b";".as_slice() {
+                return (
+                    Words {
+                        rest,
+                        limit: before,
+                    },
+                    Some(left),
+                );
+            }
+            before += 1;
+        }
+        (Words { rest, limit }, None)
+    }
+}
+
+/// The clauses of some words that are left.
+#[derive(Drop, Debug)]
+pub struct Clauses<'a> {
+    rest: Option<Words<'a>>,
+}
+
+impl<'a> Model for Clauses<'a> {
+    ghost use Rattle.std.specs.Prelude.{List, ℕ};
+    ghost use Rattle.gv_lines.specs.Words.{clauses_left};
+
+    ghost Value = { List (List (List ℕ)) };
+
+    ghost view = { λ left. clauses_left left.rest };
+}
+
+impl<'a> Clauses<'a> {
+    /// All clauses of some words, at least one.
+    pub fn new(words: Words<'a>) -> Self
+        ensures { result ≡ clauses words.entry }
+    {
+        Clauses { rest: Some(words) }
+    }
+
+    /// No clause.
+    pub fn none() -> Self
+        ensures { result ≡ [] }
+    {
+        Clauses { rest: None }
+    }
+
+    /// The same clauses.
+    pub fn again(&self) -> Clauses<'a>
+        ensures { result ≡ self.now }
+    {
+        match &self.rest {
+            Some(words) => Clauses::new(words.again()),
+            None => Clauses::none(),
+        }
+    }
+
+    /// The words of the next clause, if one is left.
+    pub fn take_clause(&mut self) -> Option<Words<'a>>
+        ensures { MatchOption result ((self.old ≡ []) × (self.new ≡ []))
+            (λ clause. self.old ≡ clause ∷ self.new) }
+    {
+        let (clause, rest) = self.rest.take()?.split();
+        self.rest = rest;
+        Some(clause)
+    }
+}
+
+/// The queue of a number, if there is one.
+pub fn queue_of(number: u64) -> Option<u64>
+    ensures { result ≡ queue_of number }
+{
+    (number < QUEUES).then_some(number)
 }
 
 /// The text before the first such byte and the text behind that byte, if there is one.

@@ -11,7 +11,7 @@ use Rattle.gv_text.specs.State.{Declared, texts, names_of, place_of, id_at}
 use Rattle.gv_types.specs.Renamed.{renamed, IsOf}
 use Rattle.gv_text.specs.Desk.{ids_of, declared, AreNumberedFrom, AreNumbered}
 use Rattle.gv_types.specs.declared.operation.Op.TheVariants.{Map as MapBytes}
-use Rattle.gv_lines.specs.declared.line.Operation.TheVariants.{Map as MapWords}
+use Rattle.gv_lines.specs.declared.operation.Operation.TheVariants.{Map as MapWords}
 use Rattle.gv_text.specs.Answer.{named, flags_of}
 use Rattle.gv_text.specs.Calls.{AnswersNamed}
 

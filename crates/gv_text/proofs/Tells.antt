@@ -7,8 +7,8 @@ use Rattle.gv_types.specs.declared.mapping.Mapping.{Mapping}
 use Rattle.gv_types.specs.declared.operation.Op.{Op}
 use Rattle.gv_split.specs.Steps.{steps}
 use Rattle.gv_split.specs.declared.step.Step.{Step}
-use Rattle.gv_lines.specs.declared.line.Operation.{Operation}
-use Rattle.gv_lines.specs.declared.line.Line.TheVariants.{Bind, Plan}
+use Rattle.gv_lines.specs.declared.operation.Operation.{Operation}
+use Rattle.gv_text.specs.declared.served.ServedLine.TheVariants.{Bind, Plan}
 use Rattle.gv_text.specs.State.{State, names_of}
 use Rattle.gv_types.specs.Renamed.{renamed_mapping}
 use Rattle.gv_text.specs.Reply.{refused_request, refused_reply, lines_reply, mapping_text, step_text}

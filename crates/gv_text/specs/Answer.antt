@@ -16,10 +16,11 @@ use Rattle.gv_buffers.specs.Table.{Buffer as LiveBuffer, buffer, create_fault, d
 use Rattle.gv_table.specs.Table.{tables_of}
 use Rattle.gv_space.specs.Refusal.{operation_fault, apply_fault}
 use Rattle.gv_lines.specs.Grammar.{parsed}
-use Rattle.gv_lines.specs.declared.line.Operation.{Operation}
-use Rattle.gv_lines.specs.declared.line.Operation.TheVariants.{Map as MapWords, Zero as ZeroWords, Unmap as UnmapWords}
-use Rattle.gv_lines.specs.declared.line.Line.{Line}
-use Rattle.gv_lines.specs.declared.line.Line.TheVariants.{Silent, Space, Buffer, Destroy, Uses, Bind, Plan, Map, At, Tables}
+use Rattle.gv_lines.specs.declared.operation.Operation.{Operation}
+use Rattle.gv_lines.specs.declared.operation.Operation.TheVariants.{Map as MapWords, Zero as ZeroWords, Unmap as UnmapWords, UnmapAll as UnmapAllWords}
+use Rattle.gv_text.specs.Served.{served}
+use Rattle.gv_text.specs.declared.served.ServedLine.{ServedLine}
+use Rattle.gv_text.specs.declared.served.ServedLine.TheVariants.{Silent, Space, Buffer, Destroy, Uses, Bind, Plan, Map, At, Tables}
 use Rattle.gv_text.specs.State.{State, Declared, names_of, place_of, id_at, destroyed, with_bind}
 use Rattle.gv_text.specs.Space.{table_of, space_of}
 use Rattle.gv_text.specs.Reply.{ok_reply, accepted_reply, refused_request, refused_reply, place_reply, uses_reply, tables_reply, lines_reply, mapping_text, step_text}
@@ -27,12 +28,14 @@ use Rattle.gv_text.specs.Reply.{ok_reply, accepted_reply, refused_request, refus
 abbrev pub flags_of : Bool → Flags
 flags_of read_only = record { read_only = read_only }
 
--- the operation of a line, in bytes; none where its buffer's name is not declared
+-- the operation of a line, in bytes; none where its buffer's name is not declared, and for an operation on a whole buffer,
+-- which a desk does not serve
 abbrev pub named : Declared → Operation → Option Op
 named buffers (MapWords addr len buffer offset read_only) =
     option_map (λ place. MapBytes addr len (id_at place) offset (flags_of read_only)) (place_of buffers buffer)
 named buffers (ZeroWords addr len read_only) = Some (MapZero addr len (flags_of read_only))
 named buffers (UnmapWords addr len) = Some (UnmapBytes addr len)
+named buffers (UnmapAllWords buffer) = None
 
 -- how many mappings of a buffer are in the list, and how many in undo values
 abbrev pub counts_of : LiveBuffer → ℕ × ℕ
@@ -90,7 +93,7 @@ abbrev pub at_reply : State → ℕ → List ℕ
 at_reply s addr = place_reply (names_of s.buffers) (addr % bytes_per_page) (at s.bound.mappings (addr / bytes_per_page))
 
 -- the reply to a line and the state after it, where memory suffices; none for a bad line
-abbrev pub answer : State → Line → Option (List ℕ × State)
+abbrev pub answer : State → ServedLine → Option (List ℕ × State)
 answer s Silent = Some ([], s)
 answer s (Space start len reserved_start reserved_len) =
     space_told s (byte_area start len reserved_start reserved_len)
@@ -113,7 +116,7 @@ lacking_bind s (Some fault) = None
 lacking_bind s None = Some (refused_request OutOfMemory, begun s)
 
 -- the same where memory for a request that would be accepted is refused; none for every other line
-abbrev pub lacking : State → Line → Option (List ℕ × State)
+abbrev pub lacking : State → ServedLine → Option (List ℕ × State)
 lacking s Silent = None
 lacking s (Space start len reserved_start reserved_len) = None
 lacking s (Buffer name size) = None
@@ -125,13 +128,13 @@ lacking s Map = None
 lacking s (At addr) = None
 lacking s Tables = None
 
-abbrev pub answer_if : Bool → State → Line → Option (List ℕ × State)
+abbrev pub answer_if : Bool → State → ServedLine → Option (List ℕ × State)
 answer_if true s line = lacking s line
 answer_if false s line = answer s line
 
--- a line as it stands in a script, by whether memory is refused to it; none for a bad line
+-- a line as it stands in a script, by whether memory is refused to it; none for a bad line, or one that a desk does not serve
 abbrev pub ran : Bool → State → List ℕ → Option (List ℕ × State)
-ran lacks s line = option_and_then (answer_if lacks s) (parsed line)
+ran lacks s line = option_and_then (answer_if lacks s) (option_and_then served (parsed line))
 
 -- this answer is what a call wrote behind the text, and the state that it left
 abbrev pub Told : Option (List ℕ × State) → String Global → String Global → State → Type 0

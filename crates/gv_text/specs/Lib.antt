@@ -1,6 +1,7 @@
 pub mod State
 pub mod Space
 pub mod Reply
+pub mod Served
 pub mod Answer
 pub mod Calls
 pub mod Work

@@ -188,7 +188,8 @@ impl Desk {
     }
 }
 
-/// The operation in bytes, with its buffer's id. None where the buffer's name is not declared.
+/// The operation in bytes, with its buffer's id. None where the buffer's name is not declared, and for an operation on a
+/// whole buffer, which a desk does not serve.
 fn named(names: &Names, operation: &Operation) -> Option<Op>
     requires { AreNumbered (ids_of names.now.entries) }
     ensures value { (buffers : Declared) → names_of buffers ≡ texts names.now.entries →
@@ -227,5 +228,6 @@ fn named(names: &Names, operation: &Operation) -> Option<Op>
             addr: *addr,
             len: *len,
         }),
+        Operation::UnmapAll { .. } => None,
     }
 }

@@ -12,6 +12,7 @@ mod output;
 mod reply;
 mod run;
 mod script;
+mod served;
 mod standard;
 mod transfer;
 

@@ -7,7 +7,8 @@ use crate::desk::Desk;
 use crate::reply::{
     write_mappings, write_place, write_refused, write_refused_request, write_steps, write_tables,
 };
-use gv_lines::{Line, Name, Operation, parse_line};
+use crate::served::ServedLine;
+use gv_lines::{Name, Operation, parse_line};
 use gv_types::{Bounds, Fault, OutOfMemory, PAGE_BYTES};
 use std::alloc::{AllocError, Global};
 use std::fmt::Write;
@@ -48,22 +49,22 @@ pub fn run_text(
     ensures bad { result ≡ Err LineFault.Bad → ran false desk.old text.now ≡ None }
     ensures memory { result ≡ Err LineFault.OutOfMemory → IsSome (ran false desk.old text.now) }
 {
-    match parse_line(text) {
+    match parse_line(text).and_then(ServedLine::from_line) {
         Some(line) => run(alloc, desk, line, out),
         None => Err(LineFault::Bad),
     }
 }
 
 /// Runs a line, and writes its reply.
-fn run(alloc: Global, desk: &mut Desk, line: Line, out: &mut String) -> Result<(), LineFault>
+fn run(alloc: Global, desk: &mut Desk, line: ServedLine, out: &mut String) -> Result<(), LineFault>
     ensures done { OnOk result
         ((lacks : Bool) × Told (answer_if lacks desk.old line) out.old out.new desk.new) }
     ensures bad { result ≡ Err LineFault.Bad → answer desk.old line ≡ None }
     ensures memory { result ≡ Err LineFault.OutOfMemory → IsSome (answer desk.old line) }
 {
     match line {
-        Line::Silent => Ok(()),
-        Line::Space {
+        ServedLine::Silent => Ok(()),
+        ServedLine::Space {
             start,
             len,
             reserved_start,
@@ -72,14 +73,14 @@ fn run(alloc: Global, desk: &mut Desk, line: Line, out: &mut String) -> Result<(
             let bounds = Bounds::from_bytes(start, len, reserved_start, reserved_len);
             space(alloc, desk, bounds, out)
         }
-        Line::Buffer { name, pages } => buffer(alloc, desk, name, pages, out),
-        Line::Destroy { name } => destroy(desk, &name, out),
-        Line::Uses { name } => uses(desk, &name, out),
-        Line::Bind { operation } => bind(alloc, desk, &operation, out),
-        Line::Plan { operation } => plan(alloc, desk, &operation, out),
-        Line::Map => map(desk, out),
-        Line::At { addr } => at(desk, addr, out),
-        Line::Tables => tables(desk, out),
+        ServedLine::Buffer { name, pages } => buffer(alloc, desk, name, pages, out),
+        ServedLine::Destroy { name } => destroy(desk, &name, out),
+        ServedLine::Uses { name } => uses(desk, &name, out),
+        ServedLine::Bind { operation } => bind(alloc, desk, &operation, out),
+        ServedLine::Plan { operation } => plan(alloc, desk, &operation, out),
+        ServedLine::Map => map(desk, out),
+        ServedLine::At { addr } => at(desk, addr, out),
+        ServedLine::Tables => tables(desk, out),
     }
 }
 
@@ -113,9 +114,9 @@ fn buffer(
     pages: u64,
     out: &mut String,
 ) -> Result<(), LineFault>
-    ensures done { OnOk result (Told (answer desk.old (Line.Buffer name pages)) out.old out.new desk.new) }
-    ensures bad { result ≡ Err LineFault.Bad → answer desk.old (Line.Buffer name pages) ≡ None }
-    ensures memory { result ≡ Err LineFault.OutOfMemory → IsSome (answer desk.old (Line.Buffer name pages)) }
+    ensures done { OnOk result (Told (answer desk.old (ServedLine.Buffer name pages)) out.old out.new desk.new) }
+    ensures bad { result ≡ Err LineFault.Bad → answer desk.old (ServedLine.Buffer name pages) ≡ None }
+    ensures memory { result ≡ Err LineFault.OutOfMemory → IsSome (answer desk.old (ServedLine.Buffer name pages)) }
 {
     desk.begin();
     match desk.declare(alloc, name, pages) {
@@ -128,9 +129,9 @@ fn buffer(
 
 /// Destroys a buffer that nothing names.
 fn destroy(desk: &mut Desk, name: &Name, out: &mut String) -> Result<(), LineFault>
-    ensures done { OnOk result (Told (answer desk.old (Line.Destroy name.now)) out.old out.new desk.new) }
-    ensures bad { result ≡ Err LineFault.Bad → answer desk.old (Line.Destroy name.now) ≡ None }
-    ensures memory { result ≡ Err LineFault.OutOfMemory → IsSome (answer desk.old (Line.Destroy name.now)) }
+    ensures done { OnOk result (Told (answer desk.old (ServedLine.Destroy name.now)) out.old out.new desk.new) }
+    ensures bad { result ≡ Err LineFault.Bad → answer desk.old (ServedLine.Destroy name.now) ≡ None }
+    ensures memory { result ≡ Err LineFault.OutOfMemory → IsSome (answer desk.old (ServedLine.Destroy name.now)) }
 {
     desk.begin();
     match desk.destroy(name) {
@@ -142,9 +143,9 @@ fn destroy(desk: &mut Desk, name: &Name, out: &mut String) -> Result<(), LineFau
 
 /// Writes how many mappings of a buffer there are.
 fn uses(desk: &mut Desk, name: &Name, out: &mut String) -> Result<(), LineFault>
-    ensures done { OnOk result (Told (answer desk.old (Line.Uses name.now)) out.old out.new desk.new) }
-    ensures bad { result ≡ Err LineFault.Bad → answer desk.old (Line.Uses name.now) ≡ None }
-    ensures memory { result ≡ Err LineFault.OutOfMemory → IsSome (answer desk.old (Line.Uses name.now)) }
+    ensures done { OnOk result (Told (answer desk.old (ServedLine.Uses name.now)) out.old out.new desk.new) }
+    ensures bad { result ≡ Err LineFault.Bad → answer desk.old (ServedLine.Uses name.now) ≡ None }
+    ensures memory { result ≡ Err LineFault.OutOfMemory → IsSome (answer desk.old (ServedLine.Uses name.now)) }
 {
     desk.begin();
     match desk.uses(name) {
@@ -162,9 +163,9 @@ fn bind(
     out: &mut String,
 ) -> Result<(), LineFault>
     ensures done { OnOk result ((lacks : Bool) ×
-        Told (answer_if lacks desk.old (Line.Bind operation.now)) out.old out.new desk.new) }
-    ensures bad { result ≡ Err LineFault.Bad → answer desk.old (Line.Bind operation.now) ≡ None }
-    ensures memory { result ≡ Err LineFault.OutOfMemory → IsSome (answer desk.old (Line.Bind operation.now)) }
+        Told (answer_if lacks desk.old (ServedLine.Bind operation.now)) out.old out.new desk.new) }
+    ensures bad { result ≡ Err LineFault.Bad → answer desk.old (ServedLine.Bind operation.now) ≡ None }
+    ensures memory { result ≡ Err LineFault.OutOfMemory → IsSome (answer desk.old (ServedLine.Bind operation.now)) }
 {
     desk.begin();
     match desk.bind(alloc, operation) {
@@ -181,9 +182,9 @@ fn plan(
     operation: &Operation,
     out: &mut String,
 ) -> Result<(), LineFault>
-    ensures done { OnOk result (Told (answer desk.old (Line.Plan operation.now)) out.old out.new desk.new) }
-    ensures bad { result ≡ Err LineFault.Bad → answer desk.old (Line.Plan operation.now) ≡ None }
-    ensures memory { result ≡ Err LineFault.OutOfMemory → IsSome (answer desk.old (Line.Plan operation.now)) }
+    ensures done { OnOk result (Told (answer desk.old (ServedLine.Plan operation.now)) out.old out.new desk.new) }
+    ensures bad { result ≡ Err LineFault.Bad → answer desk.old (ServedLine.Plan operation.now) ≡ None }
+    ensures memory { result ≡ Err LineFault.OutOfMemory → IsSome (answer desk.old (ServedLine.Plan operation.now)) }
 {
     desk.begin();
     match desk.plan(alloc, operation) {
@@ -196,9 +197,9 @@ fn plan(
 
 /// Writes the list of mappings.
 fn map(desk: &mut Desk, out: &mut String) -> Result<(), LineFault>
-    ensures done { OnOk result (Told (answer desk.old Line.Map) out.old out.new desk.new) }
-    ensures bad { result ≡ Err LineFault.Bad → answer desk.old Line.Map ≡ None }
-    ensures memory { result ≡ Err LineFault.OutOfMemory → IsSome (answer desk.old Line.Map) }
+    ensures done { OnOk result (Told (answer desk.old ServedLine.Map) out.old out.new desk.new) }
+    ensures bad { result ≡ Err LineFault.Bad → answer desk.old ServedLine.Map ≡ None }
+    ensures memory { result ≡ Err LineFault.OutOfMemory → IsSome (answer desk.old ServedLine.Map) }
 {
     desk.begin();
     Ok(write_mappings(out, desk.names(), desk.mappings())?)
@@ -206,9 +207,9 @@ fn map(desk: &mut Desk, out: &mut String) -> Result<(), LineFault>
 
 /// Writes what an address, in bytes, reaches.
 fn at(desk: &mut Desk, addr: u64, out: &mut String) -> Result<(), LineFault>
-    ensures done { OnOk result (Told (answer desk.old (Line.At addr)) out.old out.new desk.new) }
-    ensures bad { result ≡ Err LineFault.Bad → answer desk.old (Line.At addr) ≡ None }
-    ensures memory { result ≡ Err LineFault.OutOfMemory → IsSome (answer desk.old (Line.At addr)) }
+    ensures done { OnOk result (Told (answer desk.old (ServedLine.At addr)) out.old out.new desk.new) }
+    ensures bad { result ≡ Err LineFault.Bad → answer desk.old (ServedLine.At addr) ≡ None }
+    ensures memory { result ≡ Err LineFault.OutOfMemory → IsSome (answer desk.old (ServedLine.At addr)) }
 {
     desk.begin();
     let entry = desk.walk(addr / PAGE_BYTES);
@@ -217,9 +218,9 @@ fn at(desk: &mut Desk, addr: u64, out: &mut String) -> Result<(), LineFault>
 
 /// Writes how many tables the page table has, by level from the top.
 fn tables(desk: &mut Desk, out: &mut String) -> Result<(), LineFault>
-    ensures done { OnOk result (Told (answer desk.old Line.Tables) out.old out.new desk.new) }
-    ensures bad { result ≡ Err LineFault.Bad → answer desk.old Line.Tables ≡ None }
-    ensures memory { result ≡ Err LineFault.OutOfMemory → IsSome (answer desk.old Line.Tables) }
+    ensures done { OnOk result (Told (answer desk.old ServedLine.Tables) out.old out.new desk.new) }
+    ensures bad { result ≡ Err LineFault.Bad → answer desk.old ServedLine.Tables ≡ None }
+    ensures memory { result ≡ Err LineFault.OutOfMemory → IsSome (answer desk.old ServedLine.Tables) }
 {
     desk.begin();
     let [four, three, two, one, zero] = desk.tables();

@@ -1,0 +1,72 @@
+//! The clauses of bind lines.
+ghost use Rattle.std.specs.Prelude.{◌≡◌};
+
+use super::operation::{Operation, range_operation, unmapall_operation};
+use super::point::NamedPoint;
+use super::words::Words;
+
+/// What stands between two separators of a bind line.
+#[derive(Drop, Debug)]
+pub enum Clause {
+    /// An operation.
+    Change { operation: Operation },
+    /// `wait NAME NUM`: the operations start once the timeline has reached the number.
+    Wait { point: NamedPoint },
+    /// `signal NAME NUM`: at their end the timeline is raised to the number.
+    Signal { point: NamedPoint },
+    /// `queue Q`: the queue that the request is put in, 0 to 15.
+    Queue { queue: u64 },
+}
+
+impl Clause {
+    ghost use Rattle.gv_lines.specs.Clause.{clause_of, wait_clause, signal_clause};
+    ghost use Rattle.gv_lines.specs.Clause.{queue_clause, change_clause};
+
+    /// The clause that some words say.
+    pub fn from_words(mut words: Words<'_>) -> Option<Clause>
+        ensures { result ≡ clause_of words.entry }
+    {
+        let first = words.take_word()?;
+        if first == b"wait".as_slice() {
+            Clause::wait(words)
+        } else if first == b"signal".as_slice() {
+            Clause::signal(words)
+        } else if first == b"queue".as_slice() {
+            Clause::queue(words)
+        } else {
+            Clause::change(first, words)
+        }
+    }
+
+    fn wait(words: Words<'_>) -> Option<Clause>
+        ensures { result ≡ wait_clause words.entry }
+    {
+        let point = NamedPoint::from_words(words)?;
+        Some(Clause::Wait { point })
+    }
+
+    fn signal(words: Words<'_>) -> Option<Clause>
+        ensures { result ≡ signal_clause words.entry }
+    {
+        let point = NamedPoint::from_words(words)?;
+        Some(Clause::Signal { point })
+    }
+
+    fn queue(mut words: Words<'_>) -> Option<Clause>
+        ensures { result ≡ queue_clause words.entry }
+    {
+        let queue = words.take_queue()?;
+        words.is_done().then_some(Clause::Queue { queue })
+    }
+
+    fn change(first: &[u8], more: Words<'_>) -> Option<Clause>
+        ensures { result ≡ change_clause first.now more.entry }
+    {
+        let operation = if first == b"unmapall".as_slice() {
+            unmapall_operation(more)?
+        } else {
+            range_operation(first, more)?
+        };
+        Some(Clause::Change { operation })
+    }
+}

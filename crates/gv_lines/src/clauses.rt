@@ -1,0 +1,122 @@
+//! The clauses of a bind line as a list.
+ghost use Rattle.std.specs.Prelude.{◌≡◌, ◌∷◌, [], IfOk, MatchOption};
+
+use super::clause::Clause;
+use super::operation::Operation;
+use super::point::NamedPoint;
+use super::words::Clauses;
+use std::alloc::{AllocError, Global};
+use std::marker::Model;
+
+/// Clauses that are left, in the order of their line.
+#[derive(Drop, Debug)]
+pub struct ClauseList<'a> {
+    parts: Clauses<'a>,
+}
+
+impl<'a> Model for ClauseList<'a> {
+    ghost use Rattle.std.specs.Prelude.{List, [], IsSome, unwrap_or};
+    ghost use Rattle.gv_lines.specs.Chain.{all_read};
+    ghost use Rattle.gv_lines.specs.Clause.{clause_of};
+    ghost use Rattle.gv_lines.specs.declared.clause.Clause.{Clause};
+
+    ghost Value = { List Clause };
+
+    ghost view = { λ list. unwrap_or (all_read clause_of list.parts) [] };
+
+    ghost invariant = { λ list. IsSome (all_read clause_of list.parts) };
+}
+
+impl<'a> ClauseList<'a> {
+    ghost use Rattle.gv_lines.specs.Clause.{clauses_read, queue_asked};
+    ghost use Rattle.gv_lines.specs.Clause.{operations_of, waits_of, signals_of};
+
+    /// The clauses that some words say, where each is of the language and at most one names a queue.
+    pub fn from_parts(parts: Clauses<'a>) -> Option<ClauseList<'a>>
+        ensures { result ≡ clauses_read parts.entry }
+    {
+        let mut left = parts.again();
+        let mut has_queue = false;
+        while let Some(words) = left.take_clause() {
+            if let Clause::Queue { queue: _ } = Clause::from_words(words)? {
+                if has_queue {
+                    return None;
+                }
+                has_queue = true;
+            }
+        }
+        Some(ClauseList { parts })
+    }
+
+    /// The next clause, if one is left.
+    pub fn take(&mut self) -> Option<Clause>
+        ensures { MatchOption result ((self.old ≡ []) × (self.new ≡ []))
+            (λ clause. self.old ≡ clause ∷ self.new) }
+    {
+        Clause::from_words(self.parts.take_clause()?)
+    }
+
+    /// The same clauses.
+    pub fn again(&self) -> ClauseList<'a>
+        ensures { result ≡ self.now }
+    {
+        ClauseList {
+            parts: self.parts.again(),
+        }
+    }
+
+    /// The number of the queue that they name, or else 0.
+    pub fn queue(&self) -> u64
+        ensures { result ≡ queue_asked self.now }
+    {
+        let mut left = self.again();
+        while let Some(clause) = left.take() {
+            if let Clause::Queue { queue } = clause {
+                return queue;
+            }
+        }
+        0
+    }
+
+    /// Their operations.
+    pub fn operations(&self, alloc: Global) -> Result<Vec<Operation>, AllocError>
+        ensures { IfOk result (λ list. list.items ≡ operations_of self.now) }
+    {
+        let mut list = Vec::new(alloc);
+        let mut left = self.again();
+        while let Some(clause) = left.take() {
+            if let Clause::Change { operation } = clause {
+                list.push(operation)?;
+            }
+        }
+        Ok(list)
+    }
+
+    /// The points that they wait for.
+    pub fn waits(&self, alloc: Global) -> Result<Vec<NamedPoint>, AllocError>
+        ensures { IfOk result (λ list. list.items ≡ waits_of self.now) }
+    {
+        let mut list = Vec::new(alloc);
+        let mut left = self.again();
+        while let Some(clause) = left.take() {
+            if let Clause::Wait { point } = clause {
+                list.push(point)?;
+            }
+        }
+        Ok(list)
+    }
+
+    /// The points that they signal.
+    pub fn signals(&self, alloc: Global) -> Result<Vec<NamedPoint>, AllocError>
+        ensures { IfOk result (λ list. list.items ≡ signals_of self.now) }
+    {
+        let mut list = Vec::new(alloc);
+        let mut left = self.again();
+        while let Some(clause) = left.take() {
+            if let Clause::Signal { point } = clause {
+                list.push(point)?;
+            }
+        }
+        Ok(list)
+    }
+}
