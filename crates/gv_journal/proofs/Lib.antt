@@ -12,3 +12,5 @@ pub mod Views
 pub mod Histories
 pub mod Bindings
 pub mod Held
+pub mod Settlings
+pub mod Spending

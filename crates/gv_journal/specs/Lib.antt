@@ -7,3 +7,4 @@ pub mod Verdict
 pub mod Binding
 pub mod Work
 pub mod Inside
+pub mod Settling

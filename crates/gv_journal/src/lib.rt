@@ -6,8 +6,10 @@ mod applying;
 mod item;
 mod journal;
 mod refusal;
+mod settling;
 mod undoing;
 
 pub use item::{Item, ItemKind};
 pub use journal::{Journal, MAX_OPS};
 pub use refusal::Refusal;
+pub use settling::SettleFault;
