@@ -14,3 +14,4 @@ pub mod Bindings
 pub mod Held
 pub mod Settlings
 pub mod Spending
+pub mod Puts

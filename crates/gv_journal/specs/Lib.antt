@@ -8,3 +8,5 @@ pub mod Binding
 pub mod Work
 pub mod Inside
 pub mod Settling
+pub mod Withdrawing
+pub mod Restoring

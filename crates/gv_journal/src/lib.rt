@@ -6,6 +6,7 @@ mod applying;
 mod item;
 mod journal;
 mod refusal;
+mod restoring;
 mod settling;
 mod undoing;
 
