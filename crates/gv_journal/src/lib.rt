@@ -8,6 +8,7 @@ mod journal;
 mod refusal;
 mod restoring;
 mod settling;
+mod touching;
 mod undoing;
 
 pub use item::{Item, ItemKind};
