@@ -12,3 +12,11 @@ pub mod Views
 pub mod Histories
 pub mod Bindings
 pub mod Held
+pub mod Settlings
+pub mod Spending
+pub mod Puts
+pub mod Touches
+pub mod Withdrawals
+pub mod Founds
+pub mod Entries
+pub mod Withdrawn
