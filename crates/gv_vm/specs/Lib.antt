@@ -1,1 +1,4 @@
 pub mod Places
+pub mod Jobs
+pub mod Inside
+pub mod Holding

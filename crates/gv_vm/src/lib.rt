@@ -2,6 +2,8 @@
 //! them.
 #![tactic(auto)]
 
+mod jobs;
 mod places;
 
+pub use jobs::{Access, Job, Jobs, MAX_ACCESSES, MAX_RUNNING};
 pub use places::{Place, Target, translate};
