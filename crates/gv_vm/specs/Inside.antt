@@ -1,5 +1,5 @@
 -- What `Jobs` keeps of its parts. No public clause cites this module.
-use Rattle.std.specs.Prelude.{ℕ, List, map}
+use Rattle.std.specs.Prelude.{ℕ, map}
 use Rattle.std.specs.Global.{Vec}
 use Rattle.gv_vm.specs.Jobs.{RunningJob, Running, AreRunning}
 use Rattle.gv_vm.specs.declared.jobs.Jobs.TheInside.{Inside}

@@ -1,12 +1,13 @@
 -- The running jobs, what their accesses ask of an address space, and what the calls on them do.
 use Rattle.std.specs.Prelude.{◌≡◌, ◌==◌, ℕ, ◌+◌, ◌-◌, ◌^◌, ◌<◌, Bool, ◌&&◌, ◌||◌, if◌then◌else◌, nat_lt, nat_le, IsTrue, List, [], ◌∷◌, ◌++◌, length, map, take, Option, Some, None, ◌⊎◌, IsSomeAnd}
-use Rattle.std.specs.List.{All, list_any}
+use Rattle.std.specs.Option.{option_map}
+use Rattle.std.specs.List.{All, find, list_any}
 use Rattle.gv_types.specs.declared.fault.Fault.{Fault}
 use Rattle.gv_types.specs.declared.fault.Fault.TheVariants.{Unmapped, WriteToReadOnly, TooManyJobs, TooManyAccesses, NoJob, OutOfMemory}
 use Rattle.gv_types.specs.declared.mapping.Mapping.{Mapping}
 use Rattle.gv_buffers.specs.declared.usage.Usage.{Usage}
 use Rattle.gv_buffers.specs.Users.{is_write}
-use Rattle.gv_buffers.specs.Table.{Buffer, Table, buffer, changed, join_fault, joined_by, left_everywhere}
+use Rattle.gv_buffers.specs.Table.{Table, buffer, changed, join_fault, joined_by, left_everywhere}
 use Rattle.gv_space.specs.Refusal.{first_of}
 use Rattle.gv_space.specs.State.{AddressSpace}
 use Rattle.gv_vm.specs.Places.{place_at}
@@ -47,6 +48,10 @@ has_number number j = j.number == number
 -- a job with this number runs
 abbrev pub runs : List RunningJob → ℕ → Bool
 runs js number = list_any (has_number number) js
+
+-- the places of the running job with this number
+abbrev pub places_in : List RunningJob → ℕ → Option (List Place)
+places_in js number = option_map (λ j. j.places) (find (has_number number) js)
 
 -- the jobs without the one that has this number
 abbrev pub without_job : ℕ → List RunningJob → List RunningJob
