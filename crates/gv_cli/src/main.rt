@@ -4,6 +4,7 @@
 mod fault;
 mod help;
 mod program;
+mod stack;
 mod status;
 mod words;
 

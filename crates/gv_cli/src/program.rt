@@ -11,6 +11,7 @@ ghost use Rattle.gv_cli.specs.Run.{HasRun, exit_status};
 ghost use Rattle.gv_cli.specs.Status.{IsStatus, bad_words, broken_stream, done, no_memory};
 
 use crate::fault::ProgramFault;
+use crate::stack::is_stack_there;
 use crate::status::{BAD_WORDS, DONE};
 use crate::words::{WordsFault, read_words};
 use clap::Error;
@@ -22,6 +23,9 @@ use std::{env, io};
 pub fn program<R: Env + AllocGlobal + Input + Print + Eprint>(rt: &R) -> u8
     ensures { IsStatus result }
 {
+    if !is_stack_there(DONE) {
+        return told(rt, ProgramFault::OutOfMemory);
+    }
     let words = match arguments(rt) {
         Ok(words) => words,
         Err(fault) => return told(rt, fault),

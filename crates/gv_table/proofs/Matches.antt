@@ -15,7 +15,7 @@ use Rattle.gv_table.specs.Tree.{is_table, child, HoldsWanted, IsTreeOf}
 use Rattle.gv_table.specs.Counts.{tables_in, gained, lost, one_if_not}
 use Rattle.gv_table.proofs.Sums.{sum_below-same, sum_below-zeros}
 use Rattle.gv_table.proofs.PagesOf.{pages_of-more, pages_of-some, part-within}
-use Rattle.gv_table.proofs.Slots.{is_table-Empty, is_table-Leaf, child-Empty, child-other}
+use Rattle.gv_table.proofs.Slots.{is_table-Empty, is_table-leaf, child-Empty, child-other}
 use Rattle.gv_table.proofs.Covered.{true-or-false}
 use Rattle.gv_table.proofs.Clips.{alike-outside}
 use Rattle.gv_table.proofs.Wants.{undivided-part, wanted-alike}
@@ -46,7 +46,7 @@ match-empty ms (suc level) first laid whole = (
 
 pub match-by : (w : Wanted) (slot : Slot) (Parts : Type 0) → HoldsWanted w slot Parts → is_table slot ≡ is_divided w
 match-by variant.Nothing slot Parts holds = ap is_table holds ∙ is_table-Empty
-match-by (variant.Entry entry) slot Parts holds = ap is_table holds ∙ is_table-Leaf entry
+match-by (variant.Entry entry) slot Parts holds = ap is_table holds ∙ is_table-leaf entry
 match-by variant.Table slot Parts holds = holds.0
 
 pub tree-match : (ms : List Mapping) (level first : ℕ) (slot : Slot) → IsLaidOut ms → IsTreeOf ms level first slot → TablesMatch ms level first slot

@@ -1,5 +1,6 @@
 -- How many pages a slot covers, and which slot of a table a page is in.
-use Rattle.std.proofs.Common.{◌≡◌, ℕ, zero, suc, ◌+◌, ◌-◌, ◌*◌, ◌/◌, ◌%◌, ◌<◌, ◌≤◌, refl, arith, lit≤}
+use Rattle.std.proofs.Common.{◌≡◌, ℕ, zero, suc, ◌+◌, ◌-◌, ◌*◌, ◌/◌, ◌%◌, ◌<◌, ◌≤◌, inl, inr, refl, arith, lit≤}
+use Rattle.std.proofs.lemmas.Bool.{cases_lt}
 use Rattle.gv_types.specs.Page.{PAGES}
 use Rattle.gv_table.specs.Levels.{pages_of}
 
@@ -59,3 +60,18 @@ row-past d k p some past =
     let h = index-within d p some in
     let up = rows-rise (d / p) k p (omega arith) in
     omega (arith, h, up)
+
+pub over-one : (n : ℕ) → n ≡ n / 1
+over-one n = let h = index-within n 1 (omega arith) in omega (arith, h)
+
+-- a quotient rises with its number
+pub over-rises : (a b p : ℕ) → 0 < p → a ≤ b → a / p ≤ b / p
+over-rises a b p some up =
+    elim (cases_lt (b / p) (a / p)) [
+      | inl less ↦ (
+          let i = index-within a p some in
+          let j = index-within b p some in
+          let r = rows-rise (b / p) (a / p) p less in
+          absurd (omega (arith, i, j, r)))
+      | inr from ↦ from
+    ]

@@ -1,11 +1,15 @@
 -- What a slot made of a variant is, and the chain of empty tables.
-use Rattle.std.proofs.Common.{◌≡◌, ◌≢◌, ℕ, zero, suc, map, ◌+◌, ◌-◌, ◌<◌, true, false, List, [], ◌∷◌, length, slice_index_or, slice_set, Box, Global, refl, arith, subst, sym, ap, ◌∙◌, add-one, rules}
+use Rattle.std.proofs.Common.{◌≡◌, ◌≢◌, ◌⊎◌, inl, inr, ℕ, zero, suc, map, ◌+◌, ◌-◌, ◌<◌, true, false, List, [], ◌∷◌, length, slice_index_or, slice_set, Box, Global, refl, arith, subst, sym, ap, ◌∙◌, add-one, rules}
 use Rattle.std.proofs.lemmas.List.{get_or-set_same, get_or-set_other, length-set}
+use Rattle.gv_types.specs.declared.mapping.Backing.{Backing}
+use Rattle.gv_types.specs.declared.mapping.Backing.TheVariants as backing
+use Rattle.gv_types.specs.declared.mapping.BufferId.{BufferId}
 use Rattle.gv_types.specs.declared.mapping.Entry.{Entry}
+use Rattle.gv_types.specs.declared.mapping.Flags.{Flags}
 use Rattle.gv_table.specs.declared.slot.Slot.{Slot, out-Slot, the_lemmas}
-use Rattle.gv_table.specs.declared.slot.Slot.TheVariants.{Empty, Leaf, Table}
+use Rattle.gv_table.specs.declared.slot.Slot.TheVariants.{Empty, Zero, Buffer, Table}
 use Rattle.gv_table.specs.declared.slot.Slot.TheOpen as layer
-use Rattle.gv_table.specs.Tree.{is_table, child, layer_is_table, layer_child}
+use Rattle.gv_table.specs.Tree.{is_table, child, leaf, leaf_with, layer_is_table, layer_child}
 use Rattle.gv_table.specs.Chain.{IsChainOf, AreEmpty, chain_length}
 
 pub out-Table : (slots : Box (List Slot) Global) → out-Slot (Table slots) ≡ layer.Table slots
@@ -14,8 +18,11 @@ out-Table slots = search (rules, the_lemmas)
 out-Empty : out-Slot Empty ≡ layer.Empty
 out-Empty = search (rules, the_lemmas)
 
-out-Leaf : (entry : Entry) → out-Slot (Leaf entry) ≡ layer.Leaf entry
-out-Leaf entry = search (rules, the_lemmas)
+out-Zero : (flags : Flags) → out-Slot (Zero flags) ≡ layer.Zero flags
+out-Zero flags = search (rules, the_lemmas)
+
+out-Buffer : (flags : Flags) (id : BufferId) (page : ℕ) → out-Slot (Buffer flags id page) ≡ layer.Buffer flags id page
+out-Buffer flags id page = search (rules, the_lemmas)
 
 pub is_table-Table : (slots : Box (List Slot) Global) → is_table (Table slots) ≡ true
 unfolding is_table
@@ -25,9 +32,61 @@ pub is_table-Empty : is_table Empty ≡ false
 unfolding is_table
 is_table-Empty = ap layer_is_table out-Empty
 
-pub is_table-Leaf : (entry : Entry) → is_table (Leaf entry) ≡ false
+pub is_table-Zero : (flags : Flags) → is_table (Zero flags) ≡ false
 unfolding is_table
-is_table-Leaf entry = ap layer_is_table (out-Leaf entry)
+is_table-Zero flags = ap layer_is_table (out-Zero flags)
+
+pub is_table-Buffer : (flags : Flags) (id : BufferId) (page : ℕ) → is_table (Buffer flags id page) ≡ false
+unfolding is_table
+is_table-Buffer flags id page = ap layer_is_table (out-Buffer flags id page)
+
+with-no-table : (flags : Flags) (held : Backing) → is_table (leaf_with flags held) ≡ false
+with-no-table flags backing.Zero = is_table-Zero flags
+with-no-table flags (backing.Buffer id page) = is_table-Buffer flags id page
+
+pub is_table-leaf : (entry : Entry) → is_table (leaf entry) ≡ false
+unfolding leaf
+is_table-leaf entry = with-no-table entry.flags entry.backing
+
+-- a slot of a variant that is no table
+pub no-table : (slot : Slot) →
+    (slot ≡ Empty) ⊎ (((flags : Flags) × (slot ≡ Zero flags)) ⊎ ((flags : Flags) × (id : BufferId) × (page : ℕ) × (slot ≡ Buffer flags id page))) →
+    is_table slot ≡ false
+no-table slot (inl e) = ap is_table e ∙ is_table-Empty
+no-table slot (inr (inl p)) = ap is_table p.1 ∙ is_table-Zero p.0
+no-table slot (inr (inr p)) = ap is_table p.3 ∙ is_table-Buffer p.0 p.1 p.2
+
+with-some : (flags : Flags) (held : Backing) → leaf_with flags held ≡ Empty → ⊥
+with-some flags backing.Zero e = cc
+with-some flags (backing.Buffer id page) e = cc
+
+-- a leaf is not empty
+pub leaf-some : (entry : Entry) → leaf entry ≡ Empty → ⊥
+unfolding leaf
+leaf-some entry e = with-some entry.flags entry.backing e
+
+with-same : (f g : Flags) (a b : Backing) → leaf_with f a ≡ leaf_with g b → (f ≡ g) × (a ≡ b)
+with-same f g backing.Zero backing.Zero e = (cc, refl)
+with-same f g backing.Zero (backing.Buffer id page) e = cc
+with-same f g (backing.Buffer id page) backing.Zero e = cc
+with-same f g (backing.Buffer id page) (backing.Buffer id' page') e = (cc, cc)
+
+-- a leaf has one entry
+pub leaf-same : (one other : Entry) → leaf one ≡ leaf other → one ≡ other
+unfolding leaf
+leaf-same one other e =
+    let h = with-same one.flags other.flags one.backing other.backing e in
+    let held : Backing → Entry = λ b. record { backing = b; flags = one.flags } in
+    let marked : Flags → Entry = λ f. record { backing = other.backing; flags = f } in
+    ap held h.1 ∙ ap marked h.0
+
+pub leaf-Zero : (flags : Flags) → leaf (record { backing = backing.Zero; flags = flags }) ≡ Zero flags
+unfolding leaf
+leaf-Zero flags = refl
+
+pub leaf-Buffer : (flags : Flags) (id : BufferId) (page : ℕ) → leaf (record { backing = backing.Buffer id page; flags = flags }) ≡ Buffer flags id page
+unfolding leaf
+leaf-Buffer flags id page = refl
 
 pub child-Table : (slots : Box (List Slot) Global) (index : ℕ) → child (Table slots) index ≡ slice_index_or slots.value index Empty
 unfolding child
@@ -87,7 +146,8 @@ IsChainOf-others (suc count) slots some chain long first none (suc index) below 
 
 layer-other : (l : layer.Slot-F Slot) (k : ℕ) → layer_is_table l ≡ false → layer_child l k ≡ Empty
 layer-other layer.Empty k other = refl
-layer-other (layer.Leaf entry) k other = refl
+layer-other (layer.Zero flags) k other = refl
+layer-other (layer.Buffer flags id page) k other = refl
 layer-other (layer.Table slots) k other = cc
 
 -- a slot that is no table has empty parts

@@ -1,5 +1,5 @@
 -- Laws of the tree of a list, level by level.
-use Rattle.std.proofs.Common.{◌≡◌, ℕ, zero, suc, ◌+◌, ◌-◌, ◌*◌, ◌<◌, ◌≤◌, inl, inr, true, false, List, slice_index_or, Option, Some, None, Box, Global, refl, arith, sym, ap, ◌∙◌, subst}
+use Rattle.std.proofs.Common.{◌≡◌, ℕ, MatchOption, IfSome, zero, suc, ◌+◌, ◌-◌, ◌*◌, ◌<◌, ◌≤◌, inl, inr, true, false, List, slice_index_or, Option, Some, None, Box, Global, refl, arith, sym, ap, ◌∙◌, subst}
 use Rattle.gv_types.specs.Page.{PAGES}
 use Rattle.gv_types.specs.Span.{Span, span, end_of, meets}
 use Rattle.gv_types.specs.Mapping.{HasSmallPages}
@@ -9,17 +9,18 @@ use Rattle.gv_ranges.specs.List.{at, IsLaidOut}
 use Rattle.gv_table.specs.declared.wanted.Wanted.{Wanted}
 use Rattle.gv_table.specs.declared.wanted.Wanted.TheVariants as variant
 use Rattle.gv_table.specs.declared.slot.Slot.{Slot}
-use Rattle.gv_table.specs.declared.slot.Slot.TheVariants.{Empty, Leaf, Table}
+use Rattle.gv_table.specs.declared.slot.Slot.TheVariants.{Empty, Table}
 use Rattle.gv_table.specs.Levels.{pages_of, slot_pages}
 use Rattle.gv_table.specs.Reads.{any_meets, covering, entry_after, AreAlikeOutside}
 use Rattle.gv_table.specs.Wanted.{wanted}
-use Rattle.gv_table.specs.Tree.{is_table, child, page_slot, HoldsWanted, IsTreeOf, IsTreeOutside}
-use Rattle.gv_table.proofs.PagesOf.{pages_of-zero, pages_of-some, pages_of-more, part-within}
+use Rattle.gv_table.specs.Chain.{AreEmpty}
+use Rattle.gv_table.specs.Tree.{is_table, child, leaf, HasNoEntry, page_slot, HoldsWanted, IsTreeOf, IsTreeOutside}
+use Rattle.gv_table.proofs.PagesOf.{pages_of-zero, pages_of-some, pages_of-more, pages_of-below, part-within}
 use Rattle.gv_table.proofs.Spans.{apart-cases, meets-after, meets-before}
-use Rattle.gv_table.proofs.Covered.{at-covering, covering-none, covering-part, covering-small, any_meets-part}
+use Rattle.gv_table.proofs.Covered.{true-or-false, at-covering, covering-none, covering-part, covering-small, any_meets-part}
 use Rattle.gv_table.proofs.Clips.{alike-outside}
 use Rattle.gv_table.proofs.Wants.{nothing-meets, entry-covers, nothing-part, entry-part, wanted-alike}
-use Rattle.gv_table.proofs.Slots.{is_table-Table, child-Table, is_table-Empty, is_table-Leaf}
+use Rattle.gv_table.proofs.Slots.{is_table-Table, child-Table, is_table-Empty, is_table-leaf, leaf-same, leaf-some}
 
 pub IsTreeOf-nothing : (ms : List Mapping) (level first : ℕ) (slot : Slot) → wanted ms level first ≡ variant.Nothing → slot ≡ Empty →
     IsTreeOf ms level first slot
@@ -30,7 +31,7 @@ IsTreeOf-nothing ms zero first slot want e =
     rw nothing e
 IsTreeOf-nothing ms (suc level) first slot want e = rw want e
 
-pub IsTreeOf-leaf : (ms : List Mapping) (level first : ℕ) (entry : Entry) (slot : Slot) → wanted ms level first ≡ variant.Entry entry → slot ≡ Leaf entry →
+pub IsTreeOf-leaf : (ms : List Mapping) (level first : ℕ) (entry : Entry) (slot : Slot) → wanted ms level first ≡ variant.Entry entry → slot ≡ leaf entry →
     IsTreeOf ms level first slot
 unfolding IsTreeOf
 IsTreeOf-leaf ms zero first entry slot want e =
@@ -64,35 +65,41 @@ page-of ms first slot tree = tree
 
 page-empty : (o : Option Entry) → Empty ≡ page_slot o → o ≡ None
 page-empty None e = refl
-page-empty (Some entry) e = cc
+page-empty (Some entry) e = absurd (leaf-some entry (sym e))
 
-page-leaf : (o : Option Entry) (entry : Entry) → Leaf entry ≡ page_slot o → o ≡ Some entry
-page-leaf None entry e = cc
-page-leaf (Some found) entry e = cc
+page-leaf : (o : Option Entry) (entry : Entry) → leaf entry ≡ page_slot o → o ≡ Some entry
+page-leaf None entry e = absurd (leaf-some entry e)
+page-leaf (Some found) entry e = let same = leaf-same entry found e in ap (λ (x : Entry). Some x) (sym same)
 
 page-table : (o : Option Entry) (slot : Slot) → slot ≡ page_slot o → is_table slot ≡ true → ⊥
 page-table None slot e table = let bad : true ≡ false = sym table ∙ ap is_table e ∙ is_table-Empty in cc
-page-table (Some entry) slot e table = let bad : true ≡ false = sym table ∙ ap is_table e ∙ is_table-Leaf entry in cc
+page-table (Some entry) slot e table = let bad : true ≡ false = sym table ∙ ap is_table e ∙ is_table-leaf entry in cc
 
 pub no-table-at-zero : (ms : List Mapping) (first : ℕ) (slot : Slot) → IsTreeOf ms 0 first slot → is_table slot ≡ true → ⊥
 no-table-at-zero ms first slot tree table = page-table (at ms first) slot (page-of ms first slot tree) table
 
+pub page-no-table-slot : (ms : List Mapping) (first : ℕ) (slot : Slot) → IsTreeOf ms 0 first slot → is_table slot ≡ false
+page-no-table-slot ms first slot tree = elim (true-or-false (is_table slot)) [
+  | inl table ↦ absurd (no-table-at-zero ms first slot tree table)
+  | inr other ↦ other
+]
+
 empty-by : (w : Wanted) (Parts : Type 0) → HoldsWanted w Empty Parts → w ≡ variant.Nothing
 empty-by variant.Nothing Parts holds = refl
-empty-by (variant.Entry entry) Parts holds = cc
+empty-by (variant.Entry entry) Parts holds = absurd (leaf-some entry (sym holds))
 empty-by variant.Table Parts holds = let bad : true ≡ false = sym holds.0 ∙ is_table-Empty in cc
 
 -- nothing is wanted of an empty slot
 pub empty-wanted : (ms : List Mapping) (level first : ℕ) → IsTreeOf ms (suc level) first Empty → wanted ms (suc level) first ≡ variant.Nothing
 empty-wanted ms level first tree = empty-by (wanted ms (suc level) first) _ (opened ms level first Empty tree)
 
-leaf-by : (w : Wanted) (entry : Entry) (Parts : Type 0) → HoldsWanted w (Leaf entry) Parts → w ≡ variant.Entry entry
-leaf-by variant.Nothing entry Parts holds = cc
-leaf-by (variant.Entry found) entry Parts holds = cc
-leaf-by variant.Table entry Parts holds = let bad : true ≡ false = sym holds.0 ∙ is_table-Leaf entry in cc
+leaf-by : (w : Wanted) (entry : Entry) (Parts : Type 0) → HoldsWanted w (leaf entry) Parts → w ≡ variant.Entry entry
+leaf-by variant.Nothing entry Parts holds = absurd (leaf-some entry holds)
+leaf-by (variant.Entry found) entry Parts holds = let same = leaf-same entry found holds in ap (λ (x : Entry). variant.Entry x) (sym same)
+leaf-by variant.Table entry Parts holds = let bad : true ≡ false = sym holds.0 ∙ is_table-leaf entry in cc
 
-pub leaf-wanted : (ms : List Mapping) (level first : ℕ) (entry : Entry) → IsTreeOf ms (suc level) first (Leaf entry) → wanted ms (suc level) first ≡ variant.Entry entry
-leaf-wanted ms level first entry tree = leaf-by (wanted ms (suc level) first) entry _ (opened ms level first (Leaf entry) tree)
+pub leaf-wanted : (ms : List Mapping) (level first : ℕ) (entry : Entry) → IsTreeOf ms (suc level) first (leaf entry) → wanted ms (suc level) first ≡ variant.Entry entry
+leaf-wanted ms level first entry tree = leaf-by (wanted ms (suc level) first) entry _ (opened ms level first (leaf entry) tree)
 
 -- no page of an empty slot holds anything
 pub read-empty : (ms : List Mapping) (level first page : ℕ) → IsTreeOf ms level first Empty → first ≤ page → page < first + pages_of level → at ms page ≡ None
@@ -106,11 +113,11 @@ read-empty ms (suc level) first page tree low high =
     (any_meets-part ms (slot_pages (suc level) first) (span page 1) none low (omega arith))
 
 -- a page of a leaf holds what lies so far on, and there no sum is great
-pub read-leaf : (ms : List Mapping) (level first page : ℕ) (entry : Entry) → IsLaidOut ms → IsTreeOf ms level first (Leaf entry) → first ≤ page →
+pub read-leaf : (ms : List Mapping) (level first page : ℕ) (entry : Entry) → IsLaidOut ms → IsTreeOf ms level first (leaf entry) → first ≤ page →
     page < first + pages_of level → HasSmallPages entry.backing (pages_of level) × (at ms page ≡ Some (entry_after entry (page - first)))
 read-leaf ms zero first page entry laid tree low high =
     let one = pages_of-zero in
-    let found = page-leaf (at ms first) entry (page-of ms first (Leaf entry) tree) in
+    let found = page-leaf (at ms first) entry (page-of ms first (leaf entry) tree) in
     let covered : covering ms (span first 1) ≡ Some entry = sym (at-covering ms first) ∙ found in (
       rw one (covering-small ms 0 (span first 1) entry laid covered),
       at-covering ms page ∙ covering-part ms 0 (span first 1) (span page 1) entry laid covered low (omega arith) (omega (arith, one)),
@@ -121,13 +128,13 @@ read-leaf ms (suc level) first page entry laid tree low high =
       at-covering ms page ∙ covering-part ms 0 (slot_pages (suc level) first) (span page 1) entry laid covered low (omega arith) (omega arith),
     )
 
-pub leaf-small : (ms : List Mapping) (level first : ℕ) (entry : Entry) → IsLaidOut ms → IsTreeOf ms level first (Leaf entry) → HasSmallPages entry.backing (pages_of level)
+pub leaf-small : (ms : List Mapping) (level first : ℕ) (entry : Entry) → IsLaidOut ms → IsTreeOf ms level first (leaf entry) → HasSmallPages entry.backing (pages_of level)
 leaf-small ms level first entry laid tree =
     let some = pages_of-some level in (read-leaf ms level first first entry laid tree (omega arith) (omega (arith, some))).0
 
 parts-by : (slot : Slot) (Parts : Type 0) (w : Wanted) → HoldsWanted w slot Parts → is_table slot ≡ true → Parts
 parts-by slot Parts variant.Nothing holds table = let bad : true ≡ false = sym table ∙ ap is_table holds ∙ is_table-Empty in cc
-parts-by slot Parts (variant.Entry entry) holds table = let bad : true ≡ false = sym table ∙ ap is_table holds ∙ is_table-Leaf entry in cc
+parts-by slot Parts (variant.Entry entry) holds table = let bad : true ≡ false = sym table ∙ ap is_table holds ∙ is_table-leaf entry in cc
 parts-by slot Parts variant.Table holds table = holds.1
 
 -- the slots of a table of the tree
@@ -146,13 +153,34 @@ empty-parts ms (suc level) first some tree k below =
     let lower : suc level - 1 ≡ level = omega arith in
     rw lower (IsTreeOf-nothing ms level (first + k * pages_of level) Empty (nothing-part ms level first k below (empty-wanted ms level first tree)) refl)
 
-pub leaf-parts : (ms : List Mapping) (level first : ℕ) (entry : Entry) → IsLaidOut ms → 0 < level → IsTreeOf ms level first (Leaf entry) → (k : ℕ) → k < 512 →
-    IsTreeOf ms (level - 1) (first + k * pages_of (level - 1)) (Leaf (entry_after entry (k * pages_of (level - 1))))
+pub leaf-parts : (ms : List Mapping) (level first : ℕ) (entry : Entry) → IsLaidOut ms → 0 < level → IsTreeOf ms level first (leaf entry) → (k : ℕ) → k < 512 →
+    IsTreeOf ms (level - 1) (first + k * pages_of (level - 1)) (leaf (entry_after entry (k * pages_of (level - 1))))
 leaf-parts ms zero first entry laid some tree k below = absurd (omega arith)
 leaf-parts ms (suc level) first entry laid some tree k below =
     let lower : suc level - 1 ≡ level = omega arith in
     rw lower (IsTreeOf-leaf ms level (first + k * pages_of level) (entry_after entry (k * pages_of level)) _
     (entry-part ms level first k entry laid below (leaf-wanted ms level first entry tree)) refl)
+
+-- the parts of a slot that is no table, where a row has its entry's parts
+pub divided-parts :
+    (entry : Option Entry) (slot : Slot) (row : List Slot) (ms : List Mapping) (level first p : ℕ) →
+    MatchOption entry (HasNoEntry slot) (λ e. slot ≡ leaf e) → is_table slot ≡ false → (entry ≡ None → AreEmpty row) →
+    IfSome entry (λ e. HasSmallPages e.backing (512 * p) → (k : ℕ) → k < 512 → slice_index_or row k Empty ≡ leaf (entry_after e (k * p))) →
+    IsLaidOut ms → 0 < level → p ≡ pages_of (level - 1) → IsTreeOf ms level first slot →
+    (k : ℕ) → k < 512 → IsTreeOf ms (level - 1) (first + k * pages_of (level - 1)) (slice_index_or row k Empty)
+divided-parts None slot row ms level first p (inl none) other empty entries laid some pages tree k below =
+    subst (λ (s : Slot). IsTreeOf ms (level - 1) (first + k * pages_of (level - 1)) s) (sym (empty refl k below))
+    (empty-parts ms level first some (subst (λ (s : Slot). IsTreeOf ms level first s) none tree) k below)
+divided-parts None slot row ms level first p (inr table) other empty entries laid some pages tree k below = cc
+divided-parts (Some entry) slot row ms level first p is other empty entries laid some pages tree k below =
+    let tree' = subst (λ (s : Slot). IsTreeOf ms level first s) is tree in
+    let below-of = pages_of-below level some in
+    let whole : pages_of level ≡ 512 * p = omega (arith, below-of, pages) in
+    let small : HasSmallPages entry.backing (512 * p) = rw whole at (leaf-small ms level first entry laid tree') in
+    let far : k * p ≡ k * pages_of (level - 1) = ap (λ (n : ℕ). k * n) pages in
+    let made = entries small k below ∙ ap (λ (n : ℕ). leaf (entry_after entry n)) far in
+    subst (λ (s : Slot). IsTreeOf ms (level - 1) (first + k * pages_of (level - 1)) s) (sym made)
+    (leaf-parts ms level first entry laid some tree' k below)
 
 holds-alike : (w : Wanted) (slot : Slot) (A B : Type 0) → (A → B) → HoldsWanted w slot A → HoldsWanted w slot B
 holds-alike variant.Nothing slot A B f h = h

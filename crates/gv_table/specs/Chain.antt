@@ -14,7 +14,8 @@ AreEmpty slots = (k : ℕ) → k < slots_per_table → slice_index_or slots k Em
 -- a table is one more than the chain in its first slot
 abbrev pub length_step : layer.Slot-F ℕ → ℕ
 length_step layer.Empty = 0
-length_step (layer.Leaf entry) = 0
+length_step (layer.Zero flags) = 0
+length_step (layer.Buffer flags id page) = 0
 length_step (layer.Table slots) = 1 + slice_index_or slots.value 0 0
 
 -- how many tables a chain has

@@ -1,13 +1,16 @@
 -- The tree of a list of mappings.
-use Rattle.std.specs.Prelude.{◌≡◌, ℕ, zero, suc, ◌+◌, ◌*◌, ◌<◌, Bool, true, false, List, slice_index_or, Option, Some, None}
+use Rattle.std.specs.Prelude.{◌≡◌, ◌⊎◌, ℕ, zero, suc, ◌+◌, ◌*◌, ◌<◌, Bool, true, false, List, slice_index_or, Option, Some, None}
 use Rattle.gv_types.specs.Span.{Span}
+use Rattle.gv_types.specs.declared.mapping.Backing.{Backing}
+use Rattle.gv_types.specs.declared.mapping.Backing.TheVariants as backing
 use Rattle.gv_types.specs.declared.mapping.Entry.{Entry}
+use Rattle.gv_types.specs.declared.mapping.Flags.{Flags}
 use Rattle.gv_types.specs.declared.mapping.Mapping.{Mapping}
 use Rattle.gv_ranges.specs.List.{at, IsLaidOut}
 use Rattle.gv_table.specs.declared.wanted.Wanted.{Wanted}
 use Rattle.gv_table.specs.declared.wanted.Wanted.TheVariants as variant
 use Rattle.gv_table.specs.declared.slot.Slot.{Slot, out-Slot}
-use Rattle.gv_table.specs.declared.slot.Slot.TheVariants.{Empty, Leaf}
+use Rattle.gv_table.specs.declared.slot.Slot.TheVariants.{Empty, Zero, Buffer}
 use Rattle.gv_table.specs.declared.slot.Slot.TheOpen as layer
 use Rattle.gv_table.specs.Levels.{slots_per_table, pages_of}
 use Rattle.gv_table.specs.Reads.{AreAlikeOutside}
@@ -16,7 +19,8 @@ use Rattle.gv_table.specs.Wanted.{wanted}
 -- whether one layer of a slot is that of a table
 abbrev pub layer_is_table : layer.Slot-F Slot → Bool
 layer_is_table layer.Empty = false
-layer_is_table (layer.Leaf entry) = false
+layer_is_table (layer.Zero flags) = false
+layer_is_table (layer.Buffer flags id page) = false
 layer_is_table (layer.Table slots) = true
 
 -- whether a slot is a table
@@ -26,22 +30,36 @@ is_table slot = layer_is_table (out-Slot slot)
 -- a slot of one layer; a slot that is no table has empty ones
 abbrev pub layer_child : layer.Slot-F Slot → ℕ → Slot
 layer_child layer.Empty index = Empty
-layer_child (layer.Leaf entry) index = Empty
+layer_child (layer.Zero flags) index = Empty
+layer_child (layer.Buffer flags id page) index = Empty
 layer_child (layer.Table slots) index = slice_index_or slots.value index Empty
 
 -- a slot of the slot's table
 unfoldable pub child : Slot → ℕ → Slot
 child slot index = layer_child (out-Slot slot) index
 
+-- the leaf with these flags and backing
+abbrev pub leaf_with : Flags → Backing → Slot
+leaf_with flags backing.Zero = Zero flags
+leaf_with flags (backing.Buffer id page) = Buffer flags id page
+
+-- the leaf of an entry
+unfoldable pub leaf : Entry → Slot
+leaf entry = leaf_with entry.flags entry.backing
+
+-- a slot that is no leaf
+abbrev pub HasNoEntry : Slot → Type 0
+HasNoEntry slot = (slot ≡ Empty) ⊎ (is_table slot ≡ true)
+
 -- the slot of one page
 abbrev pub page_slot : Option Entry → Slot
 page_slot None = Empty
-page_slot (Some entry) = Leaf entry
+page_slot (Some entry) = leaf entry
 
 -- a slot that holds what is wanted, where a table also has the right parts
 abbrev pub HoldsWanted : Wanted → Slot → Type 0 → Type 0
 HoldsWanted variant.Nothing slot Parts = slot ≡ Empty
-HoldsWanted (variant.Entry entry) slot Parts = slot ≡ Leaf entry
+HoldsWanted (variant.Entry entry) slot Parts = slot ≡ leaf entry
 HoldsWanted variant.Table slot Parts = (is_table slot ≡ true) × Parts
 
 -- a slot at a level, with its first page, is that of the tree of the mappings

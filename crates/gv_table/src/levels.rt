@@ -1,5 +1,5 @@
 //! The shape of the tables.
-ghost use Rattle.std.specs.Prelude.{◌≡◌, ◌+◌, ◌*◌, ◌-◌, ◌<◌, ◌≤◌, ℕ, IsTrue};
+ghost use Rattle.std.specs.Prelude.{◌≡◌, ◌+◌, ◌*◌, ◌-◌, ◌/◌, ◌<◌, ◌≤◌, ℕ, IsTrue};
 ghost use Rattle.gv_types.specs.Page.{PAGES};
 ghost use Rattle.gv_types.specs.Span.{span, end_of, meets};
 ghost use Rattle.gv_table.specs.Levels.{top_level, root_level, slots_per_table};
@@ -36,6 +36,21 @@ pub fn pages_of(level: usize) -> u64
     }
 }
 
+/// How many whole slots at a level lie in so many pages.
+pub fn slots_in(level: usize, pages: u64) -> u64
+    requires { level ≤ top_level }
+    ensures { result ≡ pages / pages_of level }
+{
+    match level {
+        0 => pages,
+        1 => pages / 512,
+        2 => pages / 262_144,
+        3 => pages / 134_217_728,
+        4 => pages / 68_719_476_736,
+        _ => pages / 35_184_372_088_832,
+    }
+}
+
 /// Which slots of a table meet the range, where some does: from the first up to, and without, the
 /// second. The table's slots are at the level, and begin at the page `first`.
 pub fn slots_met(level: usize, first: u64, range: PageRange) -> (usize, usize)
@@ -51,8 +66,7 @@ pub fn slots_met(level: usize, first: u64, range: PageRange) -> (usize, usize)
     ensures behind { (k : ℕ) → result.1 ≤ k → k < slots_per_table
         → end_of range ≤ first + k * pages_of level }
 {
-    let pages = pages_of(level);
-    let low = range.first().saturating_sub(first) / pages;
-    let high = (range.end() - first - 1) / pages + 1;
+    let low = slots_in(level, range.first().saturating_sub(first));
+    let high = slots_in(level, range.end() - first - 1) + 1;
     (low as usize, high.min(SLOTS as u64) as usize)
 }

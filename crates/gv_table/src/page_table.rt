@@ -15,7 +15,7 @@ use crate::slot::Slot;
 use crate::spare::needed_in;
 use crate::spares::Spares;
 use crate::tally::Tally;
-use crate::walk::walk_slot;
+use crate::walk::walk_tree;
 use gv_ranges::RangeList;
 use gv_types::{Entry, Fault, Mapping, PageRange, SPACE_PAGES};
 use std::alloc::Global;
@@ -51,7 +51,7 @@ impl PageTable {
         if page >= SPACE_PAGES {
             return None;
         }
-        walk_slot(&self.root, TOP_LEVEL, 0, page)
+        walk_tree(&self.root, page)
     }
 
     /// How many tables stand at the levels 4, 3, 2, 1 and 0. The numbers are kept: nothing is walked.

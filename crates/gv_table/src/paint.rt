@@ -1,16 +1,17 @@
 //! A tree made that of a list, inside a range.
 ghost use Rattle.std.specs.Prelude.{◌≡◌, ◌+◌, ◌-◌, ◌*◌, ◌<◌, ◌≤◌, ℕ, false, IsTrue};
-ghost use Rattle.std.specs.Prelude.{List, slice_index_or};
+ghost use Rattle.std.specs.Prelude.{List, None, IfSome, slice_index_or};
+ghost use Rattle.gv_table.specs.Chain.{AreEmpty};
 ghost use Rattle.gv_types.specs.Page.{PAGES};
 ghost use Rattle.gv_types.specs.Span.{span, meets, end_of};
 ghost use Rattle.gv_types.specs.declared.mapping.Mapping.{Mapping};
 ghost use Rattle.gv_ranges.specs.List.{IsLaidOut};
-ghost use Rattle.gv_table.specs.declared.slot.Slot.TheVariants.{Empty, Leaf};
+ghost use Rattle.gv_table.specs.declared.slot.Slot.TheVariants.{Empty};
 ghost use Rattle.gv_table.specs.Levels.{top_level, root_level, slots_per_table, pages_of};
 ghost use Rattle.gv_table.specs.Levels.{slot_pages};
 ghost use Rattle.gv_table.specs.Near.{IsNear};
 ghost use Rattle.gv_table.specs.Reads.{entry_after};
-ghost use Rattle.gv_table.specs.Tree.{IsTreeOf, IsTreeOutside, is_table, child};
+ghost use Rattle.gv_table.specs.Tree.{IsTreeOf, IsTreeOutside, is_table, child, leaf};
 ghost use Rattle.gv_table.specs.Counts.{gained, lost, row_gained, row_lost};
 ghost use Rattle.gv_table.specs.Counts.{one_if_not, one_if_new, HasSameTables};
 ghost use Rattle.gv_table.specs.Counts.{tables_at, row_tables_at, count_at};
@@ -35,11 +36,30 @@ fn spread(slots: &mut [Slot; SLOTS], entry: &Entry, pages: u64)
         → is_table (slice_index_or slots.new k Empty) ≡ false }
     ensures entries { HasSmallPages entry.now.backing (slots_per_table * pages)
         → (k : ℕ) → k < slots_per_table
-        → slice_index_or slots.new k Empty ≡ Leaf (entry_after entry.now (k * pages)) }
+        → slice_index_or slots.new k Empty ≡ leaf (entry_after entry.now (k * pages)) }
 {
     for index in 0..SLOTS {
-        slots[index] = Slot::Leaf(entry_after(entry, index as u64 * pages));
+        slots[index] = Slot::leaf(entry_after(entry, index as u64 * pages));
     }
+}
+
+/// A spare table, with the parts of the entry, where there is one.
+fn filled(entry: Option<Entry>, pages: u64, spares: &mut Spares) -> Box<[Slot; SLOTS]>
+    requires bound { slots_per_table * pages ≤ PAGES }
+    requires some { 0 < spares.old }
+    ensures empty { entry ≡ None → AreEmpty result.value }
+    ensures leaves { (k : ℕ) → k < slots_per_table
+        → is_table (slice_index_or result.value k Empty) ≡ false }
+    ensures entries { IfSome entry (λ e. HasSmallPages e.backing (slots_per_table * pages)
+        → (k : ℕ) → k < slots_per_table
+        → slice_index_or result.value k Empty ≡ leaf (entry_after e (k * pages))) }
+    ensures taken { spares.new + 1 ≡ spares.old }
+{
+    let mut slots = spares.take();
+    if let Some(entry) = entry {
+        spread(&mut slots, &entry, pages);
+    }
+    slots
 }
 
 /// The table of a slot, or a spare one with the parts of what the slot held, which the tally then
@@ -59,17 +79,12 @@ fn divide(slot: Slot, level: usize, spares: &mut Spares, tally: &mut Tally) -> B
     ensures counted { (target : ℕ) → count_at tally.new target
         ≡ count_at tally.old target + one_if_new target (level - 1) (is_table slot) }
 {
+    let entry = slot.entry();
     match slot {
         Slot::Table(slots) => slots,
-        Slot::Empty => {
+        Slot::Empty | Slot::Zero { .. } | Slot::Buffer { .. } => {
             tally.raise(level - 1);
-            spares.take()
-        }
-        Slot::Leaf(entry) => {
-            tally.raise(level - 1);
-            let mut slots = spares.take();
-            spread(&mut slots, &entry, pages_of(level - 1));
-            slots
+            filled(entry, pages_of(level - 1), spares)
         }
     }
 }
@@ -105,7 +120,7 @@ pub fn paint_slot(
         Wanted::Nothing => release(slot, level, spares, tally),
         Wanted::Entry(entry) => {
             let lost = release(slot, level, spares, tally);
-            *slot = Slot::Leaf(entry);
+            *slot = Slot::leaf(entry);
             lost
         }
         Wanted::Table => {

@@ -34,6 +34,6 @@ pub fn release(slot: &mut Slot, level: usize, spares: &mut Spares, tally: &mut T
             tally.lower(level - 1);
             count
         }
-        Slot::Empty | Slot::Leaf(_) => 0,
+        Slot::Empty | Slot::Zero { .. } | Slot::Buffer { .. } => 0,
     }
 }

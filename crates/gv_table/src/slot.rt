@@ -1,12 +1,55 @@
 //! A place in a table.
 use crate::levels::SLOTS;
-use gv_types::Entry;
+use gv_types::{Backing, BufferId, Entry, Flags};
 
-/// Empty where no mapping meets the slot's pages; the entry of its first page where one mapping
-/// holds them all; or the table of its parts.
+/// Empty where no mapping meets the slot's pages; a leaf where one mapping holds them all, with the entry of its first
+/// page (pages of zeros, or a buffer's from `page` on); or the table of its parts.
 #[derive(Drop)]
 pub enum Slot {
     Empty,
-    Leaf(Entry),
+    Zero {
+        flags: Flags,
+    },
+    Buffer {
+        flags: Flags,
+        id: BufferId,
+        page: u64,
+    },
     Table(Box<[Slot; SLOTS]>),
+}
+
+// A table of 512 slots is made in a frame and then moved to the heap, so a slot is kept small.
+const _: () = prove!(size_of::<Slot>() == 24);
+
+impl Slot {
+    ghost use Rattle.std.specs.Prelude.{◌≡◌, MatchOption};
+    ghost use Rattle.gv_table.specs.Tree.{leaf, HasNoEntry};
+
+    /// The leaf of an entry.
+    pub fn leaf(entry: Entry) -> Slot
+        ensures { result ≡ leaf entry }
+    {
+        let flags = entry.flags;
+        match entry.backing {
+            Backing::Zero => Slot::Zero { flags },
+            Backing::Buffer { id, page } => Slot::Buffer { flags, id, page },
+        }
+    }
+
+    /// The entry of a leaf.
+    pub fn entry(&self) -> Option<Entry>
+        ensures { MatchOption result (HasNoEntry self.now) (λ entry. self.now ≡ leaf entry) }
+    {
+        match *self {
+            Slot::Empty | Slot::Table(_) => None,
+            Slot::Zero { flags } => Some(Entry {
+                backing: Backing::Zero,
+                flags,
+            }),
+            Slot::Buffer { flags, id, page } => Some(Entry {
+                backing: Backing::Buffer { id, page },
+                flags,
+            }),
+        }
+    }
 }

@@ -23,7 +23,7 @@ fn child_of<'a>(slot: &'a Slot, index: usize, empty: &'a Slot) -> &'a Slot
 {
     match slot {
         Slot::Table(slots) => &slots[index],
-        Slot::Empty | Slot::Leaf(_) => empty,
+        Slot::Empty | Slot::Zero { .. } | Slot::Buffer { .. } => empty,
     }
 }
 
@@ -33,7 +33,7 @@ fn one_if_not_table(slot: &Slot) -> u64
 {
     match slot {
         Slot::Table(_) => 0,
-        Slot::Empty | Slot::Leaf(_) => 1,
+        Slot::Empty | Slot::Zero { .. } | Slot::Buffer { .. } => 1,
     }
 }
 

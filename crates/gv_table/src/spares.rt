@@ -75,7 +75,7 @@ impl Spares {
                 self.first = mem::replace(&mut slots[0], Slot::Empty);
                 slots
             }
-            Slot::Empty | Slot::Leaf(_) => unreachable!(),
+            Slot::Empty | Slot::Zero { .. } | Slot::Buffer { .. } => unreachable!(),
         }
     }
 

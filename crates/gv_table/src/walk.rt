@@ -1,15 +1,14 @@
 //! What a page of a tree holds.
-ghost use Rattle.std.specs.Prelude.{◌≡◌, ◌≤◌, ◌<◌, ◌+◌, List, IsTrue};
+ghost use Rattle.std.specs.Prelude.{◌≡◌, ◌≤◌, ◌<◌, ◌+◌, ℕ, false, List};
 ghost use Rattle.gv_types.specs.Page.{PAGES};
-ghost use Rattle.gv_types.specs.Span.{covers, end_of};
 ghost use Rattle.gv_types.specs.Mapping.{HasSmallPages};
 ghost use Rattle.gv_types.specs.declared.mapping.Mapping.{Mapping};
 ghost use Rattle.gv_ranges.specs.List.{at, IsLaidOut};
-ghost use Rattle.gv_table.specs.Levels.{top_level, slot_pages};
+ghost use Rattle.gv_table.specs.Levels.{top_level, pages_of};
 ghost use Rattle.gv_table.specs.Reads.{entry_after};
-ghost use Rattle.gv_table.specs.Tree.{IsTreeOf};
+ghost use Rattle.gv_table.specs.Tree.{IsTreeOf, is_table};
 
-use crate::levels::pages_of;
+use crate::levels::{TOP_LEVEL, pages_of, slots_in};
 use crate::slot::Slot;
 use gv_types::{Backing, Entry};
 
@@ -31,29 +30,34 @@ pub fn entry_after(entry: &Entry, distance: u64) -> Entry
     }
 }
 
-/// What a page of a slot holds: one step a level.
-pub fn walk_slot(slot: &Slot, level: usize, first: u64, page: u64) -> Option<Entry>
-    requires known { level ≤ top_level }
-    requires in_space { end_of (slot_pages level first) ≤ PAGES }
-    requires covered { IsTrue (covers (slot_pages level first) page) }
-    ensures { (ms : List Mapping) → IsLaidOut ms → IsTreeOf ms level first slot.now
+/// What the page of a slot holds that lies `distance` pages past its first, where the slot is no table.
+fn held_by(slot: &Slot, distance: u64) -> Option<Entry>
+    ensures { (ms : List Mapping) (level first : ℕ) → IsLaidOut ms → IsTreeOf ms level first slot.now
+        → is_table slot.now ≡ false → distance < pages_of level → result ≡ at ms (first + distance) }
+{
+    let entry = slot.entry()?;
+    Some(entry_after(&entry, distance))
+}
+
+/// What a page of a tree holds: one step a level.
+pub fn walk_tree(root: &Slot, page: u64) -> Option<Entry>
+    requires { page < PAGES }
+    ensures { (ms : List Mapping) → IsLaidOut ms → IsTreeOf ms top_level 0 root.now
         → result ≡ at ms page }
 {
-    match slot {
-        Slot::Empty => None,
-        Slot::Leaf(entry) => Some(entry_after(entry, page - first)),
-        Slot::Table(slots) => {
-            if level == 0 {
-                return None;
+    let mut slot = root;
+    let mut level = TOP_LEVEL;
+    let mut distance = page;
+    while level > 0 {
+        match slot {
+            Slot::Table(slots) => {
+                level -= 1;
+                let index = slots_in(level, distance);
+                distance -= index * pages_of(level);
+                slot = &slots[index as usize];
             }
-            let pages = pages_of(level - 1);
-            let index = (page - first) / pages;
-            walk_slot(
-                &slots[index as usize],
-                level - 1,
-                first + index * pages,
-                page,
-            )
+            Slot::Empty | Slot::Zero { .. } | Slot::Buffer { .. } => break,
         }
     }
+    held_by(slot, distance)
 }

@@ -10,15 +10,11 @@ use std::alloc::{AllocError, Global};
 /// The greatest number of bytes in a script.
 pub const SCRIPT_LIMIT: usize = 1_048_576;
 
-/// How many bytes one read may give. The chunk lies on the stack and has more bytes than the frames of all calls that a
-/// line makes (a table that the system refuses comes back through frames of a table's size each), so the stack that a
-/// line needs was given before the first line runs: want of memory then meets no stack that can't grow.
-const CHUNK_LEN: usize = 1 << 19;
+/// How many bytes one read may give.
+const CHUNK_LEN: usize = 1 << 13;
 
 /// The whole script. Each read gives a byte or ends it, so there are at most `SCRIPT_LIMIT + 1` reads. Where memory is
 /// refused, the rest is read and counted all the same: a script that is too long, or a read that fails, is told first.
-// A frame of its own, given back before a line runs.
-#[inline(never)]
 pub fn read_script<S: Source>(alloc: Global, source: &mut S) -> Result<Vec<u8>, ScriptFault>
     ensures whole { ReadsWhole (S.remaining source.old) result }
     ensures len { TellsLength (S.remaining source.old) result }

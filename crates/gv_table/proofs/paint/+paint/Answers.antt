@@ -2,7 +2,7 @@ use Rattle.std.proofs.Common.{rules, arith, ◌≡◌, ◌≢◌, ◌+◌, ◌*�
 use Rattle.std.proofs.lemmas.List.{get_or_default}
 use Rattle.gv_types.specs.Span.{span, meets}
 use Rattle.gv_table.specs.declared.slot.Slot.{Slot}
-use Rattle.gv_table.specs.declared.slot.Slot.TheVariants.{Empty, Leaf}
+use Rattle.gv_table.specs.declared.slot.Slot.TheVariants.{Empty}
 use Rattle.gv_table.specs.Levels.{pages_of, slot_pages}
 use Rattle.gv_table.specs.Wanted.{is_divided}
 use Rattle.gv_table.specs.Tree.{IsTreeOf, IsTreeOutside, is_table, child}
@@ -13,7 +13,7 @@ use Rattle.gv_table.proofs.Matches.{lost-whole, gained-none}
 use Rattle.gv_table.proofs.PagesOf.{pages_of-below, part-within}
 use Rattle.gv_table.proofs.Painted.{painted-below, painted-above, painted-gained, painted-lost, row-tree, row_gained-zero, row_lost-zero}
 use Rattle.gv_table.proofs.Rows.{row-other, row-here}
-use Rattle.gv_table.proofs.Slots.{is_table-Empty, is_table-Leaf}
+use Rattle.gv_table.proofs.Slots.{is_table-Empty, is_table-leaf}
 use Rattle.gv_table.proofs.Tallies.{divided-row, divided-counted, row-part, row-counted}
 use Rattle.gv_table.proofs.Spans.{meets-before}
 use Rattle.gv_table.proofs.Sums.{sum_below-at, sum_below-same}
@@ -245,7 +245,7 @@ paint_slot-returns-in-Nothing-clause-counted t c = λ target.
 
 pub paint_slot-returns-in-Entry-clause-counted : goal.paint_slot-returns-in-Entry-clause-counted
 paint_slot-returns-in-Entry-clause-counted t c = λ target.
-    let none = tables_at-other target c.args.level (Leaf c.in-Entry.entry) (is_table-Leaf c.in-Entry.entry) in
+    let none = tables_at-other target c.args.level c.leaf.result (ap is_table c.leaf.ensures ∙ is_table-leaf c.in-Entry.entry) in
     let given = c.release-lost.ensures.counted target in
     omega (arith, none, given)
 
@@ -272,7 +272,7 @@ paint_slot-returns-in-Nothing-clause-exchanged t c =
     omega (arith, g, l, c.release.ensures.put)
 
 pub paint_slot-returns-in-Entry-clause-tree : goal.paint_slot-returns-in-Entry-clause-tree
-paint_slot-returns-in-Entry-clause-tree t c = IsTreeOf-leaf _ c.args.level c.args.first c.in-Entry.entry _ (sym c.slot_wanted.ensures ∙ c.in-Entry.is) refl
+paint_slot-returns-in-Entry-clause-tree t c = IsTreeOf-leaf _ c.args.level c.args.first c.in-Entry.entry _ (sym c.slot_wanted.ensures ∙ c.in-Entry.is) c.leaf.ensures
 
 pub paint_slot-returns-in-Entry-clause-lost : goal.paint_slot-returns-in-Entry-clause-lost
 paint_slot-returns-in-Entry-clause-lost t c =

@@ -1,4 +1,4 @@
-use Rattle.std.proofs.Common.{rules, arith, ◌≡◌, ◌+◌, ◌<◌, ◌∙◌, sym, ap, ℕ, ◌-◌, length, false, slice_index_or, inl, inr, refl}
+use Rattle.std.proofs.Common.{rules, arith, ◌≡◌, ◌+◌, ◌<◌, ◌∙◌, sym, ap, ℕ, ◌-◌, length, false, slice_index_or, refl}
 use Rattle.gv_table.specs.declared.slot.Slot.{Slot}
 use Rattle.gv_table.specs.declared.slot.Slot.TheVariants.{Empty, Table}
 use Rattle.gv_table.specs.Levels.{pages_of}
@@ -9,7 +9,7 @@ use Rattle.gv_table.proofs.Counts.{tables_in-zero, tables_in-other, tables_in-Ta
 use Rattle.gv_table.proofs.Fewness.{tables_in-few}
 use Rattle.gv_table.proofs.PagesOf.{pages_of-bound}
 use Rattle.gv_table.proofs.Rows.{row-below, row-above, row-read}
-use Rattle.gv_table.proofs.Slots.{is_table-Empty, is_table-Leaf}
+use Rattle.gv_table.proofs.Slots.{no-table}
 use Rattle.gv_table.proofs.Sums.{sum_below-none, sum_below-more, sum_below-part, sum_below-few}
 use Rattle.gv_table.proofs.release.+release.Goals as goal
 
@@ -128,10 +128,7 @@ returns-after-loop-index-clause-put t c =
 
 pub returns-in-Empty : goal.returns-in-Empty
 returns-in-Empty t c =
-    let other : is_table c.args.slot.now ≡ false = elim c.in-Empty.is [
-      | inl e ↦ ap is_table (sym c.replace.ensures.value ∙ e) ∙ is_table-Empty
-      | inr p ↦ ap is_table (sym c.replace.ensures.value ∙ p.1) ∙ is_table-Leaf p.0
-    ] in
+    let other : is_table c.args.slot.now ≡ false = ap is_table (sym c.replace.ensures.value) ∙ no-table _ c.in-Empty.is in
     let none = tables_in-other c.args.level c.args.slot.now other in
     record {
       count = sym none;

@@ -1,9 +1,9 @@
-use Rattle.std.proofs.Common.{◌≡◌, false, sym, ap, ◌∙◌, inl, inr, List, length, slice_index_or, arith, rules}
+use Rattle.std.proofs.Common.{◌≡◌, sym, ap, ◌∙◌, List, length, slice_index_or, arith, rules}
 use Rattle.std.proofs.lemmas.List.{get_or_default}
 use Rattle.gv_table.specs.declared.slot.Slot.{Slot}
 use Rattle.gv_table.specs.declared.slot.Slot.TheVariants.{Empty}
-use Rattle.gv_table.specs.Tree.{child, is_table}
-use Rattle.gv_table.proofs.Slots.{is_table-Empty, is_table-Leaf, child-Table, child-other}
+use Rattle.gv_table.specs.Tree.{child}
+use Rattle.gv_table.proofs.Slots.{no-table, child-Table, child-other}
 use Rattle.gv_table.proofs.spare.child_of.Goals as goal
 
 pub returns-in-Table : goal.returns-in-Table
@@ -15,16 +15,11 @@ returns-in-Table c =
 
 pub returns-in-Empty : goal.returns-in-Empty
 returns-in-Empty c =
-    let other : is_table c.args.slot.now ≡ false = elim c.in-Empty.is [
-      | inl e ↦ ap is_table e ∙ is_table-Empty
-      | inr p ↦ ap is_table p.1 ∙ is_table-Leaf p.0
-    ] in
-    c.requires.empty ∙ sym (child-other c.args.slot.now c.args.index other)
+    c.requires.empty ∙ sym (child-other c.args.slot.now c.args.index (no-table c.args.slot.now c.in-Empty.is))
 
 pub returns-in-Empty-2 : goal.returns-in-Empty-2
 returns-in-Empty-2 c =
-    let other : is_table c.args.slot.now ≡ false = elim c.in-Empty.is [
-      | inl e ↦ ap is_table e ∙ is_table-Empty
-      | inr p ↦ ap is_table p.1 ∙ is_table-Leaf p.0
-    ] in
-    c.requires.empty ∙ sym (child-other c.args.slot.now c.args.index other)
+    c.requires.empty ∙ sym (child-other c.args.slot.now c.args.index (no-table c.args.slot.now c.in-Empty.is))
+
+pub returns-in-Empty-3 : goal.returns-in-Empty-3
+returns-in-Empty-3 c = c.requires.empty ∙ sym (child-other c.args.slot.now c.args.index (no-table c.args.slot.now c.in-Empty.is))

@@ -1,10 +1,10 @@
-use Rattle.std.proofs.Common.{rules, arith, ◌≡◌, ◌<◌, ◌-◌, ◌∙◌, sym, ap, length, List, slice_index_or, true, false, subst, inl, inr}
+use Rattle.std.proofs.Common.{rules, arith, ◌≡◌, ◌<◌, ◌-◌, ◌∙◌, sym, ap, length, List, slice_index_or, true, false, subst}
 use Rattle.std.proofs.lemmas.List.{get_or_default}
 use Rattle.gv_table.specs.declared.slot.Slot.{Slot}
 use Rattle.gv_table.specs.declared.slot.Slot.TheVariants.{Empty, Table}
 use Rattle.gv_table.specs.Chain.{IsChainOf, chain_length}
 use Rattle.gv_table.specs.Tree.{is_table}
-use Rattle.gv_table.proofs.Slots.{IsChainOf-rest, IsChainOf-first, IsChainOf-others, is_table-Empty, is_table-Leaf, chain_length-first}
+use Rattle.gv_table.proofs.Slots.{IsChainOf-rest, IsChainOf-first, IsChainOf-others, no-table, chain_length-first}
 use Rattle.gv_table.proofs.spares.Spares.take.Goals as goal
 
 pub invariant_of-self : goal.invariant_of-self
@@ -25,10 +25,7 @@ pub unreachable-requires : goal.unreachable-requires
 unreachable-requires c =
     let table : is_table c.self.inside.first ≡ true =
     IsChainOf-first (chain_length c.self.inside.first) c.self.inside.first (omega (arith, c.self.view_is)) c.self.invariant in
-    elim c.in-Empty.is [
-      | inl e ↦ (let bad : true ≡ false = sym table ∙ ap is_table (sym c.replace.ensures.value) ∙ ap is_table e ∙ is_table-Empty in cc)
-      | inr p ↦ (let bad : true ≡ false = sym table ∙ ap is_table (sym c.replace.ensures.value) ∙ ap is_table p.1 ∙ is_table-Leaf p.0 in cc)
-    ]
+    let bad : true ≡ false = sym table ∙ ap is_table (sym c.replace.ensures.value) ∙ no-table _ c.in-Empty.is in cc
 
 pub returns-clause-empty : goal.returns-clause-empty
 returns-clause-empty c =

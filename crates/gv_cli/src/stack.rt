@@ -1,0 +1,14 @@
+//! The stack of the program, made sure of.
+
+/// How many bytes of stack the program makes sure of. A line of a script needs about 150 KiB: a table that the system
+/// refuses comes back by value, through frames of a table's size each.
+const FRAME_LEN: usize = 1 << 18;
+
+/// Whether a frame of `FRAME_LEN` bytes was written and read back. It always is; where the system has no memory for the
+/// stack, it ends the program. So want of memory at a later line meets no stack that can't grow just then.
+// A frame of its own, given back before the words are read. It is read back, else a compiler may leave it out.
+#[inline(never)]
+pub fn is_stack_there(byte: u8) -> bool {
+    let frame = [byte; FRAME_LEN];
+    frame.iter().all(|written| *written == byte)
+}

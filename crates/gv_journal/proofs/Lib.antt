@@ -1,0 +1,14 @@
+pub mod Lists
+pub mod Releases
+pub mod Undoings
+pub mod Runs
+pub mod Changing
+pub mod Passing
+pub mod Unmapping
+pub mod Limits
+pub mod Named
+pub mod Turns
+pub mod Views
+pub mod Histories
+pub mod Bindings
+pub mod Held

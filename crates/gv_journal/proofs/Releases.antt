@@ -1,0 +1,49 @@
+-- The counts of buffers once mappings are given up one list after another.
+use Rattle.std.proofs.Common.{◌≡◌, ℕ, ◌+◌, ◌-◌, List, [], ◌∷◌, ◌++◌, map, length, refl, ap, ◌∙◌, arith, length-append}
+use Rattle.std.specs.List.{filter}
+use Rattle.std.proofs.lemmas.List.Elements.{filter-append}
+use Rattle.gv_types.specs.Mapping.{is_of}
+use Rattle.gv_types.specs.declared.mapping.BufferId.{BufferId}
+use Rattle.gv_types.specs.declared.mapping.Mapping.{Mapping}
+use Rattle.gv_buffers.specs.Table.{Buffer}
+use Rattle.gv_space.specs.Counts.{count_of, less_kept}
+use Rattle.gv_space.specs.State.{AddressSpace}
+use Rattle.gv_space.specs.Undo.{released}
+
+count_of-append : (id : BufferId) (xs ys : List Mapping) → count_of id (xs ++ ys) ≡ count_of id xs + count_of id ys
+count_of-append id xs ys =
+    ap (λ (ms : List Mapping). length ms) (filter-append (λ (m : Mapping). is_of id m.backing) xs ys)
+    ∙ length-append (filter (λ (m : Mapping). is_of id m.backing) xs) (filter (λ (m : Mapping). is_of id m.backing) ys)
+
+less_twice : (b : Buffer) (first later : List Mapping) →
+    less_kept (less_kept b (count_of b.id first)) (count_of b.id later) ≡ less_kept b (count_of b.id (first ++ later))
+less_twice b first later =
+    let total : b.kept - count_of b.id first - count_of b.id later ≡ b.kept - count_of b.id (first ++ later) = omega (arith, count_of-append b.id first later) in
+    ap (λ (n : ℕ). record b { kept = n }) total
+
+each_twice : (bs : List Buffer) (first later : List Mapping) →
+    map (λ (b : Buffer). less_kept b (count_of b.id later)) (map (λ (b : Buffer). less_kept b (count_of b.id first)) bs)
+    ≡ map (λ (b : Buffer). less_kept b (count_of b.id (first ++ later))) bs
+each_twice [] first later = refl
+each_twice (b ∷ bs) first later =
+    ap (λ (x : Buffer). x ∷ map (λ (b : Buffer). less_kept b (count_of b.id later)) (map (λ (b : Buffer). less_kept b (count_of b.id first)) bs)) (less_twice b first later)
+    ∙ ap (λ (xs : List Buffer). less_kept b (count_of b.id (first ++ later)) ∷ xs) (each_twice bs first later)
+
+-- mappings given up one list after the other
+pub released-released : (s : AddressSpace) (first later : List Mapping) → released (released s first) later ≡ released s (first ++ later)
+released-released s first later =
+    let count_is : s.kept_count - length first - length later ≡ s.kept_count - length (first ++ later) = omega (arith, length-append first later) in
+    ap (λ (n : ℕ). record (released (released s first) later) { kept_count = n }) count_is
+    ∙ ap (λ (live : List Buffer). record s { buffers = record s.buffers { live = live }; kept_count = s.kept_count - length (first ++ later) }) (each_twice s.buffers.live first later)
+
+less_none : (bs : List Buffer) → map (λ (b : Buffer). less_kept b (count_of b.id [])) bs ≡ bs
+less_none [] = refl
+less_none (b ∷ bs) =
+    let same : b.kept - 0 ≡ b.kept = omega arith in
+    ap (λ (n : ℕ). record b { kept = n } ∷ map (λ (b : Buffer). less_kept b (count_of b.id [])) bs) same ∙ ap (λ (xs : List Buffer). b ∷ xs) (less_none bs)
+
+-- nothing given up
+pub released-none : (s : AddressSpace) → released s [] ≡ s
+released-none s =
+    let count_is : s.kept_count - 0 ≡ s.kept_count = omega arith in
+    ap (λ (n : ℕ). record (released s []) { kept_count = n }) count_is ∙ ap (λ (live : List Buffer). record s { buffers = record s.buffers { live = live } }) (less_none s.buffers.live)

@@ -1,0 +1,42 @@
+-- The unmaps that an unmap of a whole buffer stands for.
+use Rattle.std.proofs.Common.{◌≡◌, ℕ, ◌*◌, ◌/◌, ◌%◌, ◌<◌, ◌==◌, false, Option, None, refl, ap, ◌∙◌, arith}
+use Rattle.std.proofs.lemmas.Bool.Decides.{nat_tests}
+use Rattle.gv_types.specs.Span.{Span}
+use Rattle.gv_types.specs.Bounds.{LieInArea}
+use Rattle.gv_types.specs.Operation.{in_pages, range_of}
+use Rattle.gv_types.specs.declared.fault.Fault.{Fault}
+use Rattle.gv_types.specs.declared.operation.Op.{Op}
+use Rattle.gv_types.specs.declared.operation.Op.TheVariants.{Unmap as ByteUnmap}
+use Rattle.gv_types.specs.declared.operation.PageOp.{PageOp}
+use Rattle.gv_types.specs.declared.operation.PageOp.TheVariants.{Unmap}
+use Rattle.gv_ranges.specs.Edit.{edited}
+use Rattle.gv_space.specs.State.{AddressSpace}
+use Rattle.gv_space.specs.Refusal.{first_of, operation_fault, apply_fault, limit_fault}
+
+-- an unmap of pages, in bytes
+abbrev pub unmap_of : Span → Op
+unmap_of r = ByteUnmap (r.first * 4096) (r.count * 4096)
+
+pub in_pages-unmap_of : (r : Span) → in_pages (unmap_of r) ≡ Unmap r
+in_pages-unmap_of r =
+    let first : r.first * 4096 / 4096 ≡ r.first = omega arith in
+    let count : r.count * 4096 / 4096 ≡ r.count = omega arith in
+    rw (first, count) refl
+
+some_pages : (n : ℕ) → 0 < n → (n * 4096 == 0) ≡ false
+some_pages n some = let more : 0 < n * 4096 = omega arith in grind (arith, nat_tests)
+
+-- it has no fault of its own
+no_fault : (s : AddressSpace) (r : Span) → 0 < r.count → LieInArea s.area r → operation_fault s (unmap_of r) ≡ None
+no_fault s r some lie =
+    let first : r.first * 4096 / 4096 ≡ r.first = omega arith in
+    let count : r.count * 4096 / 4096 ≡ r.count = omega arith in
+    let aligned_first : (r.first * 4096) % 4096 ≡ 0 = omega arith in
+    let aligned_count : (r.count * 4096) % 4096 ≡ 0 = omega arith in
+    rw (aligned_first, aligned_count, some_pages r.count some, first, count, lie.in_space, lie.off_region) refl
+
+pub unmap_fault : (s : AddressSpace) (r : Span) → 0 < r.count → LieInArea s.area r →
+    apply_fault s (unmap_of r) ≡ limit_fault s r (edited s.mappings (Unmap r))
+unmap_fault s r some lie =
+    ap (λ (f : Option Fault). first_of f (limit_fault s (range_of (in_pages (unmap_of r))) (edited s.mappings (in_pages (unmap_of r))))) (no_fault s r some lie)
+    ∙ ap (λ (op : PageOp). limit_fault s (range_of op) (edited s.mappings op)) (in_pages-unmap_of r)

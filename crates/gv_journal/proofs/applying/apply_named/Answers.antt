@@ -1,0 +1,31 @@
+use Rattle.std.proofs.Common.{◌≡◌, ℕ, ◌+◌, List, reverse, sym, ◌∙◌, ap}
+use Rattle.gv_types.specs.Operation.{in_pages}
+use Rattle.gv_types.specs.declared.operation.PageOp.{PageOp}
+use Rattle.gv_journal.specs.Applying.{after_op, after_all, does}
+use Rattle.gv_journal.specs.Work.{HasRoom, IsTurnRefused}
+use Rattle.gv_journal.proofs.Named.{does_itself, named_refused}
+use Rattle.gv_journal.proofs.Passing.{if_err, on_ok}
+use Rattle.gv_journal.proofs.applying.apply_named.Goals as goal
+
+pub returns-clause-err : goal.returns-clause-err
+returns-clause-err c =
+    if_err c.apply_ranged.result (IsTurnRefused c.args.space.now c.args.op.now)
+    (λ fault is. named_refused c.args.space.now c.args.op.now c.apply_ranged.result fault c.requires.ranged is c.apply_ranged.ensures.fault)
+
+pub returns-clause-state : goal.returns-clause-state
+returns-clause-state c =
+    let s = c.args.space.now in
+    let new = c.apply_ranged.new.space in
+    on_ok c.apply_ranged.result
+    (new ≡ record (after_op s (in_pages c.args.op.now)) { room = new.room })
+    (new ≡ record (after_all (reverse (does s.mappings c.args.op.now)) s) { room = new.room })
+    (λ is. is ∙ ap (λ (ops : List PageOp). record (after_all (reverse ops) s) { room = new.room }) (sym (does_itself s.mappings c.args.op.now c.requires.ranged)))
+    c.apply_ranged.ensures.state
+
+pub returns-clause-room : goal.returns-clause-room
+returns-clause-room c =
+    on_ok c.apply_ranged.result
+    ((left : ℕ) → HasRoom (1 + left) c.args.work.now → HasRoom left c.apply_ranged.new.work)
+    (HasRoom c.args.left c.apply_ranged.new.work)
+    (λ room. room c.args.left c.requires.room)
+    c.apply_ranged.ensures.room

@@ -1,0 +1,9 @@
+pub mod Items
+pub mod Undoing
+pub mod History
+pub mod State
+pub mod Applying
+pub mod Verdict
+pub mod Binding
+pub mod Work
+pub mod Inside

@@ -1,0 +1,194 @@
+//! The journal of an address space.
+ghost use Rattle.std.specs.Prelude.{◌≡◌, ℕ, ◌+◌, ◌≤◌, [], length, reverse, IsTrue, ◌↔◌, Some, None};
+ghost use Rattle.std.specs.Prelude.{IfOk, IfErr, OnOk, OnErr};
+ghost use Rattle.gv_journal.specs.Verdict.{refusal};
+
+use crate::applying::{Work, apply_all};
+use crate::item::{Item, ItemKind};
+use crate::refusal::Refusal;
+use crate::undoing::{release_all, revert_all};
+use gv_space::Space;
+use gv_types::{Fault, Request};
+use std::alloc::Global;
+use std::marker::Model;
+
+/// A request has at most so many operations.
+pub const MAX_OPS: usize = 256;
+
+/// Items have numbers below this one.
+const NUMBERS: u64 = 1 << 63;
+
+/// The accepted requests and the withdrawals of an address space, each with the undo values that take it back. An item's
+/// number is how many items stood before it, settled ones counted; after a rewind the number is given out again. A journal
+/// has to be closed: it isn't `Drop`, so a program that lets one go is refused.
+pub struct Journal {
+    items: Vec<Item>,
+    spent: usize,
+    first: u64,
+    limit: u64,
+}
+
+impl Model for Journal {
+    ghost use Rattle.gv_journal.specs.Items.{Journaled};
+
+    ghost Value = { Journaled };
+
+    ghost use Rattle.gv_journal.specs.Inside.{journal_of, IsSound};
+
+    ghost view = { journal_of };
+
+    ghost invariant = { IsSound };
+}
+
+impl Journal {
+    ghost use Rattle.gv_space.specs.State.{AddressSpace, AreKept, IsUnchanged};
+    ghost use Rattle.gv_space.specs.Undo.{released};
+    ghost use Rattle.gv_journal.specs.Items.{next};
+    ghost use Rattle.gv_journal.specs.History.{back, kept_by};
+    ghost use Rattle.gv_journal.specs.State.{FitsSpace};
+    ghost use Rattle.gv_journal.specs.Verdict.{verdict, full_fault, IsRefused};
+    ghost use Rattle.gv_journal.specs.Binding.{IsBound, IsApplied, IsRewound};
+
+    /// No items, and room for none: it takes no memory. It may hold `limit` items.
+    pub fn new(alloc: Global, limit: u64) -> Journal
+        ensures { result ≡ record { limit = limit; first = 0; items = [] } }
+    {
+        Journal {
+            items: Vec::new(alloc),
+            spent: 0,
+            first: 0,
+            limit,
+        }
+    }
+
+    /// The items held, the oldest one first.
+    pub fn items(&self) -> &[Item]
+        ensures { result.now ≡ reverse self.now.items }
+    {
+        &self.items[self.spent..]
+    }
+
+    /// The number of the oldest item held, or of the next one where none is.
+    pub fn first(&self) -> u64
+        ensures { result ≡ self.now.first }
+    {
+        self.first
+    }
+
+    /// The number of the next item.
+    pub fn next(&self) -> u64
+        ensures { result ≡ next self.now }
+    {
+        self.first + (self.items.len() - self.spent) as u64
+    }
+
+    /// Whether it holds as many items as it may, or has no number left.
+    fn is_full(&self) -> bool
+        ensures { IsTrue result ↔ (full_fault self.now ≡ Some Fault.JournalFull) }
+    {
+        (self.items.len() - self.spent) as u64 >= self.limit || self.next() >= NUMBERS
+    }
+
+    /// Applies a request whole or not at all, and answers the number of its item. The refusals in this order:
+    /// `TooManyOps` over 256 operations, `JournalFull` where the limit's items are held or no number is left, `OutOfMemory`
+    /// for the item's place, then at the first operation that has one the faults of `Space::apply`. An unmap of a whole
+    /// buffer is, at its turn, an unmap of each of its mappings in ascending order: `NoBuffer`, then `OutOfMemory` for
+    /// their list. After a refusal space and journal are as before, but for room.
+    pub fn bind(
+        &mut self,
+        alloc: Global,
+        space: &mut Space,
+        queue: u64,
+        number: u64,
+        request: Request,
+        seen: Vec<u64>,
+    ) -> Result<u64, Refusal>
+        requires { FitsSpace space.old self.old }
+        ensures accepted { OnOk result (verdict space.old self.old request.ops.items ≡ None) }
+        ensures refused { IfErr result (IsRefused space.old self.old request.ops.items) }
+        ensures number { IfOk result (λ n. n ≡ next self.old) }
+        ensures item { OnOk result (IsBound space.old self.old self.new queue number request seen) }
+        ensures space { OnOk result (IsApplied space.old space.new request) }
+        ensures back { OnOk result ((n : ℕ)
+            → back space.new.mappings self.new.items (n + 1) ≡ back space.old.mappings self.old.items n) }
+        ensures fits { FitsSpace space.new self.new }
+        ensures space_unchanged { OnErr result (IsUnchanged space.old space.new) }
+        ensures unchanged { OnErr result (self.new ≡ self.old) }
+    {
+        if request.ops.len() > MAX_OPS {
+            return Err(whole(Fault::TooManyOps));
+        }
+        if self.is_full() {
+            return Err(whole(Fault::JournalFull));
+        }
+        if self.items.reserve(1).is_err() {
+            return Err(whole(Fault::OutOfMemory));
+        }
+        let Work { ops: done, undos } = match apply_all(alloc, space, &request.ops) {
+            Ok(work) => work,
+            Err(refusal) => return Err(refusal),
+        };
+        let entry = self.next();
+        let kind = ItemKind::Bind {
+            queue,
+            number,
+            request,
+            seen,
+            done,
+        };
+        self.items.push_reserved(Item { kind, undos });
+        Ok(entry)
+    }
+
+    /// Takes the newest item back and answers its number: the list of mappings is what it was before that item, boundaries
+    /// included, and so are the page table and the uses of each buffer. `NoEntry` only where no item is held. It takes no
+    /// memory.
+    pub fn rewind(&mut self, space: &mut Space) -> Result<u64, Fault>
+        requires { FitsSpace space.old self.old }
+        ensures number { IfOk result (λ n. n ≡ next self.new) }
+        ensures item { OnOk result (IsRewound space.old space.new self.old self.new) }
+        ensures back { OnOk result ((n : ℕ)
+            → back space.new.mappings self.new.items n ≡ back space.old.mappings self.old.items (n + 1)) }
+        ensures fits { FitsSpace space.new self.new }
+        ensures none { IfErr result (λ fault. (fault ≡ Fault.NoEntry) × (self.old.items ≡ [])) }
+        ensures space_unchanged { OnErr result (space.new ≡ space.old) }
+        ensures unchanged { OnErr result (self.new ≡ self.old) }
+    {
+        if self.items.len() == self.spent {
+            return Err(Fault::NoEntry);
+        }
+        match self.items.pop() {
+            None => Err(Fault::NoEntry),
+            Some(Item { kind: _, undos }) => {
+                revert_all(space, undos);
+                Ok(self.next())
+            }
+        }
+    }
+
+    /// Gives up all undo values: what was bound stays. It takes no memory.
+    pub fn close(self, space: &mut Space)
+        requires { AreKept space.old (kept_by self.items) }
+        ensures state { space.new ≡ released space.old (kept_by self.items) }
+        ensures kept { AreKept space.new [] }
+    {
+        let Journal {
+            items,
+            spent: _,
+            first: _,
+            limit: _,
+        } = self;
+        let mut items = items;
+        while let Some(Item { kind: _, undos }) = items.pop() {
+            release_all(space, undos);
+        }
+        items.destroy_empty();
+    }
+}
+
+/// A refusal of the whole request.
+fn whole(fault: Fault) -> Refusal
+    ensures { result ≡ refusal 0 fault }
+{
+    Refusal { op: 0, fault }
+}
