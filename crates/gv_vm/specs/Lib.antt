@@ -2,3 +2,5 @@ pub mod Places
 pub mod Jobs
 pub mod Inside
 pub mod Holding
+pub mod Outcomes
+pub mod Telling

@@ -3,7 +3,11 @@
 #![tactic(auto)]
 
 mod jobs;
+mod outcome;
 mod places;
+mod told;
 
 pub use jobs::{Access, Job, Jobs, MAX_ACCESSES, MAX_RUNNING};
+pub use outcome::{NotTold, Outcome};
 pub use places::{Place, Target, translate};
+pub use told::{QUEUES, Told, nothing_told, prepare, tell};
