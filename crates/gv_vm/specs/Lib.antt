@@ -4,3 +4,6 @@ pub mod Inside
 pub mod Holding
 pub mod Outcomes
 pub mod Telling
+pub mod State
+pub mod VmInside
+pub mod Told

@@ -2,12 +2,15 @@
 //! them.
 #![tactic(auto)]
 
+mod carry;
 mod jobs;
 mod outcome;
 mod places;
 mod told;
+mod vm;
 
-pub use jobs::{Access, Job, Jobs, MAX_ACCESSES, MAX_RUNNING};
+pub use jobs::{Access, Job, MAX_ACCESSES, MAX_RUNNING};
 pub use outcome::{NotTold, Outcome};
-pub use places::{Place, Target, translate};
-pub use told::{QUEUES, Told, nothing_told, prepare, tell};
+pub use places::{Place, Target};
+pub use told::QUEUES;
+pub use vm::Vm;
