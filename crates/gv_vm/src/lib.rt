@@ -14,3 +14,6 @@ pub use outcome::{NotTold, Outcome};
 pub use places::{Place, Target};
 pub use told::QUEUES;
 pub use vm::Vm;
+
+#[cfg(test)]
+mod tests;
