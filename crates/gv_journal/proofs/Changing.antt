@@ -113,3 +113,10 @@ AreApplied-room old mid new ops us was same = record {
   undos = was.undos;
   save = was.save;
 }
+
+-- changes taken back leave all as it was, but for room
+pub unchanged_back : (old new t : AddressSpace) (us : List UndoValue) → AreChanges old new us → t ≡ reverted_by new us → IsUnchanged old t
+unchanged_back old new t us changes is =
+    let whole : t ≡ record old { room = new.room } = is ∙ changes.back in
+    let room_is : t.room ≡ new.room = ap (λ (s : AddressSpace). s.room) whole in
+    record { state = whole ∙ ap (λ (n : ℕ). record old { room = n }) (sym room_is); room = omega (arith, changes.room, room_is) }

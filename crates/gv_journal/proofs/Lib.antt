@@ -12,3 +12,6 @@ pub mod Views
 pub mod Histories
 pub mod Bindings
 pub mod Held
+pub mod Settlings
+pub mod Spending
+pub mod Puts

@@ -7,3 +7,6 @@ pub mod Verdict
 pub mod Binding
 pub mod Work
 pub mod Inside
+pub mod Settling
+pub mod Withdrawing
+pub mod Restoring

@@ -1,11 +1,12 @@
 //! The journal of an address space.
-ghost use Rattle.std.specs.Prelude.{◌≡◌, ℕ, ◌+◌, ◌≤◌, [], length, reverse, IsTrue, ◌↔◌, Some, None};
+ghost use Rattle.std.specs.Prelude.{◌≡◌, ℕ, ◌+◌, ◌≤◌, [], length, reverse, IsTrue, ◌↔◌, Some, None, position};
 ghost use Rattle.std.specs.Prelude.{IfOk, IfErr, OnOk, OnErr};
 ghost use Rattle.gv_journal.specs.Verdict.{refusal};
 
 use crate::applying::{Work, apply_all};
 use crate::item::{Item, ItemKind};
 use crate::refusal::Refusal;
+use crate::settling::{SettleFault, first_crossing, release_items};
 use crate::undoing::{release_all, revert_all};
 use gv_space::Space;
 use gv_types::{Fault, Request};
@@ -47,6 +48,7 @@ impl Journal {
     ghost use Rattle.gv_journal.specs.History.{back, kept_by};
     ghost use Rattle.gv_journal.specs.State.{FitsSpace};
     ghost use Rattle.gv_journal.specs.Verdict.{verdict, full_fault, IsRefused};
+    ghost use Rattle.gv_journal.specs.Settling.{settle_fault, later, crosses, IsSettled};
     ghost use Rattle.gv_journal.specs.Binding.{IsBound, IsApplied, IsRewound};
 
     /// No items, and room for none: it takes no memory. It may hold `limit` items.
@@ -163,6 +165,51 @@ impl Journal {
                 revert_all(space, undos);
                 Ok(self.next())
             }
+        }
+    }
+
+    /// Settles the items below a number: what their undo values keep is given up and they go, so they can't be taken back or
+    /// withdrawn any more. It answers how many. `NoEntry` where the number is below that of the oldest item held or above the
+    /// next one, then `Crossed` with the least later item that withdraws one of them. It takes no memory.
+    pub fn settle(&mut self, space: &mut Space, to: u64) -> Result<u64, SettleFault>
+        requires { FitsSpace space.old self.old }
+        ensures accepted { OnOk result (settle_fault self.old to ≡ None) }
+        ensures refused { IfErr result (λ fault. settle_fault self.old to ≡ Some fault) }
+        ensures number { IfOk result (λ count. self.old.first + count ≡ to) }
+        ensures settled { OnOk result (IsSettled space.old space.new self.old self.new to) }
+        ensures fits { FitsSpace space.new self.new }
+        ensures space_unchanged { OnErr result (space.new ≡ space.old) }
+        ensures unchanged { OnErr result (self.new ≡ self.old) }
+    {
+        let count = match self.count_below(to) {
+            Ok(count) => count,
+            Err(fault) => return Err(fault),
+        };
+        let end = self.spent + count as usize;
+        release_items(space, &mut self.items[self.spent..end]);
+        self.spent = end;
+        self.first = to;
+        Ok(count)
+    }
+
+    /// How many items are below a number, where they can be settled.
+    fn count_below(&self, to: u64) -> Result<u64, SettleFault>
+        ensures accepted { OnOk result (settle_fault self.now to ≡ None) }
+        ensures refused { IfErr result (λ fault. settle_fault self.now to ≡ Some fault) }
+        ensures number { IfOk result (λ count. self.now.first + count ≡ to) }
+        ensures within { OnOk result (to ≤ next self.now) }
+        ensures none { OnOk result (position (λ item. crosses to item.kind) (reverse (later self.now to)) ≡ None) }
+    {
+        if to < self.first || self.next() < to {
+            return Err(SettleFault::NoEntry);
+        }
+        let count = to - self.first;
+        let later = &self.items()[count as usize..];
+        match first_crossing(later, to) {
+            Some(place) => Err(SettleFault::Crossed {
+                by: to + place as u64,
+            }),
+            None => Ok(count),
         }
     }
 

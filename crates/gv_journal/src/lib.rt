@@ -6,8 +6,11 @@ mod applying;
 mod item;
 mod journal;
 mod refusal;
+mod restoring;
+mod settling;
 mod undoing;
 
 pub use item::{Item, ItemKind};
 pub use journal::{Journal, MAX_OPS};
 pub use refusal::Refusal;
+pub use settling::SettleFault;

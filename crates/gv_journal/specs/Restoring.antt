@@ -1,0 +1,40 @@
+-- Undo values put back, the newest first. No public clause cites this module.
+use Rattle.std.specs.Prelude.{◌≡◌, ℕ, if◌then◌else◌, List, [], ◌∷◌, Option, Some, None, ◌⊎◌}
+use Rattle.gv_types.specs.Page.{IsPage}
+use Rattle.gv_types.specs.Span.{covers}
+use Rattle.gv_types.specs.declared.fault.Fault.{Fault}
+use Rattle.gv_types.specs.declared.fault.Fault.TheVariants.{OutOfMemory}
+use Rattle.gv_types.specs.declared.mapping.Entry.{Entry}
+use Rattle.gv_types.specs.declared.mapping.Mapping.{Mapping}
+use Rattle.gv_ranges.specs.List.{at}
+use Rattle.gv_ranges.specs.Edit.{restored}
+use Rattle.gv_space.specs.State.{AddressSpace}
+use Rattle.gv_space.specs.Undo.{UndoValue}
+use Rattle.gv_space.specs.Refusal.{first_of, limit_fault}
+use Rattle.gv_space.specs.Change.{changed_to}
+use Rattle.gv_journal.specs.Applying.{met, AreChanges}
+
+-- the space once what an undo value took is put back
+abbrev pub after_put : AddressSpace → UndoValue → AddressSpace
+after_put s u = changed_to (restored s.mappings u.range u.change.taken) (met s.mappings u.range) s
+
+abbrev pub after_puts : List UndoValue → AddressSpace → AddressSpace
+after_puts [] s = s
+after_puts (u ∷ older) s = after_puts older (after_put s u)
+
+-- the first limit that is passed meanwhile
+abbrev pub put_limits : List UndoValue → AddressSpace → Option Fault
+put_limits [] s = None
+put_limits (u ∷ older) s =
+    first_of (limit_fault s u.range (restored s.mappings u.range u.change.taken)) (put_limits older (after_put s u))
+
+-- what a page holds then
+abbrev pub put_back : List UndoValue → ℕ → Option Entry → Option Entry
+put_back [] page now = now
+put_back (u ∷ older) page now = put_back older page (if covers u.range page then at u.change.taken page else now)
+
+-- They were put back, and these undo values take that back.
+pub record ArePutBack (old new : AddressSpace) (saved fresh : List UndoValue) : Type 0 where
+  pub state : new ≡ record (after_puts saved old) { room = new.room }
+  pub changes : AreChanges old new fresh
+  pub pages : (page : ℕ) → IsPage page → at new.mappings page ≡ put_back saved page (at old.mappings page)
