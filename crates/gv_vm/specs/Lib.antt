@@ -7,3 +7,7 @@ pub mod Telling
 pub mod State
 pub mod VmInside
 pub mod Told
+pub mod World
+pub mod Step
+pub mod Run
+pub mod Headline

@@ -3,12 +3,14 @@
 #![tactic(auto)]
 
 mod carry;
+mod event;
 mod jobs;
 mod outcome;
 mod places;
 mod told;
 mod vm;
 
+pub use event::{Event, Reply};
 pub use jobs::{Access, Job, MAX_ACCESSES, MAX_RUNNING};
 pub use outcome::{NotTold, Outcome};
 pub use places::{Place, Target};
