@@ -1,0 +1,13 @@
+pub mod Places
+pub mod Jobs
+pub mod Inside
+pub mod Holding
+pub mod Outcomes
+pub mod Telling
+pub mod State
+pub mod VmInside
+pub mod Told
+pub mod World
+pub mod Step
+pub mod Run
+pub mod Headline

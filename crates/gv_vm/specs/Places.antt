@@ -1,0 +1,30 @@
+-- Where addresses lead.
+use Rattle.std.specs.Prelude.{ℕ, ◌+◌, ◌*◌, ◌/◌, ◌%◌, ◌<◌, List, Option}
+use Rattle.std.specs.Option.{option_map}
+use Rattle.gv_types.specs.Page.{bytes_per_page, pages_per_buffer}
+use Rattle.gv_types.specs.declared.mapping.Backing.{Backing}
+use Rattle.gv_types.specs.declared.mapping.Backing.TheVariants.{Buffer as BufferPages, Zero as ZeroPages}
+use Rattle.gv_types.specs.declared.mapping.Entry.{Entry}
+use Rattle.gv_types.specs.declared.mapping.Mapping.{Mapping}
+use Rattle.gv_ranges.specs.List.{at}
+use Rattle.gv_vm.specs.declared.places.Target.{Target}
+use Rattle.gv_vm.specs.declared.places.Target.TheVariants.{Buffer, Zero}
+use Rattle.gv_vm.specs.declared.places.Place.{Place}
+
+-- what stands some bytes behind the first byte of a page
+abbrev pub target_of : Backing → ℕ → Target
+target_of (BufferPages id page) rest = Buffer id (page * bytes_per_page + rest)
+target_of ZeroPages rest = Zero
+
+-- where the byte leads that stands some bytes into a page
+abbrev pub place_of : Entry → ℕ → Place
+place_of e rest = record { target = target_of e.backing rest; flags = e.flags }
+
+-- where an address leads, if a mapping holds its page
+abbrev pub place_at : List Mapping → ℕ → Option Place
+place_at ms addr = option_map (λ e. place_of e (addr % bytes_per_page)) (at ms (addr / bytes_per_page))
+
+-- the page is one of a buffer, so its bytes have numbers that fit
+abbrev pub HasBytes : Backing → Type 0
+HasBytes (BufferPages id page) = page < pages_per_buffer
+HasBytes ZeroPages = Unit {0}

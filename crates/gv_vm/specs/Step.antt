@@ -1,0 +1,276 @@
+-- What each event does to a world, and which reply it gets. An event that is not enabled is answered by `Idle` and changes
+-- nothing; `Idle` is the answer to no other.
+use Rattle.std.specs.Prelude.{◌≡◌, ℕ, ◌+◌, ◌<◌, ◌≤◌, if◌then◌else◌, nat_le, List, [], ◌∷◌, ◌++◌, length, slice_index, Option, Some, None, ◌⊎◌, IsSome}
+use Rattle.gv_types.specs.Request.{Fits}
+use Rattle.gv_types.specs.declared.fault.Fault.{Fault}
+use Rattle.gv_types.specs.declared.fault.Fault.TheVariants.{QueueSpent, QueueFull, NoEntry, OutOfMemory}
+use Rattle.gv_types.specs.declared.mapping.BufferId.{BufferId}
+use Rattle.gv_types.specs.declared.request.Point.{Point}
+use Rattle.gv_types.specs.declared.request.Request.{Request}
+use Rattle.gv_buffers.specs.Table.{create_fault, destroy_fault, without, IsCreated}
+use Rattle.gv_sync.specs.Raises.{IsReached, with_raise}
+use Rattle.gv_sync.specs.Sights.{Sight, sight}
+use Rattle.gv_journal.specs.Items.{next}
+use Rattle.gv_journal.specs.Binding.{IsRewound}
+use Rattle.gv_journal.specs.declared.item.Item.{Item}
+use Rattle.gv_journal.specs.Settling.{settle_fault, IsSettled}
+use Rattle.gv_journal.specs.Withdrawing.{entry_fault, withdraw_fault, IsWithdrawn}
+use Rattle.gv_vm.specs.Places.{place_at}
+use Rattle.gv_vm.specs.Jobs.{begin_fault, end_fault, IsBegun, IsEnded, IsBeginRefused}
+use Rattle.gv_vm.specs.Outcomes.{with_outcome}
+use Rattle.gv_vm.specs.Told.{IsCarriedOut, seen_by}
+use Rattle.gv_vm.specs.State.{Machine, HasOtherBuffers, HasOtherJobs}
+use Rattle.gv_vm.specs.World.{World, Queue, InHand, queue_at, with_queue, taken, next_number, next_wait, seen_at}
+use Rattle.gv_vm.specs.declared.event.Event.{Event}
+use Rattle.gv_vm.specs.declared.event.Event.TheVariants.{Put, Take, Look, Bind, GiveUp, Pay, Raise, Create, Destroy, Rewind, Withdraw, Settle, JobBegin, JobEnd, Translate}
+use Rattle.gv_vm.specs.declared.event.Reply.{Reply}
+use Rattle.gv_vm.specs.declared.event.Reply.TheVariants.{Idle, Put as IsPut, NotPut, Taken, Reached, Lacking, Told, Raised, Created, Destroyed, Rewound, Withdrawn, Settled, NotSettled, Begun, Ended, Found, Refused}
+use Rattle.gv_vm.specs.declared.jobs.Access.{Access}
+use Rattle.gv_vm.specs.declared.jobs.Job.{Job}
+use Rattle.gv_vm.specs.declared.outcome.Outcome.{Outcome}
+use Rattle.gv_vm.specs.declared.outcome.Outcome.TheVariants.{Accepted, NotReady, Refused as RefusedAt}
+use Rattle.gv_vm.specs.declared.places.Place.{Place}
+
+-- Which events are enabled.
+
+-- such a queue there is
+abbrev pub IsQueue : World → ℕ → Type 0
+IsQueue w queue = queue < length w.queues
+
+-- a request is in hand
+pub record Has (w : World) (queue : ℕ) : Type 0 where
+  pub there : IsQueue w queue
+  pub hand : InHand
+  pub is : (queue_at w queue).hand ≡ Some hand
+
+-- a request waits, nothing is in hand and nothing is owed
+pub record CanTake (w : World) (queue : ℕ) : Type 0 where
+  pub there : IsQueue w queue
+  pub waits : 0 < length (queue_at w queue).waiting
+  pub free : (queue_at w queue).hand ≡ None
+  pub paid : (queue_at w queue).owed ≡ []
+
+-- a wait of the request in hand is not reached
+pub record CanLook (w : World) (queue : ℕ) : Type 0 where
+  pub has : Has w queue
+  pub point : Point
+  pub wait : next_wait has.hand ≡ Some point
+
+-- each of them is
+pub record CanBind (w : World) (queue : ℕ) : Type 0 where
+  pub has : Has w queue
+  pub reached : next_wait has.hand ≡ None
+
+-- the last look lacked
+pub record CanGiveUp (w : World) (queue : ℕ) : Type 0 where
+  pub has : Has w queue
+  pub saw : Sight
+  pub lacked : has.hand.lacked ≡ Some saw
+
+-- signals are owed
+pub record CanPay (w : World) (queue : ℕ) : Type 0 where
+  pub there : IsQueue w queue
+  pub point : Point
+  pub later : List Point
+  pub owed : (queue_at w queue).owed ≡ point ∷ later
+
+abbrev pub IsEnabled : World → Event → Type 0
+IsEnabled w (Put queue request) = IsQueue w queue × Fits (length w.numbers) request
+IsEnabled w (Take queue) = CanTake w queue
+IsEnabled w (Look queue) = CanLook w queue
+IsEnabled w (Bind queue) = CanBind w queue
+IsEnabled w (GiveUp queue) = CanGiveUp w queue
+IsEnabled w (Pay queue) = CanPay w queue
+IsEnabled w (Raise point) = point.timeline < length w.numbers
+IsEnabled w (Create pages) = Unit {0}
+IsEnabled w (Destroy id) = Unit {0}
+IsEnabled w Rewind = Unit {0}
+IsEnabled w (Withdraw entry) = Unit {0}
+IsEnabled w (Settle to) = Unit {0}
+IsEnabled w (JobBegin accesses) = Unit {0}
+IsEnabled w (JobEnd job) = Unit {0}
+IsEnabled w (Translate addr) = Unit {0}
+
+-- What they do.
+
+-- why a request isn't put: the limit's requests were put, or so many wait as there are places
+abbrev pub put_fault : World → ℕ → Option Fault
+put_fault w queue =
+    if nat_le w.machine.space.limits.told (queue_at w queue).put then Some QueueSpent
+    else if nat_le w.depth (length (queue_at w queue).waiting) then Some QueueFull
+    else None
+
+-- a request is at the back
+pub record IsPutAs (old : World) (queue : ℕ) (request : Request) (number : ℕ) (new : World) : Type 0 where
+  pub enabled : IsEnabled old (Put queue request)
+  pub allowed : put_fault old queue ≡ None
+  pub number_is : number ≡ (queue_at old queue).put
+  pub state : new ≡ with_queue old queue (record (queue_at old queue) { put = number + 1; waiting = (queue_at old queue).waiting ++ request ∷ [] })
+
+pub record IsNotPut (old : World) (queue : ℕ) (request : Request) (fault : Fault) (back : Request) (new : World) : Type 0 where
+  pub enabled : IsEnabled old (Put queue request)
+  pub refused : put_fault old queue ≡ Some fault
+  pub returned : back ≡ request
+  pub state : new ≡ old
+
+-- the front is in hand
+pub record IsTaken (old : World) (queue number : ℕ) (new : World) : Type 0 where
+  pub enabled : CanTake old queue
+  pub request : Request
+  pub later : List Request
+  pub front : (queue_at old queue).waiting ≡ request ∷ later
+  pub number_is : number ≡ next_number old queue
+  pub state : new ≡ with_queue old queue (record (queue_at old queue) { waiting = later; hand = Some (taken request) })
+
+-- one wait more is reached
+pub record IsReachedNow (old : World) (queue : ℕ) (point : Point) (seen : ℕ) (new : World) : Type 0 where
+  pub enabled : CanLook old queue
+  pub point_is : point ≡ enabled.point
+  pub seen_is : sight point seen ≡ seen_at old point
+  pub reached : IsReached old.numbers point
+  pub state : new ≡ with_queue old queue (record (queue_at old queue) {
+    hand =
+        Some (record enabled.has.hand { reached = enabled.has.hand.reached ++ sight point seen ∷ []; lacked = None });
+  })
+
+-- it lacks
+pub record IsLackingNow (old : World) (queue : ℕ) (point : Point) (have : ℕ) (new : World) : Type 0 where
+  pub enabled : CanLook old queue
+  pub point_is : point ≡ enabled.point
+  pub have_is : sight point have ≡ seen_at old point
+  pub lacking : have < point.value
+  pub state : new ≡ with_queue old queue (record (queue_at old queue) {
+    hand =
+        Some (record enabled.has.hand { lacked = Some (sight point have) });
+  })
+
+-- what a queue owes for a request that came to this
+abbrev pub owed_for : Request → Outcome → List Point
+owed_for request (Accepted entry) = request.signals.items
+owed_for request (RefusedAt op fault) = []
+owed_for request (NotReady point have) = []
+
+-- the request in hand was carried out
+pub record IsBoundNow (old : World) (queue number : ℕ) (outcome : Outcome) (new : World) : Type 0 where
+  pub enabled : CanBind old queue
+  pub number_is : number ≡ next_number old queue
+  pub machine : IsCarriedOut old.machine new.machine queue number enabled.has.hand.request (seen_by enabled.has.hand.reached) outcome
+  pub state : new ≡ with_queue (record old { machine = new.machine }) queue
+      (record (queue_at old queue) { hand = None; owed = owed_for enabled.has.hand.request outcome })
+
+-- it was given up
+pub record IsGivenUp (old : World) (queue number : ℕ) (outcome : Outcome) (new : World) : Type 0 where
+  pub enabled : CanGiveUp old queue
+  pub number_is : number ≡ next_number old queue
+  pub outcome_is : outcome ≡ NotReady enabled.saw.point enabled.saw.number
+  pub state : new ≡ with_queue (record old { machine = record old.machine { told = with_outcome old.machine.told queue outcome } }) queue
+      (record (queue_at old queue) { hand = None })
+
+-- the first signal owed was raised
+pub record IsPaid (old : World) (queue : ℕ) (point : Point) (now : ℕ) (new : World) : Type 0 where
+  pub enabled : CanPay old queue
+  pub point_is : point ≡ enabled.point
+  pub now_is : now ≡ slice_index new.numbers point.timeline
+  pub state : new ≡ with_queue (record old { numbers = with_raise old.numbers point }) queue (record (queue_at old queue) { owed = enabled.later })
+
+pub record IsRaised (old : World) (asked point : Point) (now : ℕ) (new : World) : Type 0 where
+  pub enabled : IsEnabled old (Raise asked)
+  pub point_is : point ≡ asked
+  pub now_is : now ≡ slice_index new.numbers point.timeline
+  pub state : new ≡ record old { numbers = with_raise old.numbers point }
+
+pub record IsCreatedNow (old : World) (pages : ℕ) (id : BufferId) (new : World) : Type 0 where
+  pub allowed : create_fault old.machine.space.buffers pages ≡ None
+  pub made : IsCreated old.machine.space.buffers new.machine.space.buffers id pages
+  pub machine : HasOtherBuffers old.machine new.machine
+  pub state : new ≡ record old { machine = new.machine }
+
+pub record IsDestroyedNow (old : World) (id : BufferId) (new : World) : Type 0 where
+  pub allowed : destroy_fault old.machine.space.buffers id ≡ None
+  pub gone : new.machine.space.buffers ≡ without id old.machine.space.buffers
+  pub machine : HasOtherBuffers old.machine new.machine
+  pub state : new ≡ record old { machine = new.machine }
+
+-- only the space and the journal of the machine are others
+abbrev pub HasOtherEntries : World → World → Type 0
+HasOtherEntries old new = new ≡ record old { machine = record old.machine { space = new.machine.space; journal = new.machine.journal } }
+
+pub record IsRewoundNow (old : World) (item : ℕ) (new : World) : Type 0 where
+  pub number_is : item ≡ next new.machine.journal
+  pub rewound : IsRewound old.machine.space new.machine.space old.machine.journal new.machine.journal
+  pub state : HasOtherEntries old new
+
+pub record IsWithdrawnNow (old : World) (entry item : ℕ) (new : World) : Type 0 where
+  pub allowed : withdraw_fault old.machine.space old.machine.journal entry ≡ None
+  pub number_is : item ≡ next old.machine.journal
+  pub withdrawn : IsWithdrawn old.machine.space new.machine.space old.machine.journal new.machine.journal entry
+  pub state : HasOtherEntries old new
+
+pub record IsSettledNow (old : World) (to count : ℕ) (new : World) : Type 0 where
+  pub allowed : settle_fault old.machine.journal to ≡ None
+  pub count_is : old.machine.journal.first + count ≡ to
+  pub settled : IsSettled old.machine.space new.machine.space old.machine.journal new.machine.journal to
+  pub state : HasOtherEntries old new
+
+pub record IsBegunNow (old : World) (accesses : List Access) (job : Job) (new : World) : Type 0 where
+  pub allowed : begin_fault old.machine.space old.machine.running accesses ≡ None
+  pub begun : IsBegun old.machine.space new.machine.space old.machine.running new.machine.running accesses job
+  pub machine : HasOtherJobs old.machine new.machine
+  pub state : new ≡ record old { machine = new.machine }
+
+pub record IsEndedNow (old : World) (asked job : ℕ) (new : World) : Type 0 where
+  pub allowed : end_fault old.machine.running asked ≡ None
+  pub job_is : job ≡ asked
+  pub ended : IsEnded old.machine.space new.machine.space old.machine.running new.machine.running job
+  pub machine : HasOtherJobs old.machine new.machine
+  pub state : new ≡ record old { machine = new.machine }
+
+-- where no item is held none is taken back
+abbrev pub rewind_fault : List Item → Option Fault
+rewind_fault [] = Some NoEntry
+rewind_fault (item ∷ older) = None
+
+-- why an event that is always enabled is refused, where memory suffices
+abbrev pub event_fault : Machine → Event → Option Fault
+event_fault v (Create pages) = create_fault v.space.buffers pages
+event_fault v (Destroy id) = destroy_fault v.space.buffers id
+event_fault v Rewind = rewind_fault v.journal.items
+event_fault v (Withdraw entry) = withdraw_fault v.space v.journal entry
+event_fault v (JobBegin accesses) = begin_fault v.space v.running accesses.items
+event_fault v (JobEnd job) = end_fault v.running job
+event_fault v _ = None
+
+-- From `old` the world may give this reply to the event and go on to `new`.
+abbrev pub step : World → Event → Reply → World → Type 0
+step old event Idle new = (¬ IsEnabled old event) × (new ≡ old)
+step old event (Refused fault) new = (event_fault old.machine event ≡ Some fault) × (new ≡ old)
+step old (Put queue request) (IsPut number) new = IsPutAs old queue request number new
+step old (Put queue request) (NotPut fault back) new = IsNotPut old queue request fault back new
+step old (Take queue) (Taken number) new = IsTaken old queue number new
+step old (Look queue) (Reached point seen) new = IsReachedNow old queue point seen new
+step old (Look queue) (Lacking point have) new = IsLackingNow old queue point have new
+step old (Bind queue) (Told number outcome) new = IsBoundNow old queue number outcome new
+step old (GiveUp queue) (Told number outcome) new = IsGivenUp old queue number outcome new
+step old (Pay queue) (Raised point now) new = IsPaid old queue point now new
+step old (Raise asked) (Raised point now) new = IsRaised old asked point now new
+step old (Create pages) (Created id) new = IsCreatedNow old pages id new
+step old (Destroy id) Destroyed new = IsDestroyedNow old id new
+step old Rewind (Rewound item) new = IsRewoundNow old item new
+step old (Withdraw entry) (Withdrawn item) new = IsWithdrawnNow old entry item new
+step old (Settle to) (Settled count) new = IsSettledNow old to count new
+step old (Settle to) (NotSettled fault) new = (settle_fault old.machine.journal to ≡ Some fault) × (new ≡ old)
+step old (JobBegin accesses) (Begun number places) new = IsBegunNow old accesses.items (record { number = number; places = places }) new
+step old (JobEnd asked) (Ended job) new = IsEndedNow old asked job new
+step old (Translate addr) (Found place) new = (place ≡ place_at old.machine.space.mappings addr) × (new ≡ old)
+step old event _ new = ⊥
+
+-- Which events may want memory: those that are enabled, are not refused before, and keep something more.
+abbrev pub MayGrow : World → Event → Type 0
+MayGrow w (Put queue request) = IsEnabled w (Put queue request) × (put_fault w queue ≡ None)
+MayGrow w (Look queue) = CanLook w queue
+MayGrow w (Bind queue) = CanBind w queue
+MayGrow w (GiveUp queue) = CanGiveUp w queue
+MayGrow w (Create pages) = create_fault w.machine.space.buffers pages ≡ None
+MayGrow w (Withdraw entry) = entry_fault w.machine.journal entry ≡ None
+MayGrow w (JobBegin accesses) = IsBeginRefused w.machine.space w.machine.running accesses.items OutOfMemory
+MayGrow w _ = ⊥

@@ -1,0 +1,312 @@
+//! The running jobs, and the buffers that they hold.
+ghost use Rattle.std.specs.Prelude.{◌≡◌, ◌≢◌, ◌⊎◌, ◌+◌, ◌++◌, ◌∷◌, [], IfOk, IsOk, IsOkUnless, OnOk, OnErr, IfErr};
+ghost use Rattle.std.specs.Prelude.{MatchOption, List, Some, None, length, map};
+ghost use Rattle.std.specs.List.{All};
+ghost use Rattle.std.specs.Option.{option_copied};
+ghost use Rattle.std.specs.Ordering.{nat_cmp};
+ghost use Rattle.std.specs.BTreeMap.{insert_entry};
+ghost use Rattle.gv_types.specs.declared.mapping.Mapping.{Mapping};
+ghost use Rattle.gv_space.specs.State.{AreKept};
+ghost use Rattle.gv_buffers.specs.Table.{left_everywhere};
+ghost use Rattle.gv_vm.specs.Places.{place_at};
+ghost use Rattle.gv_vm.specs.Jobs.{access_fault, access_held, target_fault, target_held, accesses_fault, all_held, AreRefused};
+
+use crate::places::{Place, Target, translate};
+use gv_buffers::{Usage, laws};
+use gv_space::Space;
+use gv_types::{Fault, OutOfMemory};
+use std::alloc::Global;
+use std::collections::BTreeMap;
+use std::marker::Model;
+
+/// So many jobs run at most.
+pub const MAX_RUNNING: usize = 1024;
+
+/// A job has no more accesses.
+pub const MAX_ACCESSES: usize = 256;
+
+/// What a job does at an address, in bytes.
+#[derive(Clone, Copy, Debug, PartialEq, Eq)]
+pub struct Access {
+    pub addr: u64,
+    pub usage: Usage,
+}
+
+/// A job as it began: its number, and where its accesses led then, whatever is unmapped or taken back meanwhile.
+#[derive(Debug, PartialEq, Drop)]
+pub struct Job {
+    pub number: u64,
+    pub places: Vec<Place>,
+}
+
+/// The jobs that run. Each holds the buffers behind its places, as the kernel's Reservation Objects do: a job that would
+/// have to wait there is refused here.
+#[derive(Drop)]
+pub struct Jobs {
+    begun: u64,
+    running: BTreeMap<u64, Vec<Place>>,
+}
+
+impl Model for Jobs {
+    ghost use Rattle.gv_vm.specs.Jobs.{Running};
+    ghost use Rattle.gv_vm.specs.Inside.{running_of, IsSound};
+
+    ghost Value = { Running };
+
+    ghost view = { running_of };
+
+    ghost invariant = { IsSound };
+}
+
+impl Jobs {
+    ghost use Rattle.gv_buffers.specs.Table.{Table};
+    ghost use Rattle.gv_vm.specs.Jobs.{no_jobs, runs, places_in, without_job, many_fault, begin_fault, end_fault};
+    ghost use Rattle.gv_vm.specs.Jobs.{running_job, IsBegun, IsEnded, IsBeginRefused, AreHeld, AreRunning};
+
+    /// No job. It takes no memory.
+    pub fn new(alloc: Global) -> Jobs
+        ensures none { result ≡ no_jobs }
+        ensures held { (t : Table) → All (λ b. b.users ≡ []) t.live → AreHeld t result.jobs }
+    {
+        Jobs {
+            begun: 0,
+            running: BTreeMap::new(alloc),
+        }
+    }
+
+    /// Where the accesses of a running job led when it began. None where no such job runs.
+    pub fn places(&self, number: u64) -> Option<&[Place]>
+        ensures { option_copied result ≡ places_in self.now.jobs number }
+    {
+        match self.running.get(&number) {
+            Some(places) => Some(places.as_slice()),
+            None => None,
+        }
+    }
+
+    /// Begins a job: each access in turn finds its place, and the buffer behind it is held for the job until it ends.
+    /// `TooManyAccesses` over 256, `TooManyJobs` where 1,024 run or 2^64 - 1 were begun, then per access `Unmapped`,
+    /// `WriteToReadOnly`, `Conflict` and `OutOfMemory`. After a refusal nothing is held and no number is used.
+    pub fn begin(
+        &mut self,
+        alloc: Global,
+        space: &mut Space,
+        accesses: &[Access],
+    ) -> Result<Job, Fault>
+        requires { AreHeld space.old.buffers self.old.jobs }
+        ensures none { OnOk result (begin_fault space.old self.old accesses.now ≡ None) }
+        ensures begun { IfOk result (IsBegun space.old space.new self.old self.new accesses.now) }
+        ensures refused { IfErr result (IsBeginRefused space.old self.old accesses.now) }
+        ensures unchanged { OnErr result (self.new ≡ self.old) }
+        ensures space { OnErr result (space.new ≡ space.old) }
+        ensures held { AreHeld space.new.buffers self.new.jobs }
+        ensures kept { (ms : List Mapping) → AreKept space.old ms → AreKept space.new ms }
+    {
+        laws::lookups();
+        laws::leaving();
+        if let Some(fault) = self.many_fault(accesses.len()) {
+            return Err(fault);
+        }
+        let number = self.begun;
+        match self.hold_and_add(alloc, space, accesses) {
+            Ok(job) => Ok(job),
+            Err(fault) => {
+                space.leave(number);
+                Err(fault)
+            }
+        }
+    }
+
+    /// Ends a job, and gives up what it holds. `NoJob` exactly where no such job runs. It takes no memory.
+    pub fn end(&mut self, space: &mut Space, number: u64) -> Result<(), Fault>
+        requires { AreHeld space.old.buffers self.old.jobs }
+        ensures fault { MatchOption (end_fault self.old number)
+            (IsOk result) (λ fault. result ≡ Err fault) }
+        ensures ended { OnOk result (IsEnded space.old space.new self.old self.new number) }
+        ensures unchanged { OnErr result (self.new ≡ self.old) }
+        ensures space { OnErr result (space.new ≡ space.old) }
+        ensures held { AreHeld space.new.buffers self.new.jobs }
+        ensures kept { (ms : List Mapping) → AreKept space.old ms → AreKept space.new ms }
+    {
+        laws::lookups();
+        if !self.remove(number) {
+            return Err(Fault::NoJob);
+        }
+        space.leave(number);
+        Ok(())
+    }
+
+    /// Why no job of so many accesses can begin.
+    fn many_fault(&self, accesses: usize) -> Option<Fault>
+        ensures fault { result ≡ many_fault self.now accesses }
+        ensures running { AreRunning self.now }
+    {
+        let running = self.running.len();
+        if accesses > MAX_ACCESSES {
+            return Some(Fault::TooManyAccesses);
+        }
+        if running >= MAX_RUNNING || self.begun == u64::MAX {
+            return Some(Fault::TooManyJobs);
+        }
+        None
+    }
+
+    /// Holds what a job's accesses reach, and counts it among the running ones. After a refusal it may hold some of that.
+    fn hold_and_add(
+        &mut self,
+        alloc: Global,
+        space: &mut Space,
+        accesses: &[Access],
+    ) -> Result<Job, Fault>
+        requires { many_fault self.old (length accesses.now) ≡ None }
+        ensures none { OnOk result
+            (accesses_fault space.old.mappings self.old.begun space.old.buffers 0 accesses.now ≡ None) }
+        ensures begun { IfOk result (IsBegun space.old space.new self.old self.new accesses.now) }
+        ensures refused { IfErr result
+            (AreRefused space.old.mappings self.old.begun space.old.buffers accesses.now) }
+        ensures unchanged { OnErr result (self.new ≡ self.old) }
+        ensures rest { space.new ≡ record space.old { buffers = space.new.buffers } }
+        ensures left { left_everywhere self.old.begun space.new.buffers
+            ≡ left_everywhere self.old.begun space.old.buffers }
+        ensures kept { (ms : List Mapping) → AreKept space.old ms → AreKept space.new ms }
+    {
+        let places = match hold_all(alloc, space, self.begun, accesses) {
+            Ok(places) => places,
+            Err(fault) => return Err(fault),
+        };
+        match self.add(alloc, places) {
+            Ok(job) => Ok(job),
+            Err(OutOfMemory) => Err(Fault::OutOfMemory),
+        }
+    }
+
+    /// Counts a job among the running ones, and answers it with places of its own.
+    fn add(&mut self, alloc: Global, places: Vec<Place>) -> Result<Job, OutOfMemory>
+        requires { many_fault self.old 0 ≡ None }
+        ensures number { IfOk result (λ job. job.number ≡ self.old.begun) }
+        ensures places { IfOk result (λ job. job.places.items ≡ places.items) }
+        ensures jobs { IfOk result (λ job. self.new
+            ≡ record { begun = self.old.begun + 1; jobs = self.old.jobs ++ running_job job ∷ [] }) }
+        ensures err { OnErr result (self.new ≡ self.old) }
+    {
+        let number = self.begun;
+        let kept = Vec::from_slice(alloc, &places)?;
+        put(&mut self.running, number, kept)?;
+        self.begun += 1;
+        Ok(Job { number, places })
+    }
+
+    /// Takes a job off the running ones. Whether it ran.
+    fn remove(&mut self, number: u64) -> bool
+        ensures ran { result ≡ runs self.old.jobs number }
+        ensures jobs { self.new ≡ record self.old { jobs = without_job number self.old.jobs } }
+        ensures gone { All (λ j. j.number ≢ number) self.new.jobs }
+    {
+        let _running = self.running.len();
+        self.running.remove(&number).is_some()
+    }
+}
+
+/// Puts the places of a job beside its number.
+fn put(
+    running: &mut BTreeMap<u64, Vec<Place>>,
+    number: u64,
+    places: Vec<Place>,
+) -> Result<(), OutOfMemory>
+    ensures entries { OnOk result
+        (running.new.entries ≡ insert_entry nat_cmp running.old.entries number places) }
+    ensures err { OnErr result (running.new.entries ≡ running.old.entries) }
+{
+    match running.insert(number, places) {
+        Ok(_) => Ok(()),
+        Err(_) => Err(OutOfMemory),
+    }
+}
+
+/// Finds the place of one access, the one with this number counted from 0, and lets the job hold the buffer behind it.
+/// `Unmapped`, then `WriteToReadOnly`, then `Conflict` with the least other job that uses the buffer where one of the two
+/// writes it, then `OutOfMemory`.
+fn hold(
+    alloc: Global,
+    space: &mut Space,
+    job: u64,
+    number: u64,
+    access: &Access,
+) -> Result<Place, Fault>
+    ensures fault { MatchOption (access_fault space.old.mappings job space.old.buffers number access.now)
+        (IsOkUnless result Fault.OutOfMemory) (λ fault. result ≡ Err fault) }
+    ensures place { IfOk result (λ place. place_at space.old.mappings access.now.addr ≡ Some place) }
+    ensures ok { OnOk result (space.new
+        ≡ record space.old { buffers = access_held space.old.mappings job access.now space.old.buffers }) }
+    ensures err { OnErr result (space.new ≡ space.old) }
+    ensures left { left_everywhere job space.new.buffers ≡ left_everywhere job space.old.buffers }
+    ensures kept { (ms : List Mapping) → AreKept space.old ms → AreKept space.new ms }
+{
+    let Some(place) = translate(space, access.addr) else {
+        return Err(Fault::Unmapped { access: number });
+    };
+    if access.usage == Usage::Write && place.flags.read_only {
+        return Err(Fault::WriteToReadOnly { access: number });
+    }
+    hold_target(alloc, space, job, access.usage, place.target)?;
+    Ok(place)
+}
+
+/// Lets the job hold what stands behind a place: a buffer, or a zero, which needs no reservation.
+fn hold_target(
+    alloc: Global,
+    space: &mut Space,
+    job: u64,
+    usage: Usage,
+    target: Target,
+) -> Result<(), Fault>
+    ensures fault { MatchOption (target_fault space.old.buffers job usage target)
+        (IsOkUnless result Fault.OutOfMemory) (λ fault. result ≡ Err fault) }
+    ensures ok { OnOk result (space.new
+        ≡ record space.old { buffers = target_held job usage target space.old.buffers }) }
+    ensures err { OnErr result (space.new ≡ space.old) }
+    ensures left { left_everywhere job space.new.buffers ≡ left_everywhere job space.old.buffers }
+    ensures kept { (ms : List Mapping) → AreKept space.old ms → AreKept space.new ms }
+{
+    laws::leaving();
+    match target {
+        Target::Buffer { id, .. } => space.join(alloc, id, job, usage),
+        Target::Zero => Ok(()),
+    }
+}
+
+/// Finds the places of all accesses of a job in turn, and lets it hold what is behind them. After a refusal it may hold some
+/// of that.
+fn hold_all(
+    alloc: Global,
+    space: &mut Space,
+    job: u64,
+    accesses: &[Access],
+) -> Result<Vec<Place>, Fault>
+    ensures none { OnOk result
+        (accesses_fault space.old.mappings job space.old.buffers 0 accesses.now ≡ None) }
+    ensures places { IfOk result (λ places. map Some places.items
+        ≡ map (λ access. place_at space.old.mappings access.addr) accesses.now) }
+    ensures ok { OnOk result (space.new
+        ≡ record space.old { buffers = all_held space.old.mappings job accesses.now space.old.buffers }) }
+    ensures refused { IfErr result
+        (AreRefused space.old.mappings job space.old.buffers accesses.now) }
+    ensures rest { space.new ≡ record space.old { buffers = space.new.buffers } }
+    ensures left { left_everywhere job space.new.buffers ≡ left_everywhere job space.old.buffers }
+    ensures kept { (ms : List Mapping) → AreKept space.old ms → AreKept space.new ms }
+{
+    // The borrow checker proves the loop only where the function names the type inside the places.
+    let _target = Target::Zero;
+    let mut places = Vec::new(alloc);
+    for (number, access) in accesses.iter().enumerate() {
+        let place = match hold(alloc, space, job, number as u64, access) {
+            Ok(place) => place,
+            Err(fault) => return Err(fault),
+        };
+        if places.reserve(1).is_err() {
+            return Err(Fault::OutOfMemory);
+        }
+        places.push_reserved(place);
+    }
+    Ok(places)
+}

@@ -1,0 +1,21 @@
+//! One GPU address space as a whole: the places that addresses reach, and the running jobs that hold the buffers behind
+//! them.
+#![tactic(auto)]
+
+mod carry;
+mod event;
+mod jobs;
+mod outcome;
+mod places;
+mod told;
+mod vm;
+
+pub use event::{Event, Reply};
+pub use jobs::{Access, Job, MAX_ACCESSES, MAX_RUNNING};
+pub use outcome::{NotTold, Outcome};
+pub use places::{Place, Target};
+pub use told::QUEUES;
+pub use vm::Vm;
+
+#[cfg(test)]
+mod tests;

@@ -1,0 +1,4 @@
+mod fixtures;
+mod jobs;
+mod limits;
+mod turns;

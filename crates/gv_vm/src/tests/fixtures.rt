@@ -1,0 +1,71 @@
+//! What the tests are made of.
+ghost use Rattle.std.specs.Prelude.{◌≡◌, [], IfOk};
+
+use crate::{Access, NotTold, Outcome, Vm};
+use gv_buffers::Usage;
+use gv_types::{Bounds, BufferId, Fault, Flags, Limits, Op, PAGE_BYTES, Point, Request};
+use std::alloc::{AllocError, Global};
+use std::test::Fail;
+
+/// A machine of all pages, with the greatest limits.
+pub fn whole(alloc: Global) -> Result<Vm, Fail> {
+    match Vm::new(alloc, Bounds::whole(), Limits::full()) {
+        Ok(vm) => Ok(vm),
+        Err(_) => Err("memory".into()),
+    }
+}
+
+/// A map of one page to a page of a buffer.
+pub fn map(page: u32, id: &BufferId, of: u32, read_only: bool) -> Op {
+    Op::Map {
+        addr: u64::from(page) * PAGE_BYTES,
+        len: PAGE_BYTES,
+        buffer: *id,
+        offset: u64::from(of) * PAGE_BYTES,
+        flags: Flags { read_only },
+    }
+}
+
+/// A map of one page of zeros.
+pub fn zero(page: u32) -> Op {
+    Op::MapZero {
+        addr: u64::from(page) * PAGE_BYTES,
+        len: PAGE_BYTES,
+        flags: Flags { read_only: false },
+    }
+}
+
+/// A request that waits for nothing.
+pub fn request(alloc: Global, ops: &[Op]) -> Result<Request, AllocError>
+    ensures { IfOk result (λ r. r.waits.items ≡ []) }
+{
+    Ok(Request {
+        ops: Vec::from_slice(alloc, ops)?,
+        waits: Vec::new(alloc),
+        signals: Vec::new(alloc),
+    })
+}
+
+/// Carries out a request of queue 0 with this number.
+pub fn bind(alloc: Global, vm: &mut Vm, number: u64, ops: &[Op]) -> Result<Outcome, Fault> {
+    let request = request(alloc, ops)?;
+    match vm.bind(alloc, 0, number, request, &[]) {
+        Ok(outcome) => Ok(outcome),
+        Err(NotTold { fault, request: _ }) => Err(fault),
+    }
+}
+
+/// An access of one byte of a page.
+pub fn read(page: u32, byte: u8) -> Access {
+    Access {
+        addr: u64::from(page) * PAGE_BYTES + u64::from(byte),
+        usage: Usage::Read,
+    }
+}
+
+pub fn write(page: u32, byte: u8) -> Access {
+    Access {
+        addr: u64::from(page) * PAGE_BYTES + u64::from(byte),
+        usage: Usage::Write,
+    }
+}

@@ -1,0 +1,38 @@
+//! Requests and their numbers.
+use super::fixtures::{bind, request, whole, zero};
+use crate::{NotTold, Outcome, Vm};
+use gv_types::Fault;
+use std::alloc::Global;
+use std::process::Abort;
+use std::test::Fail;
+
+#[test]
+fn each_number_is_told_once(rt: HostRuntime) -> Result<(), Fail> {
+    let mut vm = whole(rt.alloc())?;
+    let end = numbers(&rt, rt.alloc(), &mut vm);
+    vm.close();
+    end
+}
+
+fn numbers(rt: &impl Abort, alloc: Global, vm: &mut Vm) -> Result<(), Fail> {
+    let early = request(alloc, &[zero(1)])?;
+    match vm.bind(alloc, 0, 1, early, &[]) {
+        Ok(_) => return Err("told".into()),
+        Err(NotTold { fault, request }) => {
+            assert_eq!(rt; fault, Fault::OutOfTurn { next: 0 });
+            assert!(rt; request.ops.as_slice() == &[zero(1)][..]);
+        }
+    }
+    assert_eq!(rt;
+        bind(alloc, vm, 0, &[zero(0)]),
+        Ok(Outcome::Accepted { entry: 0 })
+    );
+    assert_eq!(rt;
+        bind(alloc, vm, 0, &[zero(0)]),
+        Err(Fault::OutOfTurn { next: 1 })
+    );
+    assert_eq!(rt; vm.told(0).len(), 1);
+    assert_eq!(rt; vm.items().len(), 1);
+    assert_eq!(rt; vm.space().mappings().len(), 1);
+    Ok(())
+}

@@ -1,0 +1,287 @@
+//! One address space with its journal, its running jobs and what its queues were told.
+ghost use Rattle.std.specs.Prelude.{◌≡◌, ◌<◌, ◌+◌, [], ℕ, None, reverse, map, IfOk, Contains, IfErr, IsOk, IsOkUnless, OnOk, OnErr, IsErrAnd, MatchOption};
+ghost use Rattle.gv_types.specs.Operation.{in_pages};
+ghost use Rattle.gv_buffers.specs.Table.{create_fault, destroy_fault, without, IsCreated};
+ghost use Rattle.gv_split.specs.Steps.{steps};
+ghost use Rattle.gv_space.specs.Refusal.{operation_fault};
+ghost use Rattle.gv_vm.specs.Places.{place_at};
+ghost use Rattle.gv_vm.specs.Outcomes.{queues, told_to, with_outcome, tell_fault};
+ghost use Rattle.gv_vm.specs.Told.{IsCarriedOut, seen_by};
+
+use crate::carry::{carry_out, seen_of};
+use crate::jobs::{Access, Job, Jobs};
+use crate::outcome::{NotTold, Outcome};
+use crate::places::{Place, translate};
+use crate::told::{Told, nothing_told, prepare, tell};
+use gv_buffers::laws;
+use gv_journal::{Item, Journal};
+use gv_space::Space;
+use gv_split::Step;
+use gv_sync::{Lacking, Reached};
+use gv_types::{Backing, Bounds, BufferId, Fault, Limits, Op, OutOfMemory, Request};
+use std::alloc::Global;
+use std::marker::Model;
+
+/// One GPU address space, of which each accepted request is an entry that can be taken back. It owns undo values, so it is
+/// not `Drop`: a program that lets one go without closing it is refused.
+pub struct Vm {
+    space: Space,
+    journal: Journal,
+    jobs: Jobs,
+    told: Told,
+}
+
+impl Model for Vm {
+    ghost use Rattle.gv_vm.specs.State.{Machine};
+    ghost use Rattle.gv_vm.specs.VmInside.{machine_of, IsSound};
+
+    ghost Value = { Machine };
+
+    ghost view = { machine_of };
+
+    ghost invariant = { IsSound };
+}
+
+impl Vm {
+    ghost use Rattle.gv_journal.specs.Items.{next};
+    ghost use Rattle.gv_journal.specs.History.{back};
+    ghost use Rattle.gv_journal.specs.Binding.{IsRewound};
+    ghost use Rattle.gv_vm.specs.State.{new_machine, IsMachine, HasOtherBuffers, HasOtherJobs};
+    ghost use Rattle.gv_vm.specs.Jobs.{begin_fault, end_fault, IsBegun, IsEnded, IsBeginRefused};
+
+    /// A machine of no mapping, no buffer, no entry and no job. `OutOfMemory` where the system refuses its first room.
+    pub fn new(alloc: Global, bounds: Bounds, limits: Limits) -> Result<Vm, OutOfMemory>
+        ensures { IfOk result (λ v. v ≡ new_machine bounds limits) }
+    {
+        let told = nothing_told(alloc)?;
+        let space = match Space::new(alloc, bounds, limits) {
+            Ok(space) => space,
+            Err(_) => return Err(OutOfMemory),
+        };
+        let _mappings = space.mappings();
+        Ok(Vm {
+            space,
+            journal: Journal::new(alloc, limits.items()),
+            jobs: Jobs::new(alloc),
+            told,
+        })
+    }
+
+    /// How many things of each kind it may hold.
+    pub fn limits(&self) -> Limits
+        ensures { result ≡ self.now.space.limits }
+    {
+        self.space.limits()
+    }
+
+    /// The address space, and what always holds of the whole.
+    pub fn space(&self) -> &Space
+        ensures value { result.now ≡ self.now.space }
+        ensures holds { IsMachine self.now }
+    {
+        &self.space
+    }
+
+    /// The entries of the journal that are held, the oldest one first.
+    pub fn items(&self) -> &[Item]
+        ensures { result.now ≡ reverse self.now.journal.items }
+    {
+        self.journal.items()
+    }
+
+    /// What a queue was told, in the order of the requests' numbers.
+    pub fn told(&self, queue: u64) -> &[Outcome]
+        requires { queue < queues }
+        ensures { result.now ≡ told_to self.now.told queue }
+    {
+        self.told[queue as usize].as_slice()
+    }
+
+    /// Where an address, in bytes, leads, by the page table. None where no mapping holds its page, and past the end of the
+    /// address space.
+    pub fn translate(&self, addr: u64) -> Option<Place>
+        ensures { result ≡ place_at self.now.space.mappings addr }
+    {
+        translate(&self.space, addr)
+    }
+
+    /// The split steps of an operation, as `Space::plan` gives them; nothing changes.
+    pub fn plan(&self, alloc: Global, op: &Op) -> Result<Vec<Step>, Fault>
+        ensures fault { MatchOption (operation_fault self.now.space op.now)
+            (IsOkUnless result Fault.OutOfMemory) (λ fault. result ≡ Err fault) }
+        ensures steps { IfOk result (λ list. list.items ≡ steps self.now.space.mappings (in_pages op.now)) }
+    {
+        let _backing = Backing::Zero;
+        self.space.plan(alloc, op)
+    }
+
+    /// Makes a buffer of `pages` pages. `BadSize` at 0 pages or over 2^36, then `TooManyBuffers` where the limit's buffers are
+    /// alive or 2^64 - 1 were made, then `OutOfMemory`.
+    pub fn create(&mut self, alloc: Global, pages: u64) -> Result<BufferId, Fault>
+        ensures fault { MatchOption (create_fault self.old.space.buffers pages)
+            (IsOkUnless result Fault.OutOfMemory) (λ fault. result ≡ Err fault) }
+        ensures ok { IfOk result (λ id. IsCreated self.old.space.buffers self.new.space.buffers id pages) }
+        ensures rest { HasOtherBuffers self.old self.new }
+        ensures err { OnErr result (self.new ≡ self.old) }
+    {
+        laws::lookups();
+        let created = self.space.create(alloc, pages);
+        let _mappings = self.space.mappings();
+        created
+    }
+
+    /// Destroys a buffer that nothing names. `NoBuffer` where the id is dead, then `Mapped` where mappings of it are in the
+    /// list, `Kept` where they are in undo values, and `InUse` where jobs use it. It takes no memory.
+    pub fn destroy(&mut self, id: BufferId) -> Result<(), Fault>
+        ensures fault { MatchOption (destroy_fault self.old.space.buffers id)
+            (IsOk result) (λ fault. result ≡ Err fault) }
+        ensures ok { OnOk result (self.new.space.buffers ≡ without id self.old.space.buffers) }
+        ensures rest { HasOtherBuffers self.old self.new }
+        ensures err { OnErr result (self.new ≡ self.old) }
+    {
+        laws::lookups();
+        let destroyed = self.space.destroy(id);
+        let _mappings = self.space.mappings();
+        destroyed
+    }
+
+    /// Begins a job: each access in turn finds its place, and the buffer behind it is held for the job until it ends.
+    /// `TooManyAccesses` over 256, `TooManyJobs` where 1,024 run or 2^64 - 1 were begun, then per access `Unmapped`,
+    /// `WriteToReadOnly`, `Conflict` and `OutOfMemory`. After a refusal nothing is held and no number is used.
+    pub fn job_begin(&mut self, alloc: Global, accesses: &[Access]) -> Result<Job, Fault>
+        ensures none { OnOk result (begin_fault self.old.space self.old.running accesses.now ≡ None) }
+        ensures begun { IfOk result
+            (IsBegun self.old.space self.new.space self.old.running self.new.running accesses.now) }
+        ensures rest { OnOk result (HasOtherJobs self.old self.new) }
+        ensures refused { IfErr result (IsBeginRefused self.old.space self.old.running accesses.now) }
+        ensures err { OnErr result (self.new ≡ self.old) }
+    {
+        let begun = self.jobs.begin(alloc, &mut self.space, accesses);
+        let _mappings = self.space.mappings();
+        begun
+    }
+
+    /// Ends a job, and gives up what it holds. `NoJob` exactly where no such job runs. It takes no memory.
+    pub fn job_end(&mut self, number: u64) -> Result<(), Fault>
+        ensures fault { MatchOption (end_fault self.old.running number)
+            (IsOk result) (λ fault. result ≡ Err fault) }
+        ensures ended { OnOk result
+            (IsEnded self.old.space self.new.space self.old.running self.new.running number) }
+        ensures rest { HasOtherJobs self.old self.new }
+        ensures err { OnErr result (self.new ≡ self.old) }
+    {
+        let ended = self.jobs.end(&mut self.space, number);
+        let _mappings = self.space.mappings();
+        ended
+    }
+
+    /// Carries out a request, the one with this number of its queue, whose waits were reached at these points, and tells the
+    /// queue what it came to: it is accepted as an entry, or refused at an operation as `Journal::bind` refuses it.
+    /// `QueueSpent` where the limit's outcomes are told, `OutOfTurn` where the number is not how many were told, then
+    /// `OutOfMemory`: the request comes back and nothing changed.
+    pub fn bind(
+        &mut self,
+        alloc: Global,
+        queue: u64,
+        number: u64,
+        request: Request,
+        reached: &[Reached],
+    ) -> Result<Outcome, NotTold>
+        requires queue { queue < queues }
+        requires reached { map (λ r. r.point) reached.now ≡ request.waits.items }
+        ensures fault { MatchOption (tell_fault self.old.space.limits.told self.old.told queue number)
+            (IfErr result (λ n. n.fault ≡ Fault.OutOfMemory)) (λ fault. IsErrAnd result (λ n. n.fault ≡ fault)) }
+        ensures request { IfErr result (λ n. n.request ≡ request) }
+        ensures outcome { IfOk result
+            (IsCarriedOut self.old self.new queue number request (seen_by reached.now)) }
+        ensures err { OnErr result (self.new ≡ self.old) }
+    {
+        let limit = self.space.limits().told();
+        if let Err(fault) = prepare(&mut self.told, limit, queue, number) {
+            return Err(NotTold { fault, request });
+        }
+        let seen = match seen_of(alloc, reached) {
+            Ok(seen) => seen,
+            Err(_) => {
+                return Err(NotTold {
+                    fault: Fault::OutOfMemory,
+                    request,
+                });
+            }
+        };
+        let outcome = carry_out(
+            alloc,
+            &mut self.space,
+            &mut self.journal,
+            queue,
+            number,
+            request,
+            seen,
+        );
+        let _mappings = self.space.mappings();
+        tell(&mut self.told, queue, outcome);
+        Ok(outcome)
+    }
+
+    /// Gives a request up, the one with this number of its queue, since this point of its waits lacks, and tells the queue
+    /// so. The faults are those of `bind`.
+    pub fn give_up(
+        &mut self,
+        queue: u64,
+        number: u64,
+        request: Request,
+        lacking: Lacking,
+    ) -> Result<Outcome, NotTold>
+        requires queue { queue < queues }
+        requires lacking { Contains request.waits.items lacking.point }
+        ensures fault { MatchOption (tell_fault self.old.space.limits.told self.old.told queue number)
+            (IfErr result (λ n. n.fault ≡ Fault.OutOfMemory)) (λ fault. IsErrAnd result (λ n. n.fault ≡ fault)) }
+        ensures request { IfErr result (λ n. n.request ≡ request) }
+        ensures outcome { IfOk result (λ outcome. outcome ≡ Outcome.NotReady lacking.point lacking.number) }
+        ensures told { IfOk result (λ outcome.
+            self.new ≡ record self.old { told = with_outcome self.old.told queue outcome }) }
+        ensures err { OnErr result (self.new ≡ self.old) }
+    {
+        let limit = self.space.limits().told();
+        if let Err(fault) = prepare(&mut self.told, limit, queue, number) {
+            return Err(NotTold { fault, request });
+        }
+        let outcome = Outcome::NotReady {
+            point: lacking.point(),
+            have: lacking.have(),
+        };
+        tell(&mut self.told, queue, outcome);
+        Ok(outcome)
+    }
+
+    /// Takes the newest entry back and answers its number: the list of mappings is what it was before that entry, boundaries
+    /// included, and so are the page table and the uses of each buffer. `NoEntry` only where no entry is held. It takes no
+    /// memory. What was told, the jobs and the making of buffers are not taken back.
+    pub fn rewind(&mut self) -> Result<u64, Fault>
+        ensures number { IfOk result (λ n. n ≡ next self.new.journal) }
+        ensures item { OnOk result
+            (IsRewound self.old.space self.new.space self.old.journal self.new.journal) }
+        ensures back { OnOk result ((n : ℕ) → back self.new.space.mappings self.new.journal.items n
+            ≡ back self.old.space.mappings self.old.journal.items (n + 1)) }
+        ensures rest { self.new
+            ≡ record self.old { space = self.new.space; journal = self.new.journal } }
+        ensures none { IfErr result (λ fault.
+            (fault ≡ Fault.NoEntry) × (self.old.journal.items ≡ [])) }
+        ensures err { OnErr result (self.new ≡ self.old) }
+    {
+        let rewound = self.journal.rewind(&mut self.space);
+        let _mappings = self.space.mappings();
+        rewound
+    }
+
+    /// Gives up all undo values and ends all jobs. It takes no memory.
+    pub fn close(self) {
+        let Vm {
+            mut space,
+            journal,
+            jobs: _,
+            told: _,
+        } = self;
+        journal.close(&mut space);
+    }
+}
