@@ -20,7 +20,7 @@ ghost use Rattle.gv_types.specs.Mapping.{HasSmallPages};
 use crate::levels::{SLOTS, pages_of, slots_met};
 use crate::place::advance;
 use crate::release::release;
-use crate::slot::Slot;
+use crate::slot::{Slot, overwrite};
 use crate::spares::Spares;
 use crate::table_counts::TableCounts;
 use crate::walk::entry_after;
@@ -63,6 +63,7 @@ fn filled(entry: Option<Entry>, pages: u64, spares: &mut Spares) -> Box<[Slot; S
 
 /// The table of a slot, or a spare one with the parts of what the slot held, which the counts then
 /// counts.
+#[inline(never)]
 fn divide(
     slot: Slot,
     level: usize,
@@ -125,7 +126,7 @@ pub fn paint_slot(
         Wanted::Nothing => release(slot, level, spares, counts),
         Wanted::Entry(entry) => {
             let lost = release(slot, level, spares, counts);
-            *slot = Slot::leaf(entry);
+            overwrite(slot, Slot::leaf(entry));
             lost
         }
         Wanted::Table => {
@@ -141,7 +142,7 @@ pub fn paint_slot(
                 spares,
                 counts,
             );
-            *slot = Slot::Table(slots);
+            overwrite(slot, Slot::Table(slots));
             lost
         }
     }

@@ -1,6 +1,9 @@
 //! A place in a table.
+ghost use Rattle.std.specs.Prelude.{◌≡◌};
+
 use crate::levels::SLOTS;
 use gv_types::{Backing, BufferId, Entry, Flags};
+use std::mem;
 
 /// Empty where no mapping meets the slot's pages; a leaf where one mapping holds them all, with the entry of its first
 /// page (pages of zeros, or a buffer's from `page` on); or the table of its parts.
@@ -52,4 +55,19 @@ impl Slot {
             }),
         }
     }
+}
+
+/// Puts another slot in a slot's place. A table that was there is given back in a frame of its own, which is as large as it.
+pub fn overwrite(slot: &mut Slot, new: Slot)
+    ensures { slot.new ≡ new }
+{
+    match mem::replace(slot, new) {
+        Slot::Table(slots) => give_back(slots),
+        Slot::Empty | Slot::Zero { .. } | Slot::Buffer { .. } => {}
+    }
+}
+
+#[inline(never)]
+fn give_back(slots: Box<[Slot; SLOTS]>) {
+    drop(slots);
 }

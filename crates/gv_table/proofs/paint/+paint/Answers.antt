@@ -252,7 +252,7 @@ paint_slot-returns-in-Nothing-clause-counted t c = λ target.
 
 pub paint_slot-returns-in-Entry-clause-counted : goal.paint_slot-returns-in-Entry-clause-counted
 paint_slot-returns-in-Entry-clause-counted t c = λ target.
-    let none = tables_at-other target c.args.level c.leaf.result (ap is_table c.leaf.ensures ∙ is_table-leaf c.in-Entry.entry) in
+    let none = tables_at-other target c.args.level c.overwrite.new.slot (ap is_table (c.overwrite.ensures ∙ c.leaf.ensures) ∙ is_table-leaf c.in-Entry.entry) in
     let given = c.release-lost.ensures.counted target in
     omega (arith, none, given)
 
@@ -263,13 +263,13 @@ paint_slot-returns-in-Table-clause-counted t c =
     let first-of : (k : ℕ) → slice_index_or c.deref_mut.result.now k Empty ≡ slice_index_or c.divide-slots.result.value k Empty =
     λ k. ap (λ (l : List Slot). slice_index_or l k Empty) c.deref_mut.ensures.value in
     let old = c.replace-old.ensures.value in
-    divided-counted c.args.counts.now c.divide-slots.new.counts c.paint_row-lost.new.counts c.args.level c.args.slot.now c.deref_mut.result.now _ some
+    rw c.overwrite-in-Table.ensures (divided-counted c.args.counts.now c.divide-slots.new.counts c.paint_row-lost.new.counts c.args.level c.args.slot.now c.deref_mut.result.now _ some
     (λ target. c.divide-slots.ensures.counted target ∙
     ap (λ (s : Slot). count_at c.args.counts.now target + one_if_new target (c.args.level - 1) (is_table s)) old)
     (λ target k below. ap (λ (s : Slot). tables_at target (c.args.level - 1) s) (first-of k) ∙
     sym (tables_at-same target (c.args.level - 1) _ _ (c.divide-slots.ensures.tables k below)) ∙
     ap (λ (s : Slot). tables_at target (c.args.level - 1) (child s k)) old)
-    c.paint_row-lost.ensures.counted
+    c.paint_row-lost.ensures.counted)
 
 pub paint_slot-returns-in-Nothing-clause-exchanged : goal.paint_slot-returns-in-Nothing-clause-exchanged
 paint_slot-returns-in-Nothing-clause-exchanged t c =
@@ -279,7 +279,7 @@ paint_slot-returns-in-Nothing-clause-exchanged t c =
     omega (arith, g, l, c.release.ensures.put)
 
 pub paint_slot-returns-in-Entry-clause-tree : goal.paint_slot-returns-in-Entry-clause-tree
-paint_slot-returns-in-Entry-clause-tree t c = IsTreeOf-leaf _ c.args.level c.args.first c.in-Entry.entry _ (sym c.slot_wanted.ensures ∙ c.in-Entry.is) c.leaf.ensures
+paint_slot-returns-in-Entry-clause-tree t c = IsTreeOf-leaf _ c.args.level c.args.first c.in-Entry.entry _ (sym c.slot_wanted.ensures ∙ c.in-Entry.is) (c.overwrite.ensures ∙ c.leaf.ensures)
 
 pub paint_slot-returns-in-Entry-clause-lost : goal.paint_slot-returns-in-Entry-clause-lost
 paint_slot-returns-in-Entry-clause-lost t c =
@@ -296,7 +296,7 @@ paint_slot-returns-in-Entry-clause-exchanged t c =
 pub paint_slot-returns-in-Table-clause-tree : goal.paint_slot-returns-in-Table-clause-tree
 paint_slot-returns-in-Table-clause-tree t c =
     let want = sym c.slot_wanted.ensures ∙ c.in-Table.is in
-    IsTreeOf-table _ c.args.level c.args.first _ (table-above _ c.args.level c.args.first want) want c.paint_row-lost.ensures.tree
+    rw c.overwrite-in-Table.ensures (IsTreeOf-table _ c.args.level c.args.first _ (table-above _ c.args.level c.args.first want) want c.paint_row-lost.ensures.tree)
 
 pub paint_slot-returns-in-Table-clause-lost : goal.paint_slot-returns-in-Table-clause-lost
 paint_slot-returns-in-Table-clause-lost t c =
