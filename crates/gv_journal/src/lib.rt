@@ -15,3 +15,6 @@ pub use item::{Item, ItemKind};
 pub use journal::{Journal, MAX_OPS};
 pub use refusal::Refusal;
 pub use settling::SettleFault;
+
+#[cfg(test)]
+mod tests;
