@@ -1,12 +1,10 @@
 -- For callers: when a journal fits a space that it did not change.
-use Rattle.std.proofs.Common.{◌≡◌, ℕ, List, [], ◌∷◌, Option, refl, ap, sym, ◌∙◌, subst, arith}
-use Rattle.std.specs.List.{All}
+use Rattle.std.proofs.Common.{◌≡◌, ℕ, List, [], Option, refl, ap, sym, subst, arith}
 use Rattle.gv_types.specs.Bounds.{Area}
 use Rattle.gv_types.specs.Limits.{Caps}
 use Rattle.gv_types.specs.declared.mapping.Entry.{Entry}
 use Rattle.gv_types.specs.declared.mapping.Mapping.{Mapping}
-use Rattle.gv_space.specs.State.{AddressSpace, AreKept, IsPlaced, IsUnchanged, new_space}
-use Rattle.gv_space.specs.Counts.{count_of}
+use Rattle.gv_space.specs.State.{AddressSpace, AreKept, IsUnchanged, new_space}
 use Rattle.gv_journal.specs.Items.{Journaled, entries}
 use Rattle.gv_journal.specs.History.{base, kept_by, Translates, UndoSavesTheView, Rewinds}
 use Rattle.gv_journal.specs.State.{FitsSpace}

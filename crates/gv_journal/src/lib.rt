@@ -5,6 +5,7 @@
 mod applying;
 mod item;
 mod journal;
+pub mod laws;
 mod refusal;
 mod restoring;
 mod settling;
