@@ -20,3 +20,4 @@ pub mod Withdrawals
 pub mod Founds
 pub mod Entries
 pub mod Withdrawn
+pub mod JournalLemmas

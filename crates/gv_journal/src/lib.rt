@@ -5,6 +5,7 @@
 mod applying;
 mod item;
 mod journal;
+pub mod laws;
 mod refusal;
 mod restoring;
 mod settling;
@@ -15,3 +16,6 @@ pub use item::{Item, ItemKind};
 pub use journal::{Journal, MAX_OPS};
 pub use refusal::Refusal;
 pub use settling::SettleFault;
+
+#[cfg(test)]
+mod tests;
