@@ -1,10 +1,15 @@
 -- The held items of a journal, and one item more or less.
 use Rattle.std.proofs.Common.{◌≡◌, ℕ, ◌+◌, ◌≤◌, suc, List, [], ◌∷◌, ◌++◌, drop, length, reverse, ap, sym, ◌∙◌, subst, arith, add-one, length-append}
-use Rattle.std.proofs.lemmas.List.{drop-append-le}
+use Rattle.std.proofs.Common.{get_or, Bool, true, false, cond, Some, None, ◌<◌, refl}
+use Rattle.std.specs.Prelude.{nat_le, ◌||◌}
+use Rattle.std.proofs.lemmas.Bool.Decides.{nat_tests}
+use Rattle.gv_types.specs.declared.fault.Fault.TheVariants.{JournalFull}
+use Rattle.std.proofs.lemmas.List.{drop-append-le, get_or-drop, reverse-reverse}
 use Rattle.gv_types.specs.declared.mapping.Mapping.{Mapping}
 use Rattle.gv_space.specs.State.{AddressSpace, IsUnchanged}
 use Rattle.gv_journal.specs.Undoing.{undone_by}
-use Rattle.gv_journal.specs.Items.{Journaled}
+use Rattle.gv_journal.specs.Items.{Journaled, next}
+use Rattle.gv_journal.specs.Verdict.{full_fault, numbers}
 use Rattle.gv_journal.specs.History.{undos_of, kept_by, back, base, Translates, UndoSavesTheView, Rewinds}
 use Rattle.gv_journal.specs.Items.{entries}
 use Rattle.gv_journal.specs.State.{FitsSpace}
@@ -62,3 +67,25 @@ fits_room s t j same fits =
           (Rewinds-room s.limits.mappings s.room t.room j.first s.mappings j.items below same.room fits.rewinds));
       kept = AreKept-room s t (kept_by j.items) same.state fits.kept;
     }
+
+-- an item stands at its place among those held
+pub found_at : (limit first spent place : ℕ) (all mid : List Item) (j : Journaled) (item : Item) → journaled limit first (reverse (drop spent all)) ≡ j → mid ≡ all →
+    item ≡ get_or mid (spent + place) item → item ≡ get_or (reverse j.items) place item
+found_at limit first spent place all mid j item is same at =
+    at ∙ ap (λ (xs : List Item). get_or xs (spent + place) item) same
+    ∙ sym (get_or-drop spent all place item)
+    ∙ ap (λ (xs : List Item). get_or xs place item) (sym (reverse-reverse (drop spent all)) ∙ ap (λ (k : Journaled). reverse k.items) is)
+
+not_some : (b : Bool) → cond b (Some JournalFull) None ≡ None → b ≡ false
+not_some true h = cc
+not_some false h = refl
+
+or_right : (a b : Bool) → (a || b) ≡ false → b ≡ false
+or_right false b h = h
+or_right true b h = cc
+
+-- a number is left where a journal isn't full
+pub number_left : (j : Journaled) → full_fault j ≡ None → next j < numbers
+number_left j room =
+    let free : nat_le numbers (next j) ≡ false = or_right (nat_le j.limit (length j.items)) (nat_le numbers (next j)) (not_some (nat_le j.limit (length j.items) || nat_le numbers (next j)) room) in
+    grind (arith, nat_tests)

@@ -15,3 +15,9 @@ pub mod Held
 pub mod Settlings
 pub mod Spending
 pub mod Puts
+pub mod Touches
+pub mod Withdrawals
+pub mod Founds
+pub mod Entries
+pub mod Withdrawn
+pub mod JournalLemmas

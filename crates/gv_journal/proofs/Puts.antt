@@ -1,5 +1,5 @@
 -- One undo value more put back.
-use Rattle.std.proofs.Common.{◌≡◌, ◌⊎◌, inl, inr, ℕ, ◌+◌, ◌-◌, ◌<◌, ◌≤◌, cond, List, [], ◌∷◌, ◌++◌, length, take, drop, reverse, get_or, Option, Some, None, Result, Ok, Err, IsTrue, refl, ap, sym, ◌∙◌, subst, arith, append_assoc}
+use Rattle.std.proofs.Common.{◌≡◌, ◌⊎◌, inl, inr, ℕ, ◌+◌, ◌-◌, ◌<◌, ◌≤◌, cond, List, [], ◌∷◌, ◌++◌, length, take, drop, reverse, get_or, Option, Some, None, Result, Ok, Err, refl, ap, sym, ◌∙◌, subst, arith, append_assoc}
 use Rattle.std.specs.Prelude.{MatchOption, IsOkUnless}
 use Rattle.std.proofs.lemmas.List.{drop_more, take_more, reverse-append, take-append-drop}
 use Rattle.gv_types.specs.Page.{IsPage}
@@ -10,7 +10,7 @@ use Rattle.gv_types.specs.declared.mapping.Entry.{Entry}
 use Rattle.gv_types.specs.declared.mapping.Mapping.{Mapping}
 use Rattle.gv_ranges.specs.List.{at}
 use Rattle.gv_ranges.specs.Edit.{restored, undone}
-use Rattle.gv_space.specs.State.{AddressSpace, AreKept, IsUnchanged}
+use Rattle.gv_space.specs.State.{AddressSpace, AreKept}
 use Rattle.gv_space.specs.Undo.{UndoValue, AreAmongKept}
 use Rattle.gv_space.specs.Refusal.{first_of, limit_fault}
 use Rattle.gv_space.specs.Change.{IsChanged, changed_to}
@@ -81,7 +81,7 @@ module _ (saved : List UndoValue) (left : ℕ) (u : UndoValue) (some : 0 < left)
   left_first =
       let grown : take (left - 1 + 1) saved ≡ take (left - 1) saved ++ get_or saved (left - 1) u ∷ [] = take_more saved (left - 1) u (omega arith) in
       last_first (take left saved) (take (left - 1) saved) u
-          (ap (λ (n : ℕ). take n saved) (sym back_up) ∙ grown ∙ ap (λ (x : UndoValue). take (left - 1) saved ++ x ∷ []) (sym is))
+      (ap (λ (n : ℕ). take n saved) (sym back_up) ∙ grown ∙ ap (λ (x : UndoValue). take (left - 1) saved ++ x ∷ []) (sym is))
 
   -- its mappings are kept as long as it isn't spent
   pub still_kept : (old now : AddressSpace) (fresh : List UndoValue) → AreChanges old now fresh → AreAmongKept old (taken_by (reverse saved)) → AreAmongKept now u.change.taken
@@ -89,16 +89,16 @@ module _ (saved : List UndoValue) (left : ℕ) (u : UndoValue) (some : 0 < left)
       let front : List Mapping = taken_by fresh ++ taken_by (reverse (drop left saved)) in
       let rest : List Mapping = taken_by (reverse (take (left - 1) saved)) ++ among.others in
       let split : reverse saved ≡ reverse (drop left saved) ++ (u ∷ reverse (take (left - 1) saved)) =
-          ap (λ (us : List UndoValue). reverse us) (sym (take-append-drop left saved)) ∙ reverse-append (take left saved) (drop left saved)
-          ∙ ap (λ (us : List UndoValue). reverse (drop left saved) ++ us) left_first in
+      ap (λ (us : List UndoValue). reverse us) (sym (take-append-drop left saved)) ∙ reverse-append (take left saved) (drop left saved)
+      ∙ ap (λ (us : List UndoValue). reverse (drop left saved) ++ us) left_first in
       let taken_is : taken_by (reverse saved) ++ among.others ≡ taken_by (reverse (drop left saved)) ++ (u.change.taken ++ rest) =
-          ap (λ (us : List UndoValue). taken_by us ++ among.others) split
-          ∙ ap (λ (ms : List Mapping). ms ++ among.others) (taken_by-append (reverse (drop left saved)) (u ∷ reverse (take (left - 1) saved)))
-          ∙ append_assoc (taken_by (reverse (drop left saved))) (u.change.taken ++ taken_by (reverse (take (left - 1) saved))) among.others
-          ∙ ap (λ (ms : List Mapping). taken_by (reverse (drop left saved)) ++ ms) (append_assoc u.change.taken (taken_by (reverse (take (left - 1) saved))) among.others) in
+      ap (λ (us : List UndoValue). taken_by us ++ among.others) split
+      ∙ ap (λ (ms : List Mapping). ms ++ among.others) (taken_by-append (reverse (drop left saved)) (u ∷ reverse (take (left - 1) saved)))
+      ∙ append_assoc (taken_by (reverse (drop left saved))) (u.change.taken ++ taken_by (reverse (take (left - 1) saved))) among.others
+      ∙ ap (λ (ms : List Mapping). taken_by (reverse (drop left saved)) ++ ms) (append_assoc u.change.taken (taken_by (reverse (take (left - 1) saved))) among.others) in
       let all : AreKept now (front ++ (u.change.taken ++ rest)) =
-          subst (λ (ms : List Mapping). AreKept now ms) (sym (append_assoc (taken_by fresh) (taken_by (reverse (drop left saved))) (u.change.taken ++ rest)))
-          (changes.kept (taken_by (reverse (drop left saved)) ++ (u.change.taken ++ rest)) (subst (λ (ms : List Mapping). AreKept old ms) taken_is among.are_kept)) in
+      subst (λ (ms : List Mapping). AreKept now ms) (sym (append_assoc (taken_by fresh) (taken_by (reverse (drop left saved))) (u.change.taken ++ rest)))
+      (changes.kept (taken_by (reverse (drop left saved)) ++ (u.change.taken ++ rest)) (subst (λ (ms : List Mapping). AreKept old ms) taken_is among.are_kept)) in
       record { others = front ++ rest; are_kept = kept_in_any_order now front u.change.taken rest all }
 
   -- the limits at its turn
@@ -126,4 +126,4 @@ module _ (saved : List UndoValue) (left : ℕ) (u : UndoValue) (some : 0 < left)
       by_cases None none h = inr (subst (λ x. IsOkUnless x OutOfMemory) is_err h)
       by_cases (Some g) passed h =
           inl (was ∙ limits_turn now ∙ ap (λ (o : Option Fault). first_of o (put_limits (reverse (take (left - 1) saved)) (after_put now u))) passed
-              ∙ ap (λ (f : Fault). Some f) (sym (same_err fault g answer is_err h)))
+          ∙ ap (λ (f : Fault). Some f) (sym (same_err fault g answer is_err h)))

@@ -25,7 +25,7 @@ filter_none p (x ∷ xs) all =
     rw (here, rest) refl
 
 -- a list is what stands before a run, the run, and what stands behind it
-split_at_run : (ms : List Mapping) (place count : ℕ) → ms ≡ take place ms ++ (run ms place count ++ drop (place + count) ms)
+pub split_at_run : (ms : List Mapping) (place count : ℕ) → ms ≡ take place ms ++ (run ms place count ++ drop (place + count) ms)
 split_at_run ms place count =
     sym (take-append-drop place ms)
     ∙ ap (λ (xs : List Mapping). take place ms ++ xs) (sym (take-append-drop count (drop place ms)) ∙ ap (λ (xs : List Mapping). run ms place count ++ xs) (drop-drop count place ms))

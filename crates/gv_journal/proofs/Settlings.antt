@@ -1,5 +1,5 @@
 -- The items that stay when the older ones are settled.
-use Rattle.std.proofs.Common.{◌≡◌, ℕ, ◌+◌, ◌-◌, ◌<◌, ◌≤◌, ◌==◌, Bool, true, false, cond, ◌||◌, zero, suc, List, [], ◌∷◌, ◌++◌, length, reverse, take, drop, Option, refl, ap, sym, ◌∙◌, subst, arith, append_assoc, length-append}
+use Rattle.std.proofs.Common.{◌≡◌, ℕ, ◌+◌, ◌-◌, ◌<◌, ◌≤◌, Bool, true, false, cond, ◌||◌, zero, suc, List, [], ◌∷◌, ◌++◌, length, reverse, take, drop, Option, refl, ap, sym, ◌∙◌, subst, arith, append_assoc, length-append}
 use Rattle.std.proofs.lemmas.List.{append-nil, take-append-drop, reverse-append, reverse-reverse, length-reverse, length-drop, take_at, drop_at, drop-drop, drop_all, take_all, length-take-le, length-take}
 use Rattle.std.proofs.lemmas.Bool.Decides.{nat_tests}
 use Rattle.std.specs.Prelude.{position, None, Some, nat_lt}
@@ -14,12 +14,12 @@ use Rattle.gv_space.specs.State.{AddressSpace, AreKept}
 use Rattle.gv_space.specs.Undo.{UndoValue, AreAmongKept, released}
 use Rattle.gv_space.proofs.KeptLemmas.{kept_in_any_order}
 use Rattle.gv_journal.specs.Undoing.{undone_by}
-use Rattle.gv_journal.specs.Items.{Journaled, next, Numbered, numbered, entries, names, is_withdrawn, done_by, ops_without, live_ops, view}
-use Rattle.gv_journal.specs.History.{undos_of, kept_by, back, base, Translates, Save, SavesBelow, ItemSaves, EachSaves, UndoSavesTheView, Rewinds}
+use Rattle.gv_journal.specs.Items.{Journaled, next, Numbered, numbered, entries, names, is_withdrawn, done_by, ops_without, view}
+use Rattle.gv_journal.specs.History.{undos_of, kept_by, back, base, Translates, SavesBelow, EachSaves, UndoSavesTheView, Rewinds}
 use Rattle.gv_journal.specs.Settling.{crosses, later, earlier, settle_fault, IsSettled}
 use Rattle.gv_journal.specs.declared.settling.SettleFault.TheVariants.{Crossed}
 use Rattle.gv_journal.specs.State.{FitsOver, FitsSpace}
-use Rattle.gv_journal.specs.Inside.{NamesBelow, NameOlder}
+use Rattle.gv_journal.specs.Inside.{NameOlder}
 use Rattle.gv_journal.specs.declared.item.Item.{Item}
 use Rattle.gv_journal.specs.declared.item.ItemKind.{ItemKind}
 use Rattle.gv_journal.specs.declared.item.ItemKind.TheVariants.{Bind, Withdrawal}

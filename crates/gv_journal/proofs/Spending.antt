@@ -1,11 +1,10 @@
 -- Items spent in turn, the last one first.
-use Rattle.std.proofs.Common.{◌≡◌, ℕ, ◌+◌, ◌-◌, ◌<◌, ◌≤◌, List, [], ◌∷◌, ◌++◌, take, drop, length, reverse, get_or, set, refl, ap, sym, ◌∙◌, subst, arith, append_assoc}
+use Rattle.std.proofs.Common.{◌≡◌, ℕ, ◌+◌, ◌-◌, ◌<◌, ◌≤◌, List, [], ◌∷◌, ◌++◌, take, drop, length, reverse, get_or, set, ap, sym, ◌∙◌, subst, arith, append_assoc}
 use Rattle.std.specs.List.{All}
 use Rattle.std.proofs.lemmas.List.{take_more, take-set, drop-set, take-take}
 use Rattle.std.proofs.lemmas.List.Elements.{All-cons}
 use Rattle.gv_types.specs.declared.mapping.Mapping.{Mapping}
 use Rattle.gv_space.specs.State.{AddressSpace, AreKept}
-use Rattle.gv_space.specs.Undo.{released}
 use Rattle.gv_journal.specs.Undoing.{taken_by}
 use Rattle.gv_journal.specs.History.{undos_of, kept_by}
 use Rattle.gv_journal.specs.Inside.{IsSpent}

@@ -1,6 +1,6 @@
 -- The items of a journal with their numbers: which of them are live, and what the live ones say of a page.
 -- A list of items, of operations or of undo values has the newest first, unless it says otherwise.
-use Rattle.std.specs.Prelude.{ℕ, ◌≡◌, ◌+◌, Bool, false, not, ◌==◌, if◌then◌else◌, List, [], ◌∷◌, ◌++◌, length, reverse, filter, Option}
+use Rattle.std.specs.Prelude.{ℕ, ◌≡◌, ◌+◌, Bool, false, ◌==◌, ◌||◌, if◌then◌else◌, List, [], ◌∷◌, ◌++◌, length, reverse, Option}
 use Rattle.std.specs.List.{list_any}
 use Rattle.gv_types.specs.Operation.{view as view_of_ops}
 use Rattle.gv_types.specs.declared.mapping.Entry.{Entry}
@@ -65,6 +65,7 @@ live_ops xs = ops_without (is_withdrawn xs) xs
 abbrev pub view : List Numbered → (ℕ → Option Entry) → ℕ → Option Entry
 view xs base page = view_of_ops (live_ops xs) base page
 
--- the items without one of them, the others with their numbers
-abbrev pub without : ℕ → List Numbered → List Numbered
-without n xs = filter (λ x. not (x.number == n)) xs
+-- what the items say without one of them, the others with their numbers: its operations are left out as those of one that
+-- isn't live
+abbrev pub view_without : ℕ → List Numbered → (ℕ → Option Entry) → ℕ → Option Entry
+view_without n xs base page = view_of_ops (ops_without (λ m. (n == m) || is_withdrawn xs m) xs) base page

@@ -10,3 +10,4 @@ pub mod Inside
 pub mod Settling
 pub mod Withdrawing
 pub mod Restoring
+pub mod Laws

@@ -1,11 +1,11 @@
 -- Undo values put back, the newest first. No public clause cites this module.
-use Rattle.std.specs.Prelude.{◌≡◌, ℕ, if◌then◌else◌, List, [], ◌∷◌, Option, Some, None, ◌⊎◌}
+use Rattle.std.specs.Prelude.{◌≡◌, ℕ, if◌then◌else◌, List, [], ◌∷◌, Option, Some, None}
 use Rattle.gv_types.specs.Page.{IsPage}
-use Rattle.gv_types.specs.Span.{covers}
+use Rattle.gv_types.specs.Span.{Span, covers}
+use Rattle.gv_types.specs.declared.operation.PageOp.{PageOp}
+use Rattle.gv_types.specs.declared.operation.PageOp.TheVariants.{Map, Unmap, UnmapBuffer}
 use Rattle.gv_types.specs.declared.fault.Fault.{Fault}
-use Rattle.gv_types.specs.declared.fault.Fault.TheVariants.{OutOfMemory}
 use Rattle.gv_types.specs.declared.mapping.Entry.{Entry}
-use Rattle.gv_types.specs.declared.mapping.Mapping.{Mapping}
 use Rattle.gv_ranges.specs.List.{at}
 use Rattle.gv_ranges.specs.Edit.{restored}
 use Rattle.gv_space.specs.State.{AddressSpace}
@@ -38,3 +38,9 @@ pub record ArePutBack (old new : AddressSpace) (saved fresh : List UndoValue) : 
   pub state : new ≡ record (after_puts saved old) { room = new.room }
   pub changes : AreChanges old new fresh
   pub pages : (page : ℕ) → IsPage page → at new.mappings page ≡ put_back saved page (at old.mappings page)
+
+-- the pages of an operation, if it names any
+abbrev pub pages_named : PageOp → Option Span
+pages_named (Map range backing flags) = Some range
+pages_named (Unmap range) = Some range
+pages_named (UnmapBuffer buffer) = None

@@ -1,5 +1,5 @@
 -- Items settled: those below a number go, with what they keep.
-use Rattle.std.specs.Prelude.{◌≡◌, ℕ, ◌+◌, ◌-◌, ◌≤◌, Bool, false, ◌||◌, nat_lt, if◌then◌else◌, List, reverse, take, drop, length, position, Option, Some, None}
+use Rattle.std.specs.Prelude.{◌≡◌, ℕ, ◌+◌, ◌-◌, ◌≤◌, Bool, false, ◌||◌, nat_lt, if◌then◌else◌, List, reverse, take, drop, length, position, Option, Some}
 use Rattle.std.specs.Option.{option_map}
 use Rattle.gv_types.specs.Page.{IsPage}
 use Rattle.gv_space.specs.State.{AddressSpace}

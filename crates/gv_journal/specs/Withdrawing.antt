@@ -1,5 +1,5 @@
 -- An older item withdrawn: what refuses it, and what it makes of the list.
-use Rattle.std.specs.Prelude.{◌≡◌, ℕ, ◌+◌, ◌-◌, Bool, false, not, ◌&&◌, nat_lt, if◌then◌else◌, List, [], ◌∷◌, ◌++◌, length, reverse, drop, slice_get, Option, Some, None, ◌⊎◌}
+use Rattle.std.specs.Prelude.{◌≡◌, ℕ, ◌+◌, ◌-◌, Bool, false, not, ◌&&◌, nat_lt, if◌then◌else◌, List, [], ◌∷◌, reverse, drop, slice_get, Option, Some, None, ◌⊎◌}
 use Rattle.std.specs.List.{list_any}
 use Rattle.gv_types.specs.Page.{IsPage}
 use Rattle.gv_types.specs.Span.{covers, meets}
@@ -13,7 +13,7 @@ use Rattle.gv_ranges.specs.Edit.{edited_by_all, restored}
 use Rattle.gv_space.specs.State.{AddressSpace}
 use Rattle.gv_space.specs.Refusal.{first_of, limit_fault}
 use Rattle.gv_space.specs.Change.{changed_to}
-use Rattle.gv_journal.specs.Items.{Journaled, entries, next, is_withdrawn, done_by, view, without}
+use Rattle.gv_journal.specs.Items.{Journaled, entries, next, is_withdrawn, done_by, view_without}
 use Rattle.gv_journal.specs.History.{back, base}
 use Rattle.gv_journal.specs.Applying.{met}
 use Rattle.gv_journal.specs.Verdict.{full_fault}
@@ -34,7 +34,7 @@ touch ops others = list_any (λ op. list_any (λ other. meets (range_of op) (ran
 abbrev pub touched_from : (ℕ → Bool) → List PageOp → ℕ → List Item → Option ℕ
 touched_from gone ops n [] = None
 touched_from gone ops n (item ∷ later) =
-    if not (gone n) && touch ops (done_by item.kind) then Some n else touched_from gone ops (n + 1) later
+    if touch ops (done_by item.kind) && not (gone n) then Some n else touched_from gone ops (n + 1) later
 
 -- the least live later item that touches what an item did
 abbrev pub touched_by : Journaled → ℕ → List PageOp → Option ℕ
@@ -76,7 +76,7 @@ abbrev pub withdrawal_limits : List Mapping → List PageOp → AddressSpace →
 withdrawal_limits before [] s = None
 withdrawal_limits before (op ∷ older) s =
     first_of (limit_fault s (range_of op) (restored s.mappings (range_of op) (edited_by_all older before)))
-        (withdrawal_limits before older (after_restore s op (edited_by_all older before)))
+    (withdrawal_limits before older (after_restore s op (edited_by_all older before)))
 
 -- the list before an item
 abbrev pub list_before : AddressSpace → Journaled → ℕ → List Mapping
@@ -107,6 +107,6 @@ pub record IsWithdrawn (s t : AddressSpace) (old new : Journaled) (n : ℕ) : Ty
   pub kind : item.kind ≡ Withdrawal n
   pub state : t ≡ record (after_withdrawal (list_before s old n) (ops_at old n) s) { room = t.room }
   pub list : t.mappings ≡ withdrawn (list_before s old n) (ops_at old n) s.mappings
-  pub pages : (page : ℕ) → IsPage page → at t.mappings page ≡ view (without n (entries old)) (base s.mappings old.items) page
+  pub pages : (page : ℕ) → IsPage page → at t.mappings page ≡ view_without n (entries old) (base s.mappings old.items) page
   pub others : (page : ℕ) → IsPage page → list_any (λ op. covers (range_of op) page) (ops_at old n) ≡ false →
       at t.mappings page ≡ at s.mappings page

@@ -1,12 +1,14 @@
 //! The journal of an address space.
-ghost use Rattle.std.specs.Prelude.{◌≡◌, ℕ, ◌+◌, ◌≤◌, [], length, reverse, IsTrue, ◌↔◌, Some, None, position};
+ghost use Rattle.std.specs.Prelude.{◌≡◌, ℕ, ◌+◌, ◌<◌, ◌≤◌, [], length, reverse, IsTrue, ◌↔◌, Some, None, position};
 ghost use Rattle.std.specs.Prelude.{IfOk, IfErr, OnOk, OnErr};
 ghost use Rattle.gv_journal.specs.Verdict.{refusal};
 
 use crate::applying::{Work, apply_all};
 use crate::item::{Item, ItemKind};
 use crate::refusal::Refusal;
+use crate::restoring::restore_all;
 use crate::settling::{SettleFault, first_crossing, release_items};
+use crate::touching::{first_touched, is_withdrawn};
 use crate::undoing::{release_all, revert_all};
 use gv_space::Space;
 use gv_types::{Fault, Request};
@@ -49,6 +51,7 @@ impl Journal {
     ghost use Rattle.gv_journal.specs.State.{FitsSpace};
     ghost use Rattle.gv_journal.specs.Verdict.{verdict, full_fault, IsRefused};
     ghost use Rattle.gv_journal.specs.Settling.{settle_fault, later, crosses, IsSettled};
+    ghost use Rattle.gv_journal.specs.Withdrawing.{item_at, found_fault, withdraw_fault, IsWithdrawRefused, IsWithdrawn};
     ghost use Rattle.gv_journal.specs.Binding.{IsBound, IsApplied, IsRewound};
 
     /// No items, and room for none: it takes no memory. It may hold `limit` items.
@@ -165,6 +168,67 @@ impl Journal {
                 revert_all(space, undos);
                 Ok(self.next())
             }
+        }
+    }
+
+    /// Withdraws an older request that no later live one touches: the pages that its operations cover hold again what they
+    /// held before each of them, boundaries apart, and the withdrawal is an item of its own, whose number is answered. The
+    /// refusals in this order: `NoEntry`, `NotABind`, `Withdrawn`, `Touched` with the least live later item that touches it,
+    /// `JournalFull`, `OutOfMemory` for the item's place, then for each operation from the last to the first
+    /// `TooManyMappings` and `OutOfMemory`. After a refusal space and journal are as before, but for room.
+    pub fn withdraw(&mut self, alloc: Global, space: &mut Space, entry: u64) -> Result<u64, Fault>
+        requires { FitsSpace space.old self.old }
+        ensures accepted { OnOk result (withdraw_fault space.old self.old entry ≡ None) }
+        ensures refused { IfErr result (IsWithdrawRefused space.old self.old entry) }
+        ensures number { IfOk result (λ n. n ≡ next self.old) }
+        ensures withdrawn { OnOk result (IsWithdrawn space.old space.new self.old self.new entry) }
+        ensures back { OnOk result ((n : ℕ)
+            → back space.new.mappings self.new.items (n + 1) ≡ back space.old.mappings self.old.items n) }
+        ensures fits { FitsSpace space.new self.new }
+        ensures space_unchanged { OnErr result (IsUnchanged space.old space.new) }
+        ensures unchanged { OnErr result (self.new ≡ self.old) }
+    {
+        let place = match self.find_entry(entry) {
+            Ok(place) => place,
+            Err(fault) => return Err(fault),
+        };
+        if self.is_full() {
+            return Err(Fault::JournalFull);
+        }
+        if self.items.reserve(1).is_err() {
+            return Err(Fault::OutOfMemory);
+        }
+        let saved = &self.items[self.spent + place].undos;
+        let undos = match restore_all(alloc, space, saved) {
+            Ok(undos) => undos,
+            Err(fault) => return Err(fault),
+        };
+        let number = self.next();
+        let kind = ItemKind::Withdrawal { of: entry };
+        self.items.push_reserved(Item { kind, undos });
+        Ok(number)
+    }
+
+    /// The place among the held items of an item that can be withdrawn, if there is room for one more.
+    fn find_entry(&self, entry: u64) -> Result<usize, Fault>
+        ensures accepted { OnOk result (found_fault self.now entry (item_at self.now entry) ≡ None) }
+        ensures refused { IfErr result (λ fault. found_fault self.now entry (item_at self.now entry) ≡ Some fault) }
+        ensures place { IfOk result (λ place. (self.now.first + place ≡ entry) × (place < length self.now.items)) }
+    {
+        if entry < self.first || self.next() <= entry {
+            return Err(Fault::NoEntry);
+        }
+        let items = self.items();
+        let place = (entry - self.first) as usize;
+        let ItemKind::Bind { done, .. } = &items[place].kind else {
+            return Err(Fault::NotABind);
+        };
+        if is_withdrawn(items, entry) {
+            return Err(Fault::Withdrawn);
+        }
+        match first_touched(items, &items[place + 1..], done, entry + 1) {
+            Some(by) => Err(Fault::Touched { by }),
+            None => Ok(place),
         }
     }
 

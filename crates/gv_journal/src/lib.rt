@@ -5,12 +5,17 @@
 mod applying;
 mod item;
 mod journal;
+pub mod laws;
 mod refusal;
 mod restoring;
 mod settling;
+mod touching;
 mod undoing;
 
 pub use item::{Item, ItemKind};
 pub use journal::{Journal, MAX_OPS};
 pub use refusal::Refusal;
 pub use settling::SettleFault;
+
+#[cfg(test)]
+mod tests;

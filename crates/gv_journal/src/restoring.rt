@@ -11,11 +11,7 @@ use gv_types::Fault;
 use std::alloc::Global;
 
 /// Puts back all that undo values saved, or changes nothing.
-pub fn restore_all(
-    alloc: Global,
-    space: &mut Space,
-    saved: &[OpUndo],
-) -> Result<Vec<OpUndo>, Fault>
+pub fn restore_all(alloc: Global, space: &mut Space, saved: &[OpUndo]) -> Result<Vec<OpUndo>, Fault>
     requires { AreAmongKept space.old (taken_by (reverse saved.now)) }
     ensures accepted { OnOk result (put_limits (reverse saved.now) space.old ≡ None) }
     ensures refused { IfErr result (λ fault.

@@ -1,6 +1,4 @@
-use Rattle.std.proofs.Common.{◌≡◌, ℕ, ◌+◌, ◌-◌, ◌<◌, ◌≤◌, List, ◌∷◌, ◌++◌, [], cond, length, take, drop, reverse, vec_len, vec_capacity, sym, ◌∙◌, ap, subst, arith}
-use Rattle.gv_space.specs.Undo.{UndoValue}
-use Rattle.gv_journal.specs.Restoring.{ArePutBack}
+use Rattle.std.proofs.Common.{◌<◌, drop, reverse, arith}
 use Rattle.gv_journal.proofs.Lists.{last_first}
 use Rattle.gv_journal.proofs.Changing.{AreChanges-room, unchanged_back}
 use Rattle.gv_journal.proofs.Puts.{ArePutBack-more, put_last, put_more, still_kept, state_put}
@@ -10,7 +8,7 @@ pub restore-requires : goal.restore-requires
 restore-requires c =
     let some : 0 < c.loop-left.left = omega arith in
     still_kept c.args.saved.now c.loop-left.left c.index-saved-left.result some c.loop-left.invariant.within c.index-saved-left.is
-        c.args.space.now c.loop-left.space (reverse c.loop-left.fresh.items) c.loop-left.invariant.restored.changes c.requires
+    c.args.space.now c.loop-left.space (reverse c.loop-left.fresh.items) c.loop-left.invariant.restored.changes c.requires
 
 pub loop-left-preserved : goal.loop-left-preserved
 loop-left-preserved c =
@@ -28,7 +26,7 @@ loop-left-preserved c =
       within = omega arith;
       restored = rw (put_last saved left u some within c.index-saved-left.is, grown)
           (ArePutBack-more c.args.space.now c.loop-left.space c.restore.new.self (reverse (drop left saved)) (reverse c.loop-left.fresh.items) u c.in-Ok-restore.undo
-              c.loop-left.invariant.restored changed range_is says c.in-Ok-restore.ensures.undone);
+          c.loop-left.invariant.restored changed range_is says c.in-Ok-restore.ensures.undone);
       limits = put_more saved left u some within c.index-saved-left.is c.args.space.now c.loop-left.space c.restore.new.self c.restore.result c.in-Ok-restore.undo c.in-Ok-restore.is fault
           (state_put c.loop-left.space c.restore.new.self u c.in-Ok-restore.undo changed range_is) c.loop-left.invariant.limits;
       room = omega arith;
@@ -41,5 +39,5 @@ revert_all-requires-clause-revertible c =
 pub returns-in-Err-restore-clause-unchanged : goal.returns-in-Err-restore-clause-unchanged
 returns-in-Err-restore-clause-unchanged c =
     unchanged_back c.args.space.now c.restore.new.self c.revert_all.new.space (reverse c.loop-left.fresh.items)
-        (AreChanges-room c.args.space.now c.loop-left.space c.restore.new.self (reverse c.loop-left.fresh.items) c.loop-left.invariant.restored.changes c.in-Err-restore.ensures.unchanged)
-        c.revert_all.ensures.state
+    (AreChanges-room c.args.space.now c.loop-left.space c.restore.new.self (reverse c.loop-left.fresh.items) c.loop-left.invariant.restored.changes c.in-Err-restore.ensures.unchanged)
+    c.revert_all.ensures.state

@@ -1,4 +1,4 @@
-use Rattle.std.proofs.Common.{◌≡◌, ℕ, ◌+◌, ◌≤◌, List, length, take, drop, reverse, vec_len, vec_capacity}
+use Rattle.std.proofs.Common.{◌≡◌, ◌+◌, ◌≤◌, length, take, drop, reverse, vec_len, vec_capacity}
 use Rattle.gv_journal.specs.Restoring.{put_limits, ArePutBack}
 use Rattle.gv_journal.proofs.restoring.restore_all.Given as goal
 
@@ -7,7 +7,7 @@ invariant-loop-left l = record {
   within : l.left ≤ length l.saved;
   restored : ArePutBack l.fn.space l.space (reverse (drop l.left l.saved)) (reverse l.fresh.items);
   limits : put_limits (reverse l.saved) l.fn.space ≡ put_limits (reverse (take l.left l.saved)) l.space;
-  room : vec_len l.fresh + l.left ≤ vec_capacity l.fresh
+  room : vec_len l.fresh + l.left ≤ vec_capacity l.fresh;
 }
 
 abbrev pub decreases-loop-left : goal.decreases-loop-left

@@ -1,4 +1,4 @@
-use Rattle.std.proofs.Common.{◌≡◌, ◌<◌, ◌≤◌, ◌-◌, ℕ, [], List, length, length-set, reverse, take, arith, rules, sym, ◌∙◌, ap, subst, ◌++◌}
+use Rattle.std.proofs.Common.{◌≡◌, ◌<◌, ℕ, List, length-set, reverse, take, arith, sym, ◌∙◌, ap, subst, ◌++◌}
 use Rattle.gv_types.specs.declared.mapping.Mapping.{Mapping}
 use Rattle.gv_space.specs.State.{AreKept}
 use Rattle.gv_space.specs.Undo.{released}

@@ -1,7 +1,5 @@
-use Rattle.std.proofs.Common.{◌≡◌, ℕ, ◌≤◌, Option, reverse, Some, None, arith, sym, ◌∙◌, ap}
-use Rattle.std.specs.Prelude.{position}
+use Rattle.std.proofs.Common.{◌≡◌, ◌≤◌, Some, None, arith, ◌∙◌, ap}
 use Rattle.gv_journal.specs.Items.{Journaled, next}
-use Rattle.gv_journal.specs.Settling.{crosses, later}
 use Rattle.gv_journal.proofs.Settlings.{search_is, settle_fault_is}
 use Rattle.gv_journal.proofs.journal.Journal.count_below.Goals as goal
 

@@ -1,7 +1,7 @@
-use Rattle.std.proofs.Common.{◌≡◌, ℕ, ◌+◌, ◌-◌, ◌≤◌, List, [], ◌∷◌, ◌++◌, take, drop, length, reverse, sym, ◌∙◌, ap, subst, refl, arith, rules, length-append}
-use Rattle.gv_space.specs.State.{AddressSpace, AreKept}
-use Rattle.gv_space.specs.Undo.{AreAmongKept, released}
-use Rattle.gv_journal.specs.Items.{Journaled, numbered, entries, next}
+use Rattle.std.proofs.Common.{◌≡◌, ℕ, ◌+◌, ◌-◌, List, ◌++◌, take, drop, length, reverse, sym, ◌∙◌, ap, subst, arith, length-append}
+use Rattle.gv_space.specs.State.{AreKept}
+use Rattle.gv_space.specs.Undo.{released}
+use Rattle.gv_journal.specs.Items.{Journaled, numbered}
 use Rattle.gv_journal.specs.Inside.{IsSpent, NameOlder}
 use Rattle.std.specs.List.{All}
 use Rattle.std.proofs.lemmas.List.{length-reverse, length-drop, length-take-le}
@@ -11,7 +11,7 @@ use Rattle.gv_journal.specs.State.{FitsSpace}
 use Rattle.gv_journal.specs.declared.item.Item.{Item}
 use Rattle.gv_journal.proofs.Settlings.{count_is, settled_items, earlier_kept, items_written, names_later, NoneCross, old_journal, new_journal, is_settled, fits_settled, still_within, left_is, none_left}
 use Rattle.gv_types.specs.declared.mapping.Mapping.{Mapping}
-use Rattle.gv_journal.specs.Settling.{IsSettled, later, crosses}
+use Rattle.gv_journal.specs.Settling.{IsSettled}
 use Rattle.gv_journal.proofs.journal.Journal.settle.Goals as goal
 
 pub release_items-requires : goal.release_items-requires
