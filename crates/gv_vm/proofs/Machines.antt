@@ -169,7 +169,7 @@ IsHeld-by_count change ms t n (BufferByte id byte) of_counts h =
     (still_used change ms n (buffer t id) of_counts h)
 IsHeld-by_count change ms t n Zero of_counts h = tt
 
-AreHeld-by_count : (change : Buffer → ℕ → Buffer) (ms : List Mapping) (t : Table) (js : List RunningJob) → IsOfCounts change → AreHeld t js → AreHeld (by_count change ms t) js
+pub AreHeld-by_count : (change : Buffer → ℕ → Buffer) (ms : List Mapping) (t : Table) (js : List RunningJob) → IsOfCounts change → AreHeld t js → AreHeld (by_count change ms t) js
 AreHeld-by_count change ms t js of_counts held = record {
   users = All-map (EachRuns js) (λ b. change b (count_of b.id ms)) t.live
       (All-weaker (EachRuns js) (λ b. EachRuns js (change b (count_of b.id ms))) (λ b h. subst (All (λ u. list_any (λ j. eqb j.number u.job) js ≡ true)) (sym (of_counts.users b (count_of b.id ms))) h) t.live held.users);

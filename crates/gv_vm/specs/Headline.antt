@@ -4,10 +4,8 @@
 -- touches gives the map of the history without it.
 use Rattle.std.specs.Prelude.{◌≡◌, ℕ, ◌+◌, List, Option, Some}
 use Rattle.gv_types.specs.Page.{IsPage}
-use Rattle.gv_types.specs.declared.fault.Fault.{Fault}
 use Rattle.gv_types.specs.declared.mapping.BufferId.{BufferId}
 use Rattle.gv_types.specs.declared.mapping.Entry.{Entry}
-use Rattle.gv_types.specs.declared.mapping.Mapping.{Mapping}
 use Rattle.gv_ranges.specs.List.{at}
 use Rattle.gv_table.specs.Table.{IsTree, IsHeldAt}
 use Rattle.gv_table.specs.declared.page_table.PageTable.{PageTable}

@@ -1,9 +1,9 @@
 -- What each event does to a world, and which reply it gets. An event that is not enabled is answered by `Idle` and changes
 -- nothing; `Idle` is the answer to no other.
-use Rattle.std.specs.Prelude.{◌≡◌, ℕ, ◌+◌, ◌<◌, ◌≤◌, if◌then◌else◌, nat_le, List, [], ◌∷◌, ◌++◌, length, slice_index, Option, Some, None, ◌⊎◌, IsSome}
+use Rattle.std.specs.Prelude.{◌≡◌, ℕ, ◌+◌, ◌<◌, List, [], ◌∷◌, ◌++◌, length, slice_index, Option, Some, None}
 use Rattle.gv_types.specs.Request.{Fits}
 use Rattle.gv_types.specs.declared.fault.Fault.{Fault}
-use Rattle.gv_types.specs.declared.fault.Fault.TheVariants.{QueueSpent, QueueFull, NoEntry, OutOfMemory}
+use Rattle.gv_types.specs.declared.fault.Fault.TheVariants.{NoEntry, OutOfMemory}
 use Rattle.gv_types.specs.declared.mapping.BufferId.{BufferId}
 use Rattle.gv_types.specs.declared.request.Point.{Point}
 use Rattle.gv_types.specs.declared.request.Request.{Request}
@@ -20,7 +20,7 @@ use Rattle.gv_vm.specs.Jobs.{begin_fault, end_fault, IsBegun, IsEnded, IsBeginRe
 use Rattle.gv_vm.specs.Outcomes.{with_outcome}
 use Rattle.gv_vm.specs.Told.{IsCarriedOut, seen_by}
 use Rattle.gv_vm.specs.State.{Machine, HasOtherBuffers, HasOtherJobs}
-use Rattle.gv_vm.specs.World.{World, Queue, InHand, queue_at, with_queue, taken, next_number, next_wait, seen_at}
+use Rattle.gv_vm.specs.World.{World, InHand, put_fault_of, queue_at, with_queue, taken, next_number, next_wait, seen_at}
 use Rattle.gv_vm.specs.declared.event.Event.{Event}
 use Rattle.gv_vm.specs.declared.event.Event.TheVariants.{Put, Take, Look, Bind, GiveUp, Pay, Raise, Create, Destroy, Rewind, Withdraw, Settle, JobBegin, JobEnd, Translate}
 use Rattle.gv_vm.specs.declared.event.Reply.{Reply}
@@ -29,7 +29,6 @@ use Rattle.gv_vm.specs.declared.jobs.Access.{Access}
 use Rattle.gv_vm.specs.declared.jobs.Job.{Job}
 use Rattle.gv_vm.specs.declared.outcome.Outcome.{Outcome}
 use Rattle.gv_vm.specs.declared.outcome.Outcome.TheVariants.{Accepted, NotReady, Refused as RefusedAt}
-use Rattle.gv_vm.specs.declared.places.Place.{Place}
 
 -- Which events are enabled.
 
@@ -93,12 +92,8 @@ IsEnabled w (Translate addr) = Unit {0}
 
 -- What they do.
 
--- why a request isn't put: the limit's requests were put, or so many wait as there are places
 abbrev pub put_fault : World → ℕ → Option Fault
-put_fault w queue =
-    if nat_le w.machine.space.limits.told (queue_at w queue).put then Some QueueSpent
-    else if nat_le w.depth (length (queue_at w queue).waiting) then Some QueueFull
-    else None
+put_fault w queue = put_fault_of w.machine.space.limits.told w.depth (queue_at w queue)
 
 -- a request is at the back
 pub record IsPutAs (old : World) (queue : ℕ) (request : Request) (number : ℕ) (new : World) : Type 0 where

@@ -1,7 +1,9 @@
 -- The world: one machine, the numbers of its timelines, and its queues of requests.
-use Rattle.std.specs.Prelude.{◌≡◌, ℕ, ◌<◌, ◌==◌, if◌then◌else◌, List, [], ◌∷◌, length, replicate, slice_get, slice_index, slice_index_or, slice_set, Option, Some, None}
+use Rattle.std.specs.Prelude.{ℕ, if◌then◌else◌, nat_le, List, [], length, replicate, slice_get, slice_index, slice_index_or, slice_set, Option, Some, None}
 use Rattle.gv_types.specs.Bounds.{Area}
 use Rattle.gv_types.specs.Limits.{Caps}
+use Rattle.gv_types.specs.declared.fault.Fault.{Fault}
+use Rattle.gv_types.specs.declared.fault.Fault.TheVariants.{QueueSpent, QueueFull}
 use Rattle.gv_types.specs.declared.request.Point.{Point}
 use Rattle.gv_types.specs.declared.request.Request.{Request}
 use Rattle.gv_sync.specs.Sights.{Sight, sight}
@@ -35,6 +37,13 @@ new_queue = record { put = 0; waiting = []; hand = None; owed = [] }
 abbrev pub new_world : Area → Caps → ℕ → ℕ → ℕ → World
 new_world area limits queues depth timelines =
     record { machine = new_machine area limits; numbers = replicate timelines 0; depth = depth; queues = replicate queues new_queue }
+
+-- why a request isn't put: the limit's requests were put, or so many wait as there are places
+abbrev pub put_fault_of : ℕ → ℕ → Queue → Option Fault
+put_fault_of limit depth q =
+    if nat_le limit q.put then Some QueueSpent
+    else if nat_le depth (length q.waiting) then Some QueueFull
+    else None
 
 -- the queue with this number
 abbrev pub queue_at : World → ℕ → Queue

@@ -7,6 +7,7 @@ mod event;
 mod jobs;
 mod outcome;
 mod places;
+mod queue;
 mod told;
 mod vm;
 

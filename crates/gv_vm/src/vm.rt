@@ -22,6 +22,8 @@ use gv_types::{Backing, Bounds, BufferId, Fault, Limits, Op, OutOfMemory, Reques
 use std::alloc::Global;
 use std::marker::Model;
 
+mod entries;
+
 /// One GPU address space, of which each accepted request is an entry that can be taken back. It owns undo values, so it is
 /// not `Drop`: a program that lets one go without closing it is refused.
 pub struct Vm {
@@ -252,26 +254,6 @@ impl Vm {
         };
         tell(&mut self.told, queue, outcome);
         Ok(outcome)
-    }
-
-    /// Takes the newest entry back and answers its number: the list of mappings is what it was before that entry, boundaries
-    /// included, and so are the page table and the uses of each buffer. `NoEntry` only where no entry is held. It takes no
-    /// memory. What was told, the jobs and the making of buffers are not taken back.
-    pub fn rewind(&mut self) -> Result<u64, Fault>
-        ensures number { IfOk result (λ n. n ≡ next self.new.journal) }
-        ensures item { OnOk result
-            (IsRewound self.old.space self.new.space self.old.journal self.new.journal) }
-        ensures back { OnOk result ((n : ℕ) → back self.new.space.mappings self.new.journal.items n
-            ≡ back self.old.space.mappings self.old.journal.items (n + 1)) }
-        ensures rest { self.new
-            ≡ record self.old { space = self.new.space; journal = self.new.journal } }
-        ensures none { IfErr result (λ fault.
-            (fault ≡ Fault.NoEntry) × (self.old.journal.items ≡ [])) }
-        ensures err { OnErr result (self.new ≡ self.old) }
-    {
-        let rewound = self.journal.rewind(&mut self.space);
-        let _mappings = self.space.mappings();
-        rewound
     }
 
     /// Gives up all undo values and ends all jobs. It takes no memory.
