@@ -2,8 +2,8 @@
 ghost use Rattle.std.specs.Prelude.{◌≡◌};
 
 use crate::fixtures::{apply, bind, map, unmap, whole_space};
-use gv_space::Space;
 use gv_buffers::Usage;
+use gv_space::Space;
 use gv_types::{BufferId, Fault};
 use std::test::Fail;
 

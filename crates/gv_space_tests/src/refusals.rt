@@ -7,8 +7,8 @@ ghost use Rattle.gv_space.specs.State.{IsUnchanged};
 ghost use Rattle.gv_space.specs.Undo.{AreAmongKept};
 
 use crate::fixtures::{Sight, apply, look, map, map_zero, unmap};
-use gv_space::{OpUndo, Space};
 use gv_buffers::Usage;
+use gv_space::{OpUndo, Space};
 use gv_types::{Bounds, BufferId, Fault, Limits, Mapping, Op, PageRange};
 use std::alloc::Global;
 use std::process::Abort;
