@@ -8,7 +8,7 @@ use Rattle.gv_types.specs.declared.mapping.BufferId.{BufferId}
 use Rattle.gv_buffers.specs.declared.usage.Usage.{Usage}
 use Rattle.gv_buffers.specs.Table.{Buffer, Table, buffer, has_id, without, changed, only, joined_by, left_by, left_everywhere, IsLive, IsCreated}
 use Rattle.gv_buffers.specs.Laws.{TellsTheSame}
-use Rattle.gv_buffers.proofs.Found.{others_stay_made, others_stay_destroyed, changed_is_found, left_is_found}
+use Rattle.gv_buffers.proofs.FoundLemmas.{others_stay_made, others_stay_destroyed, changed_is_found, left_is_found}
 
 tells_from_found : (old new : Table) (id : BufferId) → buffer new id ≡ buffer old id → TellsTheSame old new id
 tells_from_found old new id same =

@@ -2,10 +2,12 @@ pub mod Joins
 pub mod Lists
 pub mod Leaving
 pub mod Tables
+pub mod Counters
 pub mod Conflicts
 pub mod Rooms
 pub mod Making
 pub mod Using
-pub mod Found
+pub mod FoundLemmas
 pub mod Counts
 pub mod TakenBack
+pub mod RenamingLemmas

@@ -6,12 +6,12 @@ use Rattle.std.proofs.lemmas.Option.{none-some, same_Some}
 use Rattle.std.proofs.lemmas.List.Elements.{All-nil, All-cons}
 use Rattle.std.proofs.lemmas.Bool.{ne_eqb, eq-eqb}
 use Rattle.gv_types.specs.declared.mapping.BufferId.{BufferId}
-use Rattle.gv_buffers.specs.declared.slots.Slot.{Slot}
+use Rattle.gv_buffers.specs.declared.slots.LiveBuffer.{LiveBuffer}
 use Rattle.gv_buffers.specs.Table.{Buffer, has_id}
 use Rattle.gv_buffers.specs.Slots.{buffer_at, buffers_from, of_generation}
 
 abbrev pub Slots : Type 0
-Slots = List (Option Slot)
+Slots = List (Option LiveBuffer)
 
 -- what stands in the slot number k, seen as the buffer at place j
 abbrev pub seen_at : ℕ → Slots → ℕ → Option Buffer
@@ -154,7 +154,7 @@ pub record IsPutIn (old new : List Buffer) (b : Buffer) : Type 0 where
   pub within : place ≤ length old
   pub list : new ≡ insert old place b
 
-put_in_none : (i key : ℕ) (slot : Slot) (ys : Slots) → get_or ys key None ≡ Some slot → ((k : ℕ) → k ≢ key → get_or ys k None ≡ None) →
+put_in_none : (i key : ℕ) (slot : LiveBuffer) (ys : Slots) → get_or ys key None ≡ Some slot → ((k : ℕ) → k ≢ key → get_or ys k None ≡ None) →
     buffers_from i ys ≡ buffer_at (i + key) slot ∷ []
 put_in_none i key slot [] here others = absurd (none-some slot here)
 put_in_none i zero slot (None ∷ ys) here others = absurd (none-some slot here)
@@ -168,7 +168,7 @@ put_in_none i (suc key) slot (None ∷ ys) here others =
     rw (← next) (put_in_none (i + 1) key slot ys here (λ k apart. others (suc k) (omega arith)))
 put_in_none i (suc key) slot (Some y ∷ ys) here others = absurd (none-some y (sym (others 0 (omega arith))))
 
-pub put_in : (i key : ℕ) (slot : Slot) (xs ys : Slots) → get_or xs key None ≡ None → get_or ys key None ≡ Some slot →
+pub put_in : (i key : ℕ) (slot : LiveBuffer) (xs ys : Slots) → get_or xs key None ≡ None → get_or ys key None ≡ Some slot →
     ((k : ℕ) → k ≢ key → get_or ys k None ≡ get_or xs k None) → IsPutIn (buffers_from i xs) (buffers_from i ys) (buffer_at (i + key) slot)
 put_in i key slot [] ys free here others = record { place = 0; within = omega arith; list = put_in_none i key slot ys here others }
 put_in i key slot (x ∷ xs) [] free here others = absurd (none-some slot here)

@@ -10,7 +10,7 @@ use Rattle.gv_types.specs.Page.{pages_per_buffer}
 use Rattle.gv_types.specs.Mapping.{buffer_id}
 use Rattle.gv_types.specs.declared.mapping.BufferId.{BufferId}
 use Rattle.gv_types.specs.declared.fault.Fault.TheVariants.{TooManyBuffers}
-use Rattle.gv_buffers.specs.declared.slots.Slot.{Slot}
+use Rattle.gv_buffers.specs.declared.slots.LiveBuffer.{LiveBuffer}
 use Rattle.gv_buffers.specs.declared.buffers.Buffers.TheInside.{Inside}
 use Rattle.gv_buffers.specs.Table.{Buffer, Table, has_id, fresh, create_fault, most_made, IsBuffer, IsCreated, without}
 use Rattle.gv_buffers.specs.Places.{IsNoted}
@@ -50,7 +50,7 @@ pub record IsMade (b : Inside) (t : Table) (id : BufferId) (pages : ℕ) : Type 
   pub created : IsCreated t (table_of b) id pages
 
 -- a buffer is put into a free slot
-made : (a : Inside) (t : Table) (new : Slab Slot) (key pages : ℕ) (slot : Slot) → IsSound a → table_of a ≡ t → slab_len a.slots < a.limit →
+made : (a : Inside) (t : Table) (new : Slab LiveBuffer) (key pages : ℕ) (slot : LiveBuffer) → IsSound a → table_of a ≡ t → slab_len a.slots < a.limit →
     0 < pages → pages ≤ pages_per_buffer → get a.slots key ≡ None → Updates a.slots new key (Some slot) → slab_len new ≡ slab_len a.slots + 1 →
     buffer_at key slot ≡ fresh (buffer_id key a.made) pages →
     IsMade (record a { made = a.made + 1; slots = new }) t (buffer_id key a.made) pages
@@ -89,13 +89,13 @@ made a t new key pages slot sound view room some few free updates len seen =
     }
 
 -- and into one that is free once room was made for it
-pub made_with_room : (a : Inside) (t : Table) (mid new : Slab Slot) (key place pages : ℕ) (slot : Slot) → IsSound a → table_of a ≡ t →
+pub made_with_room : (a : Inside) (t : Table) (mid new : Slab LiveBuffer) (key place pages : ℕ) (slot : LiveBuffer) → IsSound a → table_of a ≡ t →
     mid ≡ record a.slots { capacity = mid.capacity } → key ≡ place → slab_len a.slots < a.limit → 0 < pages → pages ≤ pages_per_buffer → get mid key ≡ None →
     Updates mid new key (Some slot) → slab_len new ≡ slab_len mid + 1 → buffer_at place slot ≡ fresh (buffer_id place a.made) pages →
     IsMade (record a { made = a.made + 1; slots = new }) t (buffer_id place a.made) pages
 made_with_room a t mid new key place pages slot sound view same is room some few free updates len seen =
     let now : IsNow (record a { slots = mid }) t = grown a t mid sound view same in
-    let mid_len : slab_len mid ≡ slab_len a.slots = ap (λ (s : Slab Slot). slab_len s) same in
+    let mid_len : slab_len mid ≡ slab_len a.slots = ap (λ (s : Slab LiveBuffer). slab_len s) same in
     made (record a { slots = mid }) t new place pages slot now.sound now.table (omega arith) some few
     (subst (λ (n : ℕ). get mid n ≡ None) is free) (subst (λ (n : ℕ). Updates mid new n (Some slot)) is updates) len seen
 
@@ -103,14 +103,14 @@ pub record IsDestroyed (b : Inside) (t : Table) (id : BufferId) : Type 0 where
   pub sound : IsSound b
   pub table : table_of b ≡ without id t
 
-passing_elsewhere : (id : BufferId) (place : ℕ) (o : Option Slot) → place ≢ id.index →
+passing_elsewhere : (id : BufferId) (place : ℕ) (o : Option LiveBuffer) → place ≢ id.index →
     option_map (buffer_at place) o ≡ passing (λ b. not (has_id id b)) (option_map (buffer_at place) o)
 passing_elsewhere id place None apart = refl
 passing_elsewhere id place (Some s) apart =
     let other : eqb place id.index ≡ false = ne_eqb _ _ apart in rw other refl
 
 -- a buffer is taken out of its slot
-pub destroyed : (a : Inside) (t : Table) (new : Slab Slot) (id : BufferId) (v : Slot) → IsSound a → table_of a ≡ t → live_at a.slots id ≡ Some v →
+pub destroyed : (a : Inside) (t : Table) (new : Slab LiveBuffer) (id : BufferId) (v : LiveBuffer) → IsSound a → table_of a ≡ t → live_at a.slots id ≡ Some v →
     Updates a.slots new id.index None → slab_len new + 1 ≡ slab_len a.slots → IsDestroyed (record a { slots = new }) t id
 destroyed a t new id v sound view found updates len =
     let slot = live_slot a id v found in

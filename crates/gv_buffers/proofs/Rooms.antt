@@ -5,7 +5,7 @@ use Rattle.std.proofs.lemmas.Bool.{eqb-true, false≢true}
 use Rattle.std.proofs.lemmas.List.Quantifiers.{position-Some}
 use Rattle.slab.specs.Slab.{Slab, get, ContainsKey, with_value, Updates}
 use Rattle.slab.proofs.SlabLemmas.{Updates-with_value}
-use Rattle.gv_buffers.specs.declared.slots.Slot.{Slot}
+use Rattle.gv_buffers.specs.declared.slots.LiveBuffer.{LiveBuffer}
 use Rattle.gv_buffers.specs.declared.usage.Usage.TheVariants.{Read}
 use Rattle.gv_buffers.specs.declared.usage.User.{User}
 use Rattle.gv_buffers.specs.Places.{Notes, IsNoted}
@@ -25,7 +25,7 @@ noted_user notes place job users found noted =
     let here = position-Some (is_of job) users at.0 no_one at.1 in
     subst (λ (j : ℕ). IsNoted notes j place) (eqb-true _ _ here.1) (noted at.0 no_one here.0)
 
-pub room_from_user : (slots : Slab Slot) (place : ℕ) (slot : Slot) (job : ℕ) → ContainsKey slots place → is_some (position (is_of job) slot.users.items) ≡ true →
+pub room_from_user : (slots : Slab LiveBuffer) (place : ℕ) (slot : LiveBuffer) (job : ℕ) → ContainsKey slots place → is_some (position (is_of job) slot.users.items) ≡ true →
     HasRoomForJob job (get (with_value slots place slot) place)
 room_from_user slots place slot job lives found =
     let updates : Updates slots (with_value slots place slot) place (Some slot) = Updates-with_value slots place slot lives in

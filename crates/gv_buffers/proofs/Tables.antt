@@ -10,19 +10,20 @@ use Rattle.std.proofs.lemmas.List.Sums.{sum_by-cons}
 use Rattle.slab.specs.Slab.{Slab, get, slab_len, ContainsKey, Updates, with_value}
 use Rattle.slab.proofs.SlabLemmas.{Updates-with_value}
 use Rattle.gv_types.specs.declared.mapping.BufferId.{BufferId}
-use Rattle.gv_buffers.specs.declared.slots.Slot.{Slot}
+use Rattle.gv_buffers.specs.declared.slots.LiveBuffer.{LiveBuffer}
 use Rattle.gv_buffers.specs.declared.buffers.Buffers.TheInside.{Inside}
 use Rattle.gv_buffers.specs.Table.{Buffer, Table, has_id, buffer, IsLive, IsTable, IsBuffer, only, changed}
 use Rattle.gv_buffers.specs.Places.{Notes, IsNoted}
 use Rattle.gv_buffers.specs.Slots.{buffer_at, buffer_in, buffers_from, of_generation, live_at, AreNoted}
 use Rattle.gv_buffers.specs.Sound.{table_of, IsSound}
+use Rattle.gv_buffers.proofs.FoundLemmas.{counted_lives}
 use Rattle.gv_buffers.proofs.Lists.{Slots, seen_at, buffers_from-map, buffers_from-same, All-buffers_from, AllPairs-buffers_from, find-buffers_from}
 
 -- what an id finds is the buffer in its slot
 pub buffer_from_slot : (a : Inside) (id : BufferId) → buffer (table_of a) id ≡ option_map (buffer_at id.index) (live_at a.slots id)
 buffer_from_slot a id = find-buffers_from id 0 id.index a.slots.slots (omega arith)
 
-of_generation_is : (generation i : ℕ) (o : Option Slot) (v : Slot) → IsSome (option_map (buffer_at i) (of_generation generation o)) → o ≡ Some v → v.generation ≡ generation
+of_generation_is : (generation i : ℕ) (o : Option LiveBuffer) (v : LiveBuffer) → IsSome (option_map (buffer_at i) (of_generation generation o)) → o ≡ Some v → v.generation ≡ generation
 of_generation_is generation i None v lives found = absurd (none-some v found)
 of_generation_is generation i (Some x) v lives found =
     let same : x ≡ v = same_Some x v found in
@@ -31,11 +32,11 @@ of_generation_is generation i (Some x) v lives found =
     rw (← same) (eqb-true _ _ t)
 
 -- the slot at a live id's place holds a buffer of its generation
-pub live_generation : (a : Inside) (id : BufferId) (v : Slot) → IsLive (table_of a) id → get a.slots id.index ≡ Some v → v.generation ≡ id.generation
+pub live_generation : (a : Inside) (id : BufferId) (v : LiveBuffer) → IsLive (table_of a) id → get a.slots id.index ≡ Some v → v.generation ≡ id.generation
 live_generation a id v lives found =
     of_generation_is id.generation id.index (get a.slots id.index) v (rw (buffer_from_slot a id) at lives) found
 
-contains_of_generation : (generation i : ℕ) (o : Option Slot) → IsSome (option_map (buffer_at i) (of_generation generation o)) → IsSome o
+contains_of_generation : (generation i : ℕ) (o : Option LiveBuffer) → IsSome (option_map (buffer_at i) (of_generation generation o)) → IsSome o
 contains_of_generation generation i None lives = lives
 contains_of_generation generation i (Some x) lives = refl
 
@@ -43,7 +44,7 @@ pub live_contains : (a : Inside) (id : BufferId) → IsLive (table_of a) id → 
 live_contains a id lives = contains_of_generation id.generation id.index (get a.slots id.index) (rw (buffer_from_slot a id) at lives)
 
 -- the buffer of a live id, by its slot
-pub live_buffer : (a : Inside) (id : BufferId) (v : Slot) → IsLive (table_of a) id → get a.slots id.index ≡ Some v → buffer (table_of a) id ≡ Some (buffer_at id.index v)
+pub live_buffer : (a : Inside) (id : BufferId) (v : LiveBuffer) → IsLive (table_of a) id → get a.slots id.index ≡ Some v → buffer (table_of a) id ≡ Some (buffer_at id.index v)
 live_buffer a id v lives found =
     let generation : eqb v.generation id.generation ≡ true = eq-eqb _ _ (live_generation a id v lives found) in
     buffer_from_slot a id ∙ (rw found (rw generation refl))
@@ -51,34 +52,34 @@ live_buffer a id v lives found =
 -- there is a live buffer for each slot that holds one
 pub length-buffers_from : (i : ℕ) (xs : Slots) → length (buffers_from i xs) ≡ count_by is_some xs
 length-buffers_from i [] = refl
-length-buffers_from i (None ∷ xs) = omega (arith, length-buffers_from (i + 1) xs, sum_by-cons (λ (o : Option Slot). cond (is_some o) 1 0) None xs)
-length-buffers_from i (Some x ∷ xs) = omega (arith, length-buffers_from (i + 1) xs, sum_by-cons (λ (o : Option Slot). cond (is_some o) 1 0) (Some x) xs)
+length-buffers_from i (None ∷ xs) = omega (arith, length-buffers_from (i + 1) xs, sum_by-cons (λ (o : Option LiveBuffer). cond (is_some o) 1 0) None xs)
+length-buffers_from i (Some x ∷ xs) = omega (arith, length-buffers_from (i + 1) xs, sum_by-cons (λ (o : Option LiveBuffer). cond (is_some o) 1 0) (Some x) xs)
 
 -- each buffer that is changed stands in its slot
-pub live_from_map : (f : Buffer → Buffer) (old new : Slab Slot) → ((place : ℕ) → buffer_in new place ≡ option_map f (buffer_in old place)) →
+pub live_from_map : (f : Buffer → Buffer) (old new : Slab LiveBuffer) → ((place : ℕ) → buffer_in new place ≡ option_map f (buffer_in old place)) →
     buffers_from 0 new.slots ≡ map f (buffers_from 0 old.slots)
 live_from_map f old new each =
     buffers_from-map f 0 old.slots new.slots (λ k j e. let same : j ≡ k = omega arith in rw same (each k))
 
-pub live_from_same : (old new : Slab Slot) → ((place : ℕ) → buffer_in new place ≡ buffer_in old place) → buffers_from 0 new.slots ≡ buffers_from 0 old.slots
+pub live_from_same : (old new : Slab LiveBuffer) → ((place : ℕ) → buffer_in new place ≡ buffer_in old place) → buffers_from 0 new.slots ≡ buffers_from 0 old.slots
 live_from_same old new each =
     buffers_from-same 0 old.slots new.slots (λ k j e. let same : j ≡ k = omega arith in rw same (each k))
 
 -- a change of one buffer, slot by slot
-only_elsewhere : (id : BufferId) (change : Buffer → Buffer) (place : ℕ) (o : Option Slot) → place ≢ id.index →
+only_elsewhere : (id : BufferId) (change : Buffer → Buffer) (place : ℕ) (o : Option LiveBuffer) → place ≢ id.index →
     option_map (buffer_at place) o ≡ option_map (only id change) (option_map (buffer_at place) o)
 only_elsewhere id change place None apart = refl
 only_elsewhere id change place (Some x) apart =
     let other : eqb place id.index ≡ false = ne_eqb place id.index apart in rw other refl
 
-pub only_here : (id : BufferId) (change : Buffer → Buffer) (v : Slot) → v.generation ≡ id.generation →
+pub only_here : (id : BufferId) (change : Buffer → Buffer) (v : LiveBuffer) → v.generation ≡ id.generation →
     only id change (buffer_at id.index v) ≡ change (buffer_at id.index v)
 only_here id change v same =
     let index : eqb id.index id.index ≡ true = eq-eqb _ _ refl in
     let generation : eqb v.generation id.generation ≡ true = eq-eqb _ _ same in
     rw (index, generation) refl
 
-pub places_from_only : (id : BufferId) (change : Buffer → Buffer) (old new : Slab Slot) (v : Slot) → get old id.index ≡ Some v → v.generation ≡ id.generation →
+pub places_from_only : (id : BufferId) (change : Buffer → Buffer) (old new : Slab LiveBuffer) (v : LiveBuffer) → get old id.index ≡ Some v → v.generation ≡ id.generation →
     buffer_in new id.index ≡ option_map change (buffer_in old id.index) → ((place : ℕ) → place ≢ id.index → buffer_in new place ≡ buffer_in old place) →
     (place : ℕ) → buffer_in new place ≡ option_map (only id change) (buffer_in old place)
 places_from_only id change old new v found same here others place =
@@ -141,12 +142,12 @@ only_notes : (id : BufferId) (change : Buffer → Buffer) (notes : Notes) (place
 only_notes id change notes place x same was =
     elim (has_id id x) as (λ t. All (λ u. IsNoted notes u.job place) (cond t (change x) x).users) [ true ↦ rw same was | false ↦ was ]
 
-pub counted : (a : Inside) (t : Table) (id : BufferId) (v w : Slot) (change : Buffer → Buffer) → IsSound a → table_of a ≡ t → IsLive t id → get a.slots id.index ≡ Some v →
+pub moved : (a : Inside) (t : Table) (id : BufferId) (v w : LiveBuffer) (change : Buffer → Buffer) → IsSound a → table_of a ≡ t → IsLive t id → get a.slots id.index ≡ Some v →
     buffer_at id.index w ≡ change (buffer_at id.index v) → ((made : ℕ) (x : Buffer) → IsBuffer made x → IsBuffer made (change x)) → ((x : Buffer) → (change x).users ≡ x.users) →
     IsCounted (record a { slots = with_value a.slots id.index w }) id change t
-counted a t id v w change sound view lives found written keeps users =
+moved a t id v w change sound view lives found written keeps users =
     let lives_here : IsLive (table_of a) id = subst (λ (s : Table). IsLive s id) (sym view) lives in
-    let new : Slab Slot = with_value a.slots id.index w in
+    let new : Slab LiveBuffer = with_value a.slots id.index w in
     let updates : Updates a.slots new id.index (Some w) = Updates-with_value a.slots id.index w (live_contains a id lives_here) in
     let here : buffer_in new id.index ≡ option_map change (buffer_in a.slots id.index) =
     ap (option_map (buffer_at id.index)) updates.changed ∙ (rw found (ap (λ (b : Buffer). Some b) written)) in
@@ -158,20 +159,12 @@ counted a t id v w change sound view lives found written keeps users =
       table = ap (λ (live : List Buffer). record { limit = a.limit; made = a.made; live = live }) (live_from_map (only id change) a.slots new each) ∙ ap (changed id change) view;
     }
 
-lives_from : (count : Buffer → ℕ) (P : ℕ → Type 0) (o : Option Buffer) → IsSomeAnd (option_map count o) P → IsSome o
-lives_from count P None holds = absurd holds
-lives_from count P (Some b) holds = refl
-
--- a buffer of whose count something is said is alive
-pub counted_lives : (t : Table) (id : BufferId) (count : Buffer → ℕ) (P : ℕ → Type 0) → IsSomeAnd (option_map count (buffer t id)) P → IsLive t id
-counted_lives t id count P holds = lives_from count P (buffer t id) holds
-
 pub counted_contains : (a : Inside) (t : Table) (id : BufferId) (count : Buffer → ℕ) (P : ℕ → Type 0) → table_of a ≡ t →
     IsSomeAnd (option_map count (buffer t id)) P → ContainsKey a.slots id.index
 counted_contains a t id count P view holds = live_contains a id (subst (λ (s : Table). IsLive s id) (sym view) (counted_lives t id count P holds))
 
 -- what is said of a count of a live buffer holds of the number in its slot
-pub count_in_slot : (a : Inside) (t : Table) (id : BufferId) (v : Slot) (count : Buffer → ℕ) (P : ℕ → Type 0) → table_of a ≡ t → get a.slots id.index ≡ Some v →
+pub count_in_slot : (a : Inside) (t : Table) (id : BufferId) (v : LiveBuffer) (count : Buffer → ℕ) (P : ℕ → Type 0) → table_of a ≡ t → get a.slots id.index ≡ Some v →
     IsSomeAnd (option_map count (buffer t id)) P → P (count (buffer_at id.index v))
 count_in_slot a t id v count P view found holds =
     let lives_here : IsLive (table_of a) id = subst (λ (s : Table). IsLive s id) (sym view) (counted_lives t id count P holds) in
@@ -179,17 +172,17 @@ count_in_slot a t id v count P view found holds =
     subst (λ (o : Option Buffer). IsSomeAnd (option_map count o) P) (live_buffer a id v lives_here found) holds_here
 
 -- a number read of what a search found
-pub read_from_map : (o : Option (Bor Slot)) (r : Option ℕ) (read : Slot → ℕ) (Gives : Bor Slot → ℕ → Type 0) →
-    MatchOption o (r ≡ None) (λ x. IsSomeAnd r (Gives x)) → ((x : Bor Slot) (y : ℕ) → Gives x y → y ≡ read x.now) → r ≡ option_map read (option_copied o)
+pub read_from_map : (o : Option (Bor LiveBuffer)) (r : Option ℕ) (read : LiveBuffer → ℕ) (Gives : Bor LiveBuffer → ℕ → Type 0) →
+    MatchOption o (r ≡ None) (λ x. IsSomeAnd r (Gives x)) → ((x : Bor LiveBuffer) (y : ℕ) → Gives x y → y ≡ read x.now) → r ≡ option_map read (option_copied o)
 read_from_map None r read Gives cases says = cases
 read_from_map (Some x) None read Gives cases says = absurd cases
 read_from_map (Some x) (Some y) read Gives cases says = ap (λ (n : ℕ). Some n) (says x y cases)
 
 -- a slot that is put back as it was
-pub buffer_in_from_get : (slots : Slab Slot) (place : ℕ) (v : Slot) → get slots place ≡ Some v → buffer_in slots place ≡ Some (buffer_at place v)
+pub buffer_in_from_get : (slots : Slab LiveBuffer) (place : ℕ) (v : LiveBuffer) → get slots place ≡ Some v → buffer_in slots place ≡ Some (buffer_at place v)
 buffer_in_from_get slots place v found = ap (option_map (buffer_at place)) found
 
-of_generation_found : (generation : ℕ) (o : Option Slot) (v : Slot) → of_generation generation o ≡ Some v → (o ≡ Some v) × (v.generation ≡ generation)
+of_generation_found : (generation : ℕ) (o : Option LiveBuffer) (v : LiveBuffer) → of_generation generation o ≡ Some v → (o ≡ Some v) × (v.generation ≡ generation)
 of_generation_found generation None v found = absurd (none-some v found)
 of_generation_found generation (Some x) v found =
     elim (eqb x.generation generation) as (λ t. eqb x.generation generation ≡ t → cond t (Some x) None ≡ Some v → (Some x ≡ Some v) × (v.generation ≡ generation)) [
@@ -198,11 +191,11 @@ of_generation_found generation (Some x) v found =
     ] refl found
 
 -- a search that found a slot found it at its place, with its generation
-pub live_slot : (a : Inside) (id : BufferId) (v : Slot) → live_at a.slots id ≡ Some v → (get a.slots id.index ≡ Some v) × (v.generation ≡ id.generation)
+pub live_slot : (a : Inside) (id : BufferId) (v : LiveBuffer) → live_at a.slots id ≡ Some v → (get a.slots id.index ≡ Some v) × (v.generation ≡ id.generation)
 live_slot a id v found = of_generation_found id.generation (get a.slots id.index) v found
 
 -- the buffer that a search found, or missed
-pub found_buffer : (a : Inside) (t : Table) (id : BufferId) (v : Slot) → table_of a ≡ t → live_at a.slots id ≡ Some v → buffer t id ≡ Some (buffer_at id.index v)
+pub found_buffer : (a : Inside) (t : Table) (id : BufferId) (v : LiveBuffer) → table_of a ≡ t → live_at a.slots id ≡ Some v → buffer t id ≡ Some (buffer_at id.index v)
 found_buffer a t id v view found =
     sym (ap (λ (s : Table). buffer s id) view) ∙ buffer_from_slot a id ∙ ap (option_map (buffer_at id.index)) found
 
@@ -210,7 +203,7 @@ pub missed_buffer : (a : Inside) (t : Table) (id : BufferId) → table_of a ≡ 
 missed_buffer a t id view missed =
     sym (ap (λ (s : Table). buffer s id) view) ∙ buffer_from_slot a id ∙ ap (option_map (buffer_at id.index)) missed
 
-pub index_of_seen : (j : ℕ) (o : Option Slot) (b : Buffer) → option_map (buffer_at j) o ≡ Some b → b.id.index ≡ j
+pub index_of_seen : (j : ℕ) (o : Option LiveBuffer) (b : Buffer) → option_map (buffer_at j) o ≡ Some b → b.id.index ≡ j
 index_of_seen j None b found = absurd (none-some b found)
 index_of_seen j (Some s) b found = ap (λ (x : Buffer). x.id.index) (sym (same_Some _ _ found))
 
@@ -218,7 +211,7 @@ index_of_seen j (Some s) b found = ap (λ (x : Buffer). x.id.index) (sym (same_S
 pub live_count : (a : Inside) (t : Table) → table_of a ≡ t → length t.live ≡ slab_len a.slots
 live_count a t view = ap (λ (s : Table). length s.live) (sym view) ∙ length-buffers_from 0 a.slots.slots
 
-field_seen : (i : ℕ) (field : Buffer → ℕ) (o : Option Slot) → option_map (λ s. field (buffer_at i s)) o ≡ option_map field (option_map (buffer_at i) o)
+field_seen : (i : ℕ) (field : Buffer → ℕ) (o : Option LiveBuffer) → option_map (λ s. field (buffer_at i s)) o ≡ option_map field (option_map (buffer_at i) o)
 field_seen i field None = refl
 field_seen i field (Some s) = refl
 

@@ -7,7 +7,7 @@ use Rattle.std.proofs.lemmas.Option.{same_Some}
 use Rattle.std.proofs.lemmas.List.Elements.{All-nil, All-cons, All-head, All-tail, All-weaker}
 use Rattle.slab.specs.Slab.{Slab, get}
 use Rattle.gv_types.specs.declared.mapping.BufferId.{BufferId}
-use Rattle.gv_buffers.specs.declared.slots.Slot.{Slot}
+use Rattle.gv_buffers.specs.declared.slots.LiveBuffer.{LiveBuffer}
 use Rattle.gv_buffers.specs.declared.usage.Usage.{Usage}
 use Rattle.gv_buffers.specs.declared.usage.User.{User}
 use Rattle.gv_buffers.specs.declared.buffers.Buffers.TheInside.{Inside}
@@ -29,7 +29,7 @@ unmapped None = refl
 unmapped (Some b) = refl
 
 -- room was made, and more may be noted
-pub unchanged : (a : Inside) (t : Table) (new : Slab Slot) (notes : Notes) → IsSound a → table_of a ≡ t →
+pub unchanged : (a : Inside) (t : Table) (new : Slab LiveBuffer) (notes : Notes) → IsSound a → table_of a ≡ t →
     ((place : ℕ) → buffer_in new place ≡ buffer_in a.slots place) → ((job place : ℕ) → IsNoted a.places job place → IsNoted notes job place) →
     IsNow (record a { slots = new; places = notes }) t
 unchanged a t new notes sound view same keeps =
@@ -41,13 +41,13 @@ unchanged a t new notes sound view same keeps =
     }
 
 -- a buffer that has an id is the one at its place
-same_place : (id : BufferId) (place : ℕ) (o : Option Slot) (x : Buffer) → option_map (buffer_at place) o ≡ Some x → has_id id x ≡ true → place ≡ id.index
+same_place : (id : BufferId) (place : ℕ) (o : Option LiveBuffer) (x : Buffer) → option_map (buffer_at place) o ≡ Some x → has_id id x ≡ true → place ≡ id.index
 same_place id place o x found has =
     let index : x.id.index ≡ id.index = eqb-true _ _ (and_parts (eqb x.id.index id.index) (eqb x.id.generation id.generation) has).0 in
     sym (index_of_seen place o x found) ∙ index
 
 -- a job joined the buffer with an id, where it conflicts with none
-pub joined_table : (a : Inside) (t : Table) (new : Slab Slot) (notes : Notes) (id : BufferId) (v : Slot) (job : ℕ) (usage : Usage) → IsSound a → table_of a ≡ t →
+pub joined_table : (a : Inside) (t : Table) (new : Slab LiveBuffer) (notes : Notes) (id : BufferId) (v : LiveBuffer) (job : ℕ) (usage : Usage) → IsSound a → table_of a ≡ t →
     live_at a.slots id ≡ Some v → conflict job usage v.users.items ≡ None →
     buffer_in new id.index ≡ option_map (joined_by job usage) (buffer_in a.slots id.index) → ((place : ℕ) → place ≢ id.index → buffer_in new place ≡ buffer_in a.slots place) →
     ((other place : ℕ) → IsNoted a.places other place → IsNoted notes other place) → IsNoted notes job id.index →
@@ -107,7 +107,7 @@ stays notes place job new (Some b) same users noted =
     ⊎_elim (λ e. same ∙ ap (λ (us : List User). Some (record b { users = us })) (sym e)) noted (left_or_noted notes place job b.users users)
 
 -- a job left each buffer where it was noted
-pub left_table : (a : Inside) (t : Table) (new : Slab Slot) (notes : Notes) (job : ℕ) → IsSound a → table_of a ≡ t →
+pub left_table : (a : Inside) (t : Table) (new : Slab LiveBuffer) (notes : Notes) (job : ℕ) → IsSound a → table_of a ≡ t →
     ((place : ℕ) → IsLeftOrSame job a.slots new place) →
     ((place : ℕ) → IsNoted a.places job place → buffer_in new place ≡ option_map (left_by job) (buffer_in a.slots place)) →
     ((other at : ℕ) → other ≢ job → IsNoted a.places other at → IsNoted notes other at) →
@@ -123,6 +123,6 @@ left_table a t new notes job sound view others noted keeps =
     }
 
 -- room was made for more buffers
-pub grown : (a : Inside) (t : Table) (new : Slab Slot) → IsSound a → table_of a ≡ t → new ≡ record a.slots { capacity = new.capacity } → IsNow (record a { slots = new }) t
+pub grown : (a : Inside) (t : Table) (new : Slab LiveBuffer) → IsSound a → table_of a ≡ t → new ≡ record a.slots { capacity = new.capacity } → IsNow (record a { slots = new }) t
 grown a t new sound view same =
-    unchanged a t new a.places sound view (λ place. ap (λ (s : Slab Slot). buffer_in s place) same) (λ job place noted. noted)
+    unchanged a t new a.places sound view (λ place. ap (λ (s : Slab LiveBuffer). buffer_in s place) same) (λ job place noted. noted)

@@ -7,7 +7,9 @@ use Rattle.gv_types.specs.Limits.{greatest, IsFromOneTo}
 use Rattle.gv_types.specs.Mapping.{is_same_id}
 use Rattle.gv_types.specs.declared.mapping.BufferId.{BufferId}
 use Rattle.gv_types.specs.declared.fault.Fault.{Fault}
-use Rattle.gv_types.specs.declared.fault.Fault.TheVariants.{NoBuffer, BadSize, TooManyBuffers, Mapped, Kept, InUse, Conflict}
+use Rattle.gv_types.specs.declared.fault.Fault.TheVariants.{NoBuffer, BadSize, TooManyBuffers, Mapped, Kept as KeptFault, InUse, Conflict}
+use Rattle.gv_buffers.specs.declared.counter.Counter.{Counter}
+use Rattle.gv_buffers.specs.declared.counter.Counter.TheVariants.{Uses, Kept}
 use Rattle.gv_buffers.specs.declared.usage.Usage.{Usage}
 use Rattle.gv_buffers.specs.declared.usage.User.{User}
 use Rattle.gv_buffers.specs.Users.{conflict, joined, left, HaveNoConflict}
@@ -47,6 +49,11 @@ buffer t id = find (has_id id) t.live
 abbrev pub IsLive : Table → BufferId → Type 0
 IsLive t id = IsSome (buffer t id)
 
+-- one of the counts of a buffer
+abbrev pub count : Counter → Buffer → ℕ
+count Uses b = b.uses
+count Kept b = b.kept
+
 -- how many mappings of a buffer are in the list
 abbrev pub uses : Table → BufferId → Option ℕ
 uses t id = option_map (λ b. b.uses) (buffer t id)
@@ -54,6 +61,10 @@ uses t id = option_map (λ b. b.uses) (buffer t id)
 -- how many mappings of a buffer are in undo values
 abbrev pub kept : Table → BufferId → Option ℕ
 kept t id = option_map (λ b. b.kept) (buffer t id)
+
+-- how many mappings a counter of a buffer counts
+abbrev pub counted : Counter → Table → BufferId → Option ℕ
+counted counter t id = option_map (count counter) (buffer t id)
 
 -- how many pages a buffer has
 abbrev pub pages : Table → BufferId → Option ℕ
@@ -83,7 +94,7 @@ pub record IsCreated (old new : Table) (id : BufferId) (pages : ℕ) : Type 0 wh
 abbrev pub use_fault : Buffer → Option Fault
 use_fault b =
     if nat_lt 0 b.uses then Some (Mapped b.uses)
-    else if nat_lt 0 b.kept then Some (Kept b.kept)
+    else if nat_lt 0 b.kept then Some (KeptFault b.kept)
     else if nat_lt 0 (length b.users) then Some (InUse (length b.users))
     else None
 
@@ -107,21 +118,18 @@ only id change b = if has_id id b then change b else b
 abbrev pub changed : BufferId → (Buffer → Buffer) → Table → Table
 changed id change t = record t { live = map (only id change) t.live }
 
--- one more mapping in the list
-abbrev pub counted_in : Buffer → Buffer
-counted_in b = record b { uses = b.uses + 1 }
+-- the buffer with another count
+abbrev pub with_count : Counter → ℕ → Buffer → Buffer
+with_count Uses n b = record b { uses = n }
+with_count Kept n b = record b { kept = n }
 
--- one mapping less in the list
-abbrev pub counted_out : Buffer → Buffer
-counted_out b = record b { uses = b.uses - 1 }
+-- one mapping more
+abbrev pub raised : Counter → Buffer → Buffer
+raised counter b = with_count counter (count counter b + 1) b
 
--- one more mapping in undo values
-abbrev pub counted_kept : Buffer → Buffer
-counted_kept b = record b { kept = b.kept + 1 }
-
--- one mapping less in undo values
-abbrev pub counted_unkept : Buffer → Buffer
-counted_unkept b = record b { kept = b.kept - 1 }
+-- one mapping less
+abbrev pub lowered : Counter → Buffer → Buffer
+lowered counter b = with_count counter (count counter b - 1) b
 
 abbrev pub conflict_fault : Option ℕ → Option Fault
 conflict_fault None = None

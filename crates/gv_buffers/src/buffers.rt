@@ -2,8 +2,9 @@
 ghost use Rattle.std.specs.Prelude.{◌≡◌, ◌<◌, IfOk, IsOk, IsOkUnless, OnOk, OnErr, MatchOption};
 ghost use Rattle.gv_types.specs.Limits.{greatest, IsFromOneTo};
 
+use crate::counter::Counter;
 use crate::places::{Places, forget};
-use crate::slots::{Slot, join_at, leave_all, live_at, make_room, next_place};
+use crate::slots::{LiveBuffer, join_at, leave_all, live_at, make_room, next_place};
 use crate::usage::Usage;
 use crate::users;
 use gv_types::{BUFFER_PAGES, BufferId, Fault, Generation};
@@ -22,7 +23,7 @@ const FIRST_ROOM: u64 = 8;
 pub struct Buffers {
     limit: u64,
     made: u64,
-    slots: Slab<Slot>,
+    slots: Slab<LiveBuffer>,
     places: Places,
 }
 
@@ -42,7 +43,7 @@ impl Buffers {
     ghost use Rattle.gv_buffers.specs.Table.{no_buffers, uses, kept, pages, IsTable};
     ghost use Rattle.gv_buffers.specs.Table.{create_fault, destroy_fault, join_fault, IsCreated};
     ghost use Rattle.gv_buffers.specs.Table.{without, changed, left_everywhere};
-    ghost use Rattle.gv_buffers.specs.Table.{counted_in, counted_out, counted_kept, counted_unkept};
+    ghost use Rattle.gv_buffers.specs.Table.{counted, raised, lowered};
     ghost use Rattle.gv_buffers.specs.Table.{joined_by, most_counted};
     ghost use Rattle.std.specs.Option.{IsSomeAnd};
 
@@ -81,7 +82,7 @@ impl Buffers {
         }
         let place = next_place(&mut self.slots)?;
         let generation = self.made;
-        self.slots.insert_reserved(Slot {
+        self.slots.insert_reserved(LiveBuffer {
             generation: Generation::new(generation),
             pages,
             uses: 0,
@@ -115,7 +116,7 @@ impl Buffers {
         ensures value { result ≡ uses self.now id }
         ensures table { IsTable self.now }
     {
-        live_at(&self.slots, id).map(|slot| slot.uses)
+        self.counted(Counter::Uses, id)
     }
 
     /// How many mappings of the buffer are in undo values, or None where the id is dead.
@@ -123,7 +124,7 @@ impl Buffers {
         ensures value { result ≡ kept self.now id }
         ensures table { IsTable self.now }
     {
-        live_at(&self.slots, id).map(|slot| slot.kept)
+        self.counted(Counter::Kept, id)
     }
 
     /// How many pages the buffer has, or None where the id is dead.
@@ -137,33 +138,57 @@ impl Buffers {
     /// Counts one more mapping in the list. It takes no memory.
     pub fn count_in(&mut self, id: BufferId)
         requires { IsSomeAnd (uses self.old id) (λ count. count < most_counted) }
-        ensures { self.new ≡ changed id counted_in self.old }
+        ensures { self.new ≡ changed id (raised Counter.Uses) self.old }
     {
-        self.slots[id.index as usize].uses += 1;
+        self.raise(Counter::Uses, id);
     }
 
     /// Counts one mapping less in the list. It takes no memory.
     pub fn count_out(&mut self, id: BufferId)
         requires { IsSomeAnd (uses self.old id) (λ count. 0 < count) }
-        ensures { self.new ≡ changed id counted_out self.old }
+        ensures { self.new ≡ changed id (lowered Counter.Uses) self.old }
     {
-        self.slots[id.index as usize].uses -= 1;
+        self.lower(Counter::Uses, id);
     }
 
     /// Counts one more mapping in undo values. It takes no memory.
     pub fn keep(&mut self, id: BufferId)
         requires { IsSomeAnd (kept self.old id) (λ count. count < most_counted) }
-        ensures { self.new ≡ changed id counted_kept self.old }
+        ensures { self.new ≡ changed id (raised Counter.Kept) self.old }
     {
-        self.slots[id.index as usize].kept += 1;
+        self.raise(Counter::Kept, id);
     }
 
     /// Counts one mapping less in undo values. It takes no memory.
     pub fn unkeep(&mut self, id: BufferId)
         requires { IsSomeAnd (kept self.old id) (λ count. 0 < count) }
-        ensures { self.new ≡ changed id counted_unkept self.old }
+        ensures { self.new ≡ changed id (lowered Counter.Kept) self.old }
     {
-        self.slots[id.index as usize].kept -= 1;
+        self.lower(Counter::Kept, id);
+    }
+
+    /// How many mappings a counter of the buffer counts, or None where the id is dead.
+    fn counted(&self, counter: Counter, id: BufferId) -> Option<u64>
+        ensures value { result ≡ counted counter self.now id }
+        ensures table { IsTable self.now }
+    {
+        live_at(&self.slots, id).map(|slot| slot.count(counter))
+    }
+
+    /// Counts one mapping more.
+    fn raise(&mut self, counter: Counter, id: BufferId)
+        requires { IsSomeAnd (counted counter self.old id) (λ count. count < most_counted) }
+        ensures { self.new ≡ changed id (raised counter) self.old }
+    {
+        self.slots[id.index as usize].raise(counter);
+    }
+
+    /// Counts one mapping less.
+    fn lower(&mut self, counter: Counter, id: BufferId)
+        requires { IsSomeAnd (counted counter self.old id) (λ count. 0 < count) }
+        ensures { self.new ≡ changed id (lowered counter) self.old }
+    {
+        self.slots[id.index as usize].lower(counter);
     }
 
     /// Lets a job use a buffer; one that uses it already gets the stronger usage. `NoBuffer` where

@@ -3,6 +3,7 @@
 #![tactic(auto)]
 
 mod buffers;
+mod counter;
 pub mod laws;
 mod places;
 mod slots;

@@ -1,13 +1,15 @@
 //! The places of live buffers.
-ghost use Rattle.std.specs.Prelude.{◌≡◌, ◌≢◌, ℕ, Contains, IsOk, IfOk, OnOk, IsOkUnless};
+ghost use Rattle.std.specs.Prelude.{◌≡◌, ◌≢◌, ◌<◌, ℕ, Contains, IsOk, IfOk, OnOk, IsOkUnless};
 ghost use Rattle.std.specs.Prelude.{MatchOption};
 ghost use Rattle.std.specs.Option.{option_copied, option_map};
 ghost use Rattle.slab.specs.Slab.{get, ContainsKey, HasRoomFor};
 ghost use Rattle.gv_buffers.specs.Places.{IsNoted};
 ghost use Rattle.gv_buffers.specs.Slots.{live_at, buffer_at, buffer_in};
 ghost use Rattle.gv_buffers.specs.Slots.{AreNoted, HasRoomForJob, IsLeftOrSame};
+ghost use Rattle.gv_buffers.specs.Table.{count, raised, lowered, most_counted};
 ghost use Rattle.gv_buffers.specs.Table.{joined_by, left_by, use_fault};
 
+use crate::counter::Counter;
 use crate::places::{Places, note};
 use crate::usage::{Usage, User};
 use crate::users;
@@ -17,7 +19,7 @@ use std::alloc::{AllocError, Global};
 
 /// A live buffer at its place.
 #[derive(Drop)]
-pub struct Slot {
+pub struct LiveBuffer {
     pub generation: Generation,
     pub pages: u64,
     pub uses: u64,
@@ -25,7 +27,39 @@ pub struct Slot {
     pub users: Vec<User>,
 }
 
-impl Slot {
+impl LiveBuffer {
+    /// How many mappings the counter counts.
+    pub fn count(&self, counter: Counter) -> u64
+        ensures { result ≡ count counter (buffer_at 0 self.now) }
+    {
+        match counter {
+            Counter::Uses => self.uses,
+            Counter::Kept => self.kept,
+        }
+    }
+
+    /// Counts one mapping more.
+    pub fn raise(&mut self, counter: Counter)
+        requires { count counter (buffer_at 0 self.old) < most_counted }
+        ensures { (index : ℕ) → buffer_at index self.new ≡ raised counter (buffer_at index self.old) }
+    {
+        match counter {
+            Counter::Uses => self.uses += 1,
+            Counter::Kept => self.kept += 1,
+        }
+    }
+
+    /// Counts one mapping less.
+    pub fn lower(&mut self, counter: Counter)
+        requires { 0 < count counter (buffer_at 0 self.old) }
+        ensures { (index : ℕ) → buffer_at index self.new ≡ lowered counter (buffer_at index self.old) }
+    {
+        match counter {
+            Counter::Uses => self.uses -= 1,
+            Counter::Kept => self.kept -= 1,
+        }
+    }
+
     /// `Mapped`, `Kept` or `InUse`, in this order, where something names the buffer.
     pub fn check_unused(&self) -> Result<(), Fault>
         ensures { MatchOption (use_fault (buffer_at 0 self.now))
@@ -47,7 +81,7 @@ impl Slot {
 }
 
 /// The live buffer with this id.
-pub fn live_at(slots: &Slab<Slot>, id: BufferId) -> Option<&Slot>
+pub fn live_at(slots: &Slab<LiveBuffer>, id: BufferId) -> Option<&LiveBuffer>
     ensures { option_copied result ≡ live_at slots.now id }
 {
     let slot = slots.get(id.index as usize)?;
@@ -60,7 +94,7 @@ pub fn live_at(slots: &Slab<Slot>, id: BufferId) -> Option<&Slot>
 
 /// The place of the next buffer, with room for it there. `OutOfMemory` where the system refuses that
 /// room, which doubles, and where an index can't number the place. No limit asks for as many.
-pub fn next_place(slots: &mut Slab<Slot>) -> Result<u32, Fault>
+pub fn next_place(slots: &mut Slab<LiveBuffer>) -> Result<u32, Fault>
     ensures place { IfOk result (λ place. place ≡ slots.new.vacant_key) }
     ensures room { OnOk result (HasRoomFor slots.new 1) }
     ensures only_memory { IsOkUnless result Fault.OutOfMemory }
@@ -78,7 +112,7 @@ pub fn next_place(slots: &mut Slab<Slot>) -> Result<u32, Fault>
 /// where it is no user yet.
 pub fn make_room(
     alloc: Global,
-    slots: &mut Slab<Slot>,
+    slots: &mut Slab<LiveBuffer>,
     places: &mut Places,
     place: u32,
     job: u64,
@@ -99,7 +133,7 @@ pub fn make_room(
 }
 
 /// Lets the job use the buffer at a place, where there is room for it.
-pub fn join_at(slots: &mut Slab<Slot>, place: u32, job: u64, usage: Usage)
+pub fn join_at(slots: &mut Slab<LiveBuffer>, place: u32, job: u64, usage: Usage)
     requires lives { ContainsKey slots.old place }
     requires room { HasRoomForJob job (get slots.old place) }
     ensures here { buffer_in slots.new place
@@ -110,7 +144,7 @@ pub fn join_at(slots: &mut Slab<Slot>, place: u32, job: u64, usage: Usage)
 }
 
 /// Removes the job from the users of the buffer at one place, if there is one.
-pub fn leave_at(slots: &mut Slab<Slot>, place: u32, job: u64)
+pub fn leave_at(slots: &mut Slab<LiveBuffer>, place: u32, job: u64)
     ensures here { buffer_in slots.new place
         ≡ option_map (left_by job) (buffer_in slots.old place) }
     ensures others { (key : ℕ) → key ≢ place → get slots.new key ≡ get slots.old key }
@@ -121,7 +155,7 @@ pub fn leave_at(slots: &mut Slab<Slot>, place: u32, job: u64)
 }
 
 /// Removes the job from the users of the buffers at some places.
-pub fn leave_all(slots: &mut Slab<Slot>, places: &[u32], job: u64)
+pub fn leave_all(slots: &mut Slab<LiveBuffer>, places: &[u32], job: u64)
     ensures noted { (place : ℕ) → Contains places.now place
         → buffer_in slots.new place ≡ option_map (left_by job) (buffer_in slots.old place) }
     ensures others { (place : ℕ) → IsLeftOrSame job slots.old slots.new place }

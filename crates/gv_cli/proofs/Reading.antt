@@ -1,7 +1,7 @@
 -- From what clap says of the words to what the program says.
 use Rattle.std.proofs.Common.{◌≡◌, ℕ, List, [], ◌∷◌, true, Result, Ok, Err, refl, subst, codes, inl, inr, ap, ◌∙◌}
 use Rattle.std.specs.Prelude.{IsErrAnd, IsOkUnless}
-use Rattle.clap.specs.Kinds.{Kinds, HasKind}
+use Rattle.clap.specs.Kinds.{Kinds, HasKind, IsAmong}
 use Rattle.clap.specs.Simple.{App}
 use Rattle.clap.specs.Takes.{takes}
 use Rattle.clap.specs.Faults.{fault_of, is_simple_and_free}
@@ -47,3 +47,24 @@ no_memory_of error (Err OutOfMemory) memory given = refl
 pub run_passes : (app : App) (words : List (List ℕ)) (name : List ℕ) → app ≡ command_line
     → words ≡ name ∷ codes "run" ∷ [] → takes app words ≡ true
 run_passes app words name e f = rw (e, f) (takes_run name)
+
+version_asked : (name : List ℕ) → fault_of command_line (name ∷ codes "--version" ∷ []) ≡ kind.DisplayVersion ∷ []
+unfolding clap_on_literals
+version_asked name = refl
+
+-- of the word `--version` clap gives the version, and nothing else
+pub asks_for_version : (words : List (List ℕ)) (name : List ℕ) → words ≡ name ∷ codes "--version" ∷ []
+    → fault_of command_line words ≡ kind.DisplayVersion ∷ []
+asks_for_version words name e = rw e (version_asked name)
+
+pub version_is_no_task : (words : List (List ℕ)) (name : List ℕ) → words ≡ name ∷ codes "--version" ∷ []
+    → fault_of command_line words ≡ [] → ⊥
+version_is_no_task words name e none = let same = asks_for_version words name e in absurd cc
+
+pub version_is_shown : (words : List (List ℕ)) (name : List ℕ) (error : Error)
+    → words ≡ name ∷ codes "--version" ∷ [] → IsAmong (kind_of error) (fault_of command_line words)
+    → kind_of error ≡ kind.DisplayVersion
+version_is_shown words name error e among = elim (rw (asks_for_version words name e) at among) [
+  | inl same ↦ same
+  | inr none ↦ absurd none
+]

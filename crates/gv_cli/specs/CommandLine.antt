@@ -1,5 +1,5 @@
 -- The command line of the program.
-use Rattle.std.specs.Prelude.{◌≡◌, ◌≢◌, List, [], ℕ, map, true, codes, Result, Ok, Err, String, string_bytes}
+use Rattle.std.specs.Prelude.{◌≡◌, ◌≢◌, ◌⊎◌, List, [], ◌∷◌, ℕ, map, true, codes, Result, Ok, Err, String, string_bytes}
 use Rattle.std.specs.declared.alloc.Global.{Global}
 use Rattle.clap.specs.Kinds.{Kinds, IsAmong}
 use Rattle.clap.specs.Simple.{App, new_app, new_shape, on_top, with_subcommand}
@@ -9,11 +9,15 @@ use Rattle.clap.specs.declared.error.kind.ErrorKind.TheVariants as kind
 use Rattle.gv_cli.specs.declared.words.WordsFault.{WordsFault}
 use Rattle.gv_cli.specs.declared.words.WordsFault.TheVariants.{Printed, OutOfMemory}
 
--- one subcommand, `run`, which takes no arguments and may not be left out
+-- one subcommand, `run`, which takes no arguments and may not be left out; help and the version may be asked for
 abbrev pub command_line : App
 command_line = with_subcommand
-    (on_top (λ s. record s { subcommand_required = true }) (new_app (codes "vmbind")))
+    (on_top (λ s. record s { has_version = true; subcommand_required = true }) (new_app (codes "vmbind")))
     (new_shape (codes "run"))
+
+-- nothing is refused: help is asked for, or the version
+abbrev pub AskForText : Kinds → Type 0
+AskForText kinds = (kinds ≡ kind.DisplayHelp ∷ []) ⊎ (kinds ≡ kind.DisplayVersion ∷ [])
 
 abbrev pub texts : List (String Global) → List (List ℕ)
 texts = map string_bytes

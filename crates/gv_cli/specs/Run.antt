@@ -5,7 +5,7 @@ use Rattle.gv_text.specs.Reading.{TellsLength, TellsReads, TellsWrites}
 use Rattle.gv_text.specs.Script.{IsRun, StopsAt, IsStart}
 use Rattle.gv_text.specs.declared.fault.ScriptFault.{ScriptFault}
 use Rattle.gv_text.specs.declared.fault.ScriptFault.TheVariants.{BadLine, ScriptTooLong, ReadFault, OutOfMemory}
-use Rattle.gv_cli.specs.Fault.{fault_of, status_of}
+use Rattle.gv_cli.specs.Fault.{script_status}
 use Rattle.gv_cli.specs.Status.{done}
 
 -- A script was run with this answer, as `run_script` says: of a reader before and after, of which these tell the bytes
@@ -26,4 +26,4 @@ pub record HasRun {R W : Type 0} (remaining : R → Option (List ℕ)) (read_fai
 -- the exit status for an answer: that of its fault, or that of a task that is done
 abbrev pub exit_status : Result (Unit {0}) ScriptFault → ℕ
 exit_status (Ok finished) = done
-exit_status (Err fault) = status_of (fault_of fault)
+exit_status (Err fault) = script_status fault

@@ -1,7 +1,7 @@
 -- The exit statuses of the program.
 use Rattle.std.specs.Prelude.{ℕ, [], ◌∷◌, Contains}
 
--- the task was done, or help was asked for and printed
+-- the task was done, or help or the version was asked for and printed
 abbrev pub done : ℕ
 done = 0
 

@@ -1,6 +1,7 @@
 //! What the program says of a failure: a line on standard error, and an exit status.
 ghost use Rattle.std.specs.Prelude.{◌≡◌, Some};
-ghost use Rattle.gv_cli.specs.Fault.{fault_of, line_of, status_of};
+ghost use Rattle.gv_text.specs.declared.fault.ScriptFault.TheVariants as script;
+ghost use Rattle.gv_cli.specs.Fault.{line_of, script_status, status_of};
 ghost use Rattle.gv_cli.specs.declared.fault.ProgramFault.TheVariants as fault;
 
 use crate::status::{BAD_SCRIPT, BAD_WORDS, BROKEN_STREAM, NO_MEMORY};
@@ -11,18 +12,11 @@ use std::fmt;
 /// Why the program did not do what the words asked for. It is shown as its line on standard error.
 #[derive(Clone, Copy, Debug, PartialEq, Eq)]
 pub enum ProgramFault {
-    /// This line of the script, counted from 1, is no line of the language, or not at this place.
-    BadLine { line: u64 },
-    /// The script has more bytes than its limit.
-    ScriptTooLong,
+    /// The script was not run to its end. Help that can't be written, and words for which memory is refused, are told
+    /// by the same faults.
+    Script(ScriptFault),
     /// An argument of the program is not UTF-8 text.
     ArgumentNotText,
-    /// Standard input failed.
-    ReadFault,
-    /// Standard output failed.
-    WriteFault,
-    /// The system refused to give memory.
-    OutOfMemory,
 }
 
 impl ProgramFault {
@@ -31,11 +25,20 @@ impl ProgramFault {
         ensures { result ≡ status_of self.now }
     {
         match self {
-            ProgramFault::BadLine { .. } | ProgramFault::ScriptTooLong => BAD_SCRIPT,
+            ProgramFault::Script(fault) => script_status(fault),
             ProgramFault::ArgumentNotText => BAD_WORDS,
-            ProgramFault::ReadFault | ProgramFault::WriteFault => BROKEN_STREAM,
-            ProgramFault::OutOfMemory => NO_MEMORY,
         }
+    }
+}
+
+/// The exit status of a script that ended early.
+fn script_status(fault: &ScriptFault) -> u8
+    ensures { result ≡ script_status fault.now }
+{
+    match fault {
+        ScriptFault::BadLine { .. } | ScriptFault::ScriptTooLong => BAD_SCRIPT,
+        ScriptFault::ReadFault | ScriptFault::WriteFault => BROKEN_STREAM,
+        ScriptFault::OutOfMemory => NO_MEMORY,
     }
 }
 
@@ -44,34 +47,32 @@ impl fmt::Display for ProgramFault {
 
     fn fmt<W: fmt::Write>(&self, f: &mut fmt::Formatter<W>) -> fmt::Result {
         match self {
-            ProgramFault::BadLine { line } => write!(f, "vmbind: bad line {line}"),
-            ProgramFault::ScriptTooLong => write!(f, "vmbind: script too long"),
+            ProgramFault::Script(ScriptFault::BadLine { line }) => {
+                write!(f, "vmbind: bad line {line}")
+            }
+            ProgramFault::Script(ScriptFault::ScriptTooLong) => {
+                write!(f, "vmbind: script too long")
+            }
+            ProgramFault::Script(ScriptFault::ReadFault) => write!(f, "vmbind: read fault"),
+            ProgramFault::Script(ScriptFault::WriteFault) => write!(f, "vmbind: write fault"),
+            ProgramFault::Script(ScriptFault::OutOfMemory) => write!(f, "vmbind: out of memory"),
             ProgramFault::ArgumentNotText => write!(f, "vmbind: argument is not text"),
-            ProgramFault::ReadFault => write!(f, "vmbind: read fault"),
-            ProgramFault::WriteFault => write!(f, "vmbind: write fault"),
-            ProgramFault::OutOfMemory => write!(f, "vmbind: out of memory"),
         }
     }
 }
 
 impl From<ScriptFault> for ProgramFault {
-    ghost from_gives = { λ script program. program ≡ fault_of script };
+    ghost from_gives = { λ script program. program ≡ fault.Script script };
 
     fn from(fault: ScriptFault) -> ProgramFault {
-        match fault {
-            ScriptFault::BadLine { line } => ProgramFault::BadLine { line },
-            ScriptFault::ScriptTooLong => ProgramFault::ScriptTooLong,
-            ScriptFault::ReadFault => ProgramFault::ReadFault,
-            ScriptFault::WriteFault => ProgramFault::WriteFault,
-            ScriptFault::OutOfMemory => ProgramFault::OutOfMemory,
-        }
+        ProgramFault::Script(fault)
     }
 }
 
 impl From<AllocError> for ProgramFault {
-    ghost from_gives = { λ _ program. program ≡ fault.OutOfMemory };
+    ghost from_gives = { λ _ program. program ≡ fault.Script script.OutOfMemory };
 
     fn from(_error: AllocError) -> ProgramFault {
-        ProgramFault::OutOfMemory
+        ProgramFault::Script(ScriptFault::OutOfMemory)
     }
 }

@@ -1,5 +1,8 @@
 //! The texts of the program's help.
 
+/// The version of the program.
+pub const VERSION: &str = "0.1.0";
+
 /// What the program is for.
 pub const PROGRAM: &str = "Manages the address space of a GPU by the lines of a script";
 
@@ -20,7 +23,8 @@ The lines of a script:
   uses NAME
       Prints how many mappings of a buffer are in the list and are kept in undo values.
   bind OPERATION
-      Changes the mappings. Answers 'accepted N', or 'refused 0 FAULT' and changes nothing.
+      Changes the mappings. Answers 'accepted N', N counting from 0, or 'refused 0 FAULT' and changes
+      nothing: the 0 is the operation that is refused, counted from 0, and a bind has one.
   plan OPERATION
       Prints the unmap, remap and map steps of the operation, and changes nothing.
   map
@@ -43,7 +47,7 @@ Numbers are decimal, or hexadecimal after 0x. '#' begins a comment. Words are se
 one space, and every line ends with a line end. The first bad line ends the run.
 
 Exit statuses:
-  0  the script was run to its end, or help was asked for
+  0  the script was run to its end, or help or the version was asked for
   1  the script has a bad line, or is too long
   2  the words of the command line are refused
   3  standard input or standard output failed

@@ -5,7 +5,7 @@ ghost use Rattle.std.specs.declared.io.ErrorKind.TheVariants as stream;
 ghost use Rattle.gv_text.specs.declared.fault.ScriptFault.{ScriptFault};
 ghost use Rattle.clap.specs.Words.{fault_of, kind_of};
 ghost use Rattle.clap.specs.declared.error.kind.ErrorKind.TheVariants as kind;
-ghost use Rattle.gv_cli.specs.CommandLine.{command_line, texts};
+ghost use Rattle.gv_cli.specs.CommandLine.{command_line, texts, AskForText};
 ghost use Rattle.gv_cli.specs.Fault.{status_of};
 ghost use Rattle.gv_cli.specs.Run.{HasRun, exit_status};
 ghost use Rattle.gv_cli.specs.Status.{IsStatus, bad_words, broken_stream, done, no_memory};
@@ -15,7 +15,7 @@ use crate::stack::is_stack_there;
 use crate::status::{BAD_WORDS, DONE};
 use crate::words::{WordsFault, read_words};
 use clap::Error;
-use gv_text::{ReadSource, Sink, Source, WriteSink, run_script};
+use gv_text::{ReadSource, ScriptFault, Sink, Source, WriteSink, run_script};
 use std::rt::Env;
 use std::{env, io};
 
@@ -24,7 +24,7 @@ pub fn program<R: Env + AllocGlobal + Input + Print + Eprint>(rt: &R) -> u8
     ensures { IsStatus result }
 {
     if !is_stack_there(DONE) {
-        return told(rt, ProgramFault::OutOfMemory);
+        return told(rt, ProgramFault::Script(ScriptFault::OutOfMemory));
     }
     let words = match arguments(rt) {
         Ok(words) => words,
@@ -50,19 +50,24 @@ fn obey<R: AllocGlobal + Print + Eprint, S: Source, K: Sink>(
     // Other words touch no device.
     ensures refused { fault_of command_line (texts words.now) ≢ []
         → (reader.new ≡ reader.old) × (writer.new ≡ writer.old) }
+    // Words that ask for help or for the version: it is printed, or there is no memory for it, or nobody takes it.
+    ensures shown { AskForText (fault_of command_line (texts words.now))
+        → (result ≡ done) ⊎ (result ≡ no_memory) ⊎ (result ≡ broken_stream) }
+    ensures version { (name : List ℕ) → texts words.now ≡ name ∷ codes "--version" ∷ []
+        → (result ≡ done) ⊎ (result ≡ no_memory) ⊎ (result ≡ broken_stream) }
     ensures status { IsStatus result }
 {
     match read_words(rt.alloc(), words) {
         Ok(()) => run(rt, reader, writer),
         Err(WordsFault::Printed(error)) => printed(rt, &error),
-        Err(WordsFault::OutOfMemory) => told(rt, ProgramFault::OutOfMemory),
+        Err(WordsFault::OutOfMemory) => told(rt, ProgramFault::Script(ScriptFault::OutOfMemory)),
     }
 }
 
 /// The words of the command line, of which the first is the program's name.
 fn arguments<R: Env + AllocGlobal>(rt: &R) -> Result<Vec<String>, ProgramFault>
     ensures { IfErr result (λ fault. (fault ≡ ProgramFault.ArgumentNotText)
-        ⊎ (fault ≡ ProgramFault.OutOfMemory)) }
+        ⊎ (fault ≡ ProgramFault.Script ScriptFault.OutOfMemory)) }
 {
     match env::args(rt) {
         Ok(words) => Ok(words.collect(rt.alloc())?),
@@ -73,12 +78,12 @@ fn arguments<R: Env + AllocGlobal>(rt: &R) -> Result<Vec<String>, ProgramFault>
 /// What the failure to read the arguments is to the program.
 fn argument_fault(error: &io::Error) -> ProgramFault
     ensures memory { error_kind error.now ≡ stream.OutOfMemory
-        → result ≡ ProgramFault.OutOfMemory }
+        → result ≡ ProgramFault.Script ScriptFault.OutOfMemory }
     ensures text { error_kind error.now ≢ stream.OutOfMemory
         → result ≡ ProgramFault.ArgumentNotText }
 {
     match error.kind() {
-        io::ErrorKind::OutOfMemory => ProgramFault::OutOfMemory,
+        io::ErrorKind::OutOfMemory => ProgramFault::Script(ScriptFault::OutOfMemory),
         _ => ProgramFault::ArgumentNotText,
     }
 }
@@ -108,7 +113,7 @@ fn printed<R: Print + Eprint>(rt: &R, error: &Error) -> u8
     }
     match outcome {
         Ok(()) => DONE,
-        Err(_) => told(rt, ProgramFault::WriteFault),
+        Err(_) => told(rt, ProgramFault::Script(ScriptFault::WriteFault)),
     }
 }
 

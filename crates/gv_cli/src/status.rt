@@ -1,6 +1,6 @@
 //! The exit statuses of the program.
 
-/// The script was run to its end, or help was asked for and printed.
+/// The script was run to its end, or help or the version was asked for and printed.
 pub const DONE: u8 = 0;
 
 /// The script has a bad line, or is too long.

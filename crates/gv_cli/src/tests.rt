@@ -90,6 +90,18 @@ fn helps(rt: HostRuntime) {
 }
 
 #[test]
+fn tells_its_version(rt: HostRuntime) {
+    for flag in [b"--version", b"-V" as &[u8]] {
+        let words: [&[u8]; 2] = [b"vmbind", flag];
+        let got = ended(Fake::new(rt.alloc(), &words, Stream::Broken));
+        expect(&rt, &got, 0, b"vmbind 0.1.0\n", b"");
+    }
+    let words: [&[u8]; 2] = [b"vmbind", b"--version"];
+    let broken = Fake::new(rt.alloc(), &words, Stream::Broken).with_broken_output();
+    expect(&rt, &ended(broken), 3, b"", b"vmbind: write fault\n");
+}
+
+#[test]
 fn refuses_words(rt: HostRuntime) {
     let rows: [&[&[u8]]; 5] = [
         &[b"vmbind"],

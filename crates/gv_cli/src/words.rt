@@ -55,6 +55,7 @@ fn command<'a>(alloc: Global) -> Result<Command<'a>, AllocError>
         .about(help::RUN)
         .after_long_help(help::SCRIPT);
     Command::new(alloc, "vmbind")
+        .version(help::VERSION)
         .about(help::PROGRAM)
         .after_long_help(help::SCRIPT)
         .subcommand_required(true)

@@ -1,4 +1,4 @@
-pub mod Parts
+pub mod PartsLemmas
 mod Digits
 mod Names
 mod HexDigits

@@ -1,6 +1,7 @@
 pub mod Parts
 pub mod Splices
 pub mod Lookup
+pub mod Places
 pub mod Clip
 pub mod Kept
 pub mod Replaced
@@ -9,3 +10,5 @@ pub mod Changes
 pub mod Meeting
 pub mod Rests
 pub mod MeetingLemmas
+pub mod PlaceLemmas
+pub mod RenamingLemmas

@@ -5,6 +5,7 @@ use Rattle.std.proofs.lemmas.List.{length-take-le, length-drop, get_or-take, get
 use Rattle.std.proofs.lemmas.List.Elements.{All-from_get_or, All-get_or, All-head, All-tail}
 use Rattle.std.specs.List.{All}
 use Rattle.std.specs.List.Sorted.{IsNonDecreasingBy}
+use Rattle.gv_types.specs.Page.{PAGES}
 use Rattle.gv_types.specs.Span.{Span, end_of, meets, IsInSpace}
 use Rattle.gv_types.specs.Mapping.{part, IsMapping}
 use Rattle.gv_types.specs.declared.mapping.Mapping.{Mapping}
@@ -129,3 +130,8 @@ run_meets (n ∷ ns) range place behind up within after' before' =
     let b' : (get_or (n ∷ ns) (place + k) n).range.first < end_of range = rw (get_or-take behind (n ∷ ns) (place + k) n (omega arith)) at b in
     let is : get_or (run (n ∷ ns) place (behind - place)) k n ≡ get_or (n ∷ ns) (place + k) n = get_or-take _ _ k n less ∙ get_or-drop place (n ∷ ns) k n in
     rw is (and_from _ _ (lt-ltb _ _ b') (lt-ltb _ _ a')))
+
+-- nothing lies past the end of the address space
+pub at_past : (ms : List Mapping) (low page : ℕ) → IsLaidOutFrom low ms → PAGES ≤ page → at ms page ≡ None
+at_past [] low page laid past = refl
+at_past (m ∷ ms) low page laid past = at_skip m ms page (omega arith) ∙ at_past ms (end_of m.range) page laid.2 past

@@ -1,5 +1,5 @@
 -- A list of mappings: what it says of a page, when it is in order, and where a range meets it.
-use Rattle.std.specs.Prelude.{ℕ, ◌≡◌, ◌+◌, ◌≤◌, IsTrue, if◌then◌else◌, Option, Some, None, List, [], ◌∷◌, take, drop, length}
+use Rattle.std.specs.Prelude.{ℕ, ◌≡◌, ◌+◌, ◌<◌, ◌≤◌, IsTrue, if◌then◌else◌, Option, Some, None, List, [], ◌∷◌, take, drop, length}
 use Rattle.std.specs.List.{All}
 use Rattle.gv_types.specs.Span.{Span, end_of, covers, meets}
 use Rattle.gv_types.specs.Mapping.{part, IsMapping}
@@ -44,3 +44,14 @@ pub record IsMeetingRun (ms : List Mapping) (range : Span) (place count : ℕ) :
   pub before : All (λ m. end_of m.range ≤ range.first) (take place ms)
   pub meeting : All (λ m. IsTrue (meets m.range range)) (run ms place count)
   pub behind : All (λ m. end_of range ≤ m.range.first) (drop (place + count) ms)
+
+-- the mappings before the place end at the page or before it
+pub record AreEnded (ms : List Mapping) (page place : ℕ) : Type 0 where
+  pub within : place ≤ length ms
+  pub ended : All (λ m. end_of m.range ≤ page) (take place ms)
+
+-- the place is how many mappings end at the page or before it
+pub record IsPlaceOf (ms : List Mapping) (page place : ℕ) : Type 0 where
+  pub within : place ≤ length ms
+  pub ended : All (λ m. end_of m.range ≤ page) (take place ms)
+  pub not_ended : All (λ m. page < end_of m.range) (drop place ms)

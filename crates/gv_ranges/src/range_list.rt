@@ -81,7 +81,8 @@ impl RangeList {
     }
 
     /// The place of the first mapping that meets the range, and how many mappings do. Where none
-    /// does, the place is the number of mappings that end before the range. Two binary searches.
+    /// does, the place is the number of mappings that end before the range. One search, and a look at each
+    /// of the mappings that meet it.
     pub fn overlapping(&self, range: PageRange) -> (usize, usize)
         ensures { IsMeetingRun self.now.mappings range result.0 result.1 }
     {

@@ -3,6 +3,7 @@
 
 #[cfg(test)]
 mod devices;
+mod pictures;
 #[cfg(test)]
 mod refusals;
 #[cfg(test)]
@@ -13,7 +14,10 @@ use std::process::ExitCode;
 use std::rt::Files;
 use std::{fs, io};
 
-const EXAMPLES: [&str; 5] = ["first", "replace", "keep", "bounds", "tables"];
+const EXAMPLES: [&str; 6] = ["first", "replace", "keep", "bounds", "tables", "buffers"];
+
+/// The examples that the pictures of the repository's page of pictures, in the order of the page.
+const PICTURES: [&str; 3] = ["first", "replace", "keep"];
 
 fn main(rt: HostRuntime) -> io::Result<ExitCode> {
     let mut all_same = true;
@@ -23,6 +27,10 @@ fn main(rt: HostRuntime) -> io::Result<ExitCode> {
         println!(rt; "{name}: {word}")?;
         all_same = all_same && same;
     }
+    let drawn = are_drawn(&rt)?;
+    let word = if drawn { "as wanted" } else { "OTHERWISE" };
+    println!(rt; "pictures: {word}")?;
+    all_same = all_same && drawn;
     Ok(if all_same {
         ExitCode::SUCCESS
     } else {
@@ -39,6 +47,22 @@ fn is_answered(rt: &(impl Files + AllocGlobal), name: &str) -> io::Result<bool> 
     let mut sink = MemorySink::new(alloc);
     let ended = run_script(alloc, &mut source, &mut sink);
     Ok(ended.is_ok() && sink.bytes() == wanted.as_slice())
+}
+
+/// Whether the pictures of the page have the lines that the program answers.
+fn are_drawn(rt: &(impl Files + AllocGlobal)) -> io::Result<bool> {
+    let page = fs::read_to_string(rt, "pictures.md")?;
+    let mut names = PICTURES.iter();
+    for picture in page.split("```").filter_map(pictures::picture_in) {
+        let Some(name) = names.next() else {
+            return Ok(false);
+        };
+        let script = fs::read_to_string(rt, format!(in rt.alloc(); "{name}.vmb")?)?;
+        if !pictures::is_of(rt.alloc(), &picture, &script)? {
+            return Ok(false);
+        }
+    }
+    Ok(names.next().is_none())
 }
 
 #[cfg(test)]

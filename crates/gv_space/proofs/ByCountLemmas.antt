@@ -9,7 +9,7 @@ use Rattle.gv_types.specs.declared.mapping.Backing.TheVariants.{Buffer as Buffer
 use Rattle.gv_types.specs.declared.mapping.BufferId.{BufferId}
 use Rattle.gv_types.specs.declared.mapping.Mapping.{Mapping}
 use Rattle.gv_buffers.specs.Table.{Buffer, Table, buffer, pages, IsLive, IsTable}
-use Rattle.gv_buffers.proofs.Tables.{counted_lives}
+use Rattle.gv_buffers.proofs.FoundLemmas.{counted_lives}
 use Rattle.gv_space.specs.Counts.{count_of, by_count, counted, more_used, less_used, more_kept, less_kept}
 use Rattle.gv_space.specs.Live.{IsLiveBacking}
 use Rattle.gv_space.specs.State.{LieInside, IsPlaced}

@@ -1,7 +1,7 @@
 -- What is left of a list between two pages, one mapping after another, and how many mappings it is.
-use Rattle.std.proofs.Common.{◌≡◌, ℕ, ◌+◌, ◌<◌, ◌∙◌, ◌++◌, List, [], ◌∷◌, take, length, get_or, suc, Option, Some, None, refl, sym, arith, subst}
+use Rattle.std.proofs.Common.{◌≡◌, ℕ, ◌+◌, ◌-◌, ◌<◌, drop, ap, ◌∙◌, ◌++◌, List, [], ◌∷◌, take, length, get_or, suc, Option, Some, None, refl, sym, arith, subst}
 use Rattle.std.proofs.Math.Seq.{take-suc}
-use Rattle.std.proofs.lemmas.List.{append-nil}
+use Rattle.std.proofs.lemmas.List.{append-nil, take_all, take-append-le, length-append}
 use Rattle.std.proofs.lemmas.List.Elements.{filter_map-append}
 use Rattle.std.specs.List.{filter_map}
 use Rattle.std.specs.Option.{option_to_list}
@@ -33,3 +33,16 @@ module _ (low high : ℕ) (ms old : List Mapping) (k : ℕ) (m : Mapping) (below
   -- the mapping has a piece between the pages
   pub grown_by_piece : (piece : Mapping) → Some piece ≡ clip low high m → old ++ piece ∷ [] ≡ clipped low high (take (k + 1) ms)
   grown_by_piece piece some = sym (grown (Some piece) some)
+
+-- what lies between two rests
+pub between : (one other : Option Mapping) (inside pieces : List Mapping) (n : ℕ) → pieces ≡ option_to_list one ++ inside ++ option_to_list other →
+    n + length (option_to_list other) ≡ length pieces → take (n - length (option_to_list one)) (drop (length (option_to_list one)) pieces) ≡ inside
+between None None inside pieces n is long = rw (is, append-nil inside) (take_all _ inside (omega (arith, long, ap (λ (l : List Mapping). length l) is, length-append inside [])))
+between None (Some m) inside pieces n is long =
+    rw is (take-append-le (n - 0) inside (m ∷ []) (omega (arith, long, ap (λ (l : List Mapping). length l) is, length-append inside (m ∷ [])))
+    ∙ take_all _ inside (omega (arith, long, ap (λ (l : List Mapping). length l) is, length-append inside (m ∷ []))))
+between (Some m) None inside pieces n is long =
+    rw (is, append-nil inside) (take_all _ inside (omega (arith, long, ap (λ (l : List Mapping). length l) is, length-append inside [])))
+between (Some m) (Some o) inside pieces n is long =
+    rw is (take-append-le (n - 1) inside (o ∷ []) (omega (arith, long, ap (λ (l : List Mapping). length l) is, length-append inside (o ∷ [])))
+    ∙ take_all _ inside (omega (arith, long, ap (λ (l : List Mapping). length l) is, length-append inside (o ∷ []))))

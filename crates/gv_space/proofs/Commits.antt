@@ -4,7 +4,8 @@ use Rattle.std.specs.List.{All, splice}
 use Rattle.gv_types.specs.Span.{Span}
 use Rattle.gv_types.specs.Mapping.{IsMapping}
 use Rattle.gv_types.specs.declared.mapping.Mapping.{Mapping}
-use Rattle.gv_ranges.specs.List.{IsLaidOut, Ranges}
+use Rattle.gv_ranges.specs.List.{AreEnded, IsLaidOut, Ranges}
+use Rattle.gv_ranges.proofs.PlaceLemmas.{met-ended}
 use Rattle.gv_ranges.specs.Edit.{Undo, replaced, undone}
 use Rattle.gv_ranges.proofs.Kept.{All-replaced}
 use Rattle.gv_ranges.proofs.Order.{laid_out-replaced}
@@ -30,6 +31,9 @@ module _ (inside : List Mapping) (s : AddressSpace) (range : Span) (place : ℕ)
   -- the list after the change
   abbrev pub after : List Mapping
   after = splice s.mappings place (place + length taken) pieces
+
+  pub ended : AreEnded s.mappings range.first place
+  ended = met-ended s.mappings range place (length taken) ready.met
 
   pub after_is : after ≡ replaced s.mappings range inside
   after_is =

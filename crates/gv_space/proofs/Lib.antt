@@ -19,3 +19,4 @@ pub mod Jobs
 pub mod Spaces
 pub mod Unchanged
 pub mod UsesFound
+pub mod RenamingLemmas

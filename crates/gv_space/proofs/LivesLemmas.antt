@@ -14,8 +14,8 @@ use Rattle.gv_types.specs.declared.mapping.Backing.TheVariants.{Buffer as Buffer
 use Rattle.gv_types.specs.declared.mapping.BufferId.{BufferId}
 use Rattle.gv_types.specs.declared.mapping.Mapping.{Mapping}
 use Rattle.gv_buffers.specs.Table.{Buffer, Table, buffer, has_id, fresh, without, use_fault, destroy_fault, destroy_fault_of, IsLive, IsBuffer, IsCreated, IsTable}
-use Rattle.gv_buffers.proofs.Found.{others_stay_made, others_stay_destroyed, is_same_id-itself, is_same_id-other}
-use Rattle.gv_buffers.proofs.Tables.{counted_lives}
+use Rattle.gv_buffers.proofs.FoundLemmas.{others_stay_made, others_stay_destroyed, is_same_id-itself, is_same_id-other}
+use Rattle.gv_buffers.proofs.FoundLemmas.{counted_lives}
 use Rattle.gv_space.specs.Counts.{count_of}
 use Rattle.gv_space.specs.State.{AddressSpace, LieInside, IsPlaced, AreKept}
 use Rattle.gv_space.proofs.CountLemmas.{same_from_is_same_id, count_of-none, none_from_count_of}

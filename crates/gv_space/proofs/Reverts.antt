@@ -2,7 +2,8 @@
 use Rattle.std.proofs.Common.{◌≡◌, ℕ, ◌+◌, ◌-◌, ◌≤◌, List, length, arith, refl, sym, subst, ap, ◌∙◌}
 use Rattle.std.specs.List.{All, splice}
 use Rattle.gv_types.specs.declared.mapping.Mapping.{Mapping}
-use Rattle.gv_ranges.specs.List.{Ranges, run}
+use Rattle.gv_ranges.specs.List.{AreEnded, Ranges, run}
+use Rattle.gv_ranges.proofs.PlaceLemmas.{ended-unspliced}
 use Rattle.gv_ranges.specs.Edit.{replaced, undone}
 use Rattle.gv_ranges.proofs.Replaced.{replaced_run_in_place, undone-replaced}
 use Rattle.gv_table.specs.Reads.{AreAlikeOutside}
@@ -40,6 +41,12 @@ module _ (s : AddressSpace) (u : UndoValue) (space : IsSpace s) (fits : CanRever
   made_in_place =
       fits.undo.made ∙
       rw (← fits.undo.taken) at (replaced_run_in_place old u.range fits.undo.pieces u.change.place (length u.change.taken) fits.undo.laid_out fits.undo.met)
+
+  pub ended : AreEnded s.mappings u.range.first u.change.place
+  ended =
+      let inside = fits.undo.met.within in
+      ended-unspliced old s.mappings (replaced u.change.taken u.range fits.undo.pieces) u.range.first u.change.place (u.change.place + length u.change.taken)
+      (omega (arith, inside)) made_in_place fits.undo.met.before
 
   pub within : u.change.place + u.change.put_in ≤ length s.mappings
   within =

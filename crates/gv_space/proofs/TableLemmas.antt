@@ -9,7 +9,7 @@ use Rattle.std.proofs.lemmas.List.Elements.{All-head, All-tail, All-map, All-wea
 use Rattle.gv_types.specs.Mapping.{is_same_id}
 use Rattle.gv_types.specs.declared.mapping.BufferId.{BufferId}
 use Rattle.gv_buffers.specs.Table.{Buffer, Table, buffer, pages, has_id, IsLive, IsBuffer, IsTable}
-use Rattle.gv_buffers.proofs.Found.{find-map, found_from_All}
+use Rattle.gv_buffers.proofs.FoundLemmas.{find-map, found_from_All}
 
 -- the table with each buffer changed
 abbrev pub each : (Buffer → Buffer) → Table → Table

@@ -4,7 +4,7 @@ use Rattle.std.specs.Option.{option_map, IsSomeAnd}
 use Rattle.gv_types.specs.declared.mapping.BufferId.{BufferId}
 use Rattle.gv_types.specs.declared.mapping.Mapping.{Mapping}
 use Rattle.gv_buffers.specs.Table.{Buffer, Table, uses, IsLive}
-use Rattle.gv_buffers.proofs.Tables.{counted_lives}
+use Rattle.gv_buffers.proofs.FoundLemmas.{counted_lives}
 use Rattle.gv_space.specs.Counts.{count_of}
 use Rattle.gv_space.proofs.CountLemmas.{same_from_is_same_id}
 use Rattle.gv_space.proofs.TableLemmas.{found_live}

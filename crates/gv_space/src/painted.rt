@@ -3,7 +3,7 @@ ghost use Rattle.std.specs.Prelude.{◌≡◌, ◌+◌, ◌≤◌, [], length, L
 ghost use Rattle.std.specs.List.{splice};
 ghost use Rattle.gv_types.specs.Span.{end_of};
 ghost use Rattle.gv_types.specs.declared.mapping.Mapping.{Mapping};
-ghost use Rattle.gv_ranges.specs.List.{at, IsLaidOut, IsUnchanged};
+ghost use Rattle.gv_ranges.specs.List.{at, AreEnded, IsLaidOut, IsUnchanged};
 ghost use Rattle.gv_ranges.specs.Edit.{clipped};
 ghost use Rattle.gv_table.specs.Reads.{AreAlikeOutside};
 ghost use Rattle.gv_table.specs.Table.{IsTree, IsHeldAt, gained_by, tables_of};
@@ -94,8 +94,8 @@ impl ListWithTable {
         self.table.spare(alloc, range, pieces)
     }
 
-    /// Replaces `out_count` mappings from `place` on by `pieces`, and paints the range. The list has to stay as it is
-    /// outside the range. It answers the tables that left the tree: just those that the old list needs to be painted
+    /// Replaces `out_count` mappings from `place` on by `pieces`, and paints the range. The mappings before the place have
+    /// to end before the range, and the list to stay as it is outside the range: nothing is searched. It answers the tables that left the tree: just those that the old list needs to be painted
     /// back. It takes no memory.
     pub fn replace(
         &mut self,
@@ -106,6 +106,7 @@ impl ListWithTable {
         spares: Spares,
     ) -> Spares
         requires within { place + out_count ≤ length self.old.mappings }
+        requires ended { AreEnded self.old.mappings range.first place }
         requires room { length self.old.mappings + length pieces.now ≤ self.old.room + out_count }
         requires laid_out { IsLaidOut
             (splice self.old.mappings place (place + out_count) pieces.now) }
@@ -122,7 +123,7 @@ impl ListWithTable {
         let mut spares = spares;
         let _mappings = self.list.mappings();
         self.list.splice(place, out_count, pieces);
-        let lost = self.table.paint(&self.list, range, &mut spares);
+        let lost = self.table.paint(&self.list, range, place, &mut spares);
         spares.split(lost)
     }
 }

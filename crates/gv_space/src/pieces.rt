@@ -1,7 +1,8 @@
 //! What comes to stand where a range meets a list.
-ghost use Rattle.std.specs.Prelude.{◌≡◌, ◌≤◌, ◌++◌, length, IfOk};
+ghost use Rattle.std.specs.Prelude.{◌≡◌, ◌≤◌, ◌++◌, length, List, IfOk, OnOk};
 ghost use Rattle.std.specs.Option.{option_to_list};
 ghost use Rattle.gv_types.specs.Span.{end_of, IsInSpace};
+ghost use Rattle.gv_types.specs.declared.mapping.Mapping.{Mapping};
 ghost use Rattle.gv_ranges.specs.List.{IsLaidOut};
 ghost use Rattle.gv_ranges.specs.Edit.{clipped};
 ghost use Rattle.gv_space.specs.Refusal.{count_met};
@@ -17,6 +18,12 @@ const INLINE: usize = 2;
 /// A few mappings, in the value itself where they are at most two.
 pub type Pieces = SmallVec<Mapping, INLINE>;
 
+/// How many mappings come in without memory: most operations put in one, with a rest on each side.
+const INCOMING: usize = 3;
+
+/// The mappings that come in, in the value itself where they are at most three.
+pub type Incoming = SmallVec<Mapping, INCOMING>;
+
 /// How many of the saved mappings have pages in the range.
 pub fn count_in_range(saved: &[Mapping], range: PageRange) -> usize
     ensures count { result ≡ count_met saved.now range }
@@ -26,41 +33,56 @@ pub fn count_in_range(saved: &[Mapping], range: PageRange) -> usize
     saved.iter().filter(|m| m.range.meets(range)).count()
 }
 
-/// What of the saved mappings lies in the range.
-pub fn clip_to_range(
-    alloc: Global,
+/// Appends what of the saved mappings lies in the range.
+fn push_clipped(
+    pieces: &mut Incoming,
     saved: &[Mapping],
     range: PageRange,
-) -> Result<Pieces, OutOfMemory>
+) -> Result<(), OutOfMemory>
     requires { IsLaidOut saved.now }
-    ensures { IfOk result (λ p. p.items ≡ clipped range.first (end_of range) saved.now) }
+    ensures { OnOk result (pieces.new.items
+        ≡ pieces.old.items ++ clipped range.first (end_of range) saved.now) }
 {
-    let mut pieces = SmallVec::new(alloc);
     for mapping in saved {
         match mapping.clip(range.first(), range.end()) {
             Some(piece) => pieces.push(piece)?,
             None => continue,
         }
     }
-    Ok(pieces)
+    Ok(())
 }
 
-/// What stands where the range met the list, with these pieces in the range: the rests on both sides of them.
+/// What stands where the range met the list, with what of the saved mappings lies in it: the rests on both sides of that.
 pub fn with_rests(
     alloc: Global,
     meeting: &Meeting,
-    inside: &[Mapping],
-) -> Result<Pieces, OutOfMemory>
-    ensures { IfOk result (λ p. p.items
-        ≡ option_to_list meeting.now.before ++ inside.now ++ option_to_list meeting.now.behind) }
+    saved: &[Mapping],
+    range: PageRange,
+) -> Result<Incoming, OutOfMemory>
+    requires { IsLaidOut saved.now }
+    ensures { IfOk result (λ p. p.items ≡ option_to_list meeting.now.before
+        ++ clipped range.first (end_of range) saved.now ++ option_to_list meeting.now.behind) }
 {
     let mut pieces = SmallVec::new(alloc);
     if let Some(rest) = meeting.before {
         pieces.push(rest)?;
     }
-    pieces.extend_from_slice(inside)?;
+    push_clipped(&mut pieces, saved, range)?;
     if let Some(rest) = meeting.behind {
         pieces.push(rest)?;
     }
     Ok(pieces)
+}
+
+/// The pieces between the rests.
+pub fn between_rests<'a>(meeting: &Meeting, pieces: &'a [Mapping]) -> &'a [Mapping]
+    requires { (inside : List Mapping) × (pieces.now
+        ≡ option_to_list meeting.now.before ++ inside ++ option_to_list meeting.now.behind) }
+    ensures { (inside : List Mapping) → pieces.now
+        ≡ option_to_list meeting.now.before ++ inside ++ option_to_list meeting.now.behind
+        → result.now ≡ inside }
+{
+    let start = usize::from(meeting.before.is_some());
+    let end = pieces.len() - usize::from(meeting.behind.is_some());
+    &pieces[start..end]
 }

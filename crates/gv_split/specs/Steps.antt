@@ -25,11 +25,11 @@ continues (Buffer id page) first Zero old_first = false
 continues Zero first b old_first = false
 
 -- the operation maps the pages of the mapping's buffer again where they were, with equal flags
-abbrev pub is_kept : PageOp → Mapping → Bool
-is_kept (MapOp range backing flags) m =
+abbrev pub continues_mapping : PageOp → Mapping → Bool
+continues_mapping (MapOp range backing flags) m =
     continues backing range.first m.backing m.range.first && same_flags flags m.flags
-is_kept (UnmapOp range) m = false
-is_kept (UnmapBuffer buffer) m = false
+continues_mapping (UnmapOp range) m = false
+continues_mapping (UnmapBuffer buffer) m = false
 
 -- a mapping gives way to an operation where it has a page in its range, and to an unmap of a whole buffer where it is the
 -- buffer's
@@ -41,8 +41,8 @@ gives_way (UnmapBuffer buffer) m = is_of buffer m.backing
 -- a mapping wholly inside the range goes, and of another the rests stay
 abbrev pub step_in : PageOp → Mapping → Step
 step_in op m =
-    if lies_in m.range (range_of op) then Unmap m (is_kept op m)
-    else Remap m (clip 0 (range_of op).first m) (clip (end_of (range_of op)) PAGES m) (is_kept op m)
+    if lies_in m.range (range_of op) then Unmap m (continues_mapping op m)
+    else Remap m (clip 0 (range_of op).first m) (clip (end_of (range_of op)) PAGES m) (continues_mapping op m)
 
 -- the step for a mapping that gives way; under an unmap of a whole buffer it goes as it is
 abbrev pub step_of : PageOp → Mapping → Step

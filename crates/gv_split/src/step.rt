@@ -39,14 +39,14 @@ pub enum Step {
 ghost use Rattle.gv_types.specs.Mapping.{is_of, IsMapping};
 ghost use Rattle.gv_types.specs.Operation.{own_mapping, range_of, IsPageOp, IsChecked};
 ghost use Rattle.gv_types.specs.Span.{meets};
-ghost use Rattle.gv_split.specs.Steps.{is_kept, step_in, steps};
+ghost use Rattle.gv_split.specs.Steps.{continues_mapping, step_in, steps};
 
 /// Whether the operation maps the pages of the mapping's buffer again where they were, with equal
 /// flags.
-fn is_kept(op: &PageOp, mapping: &Mapping) -> bool
+fn continues_mapping(op: &PageOp, mapping: &Mapping) -> bool
     requires mapping { IsMapping mapping.now }
     requires op { IsPageOp op.now }
-    ensures { result ≡ is_kept op.now mapping.now }
+    ensures { result ≡ continues_mapping op.now mapping.now }
 {
     let PageOp::Map {
         range,
@@ -74,7 +74,7 @@ fn step_in(op: &PageOp, mapping: &Mapping) -> Step
     requires op { IsPageOp op.now }
     ensures { result ≡ step_in op.now mapping.now }
 {
-    let keep = is_kept(op, mapping);
+    let keep = continues_mapping(op, mapping);
     let range = op.range();
     if mapping.range.lies_in(range) {
         Step::Unmap {

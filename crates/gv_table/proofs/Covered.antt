@@ -1,6 +1,5 @@
 -- What a list in order says of a range of pages.
 use Rattle.std.proofs.Common.{◌≡◌, ℕ, zero, suc, ◌+◌, ◌-◌, ◌<◌, ◌≤◌, ◌⊎◌, inl, inr, Bool, true, false, ◌||◌, List, [], ◌∷◌, length, get_or, Some, None, refl, arith, sym, ap, ◌∙◌, subst}
-use Rattle.gv_types.specs.Page.{PAGES}
 use Rattle.gv_types.specs.Span.{Span, span, end_of, meets, lies_in}
 use Rattle.gv_types.specs.Mapping.{part, advanced, HasSmallPages}
 use Rattle.gv_types.specs.declared.mapping.Backing.{Backing}
@@ -8,7 +7,7 @@ use Rattle.gv_types.specs.declared.mapping.Backing.TheVariants.{Buffer, Zero}
 use Rattle.gv_types.specs.declared.mapping.Entry.{Entry}
 use Rattle.gv_types.specs.declared.mapping.Mapping.{Mapping}
 use Rattle.gv_ranges.specs.List.{at, IsLaidOutFrom}
-use Rattle.gv_ranges.proofs.Lookup.{at_skip, first_above}
+use Rattle.gv_ranges.proofs.Lookup.{first_above}
 use Rattle.gv_ranges.proofs.Clip.{advanced-advanced}
 use Rattle.gv_table.specs.Reads.{any_meets, covering, entry_after, IsReadBy}
 use Rattle.gv_table.proofs.Spans.{meets-bounds, meets-after, meets-before, apart-cases, lies-bounds, lies-from, lies-not-low, lies-not-high, covers-lies}
@@ -98,11 +97,6 @@ covering-small (m ∷ ms) low s entry laid found =
 pub at-covering : (ms : List Mapping) (page : ℕ) → at ms page ≡ covering ms (span page 1)
 at-covering [] page = refl
 at-covering (m ∷ ms) page = let rest = at-covering ms page in rw (covers-lies m.range page, rest) refl
-
--- nothing lies past the end of the address space
-pub at-past : (ms : List Mapping) (low page : ℕ) → IsLaidOutFrom low ms → PAGES ≤ page → at ms page ≡ None
-at-past [] low page laid past = refl
-at-past (m ∷ ms) low page laid past = at_skip m ms page (omega arith) ∙ at-past ms (end_of m.range) page laid.2 past
 
 pub covering-none : (ms : List Mapping) (s : Span) → 0 < s.count → any_meets ms s ≡ false → covering ms s ≡ None
 covering-none [] s some none = refl

@@ -5,7 +5,7 @@ pub mod Slots
 pub mod Counts
 pub mod Covered
 pub mod Clips
-pub mod Nearness
+pub mod Places
 pub mod Wants
 pub mod Trees
 pub mod Rows
@@ -17,3 +17,4 @@ pub mod Edits
 pub mod Likeness
 pub mod Fewness
 pub mod Tallies
+pub mod RenamingLemmas

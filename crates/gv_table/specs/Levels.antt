@@ -1,5 +1,5 @@
 -- The shape of the tables: how many slots, which levels, how many pages a slot covers.
-use Rattle.std.specs.Prelude.{ℕ, ◌+◌, ◌^◌}
+use Rattle.std.specs.Prelude.{ℕ, ◌+◌, ◌^◌, max}
 use Rattle.gv_types.specs.Span.{Span, span}
 
 -- how many slots a table has
@@ -25,3 +25,7 @@ pages_of level = slots_per_table ^ level
 -- the pages of a slot at a level that begins at a page
 abbrev pub slot_pages : ℕ → ℕ → Span
 slot_pages level first = span first (pages_of level)
+
+-- a slot's first page that is not before the range
+abbrev pub entered : Span → ℕ → ℕ
+entered range first = max first range.first

@@ -5,6 +5,5 @@ pub mod Sums
 pub mod Tree
 pub mod Counts
 pub mod Chain
-pub mod Near
 pub mod Table
 pub mod Laws

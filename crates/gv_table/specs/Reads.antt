@@ -1,5 +1,5 @@
 -- What a list says of a range of pages.
-use Rattle.std.specs.Prelude.{◌≡◌, ℕ, Bool, true, false, ◌||◌, if◌then◌else◌, Option, Some, None, List, [], ◌∷◌}
+use Rattle.std.specs.Prelude.{◌≡◌, ◌<◌, ◌≤◌, ◌-◌, ℕ, Bool, true, false, ◌||◌, if◌then◌else◌, Option, Some, None, List, [], ◌∷◌, slice_index_or}
 use Rattle.gv_types.specs.Page.{PAGES}
 use Rattle.gv_types.specs.Span.{Span, end_of, meets, lies_in}
 use Rattle.gv_types.specs.Mapping.{part, advanced, IsMapping}
@@ -32,3 +32,15 @@ pub record AreAlikeOutside (range : Span) (one other : List Mapping) : Type 0 wh
 -- what the page holds that lies some pages past the entry's, in the same mapping
 abbrev pub entry_after : Entry → ℕ → Entry
 entry_after entry distance = record { backing = advanced entry.backing distance; flags = entry.flags }
+
+-- the mapping before a place, which reaches past a page before the range
+pub record IsNeighbour (ms : List Mapping) (range : Span) (place first : ℕ) (m : Mapping) : Type 0 where
+  pub some : 0 < place
+  pub here : m ≡ slice_index_or ms (place - 1) m
+  pub before : first < range.first
+  pub past : first < end_of m.range
+
+-- no mapping before a place reaches past a page before the range
+abbrev pub EndsBefore : List Mapping → Span → ℕ → ℕ → Type 0
+EndsBefore ms range place first =
+    first < range.first → 0 < place → (d : Mapping) → end_of (slice_index_or ms (place - 1) d).range ≤ first

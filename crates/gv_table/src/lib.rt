@@ -4,9 +4,9 @@
 
 pub mod laws;
 mod levels;
-mod near;
 mod page_table;
 mod paint;
+mod place;
 mod release;
 mod slot;
 mod spare;

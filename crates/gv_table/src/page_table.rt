@@ -3,14 +3,14 @@ ghost use Rattle.std.specs.Prelude.{◌≡◌, ◌≤◌, ◌<◌, ◌+◌, ℕ,
 ghost use Rattle.gv_types.specs.declared.fault.Fault.TheVariants.{OutOfMemory};
 ghost use Rattle.gv_types.specs.declared.mapping.Mapping.{Mapping};
 ghost use Rattle.gv_types.specs.Span.{end_of};
-ghost use Rattle.gv_ranges.specs.List.{at, IsLaidOut};
+ghost use Rattle.gv_ranges.specs.List.{at, IsLaidOut, AreEnded};
 ghost use Rattle.gv_ranges.specs.Edit.{clipped};
 ghost use Rattle.gv_table.specs.Levels.{top_level};
 ghost use Rattle.gv_table.specs.Counts.{tables_at, count_at};
 
 use crate::levels::TOP_LEVEL;
-use crate::near::Near;
 use crate::paint::paint_slot;
+use crate::place::advance;
 use crate::slot::Slot;
 use crate::spare::needed_in;
 use crate::spares::Spares;
@@ -79,9 +79,9 @@ impl PageTable {
         ensures err { IfErr result (λ fault. fault ≡ OutOfMemory) }
         ensures some_needed { OnErr result (0 < needed_for pieces.now range self.now) }
     {
-        let near = Near::whole(pieces, range);
+        let place = advance(pieces, 0, range.first());
         let mut spares = Spares::new();
-        for _ in 0..needed_in(&self.root, TOP_LEVEL, 0, pieces, &near) {
+        for _ in 0..needed_in(&self.root, TOP_LEVEL, 0, pieces, range, place) {
             spares.grow(alloc)?;
         }
         Ok(spares)
@@ -89,9 +89,17 @@ impl PageTable {
 
     /// Makes the tree that of the list, where it fits the list outside the range. It takes from the
     /// spares just the tables that the tree gains, puts in just those that it loses, and takes no
-    /// memory. It answers how many tables the tree lost: so many are needed, and are in the spares,
+    /// memory. The mappings before the place end before the range: it looks at those from there on
+    /// that meet the range, and at one neighbour. It answers how many tables the tree lost: so many are needed, and are in the spares,
     /// to paint the list back that the tree was of.
-    pub fn paint(&mut self, list: &RangeList, range: PageRange, spares: &mut Spares) -> u64
+    pub fn paint(
+        &mut self,
+        list: &RangeList,
+        range: PageRange,
+        place: usize,
+        spares: &mut Spares,
+    ) -> u64
+        requires ended { AreEnded list.now.mappings range.first place }
         requires fitted { FitsOutside list.now.mappings range self.old }
         requires enough { gained_by list.now.mappings self.old ≤ spares.old }
         ensures lost { result ≡ lost_by list.now.mappings self.old }
@@ -103,13 +111,15 @@ impl PageTable {
         ensures owed { (ms : List Mapping) → IsLaidOut ms → IsTree ms self.old
             → gained_by ms self.new ≡ result }
     {
-        let near = Near::around(list, range);
+        let mappings = list.mappings();
+        let place = advance(mappings, place, range.first());
         paint_slot(
             &mut self.root,
             TOP_LEVEL,
             0,
-            list.mappings(),
-            &near,
+            mappings,
+            range,
+            place,
             spares,
             &mut self.tally,
         )

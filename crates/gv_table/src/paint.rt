@@ -5,11 +5,10 @@ ghost use Rattle.gv_table.specs.Chain.{AreEmpty};
 ghost use Rattle.gv_types.specs.Page.{PAGES};
 ghost use Rattle.gv_types.specs.Span.{span, meets, end_of};
 ghost use Rattle.gv_types.specs.declared.mapping.Mapping.{Mapping};
-ghost use Rattle.gv_ranges.specs.List.{IsLaidOut};
+ghost use Rattle.gv_ranges.specs.List.{IsLaidOut, IsPlaceOf, AreEnded};
 ghost use Rattle.gv_table.specs.declared.slot.Slot.TheVariants.{Empty};
 ghost use Rattle.gv_table.specs.Levels.{top_level, root_level, slots_per_table, pages_of};
-ghost use Rattle.gv_table.specs.Levels.{slot_pages};
-ghost use Rattle.gv_table.specs.Near.{IsNear};
+ghost use Rattle.gv_table.specs.Levels.{slot_pages, entered};
 ghost use Rattle.gv_table.specs.Reads.{entry_after};
 ghost use Rattle.gv_table.specs.Tree.{IsTreeOf, IsTreeOutside, is_table, child, leaf};
 ghost use Rattle.gv_table.specs.Counts.{gained, lost, row_gained, row_lost};
@@ -19,14 +18,14 @@ ghost use Rattle.gv_table.specs.Counts.{IsPartOf, IsRowOf};
 ghost use Rattle.gv_types.specs.Mapping.{HasSmallPages};
 
 use crate::levels::{SLOTS, pages_of, slots_met};
-use crate::near::Near;
+use crate::place::advance;
 use crate::release::release;
 use crate::slot::Slot;
 use crate::spares::Spares;
 use crate::tally::Tally;
 use crate::walk::entry_after;
 use crate::wanted::{Wanted, slot_wanted};
-use gv_types::{Entry, Mapping};
+use gv_types::{Entry, Mapping, PageRange};
 use std::mem;
 
 /// Makes the slots the parts of a leaf, each of `pages` pages.
@@ -97,16 +96,17 @@ pub fn paint_slot(
     level: usize,
     first: u64,
     mappings: &[Mapping],
-    near: &Near,
+    range: PageRange,
+    place: usize,
     spares: &mut Spares,
     tally: &mut Tally,
 ) -> u64
     requires known { level ≤ top_level }
     requires in_space { end_of (slot_pages level first) ≤ PAGES }
     requires laid_out { IsLaidOut mappings.now }
-    requires near { IsNear mappings.now near.now }
-    requires met { IsTrue (meets (slot_pages level first) near.now.range) }
-    requires outside { IsTreeOutside mappings.now near.now.range level first slot.old }
+    requires place { IsPlaceOf mappings.now (entered range first) place }
+    requires met { IsTrue (meets (slot_pages level first) range) }
+    requires outside { IsTreeOutside mappings.now range level first slot.old }
     requires enough { gained mappings.now level first slot.old ≤ spares.old }
     requires part { IsPartOf tally.old level slot.old }
     ensures lost { result ≡ lost mappings.now level first slot.old }
@@ -116,7 +116,7 @@ pub fn paint_slot(
     ensures counted { (target : ℕ) → count_at tally.new target + tables_at target level slot.old
         ≡ count_at tally.old target + tables_at target level slot.new }
 {
-    match slot_wanted(mappings, near, level, first) {
+    match slot_wanted(mappings, range, place, level, first) {
         Wanted::Nothing => release(slot, level, spares, tally),
         Wanted::Entry(entry) => {
             let lost = release(slot, level, spares, tally);
@@ -126,7 +126,16 @@ pub fn paint_slot(
         Wanted::Table => {
             let old = mem::replace(slot, Slot::Empty);
             let mut slots = divide(old, level, spares, tally);
-            let lost = paint_row(&mut slots, level - 1, first, mappings, near, spares, tally);
+            let lost = paint_row(
+                &mut slots,
+                level - 1,
+                first,
+                mappings,
+                range,
+                place,
+                spares,
+                tally,
+            );
             *slot = Slot::Table(slots);
             lost
         }
@@ -140,17 +149,18 @@ fn paint_row(
     level: usize,
     first: u64,
     mappings: &[Mapping],
-    near: &Near,
+    range: PageRange,
+    place: usize,
     spares: &mut Spares,
     tally: &mut Tally,
 ) -> u64
     requires known { level ≤ root_level }
     requires in_space { first + slots_per_table * pages_of level ≤ PAGES }
     requires laid_out { IsLaidOut mappings.now }
-    requires near { IsNear mappings.now near.now }
-    requires met { IsTrue (meets (span first (slots_per_table * pages_of level)) near.now.range) }
+    requires place { AreEnded mappings.now (entered range first) place }
+    requires met { IsTrue (meets (span first (slots_per_table * pages_of level)) range) }
     requires outside { (k : ℕ) → k < slots_per_table
-        → IsTreeOutside mappings.now near.now.range level (first + k * pages_of level)
+        → IsTreeOutside mappings.now range level (first + k * pages_of level)
         (slice_index_or slots.old k Empty) }
     requires enough { row_gained mappings.now level first slots.old ≤ spares.old }
     requires part { IsRowOf tally.old level slots.old }
@@ -163,16 +173,19 @@ fn paint_row(
         ≡ count_at tally.old target + row_tables_at target level slots.new }
 {
     let pages = pages_of(level);
-    let (low, high) = slots_met(level, first, near.range);
+    let (low, high) = slots_met(level, first, range);
+    let mut place = place;
     let mut lost = 0;
     for index in low..high {
         let start = first + index as u64 * pages;
+        place = advance(mappings, place, start.max(range.first()));
         lost += paint_slot(
             &mut slots[index],
             level,
             start,
             mappings,
-            near,
+            range,
+            place,
             spares,
             tally,
         );

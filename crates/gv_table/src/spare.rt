@@ -2,15 +2,14 @@
 ghost use Rattle.std.specs.Prelude.{◌≡◌, ◌+◌, ◌≤◌, ◌<◌, IsTrue};
 ghost use Rattle.gv_types.specs.Page.{PAGES};
 ghost use Rattle.gv_types.specs.Span.{end_of};
-ghost use Rattle.gv_ranges.specs.List.{IsLaidOut};
+ghost use Rattle.gv_ranges.specs.List.{IsLaidOut, IsPlaceOf};
 ghost use Rattle.gv_table.specs.declared.slot.Slot.TheVariants.{Empty};
-ghost use Rattle.gv_table.specs.Levels.{top_level, slots_per_table, pages_of, slot_pages};
-ghost use Rattle.gv_table.specs.Near.{IsNear};
+ghost use Rattle.gv_table.specs.Levels.{top_level, slots_per_table, pages_of, slot_pages, entered};
 ghost use Rattle.gv_table.specs.Tree.{is_table, child};
 ghost use Rattle.gv_table.specs.Counts.{needed, may_divide, one_if_not};
 
 use crate::levels::{pages_of, slots_met};
-use crate::near::Near;
+use crate::place::advance;
 use crate::slot::Slot;
 use crate::wanted::{Wanted, slot_wanted};
 use gv_types::{Mapping, PageRange};
@@ -38,47 +37,66 @@ fn one_if_not_table(slot: &Slot) -> u64
 }
 
 /// Whether a slot may have to be a table, where a list will have the pieces in the range.
-fn may_be_table(pieces: &[Mapping], near: &Near, level: usize, first: u64) -> bool
+fn may_be_table(
+    pieces: &[Mapping],
+    range: PageRange,
+    place: usize,
+    level: usize,
+    first: u64,
+) -> bool
     requires known { level ≤ top_level }
     requires in_space { end_of (slot_pages level first) ≤ PAGES }
     requires laid_out { IsLaidOut pieces.now }
-    requires near { IsNear pieces.now near.now }
-    ensures { result ≡ may_divide pieces.now near.now.range level first }
+    requires place { IsPlaceOf pieces.now (entered range first) place }
+    ensures { result ≡ may_divide pieces.now range level first }
 {
     let Some(pages) = PageRange::new(first, pages_of(level)) else {
         return false;
     };
-    if !pages.meets(near.range) {
+    if !pages.meets(range) {
         return false;
     }
-    if !pages.lies_in(near.range) {
+    if !pages.lies_in(range) {
         return true;
     }
-    match slot_wanted(pieces, near, level, first) {
+    match slot_wanted(pieces, range, place, level, first) {
         Wanted::Table => true,
         Wanted::Nothing | Wanted::Entry(_) => false,
     }
 }
 
 /// How many places of a slot may need a table where it has none.
-pub fn needed_in(slot: &Slot, level: usize, first: u64, pieces: &[Mapping], near: &Near) -> u64
+pub fn needed_in(
+    slot: &Slot,
+    level: usize,
+    first: u64,
+    pieces: &[Mapping],
+    range: PageRange,
+    place: usize,
+) -> u64
     requires known { level ≤ top_level }
     requires in_space { end_of (slot_pages level first) ≤ PAGES }
     requires laid_out { IsLaidOut pieces.now }
-    requires near { IsNear pieces.now near.now }
-    ensures count { result ≡ needed pieces.now near.now.range level first slot.now }
+    requires place { IsPlaceOf pieces.now (entered range first) place }
+    ensures count { result ≡ needed pieces.now range level first slot.now }
     ensures bound { result + 1 ≤ pages_of level }
 {
-    if level == 0 || !may_be_table(pieces, near, level, first) {
+    if level == 0 || !may_be_table(pieces, range, place, level, first) {
         return 0;
+    }
+    let mut total = one_if_not_table(slot);
+    if level == 1 {
+        return total;
     }
     let pages = pages_of(level - 1);
     let empty = Slot::Empty;
-    let mut total = one_if_not_table(slot);
-    let (low, high) = slots_met(level - 1, first, near.range);
+    let mut place = place;
+    let (low, high) = slots_met(level - 1, first, range);
     for index in low..high {
         let part = child_of(slot, index, &empty);
-        total += needed_in(part, level - 1, first + index as u64 * pages, pieces, near);
+        let start = first + index as u64 * pages;
+        place = advance(pieces, place, start.max(range.first()));
+        total += needed_in(part, level - 1, start, pieces, range, place);
     }
     total
 }

@@ -80,13 +80,15 @@ fn sway(
     requires enough { gained_by new.now.mappings table.old ≤ spares.old }
     ensures { OnOk result (IsTree new.now.mappings table.new) }
 {
+    let (place, _) = new.overlapping(range);
     let before = table.tables();
-    let lost = table.paint(new, range, spares);
+    let lost = table.paint(new, range, place, spares);
     let after = table.tables();
     let mut kept = spares.split(lost);
-    table.paint(old, range, &mut kept);
+    let (back_from, _) = old.overlapping(range);
+    table.paint(old, range, back_from, &mut kept);
     let back = table.tables();
-    table.paint(new, range, &mut kept);
+    table.paint(new, range, place, &mut kept);
     (before == back)
         .then_some(())
         .ok_or("the tables as before")?;

@@ -2,14 +2,13 @@
 ghost use Rattle.std.specs.Prelude.{◌≡◌, ◌≤◌, IsTrue};
 ghost use Rattle.gv_types.specs.Page.{PAGES};
 ghost use Rattle.gv_types.specs.Span.{meets, end_of};
-ghost use Rattle.gv_ranges.specs.List.{IsLaidOut};
-ghost use Rattle.gv_table.specs.Levels.{top_level, slot_pages};
-ghost use Rattle.gv_table.specs.Near.{IsNear};
+ghost use Rattle.gv_ranges.specs.List.{IsLaidOut, IsPlaceOf};
+ghost use Rattle.gv_table.specs.Levels.{top_level, slot_pages, entered};
 ghost use Rattle.gv_table.specs.Wanted.{wanted};
 
 use crate::levels::{GREATEST_LEAF_LEVEL, pages_of};
-use crate::near::{Near, met_by};
-use gv_types::{Entry, Mapping};
+use crate::place::met_by;
+use gv_types::{Entry, Mapping, PageRange};
 
 /// What a slot is to hold.
 pub enum Wanted {
@@ -18,16 +17,23 @@ pub enum Wanted {
     Table,
 }
 
-/// What the list wants of a slot that meets the range.
-pub fn slot_wanted(mappings: &[Mapping], near: &Near, level: usize, first: u64) -> Wanted
+/// What the list wants of a slot that meets the range. The place is that of the first mapping which ends past the slot's
+/// first page in the range.
+pub fn slot_wanted(
+    mappings: &[Mapping],
+    range: PageRange,
+    place: usize,
+    level: usize,
+    first: u64,
+) -> Wanted
     requires known { level ≤ top_level }
     requires in_space { end_of (slot_pages level first) ≤ PAGES }
     requires laid_out { IsLaidOut mappings.now }
-    requires near { IsNear mappings.now near.now }
-    requires met { IsTrue (meets (slot_pages level first) near.now.range) }
+    requires place { IsPlaceOf mappings.now (entered range first) place }
+    requires met { IsTrue (meets (slot_pages level first) range) }
     ensures { result ≡ wanted mappings.now level first }
 {
-    let Some(m) = met_by(mappings, near, level, first) else {
+    let Some(m) = met_by(mappings, range, place, level, first) else {
         return Wanted::Nothing;
     };
     let end = first + pages_of(level);

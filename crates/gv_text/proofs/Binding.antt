@@ -1,73 +1,46 @@
 -- An operation is applied to a script's space, or refused.
-use Rattle.std.proofs.Common.{◌≡◌, ℕ, ◌+◌, List, ◌∷◌, ◌++◌, map, length, Bool, true, Option, IsOkUnless, OnOk, OnErr, MatchOption, Result, Ok, Err, refl, sym, ap, ◌∙◌, subst}
+use Rattle.std.proofs.Common.{◌≡◌, ℕ, List, ◌∷◌, ◌++◌, map, length, Bool, true, Option, IsOkUnless, OnOk, OnErr, MatchOption, Result, Ok, Err, sym, ap, ◌∙◌, subst}
 use Rattle.std.proofs.lemmas.Bool.{false≢true}
 use Rattle.std.proofs.lemmas.List.{map-append, length-map}
 use Rattle.std.proofs.lemmas.List.Elements.{All-cons}
-use Rattle.gv_types.specs.Limits.{Caps, greatest}
-use Rattle.gv_types.specs.Bounds.{first_fault}
 use Rattle.gv_types.specs.Operation.{in_pages, range_of}
 use Rattle.gv_types.specs.declared.fault.Fault.{Fault}
 use Rattle.gv_types.specs.declared.fault.Fault.TheVariants.{OutOfMemory}
-use Rattle.gv_types.specs.declared.mapping.Backing.{Backing}
-use Rattle.gv_types.specs.declared.mapping.Backing.TheVariants.{Buffer as BufferPages, Zero as Zeros}
 use Rattle.gv_types.specs.declared.mapping.Mapping.{Mapping}
 use Rattle.gv_types.specs.declared.operation.Op.{Op}
 use Rattle.gv_types.specs.declared.operation.PageOp.{PageOp}
-use Rattle.gv_types.specs.declared.operation.PageOp.TheVariants.{Map as MapPages, Unmap as UnmapPages, UnmapBuffer as UnmapBufferPages}
 use Rattle.gv_ranges.specs.Edit.{edited}
 use Rattle.gv_buffers.specs.Table.{Table}
 use Rattle.gv_space.specs.Counts.{by_count, counted, more_kept}
-use Rattle.gv_space.specs.Refusal.{past_end, first_of, count_met, limit_fault, apply_fault, buffer_fault as fault_in_table, backing_fault as backing_fault_in_table, operation_fault as fault_in_space}
+use Rattle.gv_space.specs.Refusal.{operation_fault, apply_fault}
+use Rattle.gv_space.proofs.RenamingLemmas.{operation_fault-renamed, apply_fault-renamed}
 use Rattle.gv_space.proofs.ByCountLemmas.{pages-by_count, counted_of_counts, more_kept_of_counts}
 use Rattle.gv_text.specs.State.{State, Declared, met, with_bind, count_live}
-use Rattle.gv_text.specs.Renamed.{renamed_mapping, renamed_op, renamed_bytes, renamed_backing, IsBackedOf, IsOperationOf}
+use Rattle.gv_types.specs.Renamed.{renamed_mapping, renamed_op, renamed_bytes, IsOperationOf}
 use Rattle.gv_text.specs.Work.{Work, IsWork, with_room, worked}
 use Rattle.gv_text.specs.Desk.{ids_of, declared, state, IsDeclared, IsDesk}
-use Rattle.gv_text.specs.Answer.{backing_fault, pages_fault, operation_fault, room_fault, bind_fault}
+use Rattle.gv_text.specs.Space.{space_of}
 use Rattle.gv_text.specs.Calls.{IsFaultOf, Binds}
 use Rattle.gv_text.proofs.Places.{Entries}
-use Rattle.gv_text.proofs.Sizes.{size_of-declared, declared-same}
-use Rattle.gv_text.proofs.Renamed.{edited-renamed, range_of-renamed}
-use Rattle.gv_text.proofs.RenamedLists.{length-renamed, met-renamed, count_met-renamed, in_pages-renamed, first_fault-renamed}
-use Rattle.gv_text.proofs.RenamedIds.{AreOf-edited, AreOf-filter, AreOf-append}
+use Rattle.gv_text.proofs.Spaces.{space_renamed}
+use Rattle.gv_text.proofs.Sizes.{declared-same}
+use Rattle.gv_ranges.proofs.RenamingLemmas.{edited-renamed}
+use Rattle.gv_types.proofs.RenamingLemmas.{range_of-renamed}
+use Rattle.gv_types.proofs.RenamingLemmas.{met-renamed, in_pages-renamed}
+use Rattle.gv_ranges.proofs.RenamingLemmas.{AreOf-edited}
+use Rattle.gv_types.proofs.IdLemmas.{AreOf-filter, AreOf-append}
 use Rattle.gv_text.proofs.Faults.{none_from_ok, fault_from_err}
 
--- the buffer behind pages is at fault in both or in neither
-backing_fault-state : (t : Table) (entries : Entries) (b : Backing) (count : ℕ) → IsBackedOf (ids_of entries) b →
-    backing_fault (declared t entries) (renamed_backing b) count ≡ backing_fault_in_table t b count
-backing_fault-state t entries (BufferPages id page) count is = ap (λ (size : Option ℕ). past_end size (page + count)) (size_of-declared t entries id is)
-backing_fault-state t entries Zeros count is = refl
+-- a script's reasons to refuse an operation are the space's
+pub operation_fault-state : (begun : Bool) (w : Work) (entries : Entries) (op : Op) → IsWork w → IsOperationOf (ids_of entries) (in_pages op) →
+    operation_fault (space_of (state begun w entries)) (renamed_bytes op) ≡ operation_fault w.space op
+operation_fault-state begun w entries op work is =
+    operation_fault-renamed (ids_of entries) (space_of (state begun w entries)) w.space op (space_renamed begun w entries work) is
 
-pages_fault-state : (t : Table) (entries : Entries) (p : PageOp) → IsOperationOf (ids_of entries) p → pages_fault (declared t entries) (renamed_op p) ≡ fault_in_table t p
-pages_fault-state t entries (MapPages range backing flags) is = backing_fault-state t entries backing range.count is
-pages_fault-state t entries (UnmapPages range) is = refl
-pages_fault-state t entries (UnmapBufferPages buffer) is = absurd is
-
--- a script's reason to refuse an operation is the space's
-pub operation_fault-state : (begun : Bool) (w : Work) (entries : Entries) (op : Op) → IsOperationOf (ids_of entries) (in_pages op) →
-    operation_fault (state begun w entries) (renamed_bytes op) ≡ fault_in_space w.space op
-operation_fault-state begun w entries op is =
-    ap (λ (o : Option Fault). first_of o (pages_fault (declared w.space.buffers entries) (in_pages (renamed_bytes op)))) (first_fault-renamed w.space.area op)
-    ∙ ap (λ (p : PageOp). first_of (first_fault w.space.area op) (pages_fault (declared w.space.buffers entries) p)) (in_pages-renamed op)
-    ∙ ap (first_of (first_fault w.space.area op)) (pages_fault-state w.space.buffers entries (in_pages op) is)
-
-room_fault-state : (begun : Bool) (w : Work) (entries : Entries) (p : PageOp) → IsWork w →
-    room_fault (state begun w entries) (renamed_op p) ≡ limit_fault w.space (range_of p) (edited w.space.mappings p)
-room_fault-state begun w entries p work =
-    let ms : List Mapping = w.space.mappings in
-    let list : length (edited (map renamed_mapping ms) (renamed_op p)) ≡ length (edited ms p) = ap (λ (xs : List Mapping). length xs) (edited-renamed ms p) ∙ length-renamed (edited ms p) in
-    let held : length (map renamed_mapping w.taken) ≡ w.space.kept_count = length-renamed w.taken ∙ sym work.saved.kept_count in
-    let range : range_of (renamed_op p) ≡ range_of p = range_of-renamed p in
-    let meeting : count_met (map renamed_mapping ms) (range_of (renamed_op p)) ≡ count_met ms (range_of p) = ap (count_met (map renamed_mapping ms)) range ∙ count_met-renamed ms (range_of p) in
-    let limit : w.space.limits.mappings ≡ greatest.mappings = ap (λ (l : Caps). l.mappings) work.limits in
-    rw (list, held, meeting, limit) refl
-
-pub bind_fault-state : (begun : Bool) (w : Work) (entries : Entries) (op : Op) → IsWork w → IsOperationOf (ids_of entries) (in_pages op) →
-    bind_fault (state begun w entries) (renamed_bytes op) ≡ apply_fault w.space op
-bind_fault-state begun w entries op work is =
-    ap (λ (o : Option Fault). first_of o (room_fault (state begun w entries) (in_pages (renamed_bytes op)))) (operation_fault-state begun w entries op is)
-    ∙ ap (λ (p : PageOp). first_of (fault_in_space w.space op) (room_fault (state begun w entries) p)) (in_pages-renamed op)
-    ∙ ap (first_of (fault_in_space w.space op)) (room_fault-state begun w entries (in_pages op) work)
+pub apply_fault-state : (begun : Bool) (w : Work) (entries : Entries) (op : Op) → IsWork w → IsOperationOf (ids_of entries) (in_pages op) →
+    apply_fault (space_of (state begun w entries)) (renamed_bytes op) ≡ apply_fault w.space op
+apply_fault-state begun w entries op work is =
+    apply_fault-renamed (ids_of entries) (space_of (state begun w entries)) w.space op (space_renamed begun w entries work) is
 
 -- a change of the counts leaves the sizes
 sizes_stay : (ms taken : List Mapping) (t : Table) (entries : Entries) → declared (by_count counted ms (by_count more_kept taken t)) entries ≡ declared t entries
@@ -136,7 +109,7 @@ pub binds_ok : {T : Type 0} (begun : Bool) (w new : Work) (entries : Entries) (o
     number ≡ length w.accepted → new ≡ with_room new.space.room (worked w (in_pages op)) →
     Binds (state begun w entries) (renamed_bytes op) (Ok number) (state begun new entries)
 binds_ok begun w new entries op number done work of fault count ok = (
-  bind_fault-state begun w entries op work of ∙ none_from_ok (apply_fault w.space op) done fault,
+  apply_fault-state begun w entries op work of ∙ none_from_ok (apply_fault w.space op) done fault,
   count ∙ sym (length-map w.accepted renamed_op),
   ap (λ (x : Work). state begun x entries) ok ∙ worked-state begun w entries (in_pages op) new.space.room
       ∙ ap (with_bind (state begun w entries)) (sym (in_pages-renamed op)),
@@ -146,6 +119,6 @@ pub binds_err : (T : Type 0) (begun : Bool) (w new : Work) (entries : Entries) (
     MatchOption (apply_fault w.space op) (why ≡ OutOfMemory) (λ fault. ◌≡◌ {A = Result T Fault} (Err why) (Err fault)) →
     new ≡ with_room new.space.room w → Binds (state begun w entries) (renamed_bytes op) (Err why) (state begun new entries)
 binds_err T begun w new entries op why work of fault err = (
-  subst (λ (o : Option Fault). IsFaultOf o why) (sym (bind_fault-state begun w entries op work of)) (fault_from_err T (apply_fault w.space op) why fault),
+  subst (λ (o : Option Fault). IsFaultOf o why) (sym (apply_fault-state begun w entries op work of)) (fault_from_err T (apply_fault w.space op) why fault),
   ap (λ (x : Work). state begun x entries) err,
 )

@@ -1,5 +1,5 @@
 -- A buffer is made for a new name.
-use Rattle.std.proofs.Common.{◌≡◌, ℕ, ◌+◌, List, [], ◌∷◌, ◌++◌, length, length-append, take, drop, take-append-drop, Bool, true, Some, IsOkUnless, MatchOption, Result, Ok, Err, arith, refl, sym, ap, ◌∙◌, subst}
+use Rattle.std.proofs.Common.{◌≡◌, ℕ, ◌+◌, List, [], ◌∷◌, ◌++◌, length, length-append, map, take, drop, take-append-drop, Bool, true, Some, IsOkUnless, MatchOption, Result, Ok, Err, arith, sym, ap, ◌∙◌, subst}
 use Rattle.std.specs.List.{insert}
 use Rattle.std.proofs.lemmas.Bool.{false≢true}
 use Rattle.std.proofs.lemmas.List.{length-map}
@@ -8,23 +8,26 @@ use Rattle.gv_types.specs.declared.fault.Fault.TheVariants.{OutOfMemory}
 use Rattle.gv_types.specs.declared.mapping.BufferId.{BufferId}
 use Rattle.gv_buffers.specs.Table.{Buffer, Table, fresh, create_fault, IsCreated}
 use Rattle.gv_text.specs.State.{State, Declared, count_live}
-use Rattle.gv_text.specs.Renamed.{IsOperationOf, AreOf}
+use Rattle.gv_types.specs.Renamed.{IsOperationOf, AreOf}
 use Rattle.gv_text.specs.Work.{Work, IsWork}
 use Rattle.gv_text.specs.Desk.{ids_of, sized, declared, state, AreNumbered, IsDeclared, IsDesk}
-use Rattle.gv_text.specs.Answer.{buffer_fault}
+use Rattle.gv_text.specs.Space.{table_of}
+use Rattle.gv_types.specs.Renamed.{renamed_mapping}
+use Rattle.gv_buffers.proofs.RenamingLemmas.{create_fault-renamed}
+use Rattle.gv_text.proofs.Spaces.{length-live_from}
 use Rattle.gv_text.specs.Calls.{Declares}
 use Rattle.gv_text.proofs.Places.{Entries, numbered_more, ids_of-more}
 use Rattle.gv_text.proofs.Sizes.{declared-made, count_live-more}
-use Rattle.gv_text.proofs.RenamedIds.{AreOf-more, operations_of-more}
+use Rattle.gv_types.proofs.IdLemmas.{AreOf-more, operations_of-more}
 use Rattle.std.specs.List.{All}
 use Rattle.gv_text.proofs.Faults.{none_from_ok, fault_but_memory}
 
 -- a script's reason to refuse a size is the table's
-pub create_fault-state : (w : Work) (entries : Entries) (size : ℕ) → IsWork w → IsDeclared w entries →
-    create_fault w.space.buffers size ≡ buffer_fault (declared w.space.buffers entries) size
-create_fault-state w entries size work is =
-    let count : length (declared w.space.buffers entries) ≡ length entries = length-map entries (sized w.space.buffers) in
-    rw (work.limit, is.live, is.made, count) refl
+pub create_fault-state : (begun : Bool) (w : Work) (entries : Entries) (size : ℕ) → IsWork w → IsDeclared w entries →
+    create_fault (table_of (state begun w entries)) size ≡ create_fault w.space.buffers size
+create_fault-state begun w entries size work is =
+    create_fault-renamed (table_of (state begun w entries)) w.space.buffers size (sym work.limit) (length-map entries (sized w.space.buffers) ∙ sym is.made)
+    (length-live_from 0 (declared w.space.buffers entries) (map renamed_mapping w.space.mappings) (map renamed_mapping w.taken) ∙ sym is.live)
 
 length-insert : (bs : List Buffer) (place : ℕ) (b : Buffer) → length (insert bs place b) ≡ length bs + 1
 length-insert bs place b =
@@ -71,7 +74,7 @@ pub declares : {T : Type 0} (begun : Bool) (w new : Work) (entries : Entries) (n
 declares begun w new entries name id size done work is fault made rest =
     let sizes : declared new.space.buffers (entries ++ (name, id) ∷ []) ≡ declared w.space.buffers entries ++ (name, Some size) ∷ [] =
     declared-made w.space.buffers new.space.buffers id size entries name made is.declared.numbered is.declared.made in (
-      sym (create_fault-state w entries size work is.declared) ∙ none_from_ok (create_fault w.space.buffers size) id fault,
+      create_fault-state begun w entries size work is.declared ∙ none_from_ok (create_fault w.space.buffers size) id fault,
       ap (λ (x : Work). state begun x (entries ++ (name, id) ∷ [])) rest ∙ ap (λ (bs : Declared). let s : State = record (state begun w entries) { buffers = bs } in s) sizes,
     )
 
@@ -79,4 +82,4 @@ pub refuses : (T : Type 0) (begun : Bool) (w new : Work) (entries : Entries) (na
     MatchOption (create_fault w.space.buffers size) (why ≡ OutOfMemory) (λ fault. ◌≡◌ {A = Result BufferId Fault} (Err why) (Err fault)) →
     new ≡ w → Declares (state begun w entries) name size {T = T} (Err why) (state begun new entries)
 refuses T begun w new entries name size why work is fault same =
-    (λ apart. sym (create_fault-state w entries size work is.declared) ∙ fault_but_memory BufferId (create_fault w.space.buffers size) why fault apart, ap (λ (x : Work). state begun x entries) same)
+    (λ apart. create_fault-state begun w entries size work is.declared ∙ fault_but_memory BufferId (create_fault w.space.buffers size) why fault apart, ap (λ (x : Work). state begun x entries) same)

@@ -3,7 +3,7 @@ use Rattle.std.proofs.Common.{◌≡◌, ℕ, ◌+◌, ◌≤◌, length, List, 
 use Rattle.std.specs.Io.KnownBytes.{Appends, append_known}
 use Rattle.std.proofs.KnownBytes.{Appends-nil}
 use Rattle.gv_lines.specs.Words.{parts}
-use Rattle.gv_lines.proofs.Parts.{parts_some}
+use Rattle.gv_lines.proofs.PartsLemmas.{parts_some}
 use Rattle.gv_text.specs.Reading.{script_limit, AreShort}
 use Rattle.gv_text.specs.State.{State, start}
 use Rattle.gv_text.specs.Answer.{ran}

@@ -16,7 +16,7 @@ use Rattle.gv_ranges.specs.List.{at, IsLaidOut}
 use Rattle.gv_ranges.specs.Edit.{edited}
 use Rattle.gv_ranges.proofs.Kept.{clip_is_piece, HoldsOfPieces, All-edited}
 use Rattle.gv_ranges.proofs.Replaced.{all_mappings}
-use Rattle.gv_split.specs.Steps.{gives_way, step_in, step_of, steps, is_kept}
+use Rattle.gv_split.specs.Steps.{gives_way, step_in, step_of, steps, continues_mapping}
 use Rattle.gv_split.specs.declared.step.Step.TheVariants.{Unmap, Remap, Map}
 use Rattle.gv_text.specs.State.{LieInside, IsHeld}
 use Rattle.gv_text.specs.Reply.{IsHeldRest, IsHeldStep, IsHeldEntry}
@@ -58,7 +58,7 @@ held_rest names low high m is held =
 
 held_in : (names : List (List ℕ)) (op : PageOp) (m : Mapping) → IsMapping m → IsHeld names m → IsHeldStep names (step_in op m)
 held_in names op m is held =
-    (elim (lies_in m.range (range_of op)) as (λ b. IsHeldStep names (cond b (Unmap m (is_kept op m)) (Remap m (clip 0 (range_of op).first m) (clip (end_of (range_of op)) PAGES m) (is_kept op m)))) [
+    (elim (lies_in m.range (range_of op)) as (λ b. IsHeldStep names (cond b (Unmap m (continues_mapping op m)) (Remap m (clip 0 (range_of op).first m) (clip (end_of (range_of op)) PAGES m) (continues_mapping op m)))) [
       | true ↦ held
       | false ↦ (held, held_rest names 0 (range_of op).first m is held, held_rest names (end_of (range_of op)) PAGES m is held)
     ])

@@ -3,15 +3,10 @@ pub mod Held
 pub mod Front
 pub mod Outcomes
 pub mod Ends
-pub mod Renamed
-pub mod RenamedLists
-pub mod RenamedSteps
-pub mod RenamedIds
-pub mod RenamedTables
-pub mod RenamedCounts
 pub mod RenamedReplies
 pub mod Places
 pub mod Sizes
+pub mod Spaces
 pub mod Shown
 pub mod Working
 pub mod Counting

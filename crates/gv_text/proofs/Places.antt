@@ -8,7 +8,7 @@ use Rattle.std.proofs.lemmas.List.{map-append, length-map}
 use Rattle.gv_types.specs.declared.mapping.BufferId.{BufferId}
 use Rattle.gv_buffers.specs.Table.{Table}
 use Rattle.gv_text.specs.State.{Declared, texts, names_of, place_of, id_at}
-use Rattle.gv_text.specs.Renamed.{renamed, IsOf}
+use Rattle.gv_types.specs.Renamed.{renamed, IsOf}
 use Rattle.gv_text.specs.Desk.{ids_of, declared, AreNumberedFrom, AreNumbered}
 use Rattle.gv_types.specs.declared.operation.Op.TheVariants.{Map as MapBytes}
 use Rattle.gv_lines.specs.declared.line.Operation.TheVariants.{Map as MapWords}

@@ -7,7 +7,8 @@ use Rattle.gv_types.specs.declared.mapping.Mapping.{Mapping}
 use Rattle.gv_split.specs.declared.step.Step.{Step}
 use Rattle.gv_split.specs.declared.step.Step.TheVariants.{Unmap, Remap, Map}
 use Rattle.gv_text.specs.Reply.{target_text, mapping_text, rest_text, step_text, lines_reply, place_reply}
-use Rattle.gv_text.specs.Renamed.{renamed_backing, renamed_entry, renamed_mapping, renamed_step}
+use Rattle.gv_types.specs.Renamed.{renamed_backing, renamed_entry, renamed_mapping}
+use Rattle.gv_split.specs.Renamed.{renamed_step}
 
 pub target_text-renamed : (names : List (List ℕ)) (b : Backing) (rest : ℕ) → target_text names (renamed_backing b) rest ≡ target_text names b rest
 target_text-renamed names (Buffer id page) rest = refl

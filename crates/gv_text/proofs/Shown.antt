@@ -7,16 +7,16 @@ use Rattle.gv_types.specs.declared.mapping.Backing.TheVariants.{Buffer as Buffer
 use Rattle.gv_types.specs.declared.mapping.BufferId.{BufferId}
 use Rattle.gv_types.specs.declared.mapping.Mapping.{Mapping}
 use Rattle.gv_buffers.specs.Table.{Table, Buffer, IsBuffer, pages}
-use Rattle.gv_buffers.proofs.Tables.{counted_lives}
+use Rattle.gv_buffers.proofs.FoundLemmas.{counted_lives, found_live}
 use Rattle.gv_space.specs.State.{IsSpace, IsPlaced, LieInside as LieInBuffer}
-use Rattle.gv_space.proofs.TableLemmas.{found_live}
 use Rattle.gv_text.specs.State.{texts, LieInside, IsHeld, IsBound, nothing_mapped}
-use Rattle.gv_text.specs.Renamed.{renamed_mapping, renamed_op, renamed_entry, IsOf, IsBackedOf, AreOf}
+use Rattle.gv_types.specs.Renamed.{renamed_mapping, renamed_op, renamed_entry, IsOf, IsBackedOf, AreOf}
 use Rattle.gv_text.specs.Work.{Work, IsWork}
 use Rattle.gv_text.specs.Desk.{ids_of}
 use Rattle.gv_text.proofs.Places.{Entries}
-use Rattle.gv_text.proofs.Renamed.{at-renamed, view-renamed}
-use Rattle.gv_text.proofs.RenamedLists.{IsLaidOut-renamed}
+use Rattle.gv_ranges.proofs.RenamingLemmas.{at-renamed}
+use Rattle.gv_types.proofs.RenamingLemmas.{view-renamed}
+use Rattle.gv_ranges.proofs.RenamingLemmas.{IsLaidOut-renamed}
 
 named_entry : (o : Option (List ℕ × BufferId)) (id : BufferId) → option_map (λ (e : List ℕ × BufferId). e.1) o ≡ Some id →
     is_some (option_map (λ (e : List ℕ × BufferId). e.0) o) ≡ is_some (Some id)
@@ -34,9 +34,9 @@ lie_inside : (t : Table) (entries : Entries) (b : Backing) (count : ℕ) → All
     LieInside (texts entries) b count
 lie_inside t entries (BufferPages id page) count buffers is inside =
     let found = found_live (IsBuffer t.made) t id buffers (counted_lives t id (λ b. b.pages) (λ size. page + count ≤ size) inside) in
-    let size : pages t id ≡ Some found.b.pages = ap (option_map (λ (b : Buffer). b.pages)) found.found in
-    let within : page + count ≤ found.b.pages = rw size at inside in
-    (has_name entries id is, omega (arith, within, found.holds.few_pages))
+    let size : pages t id ≡ Some found.0.pages = ap (option_map (λ (b : Buffer). b.pages)) found.1 in
+    let within : page + count ≤ found.0.pages = rw size at inside in
+    (has_name entries id is, omega (arith, within, found.2.few_pages))
 lie_inside t entries Zero count buffers is inside = tt
 
 -- placed mappings of declared buffers can be shown

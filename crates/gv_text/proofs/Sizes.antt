@@ -5,9 +5,9 @@ use Rattle.std.proofs.lemmas.Option.{slice_get-map, none-some, same_Some}
 use Rattle.std.proofs.lemmas.List.{map-append}
 use Rattle.gv_types.specs.declared.mapping.BufferId.{BufferId}
 use Rattle.gv_buffers.specs.Table.{Table, Buffer, pages, without, IsCreated}
-use Rattle.gv_buffers.proofs.Found.{made_is_found, others_stay_made, destroyed_is_dead, others_stay_destroyed}
+use Rattle.gv_buffers.proofs.FoundLemmas.{made_is_found, others_stay_made, destroyed_is_dead, others_stay_destroyed}
 use Rattle.gv_text.specs.State.{Declared, size_of, count_live, destroyed}
-use Rattle.gv_text.specs.Renamed.{IsOf}
+use Rattle.gv_types.specs.Renamed.{IsOf}
 use Rattle.gv_text.specs.Desk.{ids_of, sized, declared, AreNumberedFrom}
 use Rattle.gv_text.proofs.Places.{Entries}
 

@@ -10,9 +10,11 @@ use Rattle.gv_split.specs.declared.step.Step.{Step}
 use Rattle.gv_lines.specs.declared.line.Operation.{Operation}
 use Rattle.gv_lines.specs.declared.line.Line.TheVariants.{Bind, Plan}
 use Rattle.gv_text.specs.State.{State, names_of}
-use Rattle.gv_text.specs.Renamed.{renamed_mapping}
+use Rattle.gv_types.specs.Renamed.{renamed_mapping}
 use Rattle.gv_text.specs.Reply.{refused_request, refused_reply, lines_reply, mapping_text, step_text}
-use Rattle.gv_text.specs.Answer.{Told, answer, answer_if, named, bind_fault, operation_fault, map_reply, begun}
+use Rattle.gv_text.specs.Answer.{Told, answer, answer_if, named, map_reply, begun}
+use Rattle.gv_space.specs.Refusal.{operation_fault, apply_fault}
+use Rattle.gv_text.specs.Space.{space_of}
 use Rattle.gv_text.specs.Calls.{AnswersNamed, IsFaultOf, Binds, Plans}
 use Rattle.gv_text.proofs.RenamedReplies.{mapping_lines-renamed, step_lines-renamed}
 
@@ -25,7 +27,7 @@ tells_refused_bind s new operation fault old out answers bytes =
     (lacks : Bool) × Told (answer_if lacks s (Bind operation)) old out new) [
       | None ↦ λ _ none. absurd none
       | Some op ↦ λ named_is refused.
-          (elim (bind_fault s op) as (λ (f : Option Fault). bind_fault s op ≡ f → IsFaultOf f fault → (lacks : Bool) × Told (answer_if lacks s (Bind operation)) old out new) [
+          (elim (apply_fault (space_of s) op) as (λ (f : Option Fault). apply_fault (space_of s) op ≡ f → IsFaultOf f fault → (lacks : Bool) × Told (answer_if lacks s (Bind operation)) old out new) [
             | None ↦ λ no_fault is. (true, rw (named_is, no_fault) (rw is at bytes, refused.1))
             | Some first ↦ λ first_is is. (false, rw (named_is, first_is) (rw is at bytes, refused.1))
           ]) refl refused.0
@@ -40,7 +42,7 @@ tells_refused_plan s operation fault old out answers apart bytes =
     Told (answer s (Plan operation)) old out (begun s)) [
       | None ↦ λ _ none. absurd none
       | Some op ↦ λ named_is refused.
-          (elim (operation_fault s op) as (λ (f : Option Fault). operation_fault s op ≡ f → IsFaultOf f fault → Told (answer s (Plan operation)) old out (begun s)) [
+          (elim (operation_fault (space_of s) op) as (λ (f : Option Fault). operation_fault (space_of s) op ≡ f → IsFaultOf f fault → Told (answer s (Plan operation)) old out (begun s)) [
             | None ↦ λ _ is. absurd (apart is)
             | Some first ↦ λ first_is is. rw (named_is, first_is) (rw is at bytes, refl)
           ]) refl refused

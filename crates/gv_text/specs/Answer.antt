@@ -1,33 +1,27 @@
 -- What a line of a script does: its reply, and the state after it.
-use Rattle.std.specs.Prelude.{◌≡◌, ℕ, ◌+◌, ◌/◌, ◌%◌, Bool, true, false, ◌&&◌, ◌||◌, ◌==◌, nat_lt, nat_le, if◌then◌else◌, is_some, List, [], ◌∷◌, ◌++◌, length, Option, Some, None, option_map, option_and_then, IsSomeAnd, String, string_bytes}
+use Rattle.std.specs.Prelude.{◌≡◌, ℕ, ◌/◌, ◌%◌, Bool, true, false, if◌then◌else◌, is_some, List, [], ◌∷◌, ◌++◌, length, Option, Some, None, option_map, option_and_then, IsSomeAnd, String, string_bytes}
 use Rattle.std.specs.declared.alloc.Global.{Global}
-use Rattle.gv_types.specs.Page.{bytes_per_page, pages_per_buffer}
-use Rattle.gv_types.specs.Bounds.{Area, area, first_fault, is_aligned}
-use Rattle.gv_types.specs.Limits.{greatest}
-use Rattle.gv_types.specs.Operation.{pages, in_pages, range_of}
+use Rattle.gv_types.specs.Page.{bytes_per_page}
+use Rattle.gv_types.specs.Bounds.{Area, byte_area}
+use Rattle.gv_types.specs.Operation.{in_pages}
 use Rattle.gv_types.specs.declared.fault.Fault.{Fault}
-use Rattle.gv_types.specs.declared.fault.Fault.TheVariants.{NoBuffer, BadSize, TooManyBuffers, Mapped, Kept, TooManyMappings, OutOfMemory}
-use Rattle.gv_types.specs.declared.mapping.Backing.{Backing}
-use Rattle.gv_types.specs.declared.mapping.Backing.TheVariants.{Buffer as BufferPages, Zero as Zeros}
+use Rattle.gv_types.specs.declared.fault.Fault.TheVariants.{NoBuffer, OutOfMemory}
 use Rattle.gv_types.specs.declared.mapping.Flags.{Flags}
 use Rattle.gv_types.specs.declared.operation.Op.{Op}
 use Rattle.gv_types.specs.declared.operation.Op.TheVariants.{Map as MapBytes, MapZero, Unmap as UnmapBytes}
 use Rattle.gv_types.specs.declared.operation.PageOp.{PageOp}
-use Rattle.gv_types.specs.declared.operation.PageOp.TheVariants.{Map as MapPages, Unmap as UnmapPages, UnmapBuffer as UnmapBufferPages}
 use Rattle.gv_ranges.specs.List.{at}
-use Rattle.gv_ranges.specs.Edit.{edited}
 use Rattle.gv_split.specs.Steps.{steps}
-use Rattle.gv_buffers.specs.Table.{most_made}
+use Rattle.gv_buffers.specs.Table.{Buffer as LiveBuffer, buffer, create_fault, destroy_fault}
 use Rattle.gv_table.specs.Table.{tables_of}
-use Rattle.gv_space.specs.Counts.{count_of}
-use Rattle.gv_space.specs.State.{most_kept}
-use Rattle.gv_space.specs.Refusal.{first_of, past_end, count_met}
+use Rattle.gv_space.specs.Refusal.{operation_fault, apply_fault}
 use Rattle.gv_lines.specs.Grammar.{parsed}
 use Rattle.gv_lines.specs.declared.line.Operation.{Operation}
 use Rattle.gv_lines.specs.declared.line.Operation.TheVariants.{Map as MapWords, Zero as ZeroWords, Unmap as UnmapWords}
 use Rattle.gv_lines.specs.declared.line.Line.{Line}
 use Rattle.gv_lines.specs.declared.line.Line.TheVariants.{Silent, Space, Buffer, Destroy, Uses, Bind, Plan, Map, At, Tables}
-use Rattle.gv_text.specs.State.{State, Declared, names_of, place_of, id_at, size_of, count_live, destroyed, with_bind}
+use Rattle.gv_text.specs.State.{State, Declared, names_of, place_of, id_at, destroyed, with_bind}
+use Rattle.gv_text.specs.Space.{table_of, space_of}
 use Rattle.gv_text.specs.Reply.{ok_reply, accepted_reply, refused_request, refused_reply, place_reply, uses_reply, tables_reply, lines_reply, mapping_text, step_text}
 
 abbrev pub flags_of : Bool → Flags
@@ -40,66 +34,13 @@ named buffers (MapWords addr len buffer offset read_only) =
 named buffers (ZeroWords addr len read_only) = Some (MapZero addr len (flags_of read_only))
 named buffers (UnmapWords addr len) = Some (UnmapBytes addr len)
 
--- why these pages can't stand behind a mapping: their buffer is destroyed, or they are past its end
-abbrev pub backing_fault : Declared → Backing → ℕ → Option Fault
-backing_fault buffers (BufferPages id page) count = past_end (size_of buffers id.generation) (page + count)
-backing_fault buffers Zeros count = None
+-- how many mappings of a buffer are in the list, and how many in undo values
+abbrev pub counts_of : LiveBuffer → ℕ × ℕ
+counts_of b = (b.uses, b.kept)
 
-abbrev pub pages_fault : Declared → PageOp → Option Fault
-pages_fault buffers (MapPages range backing flags) = backing_fault buffers backing range.count
-pages_fault buffers (UnmapPages range) = None
-pages_fault buffers (UnmapBufferPages buffer) = None
-
--- the first fault of an operation: those of `check` in their order, then of its buffer
-abbrev pub operation_fault : State → Op → Option Fault
-operation_fault s op = first_of (first_fault s.area op) (pages_fault s.buffers (in_pages op))
-
--- why an operation can't change the list: the list would be too long, or undo values would hold too much
-abbrev pub room_fault : State → PageOp → Option Fault
-room_fault s op =
-    if nat_lt greatest.mappings (length (edited s.bound.mappings op))
-    || nat_lt most_kept (length s.taken + count_met s.bound.mappings (range_of op))
-    then Some TooManyMappings
-    else None
-
--- why a request to change the list is refused, where memory suffices
-abbrev pub bind_fault : State → Op → Option Fault
-bind_fault s op = first_of (operation_fault s op) (room_fault s (in_pages op))
-
--- why a buffer of this size is refused
-abbrev pub buffer_fault : Declared → ℕ → Option Fault
-buffer_fault buffers size =
-    if (size == 0) || nat_lt pages_per_buffer size then Some BadSize
-    else if nat_le greatest.buffers (count_live buffers) || nat_le most_made (length buffers) then Some TooManyBuffers
-    else None
-
--- how many mappings of the buffer at a place are in the list, and how many in undo values, unless it is destroyed
+-- those of the buffer at a place, unless it is destroyed
 abbrev pub uses_at : State → ℕ → Option (ℕ × ℕ)
-uses_at s place =
-    option_map (λ size. (count_of (id_at place) s.bound.mappings, count_of (id_at place) s.taken)) (size_of s.buffers place)
-
--- mappings in the list name the buffer, or else mappings in undo values do
-abbrev pub use_fault : ℕ × ℕ → Option Fault
-use_fault counts =
-    if nat_lt 0 counts.0 then Some (Mapped counts.0)
-    else if nat_lt 0 counts.1 then Some (Kept counts.1)
-    else None
-
--- why a buffer can't be destroyed, by its uses
-abbrev pub destroy_fault_of : Option (ℕ × ℕ) → Option Fault
-destroy_fault_of None = Some NoBuffer
-destroy_fault_of (Some counts) = use_fault counts
-
--- why the buffer at a place can't be destroyed
-abbrev pub destroy_fault : State → ℕ → Option Fault
-destroy_fault s place = destroy_fault_of (uses_at s place)
-
--- the bounds that a line in bytes asks for; none where a number is no multiple of a page, or there are no such bounds
-abbrev pub asked_area : ℕ → ℕ → ℕ → ℕ → Option Area
-asked_area start len reserved_start reserved_len =
-    if is_aligned start && is_aligned len && is_aligned reserved_start && is_aligned reserved_len
-    then area (pages start) (pages len) (pages reserved_start) (pages reserved_len)
-    else None
+uses_at s place = option_map counts_of (buffer (table_of s) (id_at place))
 
 -- a line has run that is neither empty nor a comment
 abbrev pub begun : State → State
@@ -152,16 +93,16 @@ at_reply s addr = place_reply (names_of s.buffers) (addr % bytes_per_page) (at s
 abbrev pub answer : State → Line → Option (List ℕ × State)
 answer s Silent = Some ([], s)
 answer s (Space start len reserved_start reserved_len) =
-    space_told s (asked_area start len reserved_start reserved_len)
+    space_told s (byte_area start len reserved_start reserved_len)
 answer s (Buffer name size) =
     if is_some (place_of s.buffers name) then None
-    else Some (buffer_answer s name size (buffer_fault s.buffers size))
-answer s (Destroy name) = option_map (λ place. destroy_answer s place (destroy_fault s place)) (place_of s.buffers name)
+    else Some (buffer_answer s name size (create_fault (table_of s) size))
+answer s (Destroy name) = option_map (λ place. destroy_answer s place (destroy_fault (table_of s) (id_at place))) (place_of s.buffers name)
 answer s (Uses name) = option_map (λ place. (counts_reply (uses_at s place), begun s)) (place_of s.buffers name)
 answer s (Bind operation) =
-    option_map (λ op. bind_answer s (in_pages op) (bind_fault s op)) (named s.buffers operation)
+    option_map (λ op. bind_answer s (in_pages op) (apply_fault (space_of s) op)) (named s.buffers operation)
 answer s (Plan operation) =
-    option_map (λ op. (plan_reply s (in_pages op) (operation_fault s op), begun s)) (named s.buffers operation)
+    option_map (λ op. (plan_reply s (in_pages op) (operation_fault (space_of s) op), begun s)) (named s.buffers operation)
 answer s Map = Some (map_reply s, begun s)
 answer s (At addr) = Some (at_reply s addr, begun s)
 answer s Tables = Some (tables_reply (tables_of s.bound.mappings), begun s)
@@ -178,7 +119,7 @@ lacking s (Space start len reserved_start reserved_len) = None
 lacking s (Buffer name size) = None
 lacking s (Destroy name) = None
 lacking s (Uses name) = None
-lacking s (Bind operation) = option_and_then (λ op. lacking_bind s (bind_fault s op)) (named s.buffers operation)
+lacking s (Bind operation) = option_and_then (λ op. lacking_bind s (apply_fault (space_of s) op)) (named s.buffers operation)
 lacking s (Plan operation) = None
 lacking s Map = None
 lacking s (At addr) = None

@@ -5,7 +5,7 @@ use Rattle.gv_types.specs.Bounds.{whole_area}
 use Rattle.gv_types.specs.declared.mapping.BufferId.{BufferId}
 use Rattle.gv_buffers.specs.Table.{Table, pages}
 use Rattle.gv_text.specs.State.{State, Declared, count_live}
-use Rattle.gv_text.specs.Renamed.{renamed_mapping, renamed_op, AreOf, IsOperationOf}
+use Rattle.gv_types.specs.Renamed.{renamed_mapping, renamed_op, AreOf, IsOperationOf}
 use Rattle.gv_text.specs.Work.{Work, new_work}
 use Rattle.gv_text.specs.declared.desk.Desk.TheInside.{Inside}
 

@@ -1,5 +1,5 @@
 pub mod State
-pub mod Renamed
+pub mod Space
 pub mod Reply
 pub mod Answer
 pub mod Calls

@@ -1,8 +1,8 @@
 //! What stands between two lines of a script.
-ghost use Rattle.std.specs.Prelude.{◌≡◌, true, false, IfOk, OnOk, MatchOption, IfSome, IsSome, None, map, option_map};
-ghost use Rattle.gv_types.specs.Operation.{in_pages};
+ghost use Rattle.std.specs.Prelude.{◌≡◌, true, false, IfOk, OnOk, MatchOption, IfSome, IsSome, IsTrue, None, map, option_map};
+ghost use Rattle.gv_types.specs.Operation.{has_range, in_pages};
 ghost use Rattle.gv_text.specs.State.{Declared, texts, place_of, names_of};
-ghost use Rattle.gv_text.specs.Renamed.{renamed_bytes, IsOperationOf};
+ghost use Rattle.gv_types.specs.Renamed.{renamed_bytes, IsOperationOf};
 ghost use Rattle.gv_text.specs.Desk.{ids_of, AreNumbered};
 ghost use Rattle.gv_text.specs.Answer.{named};
 
@@ -38,7 +38,7 @@ impl Desk {
     ghost use Rattle.gv_ranges.specs.List.{at};
     ghost use Rattle.gv_table.specs.Table.{tables_of};
     ghost use Rattle.gv_text.specs.State.{start, IsHeld, IsBound};
-    ghost use Rattle.gv_text.specs.Renamed.{renamed_mapping, renamed_entry};
+    ghost use Rattle.gv_types.specs.Renamed.{renamed_mapping, renamed_entry};
     ghost use Rattle.gv_text.specs.Reply.{IsHeldEntry};
     ghost use Rattle.gv_text.specs.Answer.{begun, uses_at};
     ghost use Rattle.gv_text.specs.Calls.{AnswersNamed, Declares, Destroys, Binds, Plans};
@@ -204,6 +204,7 @@ fn named(names: &Names, operation: &Operation) -> Option<Op>
     ensures value { (buffers : Declared) → names_of buffers ≡ texts names.now.entries →
         option_map renamed_bytes result ≡ named buffers operation.now }
     ensures declared { IfSome result (λ op. IsOperationOf (ids_of names.now.entries) (in_pages op)) }
+    ensures ranged { IfSome result (λ op. IsTrue (has_range op)) }
 {
     match operation {
         Operation::Map {

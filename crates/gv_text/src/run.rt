@@ -1,7 +1,6 @@
 //! What the lines of a script do.
-ghost use Rattle.std.specs.Prelude.{◌≡◌, ◌&&◌, Bool, false, None, IsSome, OnOk};
-ghost use Rattle.gv_types.specs.Bounds.{is_aligned};
-ghost use Rattle.gv_text.specs.Answer.{Told, answer, answer_if, ran, asked_area, space_told};
+ghost use Rattle.std.specs.Prelude.{◌≡◌, Bool, false, None, IsSome, OnOk};
+ghost use Rattle.gv_text.specs.Answer.{Told, answer, answer_if, ran, space_told};
 ghost use Rattle.gv_text.specs.declared.run.LineFault.TheVariants as line_fault;
 
 use crate::desk::Desk;
@@ -70,7 +69,7 @@ fn run(alloc: Global, desk: &mut Desk, line: Line, out: &mut String) -> Result<(
             reserved_start,
             reserved_len,
         } => {
-            let bounds = asked_bounds(start, len, reserved_start, reserved_len);
+            let bounds = Bounds::from_bytes(start, len, reserved_start, reserved_len);
             space(alloc, desk, bounds, out)
         }
         Line::Buffer { name, pages } => buffer(alloc, desk, name, pages, out),
@@ -224,29 +223,4 @@ fn tables(desk: &mut Desk, out: &mut String) -> Result<(), LineFault>
     desk.begin();
     let [four, three, two, one, zero] = desk.tables();
     Ok(write_tables(out, four, three, two, one, zero)?)
-}
-
-/// The bounds in bytes. None where a number is no multiple of a page, or there are no such bounds.
-fn asked_bounds(start: u64, len: u64, reserved_start: u64, reserved_len: u64) -> Option<Bounds>
-    ensures { result ≡ asked_area start len reserved_start reserved_len }
-{
-    let aligned = is_aligned(start)
-        && is_aligned(len)
-        && is_aligned(reserved_start)
-        && is_aligned(reserved_len);
-    if !aligned {
-        return None;
-    }
-    Bounds::new(
-        start / PAGE_BYTES,
-        len / PAGE_BYTES,
-        reserved_start / PAGE_BYTES,
-        reserved_len / PAGE_BYTES,
-    )
-}
-
-fn is_aligned(bytes: u64) -> bool
-    ensures { result ≡ is_aligned bytes }
-{
-    bytes % PAGE_BYTES == 0
 }

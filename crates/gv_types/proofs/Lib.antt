@@ -1,1 +1,3 @@
 pub mod OperationLemmas
+pub mod RenamingLemmas
+pub mod IdLemmas

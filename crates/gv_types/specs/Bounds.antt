@@ -2,7 +2,7 @@
 use Rattle.std.specs.Prelude.{◌≡◌, ℕ, ◌%◌, Bool, true, false, not, ◌&&◌, ◌==◌, if◌then◌else◌, Option, Some, None, Result, Ok, Err}
 use Rattle.gv_types.specs.Page.{PAGES, bytes_per_page}
 use Rattle.gv_types.specs.Span.{Span, span, meets, lies_in, is_in_space}
-use Rattle.gv_types.specs.Operation.{addr_of, len_of, offset_of, has_range, in_pages, range_of}
+use Rattle.gv_types.specs.Operation.{pages, addr_of, len_of, offset_of, has_range, in_pages, range_of}
 use Rattle.gv_types.specs.declared.fault.Fault.{Fault}
 use Rattle.gv_types.specs.declared.fault.Fault.TheVariants.{Unaligned, Empty, OutOfSpace, Reserved}
 use Rattle.gv_types.specs.declared.operation.Op.{Op}
@@ -36,6 +36,13 @@ meets_region (Some region) s = meets s region
 -- a number of bytes that is a number of pages
 abbrev pub is_aligned : ℕ → Bool
 is_aligned bytes = bytes % bytes_per_page == 0
+
+-- the space of `len` bytes from `start` on with a region reserved, where each number is a number of pages
+abbrev pub byte_area : ℕ → ℕ → ℕ → ℕ → Option Area
+byte_area start len reserved_start reserved_len =
+    if is_aligned start && is_aligned len && is_aligned reserved_start && is_aligned reserved_len
+    then area (pages start) (pages len) (pages reserved_start) (pages reserved_len)
+    else None
 
 -- the first fault of an operation, in their order; an unmap of a whole buffer names no pages, and has none
 abbrev pub first_fault : Area → Op → Option Fault

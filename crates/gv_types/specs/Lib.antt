@@ -7,3 +7,4 @@ pub mod Fault
 pub mod Bounds
 pub mod Limits
 pub mod Request
+pub mod Renamed

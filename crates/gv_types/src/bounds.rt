@@ -2,7 +2,7 @@
 ghost use Rattle.std.specs.Prelude.{◌≡◌, ◌&&◌, IfOk, IsTrue};
 ghost use Rattle.gv_types.specs.Operation.{addr_of, len_of, offset_of, has_range, in_pages};
 ghost use Rattle.gv_types.specs.Operation.{range_of, IsPageOp, IsChecked};
-ghost use Rattle.gv_types.specs.Bounds.{area, whole_area, checked, IsAllowed, LieInArea, is_aligned, meets_region};
+ghost use Rattle.gv_types.specs.Bounds.{area, byte_area, whole_area, checked, IsAllowed, LieInArea, is_aligned, meets_region};
 
 use crate::fault::Fault;
 use crate::operation::{Op, PAGE_BYTES, PageOp};
@@ -28,6 +28,31 @@ impl Model for Bounds {
 }
 
 impl Bounds {
+    /// The space of `len` bytes from the byte `start` on, with a region of bytes reserved. None where a number is no
+    /// multiple of 4,096, or there are no such bounds in pages.
+    pub fn from_bytes(
+        start: u64,
+        len: u64,
+        reserved_start: u64,
+        reserved_len: u64,
+    ) -> Option<Bounds>
+        ensures { result ≡ byte_area start len reserved_start reserved_len }
+    {
+        if !is_whole_pages(start)
+            || !is_whole_pages(len)
+            || !is_whole_pages(reserved_start)
+            || !is_whole_pages(reserved_len)
+        {
+            return None;
+        }
+        Bounds::new(
+            start / PAGE_BYTES,
+            len / PAGE_BYTES,
+            reserved_start / PAGE_BYTES,
+            reserved_len / PAGE_BYTES,
+        )
+    }
+
     /// The space of `count` pages from the page `first` on, with a region of pages reserved. None unless the space
     /// is a range of pages and the region is empty or lies in it.
     pub fn new(first: u64, count: u64, reserved_first: u64, reserved_count: u64) -> Option<Bounds>
@@ -117,5 +142,12 @@ impl Bounds {
 fn is_aligned(op: &Op) -> bool
     ensures { result ≡ (is_aligned (addr_of op.now) && is_aligned (len_of op.now) && is_aligned (offset_of op.now)) }
 {
-    op.addr() % PAGE_BYTES == 0 && op.len() % PAGE_BYTES == 0 && op.offset() % PAGE_BYTES == 0
+    is_whole_pages(op.addr()) && is_whole_pages(op.len()) && is_whole_pages(op.offset())
+}
+
+/// Whether a number of bytes is a number of pages.
+fn is_whole_pages(bytes: u64) -> bool
+    ensures { result ≡ is_aligned bytes }
+{
+    bytes % PAGE_BYTES == 0
 }

@@ -15,7 +15,7 @@ ghost use Rattle.gv_space.specs.Ready.{IsMeeting, IsReady};
 use super::{MAX_KEPT, Space};
 use crate::counts;
 use crate::meeting::Meeting;
-use crate::pieces::{Pieces, clip_to_range, count_in_range, with_rests};
+use crate::pieces::{Pieces, between_rests, count_in_range, with_rests};
 use crate::undo::OpUndo;
 use crate::refusal::check_buffer;
 use gv_table::Spares;
@@ -82,12 +82,13 @@ impl Space {
         let place = meeting.place;
         let run = &self.mappings()[place..place + meeting.count];
         let taken = SmallVec::from_slice(alloc, run)?;
-        let inside = clip_to_range(alloc, saved, range)?;
-        let pieces = with_rests(alloc, &meeting, inside.as_slice())?;
-        let spares = self.painted.spare(alloc, range, inside.as_slice())?;
+        let pieces = with_rests(alloc, &meeting, saved, range)?;
+        let pieces = pieces.as_slice();
+        let inside = between_rests(&meeting, pieces);
+        let spares = self.painted.spare(alloc, range, inside)?;
         self.painted
             .reserve(pieces.len().saturating_sub(taken.len()))?;
-        Ok(self.commit(range, place, taken, pieces.as_slice(), spares))
+        Ok(self.commit(range, place, taken, pieces, spares))
     }
 
     /// The change, for which all room is there.

@@ -1,4 +1,4 @@
-use Rattle.gv_buffers.proofs.Found.{made_is_found, others_stay_made, dead_stays_dead, destroyed_is_dead, others_stay_destroyed, changed_is_found, left_is_found}
+use Rattle.gv_buffers.proofs.FoundLemmas.{made_is_found, others_stay_made, dead_stays_dead, destroyed_is_dead, others_stay_destroyed, changed_is_found, left_is_found}
 use Rattle.gv_buffers.proofs.laws.lookups.Goals as goal
 
 pub returns : goal.returns

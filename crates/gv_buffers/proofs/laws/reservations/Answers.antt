@@ -1,4 +1,4 @@
-use Rattle.gv_buffers.proofs.Found.{no_two_jobs}
+use Rattle.gv_buffers.proofs.FoundLemmas.{no_two_jobs}
 use Rattle.gv_buffers.proofs.laws.reservations.Goals as goal
 
 pub returns : goal.returns

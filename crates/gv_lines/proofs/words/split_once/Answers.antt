@@ -1,6 +1,6 @@
 use Rattle.std.proofs.Common.{◌+◌, ◌-◌, length, drop, arith, sym}
 use Rattle.std.proofs.lemmas.List.{take_all, length-drop}
-use Rattle.gv_lines.proofs.Parts.{cut_none, cut_some}
+use Rattle.gv_lines.proofs.PartsLemmas.{cut_none, cut_some}
 use Rattle.gv_lines.proofs.words.split_once.Goals as goal
 
 pub returns-in_err-at-clause-parts : goal.returns-in_err-at-clause-parts

@@ -3,7 +3,7 @@ use Rattle.std.proofs.lemmas.List.{take_all}
 use Rattle.gv_types.specs.Span.{end_of}
 use Rattle.gv_types.specs.declared.mapping.Mapping.{Mapping}
 use Rattle.gv_ranges.proofs.Parts.{All-take_at, All-drop_at}
-use Rattle.gv_ranges.proofs.Lookup.{at_none, at_gap, at_found, is_mapping}
+use Rattle.gv_ranges.proofs.Lookup.{at_past, at_none, at_gap, at_found, is_mapping}
 use Rattle.gv_ranges.proofs.search.entry_at.Goals as goal
 
 pub returns-then-place-mappings : goal.returns-then-place-mappings
@@ -30,3 +30,6 @@ returns c =
     (λ k less. All-take_at (λ (m : Mapping). end_of m.range ≤ c.args.page) _ _ k _ c.count_ended-place.ensures.within c.count_ended-place.ensures.ended less) begun
     (All-drop_at (λ (m : Mapping). c.args.page < end_of m.range) c.args.mappings.now c.count_ended-place.result c.index-mappings-place.result (omega arith) c.count_ended-place.ensures.not_ended) in
     rw c.part.ensures (sym (rw (← c.index-mappings-place.is) at found))
+
+pub returns-then-page-ge-SPACE_PAGES : goal.returns-then-page-ge-SPACE_PAGES
+returns-then-page-ge-SPACE_PAGES c = sym (at_past c.args.mappings.now 0 c.args.page c.requires c.if-page-ge-SPACE_PAGES.true)

@@ -3,15 +3,17 @@ use Rattle.std.proofs.lemmas.List.{get_or_default}
 use Rattle.gv_types.specs.Span.{span, meets}
 use Rattle.gv_table.specs.declared.slot.Slot.{Slot}
 use Rattle.gv_table.specs.declared.slot.Slot.TheVariants.{Empty}
-use Rattle.gv_table.specs.Levels.{pages_of, slot_pages}
+use Rattle.gv_ranges.specs.List.{IsPlaceOf}
+use Rattle.gv_table.specs.Levels.{pages_of, slot_pages, entered}
 use Rattle.gv_table.specs.Wanted.{is_divided}
 use Rattle.gv_table.specs.Tree.{IsTreeOf, IsTreeOutside, is_table, child}
 use Rattle.gv_table.specs.Counts.{gained, lost, one_if_not, one_if_new, tables_at, count_at, IsPartOf}
 use Rattle.gv_table.proofs.Counts.{gained-parts, lost-parts, gained-same, lost-same, tables_at-other, tables_at-same}
 use Rattle.gv_table.proofs.Fewness.{row_lost-few}
 use Rattle.gv_table.proofs.Matches.{lost-whole, gained-none}
-use Rattle.gv_table.proofs.PagesOf.{pages_of-below, part-within}
+use Rattle.gv_table.proofs.PagesOf.{pages_of-below, part-within, one-more-part}
 use Rattle.gv_table.proofs.Painted.{painted-below, painted-above, painted-gained, painted-lost, row-tree, row_gained-zero, row_lost-zero}
+use Rattle.gv_table.proofs.Places.{ended-later, place-ended}
 use Rattle.gv_table.proofs.Rows.{row-other, row-here}
 use Rattle.gv_table.proofs.Slots.{is_table-Empty, is_table-leaf}
 use Rattle.gv_table.proofs.Tallies.{divided-row, divided-counted, row-part, row-counted}
@@ -23,10 +25,11 @@ use Rattle.gv_table.proofs.paint.+paint.Goals as goal
 
 pub paint_row-loop-index-init : goal.paint_row-loop-index-init
 paint_row-loop-index-init t c = record {
+  place = ended-later c.args.mappings.now (entered c.args.range c.args.first) _ c.args.place (omega arith) c.requires.place;
   painted = λ k below.
       let fits = part-within k (512 * pages_of c.args.level) (pages_of c.args.level) (omega (arith, c.slots_met-low.ensures.ordered, c.slots_met-low.ensures.within)) refl in
-      let apart = meets-before (slot_pages c.args.level (c.args.first + k * pages_of c.args.level)) c.args.near.now.range (c.slots_met-low.ensures.before k below) in
-      outside-apart c.args.mappings.now c.args.near.now.range c.args.level (c.args.first + k * pages_of c.args.level) (slice_index_or c.args.slots.now k Empty)
+      let apart = meets-before (slot_pages c.args.level (c.args.first + k * pages_of c.args.level)) c.args.range (c.slots_met-low.ensures.before k below) in
+      outside-apart c.args.mappings.now c.args.range c.args.level (c.args.first + k * pages_of c.args.level) (slice_index_or c.args.slots.now k Empty)
       c.requires.laid_out (c.requires.outside k (omega (arith, c.slots_met-low.ensures.ordered, c.slots_met-low.ensures.within)))
       (omega (arith, fits, c.requires.in_space)) apart;
   untouched = λ k above. refl;
@@ -49,6 +52,8 @@ paint_row-paint_slot-lost-requires t c =
     let slot : slice_index_or c.loop-index.slots c.loop-index.index c.index-slots-index.result ≡ slice_index_or c.loop-index.slots c.loop-index.index Empty =
     get_or_default c.loop-index.slots c.loop-index.index c.index-slots-index.result Empty within in
     let read = slot ∙ c.loop-index.invariant.untouched c.loop-index.index (omega arith) in
+    let page : c.max.result ≡ entered c.args.range (c.args.first + c.loop-index.index * c.pages_of-pages.result) = omega arith in
+    let place-at = subst (λ (n : ℕ). IsPlaceOf c.args.mappings.now n c.advance-place.result) page c.advance-place.ensures in
     let g = λ (k : ℕ). gained c.args.mappings.now c.args.level (c.args.first + k * pages_of c.args.level) (slice_index_or c.loop-index.slots k Empty) in
     let part = sum_below-at 512 g c.loop-index.index below in
     let here : gained c.args.mappings.now c.args.level (c.args.first + c.loop-index.index * c.pages_of-pages.result) (slice_index_or c.loop-index.slots c.loop-index.index c.index-slots-index.result) ≡ g c.loop-index.index =
@@ -62,12 +67,12 @@ paint_row-paint_slot-lost-requires t c =
           (
             c.requires.laid_out,
             (
-              c.requires.near,
+              place-at,
               (
-                subst (λ (n : ℕ). meets (slot_pages c.args.level n) c.args.near.now.range ≡ true) (sym start) (c.slots_met-low.ensures.met c.loop-index.index from c.loop-index-test.true),
+                subst (λ (n : ℕ). meets (slot_pages c.args.level n) c.args.range ≡ true) (sym start) (c.slots_met-low.ensures.met c.loop-index.index from c.loop-index-test.true),
                 (
-                  subst (λ (n : ℕ). IsTreeOutside c.args.mappings.now c.args.near.now.range c.args.level n (slice_index_or c.loop-index.slots c.loop-index.index c.index-slots-index.result)) (sym start)
-                      (subst (λ (s : Slot). IsTreeOutside c.args.mappings.now c.args.near.now.range c.args.level (c.args.first + c.loop-index.index * pages_of c.args.level) s) (sym read)
+                  subst (λ (n : ℕ). IsTreeOutside c.args.mappings.now c.args.range c.args.level n (slice_index_or c.loop-index.slots c.loop-index.index c.index-slots-index.result)) (sym start)
+                      (subst (λ (s : Slot). IsTreeOutside c.args.mappings.now c.args.range c.args.level (c.args.first + c.loop-index.index * pages_of c.args.level) s) (sym read)
                       (c.requires.outside c.loop-index.index below)),
                   (
                     omega (arith, here, part, c.loop-index.invariant.enough),
@@ -105,7 +110,9 @@ paint_row-loop-index-preserved t c =
     let l2 = ap (λ (n : ℕ). lost ms c.args.level n (slice_index_or row i Empty)) start in
     let g = painted-gained ms c.args.level c.args.first i c.args.slots.now row after same inv.untouched c.requires.laid_out here below in
     let l = painted-lost ms c.args.level c.args.first i c.args.slots.now row after same inv.untouched c.requires.laid_out here below in
+    let next = one-more-part c.loop-index.index (pages_of c.args.level) in
     record {
+      place = place-ended ms c.max.result _ c.advance-place.result (omega (arith, start, next)) c.advance-place.ensures;
       painted = painted-below ms c.args.level c.args.first i c.args.slots.now row after same inv.untouched c.requires.laid_out here inv.painted;
       untouched = painted-above ms c.args.level c.args.first i c.args.slots.now row after same inv.untouched c.requires.laid_out here;
       enough = omega (arith, g1, g2, l1, l2, g, l, inv.enough, c.paint_slot-lost.ensures.exchanged);
@@ -137,13 +144,13 @@ paint_row-overflow_add-lost t c =
 
 pub paint_row-returns-clause-tree : goal.paint_row-returns-clause-tree
 paint_row-returns-clause-tree t c =
-    row-tree c.args.mappings.now c.args.near.now.range c.args.level c.args.first c.loop-index.index c.args.slots.now c.loop-index.slots c.requires.laid_out c.requires.in_space
+    row-tree c.args.mappings.now c.args.range c.args.level c.args.first c.loop-index.index c.args.slots.now c.loop-index.slots c.requires.laid_out c.requires.in_space
     c.loop-index.invariant.painted c.loop-index.invariant.untouched c.requires.outside
     (λ k from below. c.slots_met-low.ensures.behind k (omega (arith, c.loop-index-test.false)) below)
 
 pub paint_row-returns-clause-lost : goal.paint_row-returns-clause-lost
 paint_row-returns-clause-lost t c =
-    let tree = row-tree c.args.mappings.now c.args.near.now.range c.args.level c.args.first c.loop-index.index c.args.slots.now c.loop-index.slots c.requires.laid_out c.requires.in_space
+    let tree = row-tree c.args.mappings.now c.args.range c.args.level c.args.first c.loop-index.index c.args.slots.now c.loop-index.slots c.requires.laid_out c.requires.in_space
     c.loop-index.invariant.painted c.loop-index.invariant.untouched c.requires.outside
     (λ k from below. c.slots_met-low.ensures.behind k (omega (arith, c.loop-index-test.false)) below) in
     let l = row_lost-zero c.args.mappings.now c.args.level c.args.first c.loop-index.slots c.requires.laid_out tree in
@@ -154,7 +161,7 @@ paint_row-returns-clause-counted t c = c.loop-index.invariant.standing
 
 pub paint_row-returns-clause-exchanged : goal.paint_row-returns-clause-exchanged
 paint_row-returns-clause-exchanged t c =
-    let tree = row-tree c.args.mappings.now c.args.near.now.range c.args.level c.args.first c.loop-index.index c.args.slots.now c.loop-index.slots c.requires.laid_out c.requires.in_space
+    let tree = row-tree c.args.mappings.now c.args.range c.args.level c.args.first c.loop-index.index c.args.slots.now c.loop-index.slots c.requires.laid_out c.requires.in_space
     c.loop-index.invariant.painted c.loop-index.invariant.untouched c.requires.outside
     (λ k from below. c.slots_met-low.ensures.behind k (omega (arith, c.loop-index-test.false)) below) in
     let g = row_gained-zero c.args.mappings.now c.args.level c.args.first c.loop-index.slots c.requires.laid_out tree in
@@ -201,9 +208,9 @@ paint_slot-paint_row-lost-requires t c =
           (
             c.requires.laid_out,
             (
-              c.requires.near,
+              place-ended c.args.mappings.now (entered c.args.range c.args.first) (entered c.args.range c.args.first) c.args.place (omega arith) c.requires.place,
               (
-                subst (λ (n : ℕ). meets (span c.args.first n) c.args.near.now.range ≡ true) below-of c.requires.met,
+                subst (λ (n : ℕ). meets (span c.args.first n) c.args.range ≡ true) below-of c.requires.met,
                 (
                   λ k below. record {
                     earlier = c.requires.outside.earlier;
@@ -332,3 +339,8 @@ paint_slot-returns-in-Table-clause-exchanged t c =
     let loss = lost-parts ms c.args.level c.args.first c.args.slot.now some want in
     let one = ap (λ (s : Slot). one_if_not (is_table s)) old in
     omega (arith, gains, losses, gain, loss, one, c.divide-slots.ensures.taken, c.paint_row-lost.ensures.exchanged)
+
+pub paint_row-advance-place-requires-clause-ended : goal.paint_row-advance-place-requires-clause-ended
+paint_row-advance-place-requires-clause-ended t c =
+    let same = ap (λ (n : ℕ). c.loop-index.index * n) c.pages_of-pages.ensures.pages in
+    ended-later c.args.mappings.now _ c.max.result c.loop-index.place (omega (arith, same)) c.loop-index.invariant.place

@@ -1,6 +1,6 @@
 use Rattle.std.proofs.Common.{◌≡◌, ◌∙◌, ◌++◌, ◌+◌, [], Err, arith, refl}
 use Rattle.std.proofs.KnownBytes.{Appends-trans}
-use Rattle.gv_lines.proofs.Parts.{parts_some}
+use Rattle.gv_lines.proofs.PartsLemmas.{parts_some}
 use Rattle.gv_text.specs.Script.{one_if}
 use Rattle.gv_text.proofs.Front.{front_more}
 use Rattle.gv_text.proofs.Outcomes.{outcome_of_run}

@@ -1,4 +1,4 @@
-use Rattle.gv_lines.proofs.Parts.{none_left}
+use Rattle.gv_lines.proofs.PartsLemmas.{none_left}
 use Rattle.gv_lines.specs.Words.{space_byte}
 use Rattle.gv_lines.proofs.words.Words.is_done.Goals as goal
 

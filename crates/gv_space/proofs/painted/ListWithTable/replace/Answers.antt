@@ -1,5 +1,7 @@
-use Rattle.std.proofs.Common.{◌∙◌, sym}
+use Rattle.std.proofs.Common.{◌+◌, ◌∙◌, sym, subst}
+use Rattle.gv_ranges.specs.List.{AreEnded, Ranges}
 use Rattle.gv_table.proofs.Likeness.{tables-gained}
+use Rattle.gv_ranges.proofs.PlaceLemmas.{ended-spliced}
 use Rattle.gv_space.proofs.painted.ListWithTable.replace.Goals as goal
 
 pub returns-clause-tables : goal.returns-clause-tables
@@ -7,3 +9,9 @@ returns-clause-tables c =
     λ table is. tables-gained c.splice.new.self.mappings c.args.self.now.mappings table c.paint-lost.new.self is c.paint-lost.ensures.tree
     ∙ c.paint-lost.ensures.owed c.args.self.now.mappings (rw (← c.self.view_is) c.mappings-mappings.ensures.laid_out) (rw (← c.self.view_is) c.self.invariant)
     ∙ sym c.split.ensures.count
+
+pub paint-lost-requires-clause-ended : goal.paint-lost-requires-clause-ended
+paint-lost-requires-clause-ended c =
+    rw c.splice.ensures.mappings
+    (ended-spliced c.self.inside.list.mappings c.args.pieces.now c.args.range.first c.args.place (c.args.place + c.args.out_count)
+    (subst (λ (l : Ranges). AreEnded l.mappings c.args.range.first c.args.place) (sym c.self.view_is) c.requires.ended))

@@ -1,4 +1,4 @@
-use Rattle.std.proofs.Common.{◌≡◌, ◌+◌, ◌-◌, ◌≤◌, ◌++◌, List, None, length, arith, sym, subst, ap, ◌∙◌}
+use Rattle.std.proofs.Common.{◌≡◌, ◌+◌, ◌-◌, ◌≤◌, ◌++◌, List, None, length, arith, sym, subst, ◌∙◌}
 use Rattle.std.specs.List.{All}
 use Rattle.std.specs.Option.{option_to_list}
 use Rattle.gv_types.specs.declared.mapping.Mapping.{Mapping}
@@ -13,9 +13,15 @@ use Rattle.gv_space.proofs.Faults.{no_fault}
 use Rattle.gv_space.proofs.Readying.{inside, inside_sorted, ready_from, changed_before}
 use Rattle.gv_space.proofs.space.Space.change.Goals as goal
 
+pub between_rests-inside-requires : goal.between_rests-inside-requires
+between_rests-inside-requires c =
+    (inside (space_of c.self.inside) c.args.range c.args.saved.now c.self.invariant c.requires.laid_out, c.as_slice-pieces.ensures ∙ c.in_ok-pieces.ensures)
+
 pub spare-requires : goal.spare-requires
 spare-requires c =
-    rw (c.as_slice-2.ensures) (subst IsLaidOut (sym c.in_ok-inside.ensures) (inside_sorted (space_of c.self.inside) c.args.range c.args.saved.now c.self.invariant c.requires.laid_out))
+    let within : List Mapping = inside (space_of c.self.inside) c.args.range c.args.saved.now c.self.invariant c.requires.laid_out in
+    let middle : c.between_rests-inside.result.now ≡ within = c.between_rests-inside.ensures within (c.as_slice-pieces.ensures ∙ c.in_ok-pieces.ensures) in
+    subst IsLaidOut (sym middle) (inside_sorted (space_of c.self.inside) c.args.range c.args.saved.now c.self.invariant c.requires.laid_out)
 
 pub commit-requires : goal.commit-requires
 commit-requires c =
@@ -28,19 +34,21 @@ commit-requires c =
     rw (c.mappings.ensures.value, size) at c.in_ok-taken.ensures.ok in
     let taken_is : c.in_ok-taken.taken.items ≡ run s.mappings c.of-meeting.result.place c.of-meeting.result.count =
     subst (λ (t : AddressSpace). c.in_ok-taken.taken.items ≡ run t.mappings c.of-meeting.result.place c.of-meeting.result.count) (sym c.self.view_is) taken_now in
-    let pieces_is : c.as_slice-3.result.now ≡ option_to_list c.of-meeting.result.before ++ inside s c.args.range c.args.saved.now c.self.invariant c.requires.laid_out ++ option_to_list c.of-meeting.result.behind =
-    c.as_slice-3.ensures ∙ rw (← c.in_ok-inside.ensures, ← c.as_slice.ensures) c.in_ok-pieces.ensures in
+    let pieces_is : c.as_slice-pieces.result.now ≡ option_to_list c.of-meeting.result.before ++ inside s c.args.range c.args.saved.now c.self.invariant c.requires.laid_out ++ option_to_list c.of-meeting.result.behind =
+    c.as_slice-pieces.ensures ∙ c.in_ok-pieces.ensures in
+    let middle : c.between_rests-inside.result.now ≡ inside s c.args.range c.args.saved.now c.self.invariant c.requires.laid_out =
+    c.between_rests-inside.ensures (inside s c.args.range c.args.saved.now c.self.invariant c.requires.laid_out) pieces_is in
     let placed : All (IsPlaced s.area s.buffers) c.args.saved.now =
     subst (λ (t : AddressSpace). All (IsPlaced t.area t.buffers) c.args.saved.now) (sym c.self.view_is) c.requires.placed in
     let none : limit_fault s c.args.range (restored s.mappings c.args.range c.args.saved.now) ≡ None =
     subst (λ (t : AddressSpace). limit_fault t c.args.range (restored t.mappings c.args.range c.args.saved.now) ≡ None) (sym c.self.view_is)
     (no_fault (limit_fault c.args.self.now c.args.range (restored c.args.self.now.mappings c.args.range c.args.saved.now)) c.check_limits.result _ c.check_limits.ensures c.in_ok-check_limits.was) in
-    let fits : length c.as_slice-3.result.now ≤ length c.in_ok-taken.taken.items + c.saturating_sub.result =
-    omega (arith, ap (λ (l : List Mapping). length l) c.as_slice-3.ensures, c.len.ensures.value, c.len-2.ensures.value, c.saturating_sub.ensures) in (
+    let fits : length c.as_slice-pieces.result.now ≤ length c.in_ok-taken.taken.items + c.saturating_sub.result =
+    omega (arith, c.len.ensures.value, c.saturating_sub.ensures) in (
       inside s c.args.range c.args.saved.now c.self.invariant c.requires.laid_out,
-      ready_from s c.args.range c.args.saved.now c.self.invariant c.requires.laid_out c.reserve.new.self c.of-meeting.result c.in_ok-taken.taken.items c.as_slice-3.result.now
+      ready_from s c.args.range c.args.saved.now c.self.invariant c.requires.laid_out c.reserve.new.self c.of-meeting.result c.in_ok-taken.taken.items c.as_slice-pieces.result.now
           c.in_ok-spares.spares c.saturating_sub.result placed meeting taken_is pieces_is c.reserve.ensures.unchanged.mappings c.in_ok-reserve.ensures.ok fits none
-          (λ ms table laid alike has tree. c.in_ok-spares.ensures.enough ms table laid alike (has ∙ sym (c.as_slice-2.ensures ∙ c.in_ok-inside.ensures)) tree),
+          (λ ms table laid alike has tree. c.in_ok-spares.ensures.enough ms table laid alike (has ∙ sym middle) tree),
     )
 
 pub returns-clause-changed : goal.returns-clause-changed
@@ -54,23 +62,25 @@ returns-clause-changed c =
     rw (c.mappings.ensures.value, size) at c.in_ok-taken.ensures.ok in
     let taken_is : c.in_ok-taken.taken.items ≡ run s.mappings c.of-meeting.result.place c.of-meeting.result.count =
     subst (λ (t : AddressSpace). c.in_ok-taken.taken.items ≡ run t.mappings c.of-meeting.result.place c.of-meeting.result.count) (sym c.self.view_is) taken_now in
-    let pieces_is : c.as_slice-3.result.now ≡ option_to_list c.of-meeting.result.before ++ inside s c.args.range c.args.saved.now c.self.invariant c.requires.laid_out ++ option_to_list c.of-meeting.result.behind =
-    c.as_slice-3.ensures ∙ rw (← c.in_ok-inside.ensures, ← c.as_slice.ensures) c.in_ok-pieces.ensures in
+    let pieces_is : c.as_slice-pieces.result.now ≡ option_to_list c.of-meeting.result.before ++ inside s c.args.range c.args.saved.now c.self.invariant c.requires.laid_out ++ option_to_list c.of-meeting.result.behind =
+    c.as_slice-pieces.ensures ∙ c.in_ok-pieces.ensures in
+    let middle : c.between_rests-inside.result.now ≡ inside s c.args.range c.args.saved.now c.self.invariant c.requires.laid_out =
+    c.between_rests-inside.ensures (inside s c.args.range c.args.saved.now c.self.invariant c.requires.laid_out) pieces_is in
     let placed : All (IsPlaced s.area s.buffers) c.args.saved.now =
     subst (λ (t : AddressSpace). All (IsPlaced t.area t.buffers) c.args.saved.now) (sym c.self.view_is) c.requires.placed in
     let none : limit_fault s c.args.range (restored s.mappings c.args.range c.args.saved.now) ≡ None =
     subst (λ (t : AddressSpace). limit_fault t c.args.range (restored t.mappings c.args.range c.args.saved.now) ≡ None) (sym c.self.view_is)
     (no_fault (limit_fault c.args.self.now c.args.range (restored c.args.self.now.mappings c.args.range c.args.saved.now)) c.check_limits.result _ c.check_limits.ensures c.in_ok-check_limits.was) in
-    let fits : length c.as_slice-3.result.now ≤ length c.in_ok-taken.taken.items + c.saturating_sub.result =
-    omega (arith, ap (λ (l : List Mapping). length l) c.as_slice-3.ensures, c.len.ensures.value, c.len-2.ensures.value, c.saturating_sub.ensures) in
+    let fits : length c.as_slice-pieces.result.now ≤ length c.in_ok-taken.taken.items + c.saturating_sub.result =
+    omega (arith, c.len.ensures.value, c.saturating_sub.ensures) in
     let list : Ranges = c.reserve.new.self in
     let within : List Mapping = inside s c.args.range c.args.saved.now c.self.invariant c.requires.laid_out in
     let old : AddressSpace = record s { mappings = list.mappings; room = list.room } in
-    let ready : IsReady within old c.args.range c.of-meeting.result.place c.in_ok-taken.taken.items c.as_slice-3.result.now c.in_ok-spares.spares =
-    ready_from s c.args.range c.args.saved.now c.self.invariant c.requires.laid_out c.reserve.new.self c.of-meeting.result c.in_ok-taken.taken.items c.as_slice-3.result.now
+    let ready : IsReady within old c.args.range c.of-meeting.result.place c.in_ok-taken.taken.items c.as_slice-pieces.result.now c.in_ok-spares.spares =
+    ready_from s c.args.range c.args.saved.now c.self.invariant c.requires.laid_out c.reserve.new.self c.of-meeting.result c.in_ok-taken.taken.items c.as_slice-pieces.result.now
     c.in_ok-spares.spares c.saturating_sub.result placed meeting taken_is pieces_is c.reserve.ensures.unchanged.mappings c.in_ok-reserve.ensures.ok fits none
-    (λ ms table laid alike has tree. c.in_ok-spares.ensures.enough ms table laid alike (has ∙ sym (c.as_slice-2.ensures ∙ c.in_ok-inside.ensures)) tree) in
+    (λ ms table laid alike has tree. c.in_ok-spares.ensures.enough ms table laid alike (has ∙ sym middle) tree) in
     let is : IsChanged s c.commit.new.self (restored s.mappings c.args.range c.args.saved.now) c.commit.result =
-    changed_before s list c.commit.new.self within c.args.range c.of-meeting.result.place c.in_ok-taken.taken.items c.as_slice-3.result.now c.in_ok-spares.spares c.commit.result
+    changed_before s list c.commit.new.self within c.args.range c.of-meeting.result.place c.in_ok-taken.taken.items c.as_slice-pieces.result.now c.in_ok-spares.spares c.commit.result
     c.self.invariant c.reserve.ensures.unchanged.mappings c.reserve.ensures.unchanged.room ready c.commit.ensures.changed in
     subst (λ (t : AddressSpace). IsChanged t c.commit.new.self (restored t.mappings c.args.range c.args.saved.now) c.commit.result) c.self.view_is is

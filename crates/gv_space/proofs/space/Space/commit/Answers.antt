@@ -11,7 +11,7 @@ use Rattle.gv_space.specs.Ready.{IsReady}
 use Rattle.gv_space.specs.Inside.{space_of}
 use Rattle.gv_space.proofs.ByCountLemmas.{live_from_placed}
 use Rattle.gv_space.proofs.Rooms.{room_to_keep, room_to_count, run_is_counted, length-run-le-most_kept}
-use Rattle.gv_space.proofs.Commits.{after, after_laid_out, after_alike, spares_are_enough, pieces_placed, pieces_are_few, state_after, space_after, change_is, change_of, taken_laid_out}
+use Rattle.gv_space.proofs.Commits.{ended, after, after_laid_out, after_alike, spares_are_enough, pieces_placed, pieces_are_few, state_after, space_after, change_is, change_of, taken_laid_out}
 use Rattle.gv_space.proofs.space.Space.commit.Goals as goal
 
 pub move_counts-requires-clause-pieces : goal.move_counts-requires-clause-pieces
@@ -42,6 +42,13 @@ move_counts-requires-clause-counted c =
     let ready : IsReady c.requires.0 s c.args.range c.args.place c.args.taken.items c.args.pieces.now c.args.spares =
     subst (λ (t : AddressSpace). IsReady c.requires.0 t c.args.range c.args.place c.args.taken.items c.args.pieces.now c.args.spares) (sym c.self.view_is) c.requires.1 in
     rw c.as_slice.ensures (run_is_counted s c.args.taken.items c.args.place (length c.args.taken.items) c.self.invariant ready.taken_is)
+
+pub replace-tables-requires-clause-ended : goal.replace-tables-requires-clause-ended
+replace-tables-requires-clause-ended c =
+    let s : AddressSpace = space_of c.self.inside in
+    let ready : IsReady c.requires.0 s c.args.range c.args.place c.args.taken.items c.args.pieces.now c.args.spares =
+    subst (λ (t : AddressSpace). IsReady c.requires.0 t c.args.range c.args.place c.args.taken.items c.args.pieces.now c.args.spares) (sym c.self.view_is) c.requires.1 in
+    ended c.requires.0 s c.args.range c.args.place c.args.taken.items c.args.pieces.now c.args.spares c.self.invariant ready
 
 pub replace-tables-requires-clause-laid_out : goal.replace-tables-requires-clause-laid_out
 replace-tables-requires-clause-laid_out c =

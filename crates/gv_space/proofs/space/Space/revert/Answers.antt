@@ -6,7 +6,7 @@ use Rattle.gv_space.specs.Counts.{by_count, more_used, less_used, less_kept}
 use Rattle.gv_space.specs.State.{AddressSpace, IsSpace, AreKept}
 use Rattle.gv_space.specs.Undo.{UndoValue, CanRevert, reverted}
 use Rattle.gv_space.specs.Inside.{space_of}
-use Rattle.gv_space.proofs.Reverts.{old, gone, within, room_to_undo, old_alike, taken_live, gone_live, taken_kept, room_for_taken, gone_counted, state_before, space_before, undone_is}
+use Rattle.gv_space.proofs.Reverts.{old, gone, ended, within, room_to_undo, old_alike, taken_live, gone_live, taken_kept, room_for_taken, gone_counted, state_before, space_before, undone_is}
 use Rattle.gv_space.proofs.KeptLemmas.{AreKept-reverted}
 use Rattle.gv_space.proofs.space.Space.revert.Goals as goal
 
@@ -71,6 +71,14 @@ move_counts_back-requires-clause-counted c =
     let mappings_are : c.mappings.result.now ≡ s.mappings = c.mappings.ensures.value ∙ ap (λ (l : Ranges). l.mappings) c.list.ensures in
     let size : c.undo.inside.place + c.undo.inside.put_in - c.undo.inside.place ≡ c.undo.inside.put_in = omega arith in
     rw (mappings_are, size) (gone_counted s u c.self.invariant fits)
+
+pub replace-lost-requires-clause-ended : goal.replace-lost-requires-clause-ended
+replace-lost-requires-clause-ended c =
+    let s : AddressSpace = space_of c.self.inside in
+    let u : UndoValue = record { change = record { place = c.undo.inside.place; put_in = c.undo.inside.put_in; taken = c.undo.inside.taken.items }; range = c.undo.inside.range; tables = c.undo.inside.tables } in
+    let fits_now : CanRevert s c.args.undo = subst (λ (t : AddressSpace). CanRevert t c.args.undo) (sym c.self.view_is) c.requires in
+    let fits : CanRevert s u = subst (λ (v : UndoValue). CanRevert s v) (sym c.undo.view_is) fits_now in
+    ended s u c.self.invariant fits
 
 pub replace-lost-requires-clause-room : goal.replace-lost-requires-clause-room
 replace-lost-requires-clause-room c =

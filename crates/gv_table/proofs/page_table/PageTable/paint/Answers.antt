@@ -13,8 +13,8 @@ paint_slot-requires-clause-in_space c = let all = pages_of-top in omega (arith, 
 pub paint_slot-requires-clause-met : goal.paint_slot-requires-clause-met
 paint_slot-requires-clause-met c =
     let all = pages_of-top in
-    let some = c.around-near.ensures.in_space in
-    rw c.around-near.ensures.range (meets-from (slot_pages 5 0) c.args.range (omega (arith, some)) (omega (arith, all, some)))
+    let some = c.first.ensures.in_space in
+    meets-from (slot_pages 5 0) c.args.range (omega (arith, some)) (omega (arith, all, some))
 
 pub paint_slot-requires-clause-part : goal.paint_slot-requires-clause-part
 paint_slot-requires-clause-part c =
@@ -27,15 +27,15 @@ paint_slot-requires-clause-part c =
 pub returns-clause-back : goal.returns-clause-back
 returns-clause-back c = λ ms laid tree.
     let same = gained-lost ms c.args.list.now.mappings 5 0 c.args.self.now.root c.paint_slot.new.slot
-    (tree-match ms 5 0 c.args.self.now.root laid tree) (tree-match c.args.list.now.mappings 5 0 c.paint_slot.new.slot c.mappings.ensures.laid_out
-    (subst (λ (xs : List Mapping). IsTreeOf xs 5 0 c.paint_slot.new.slot) c.mappings.ensures.value c.paint_slot.ensures.tree)) in
-    let exchanged = rw c.mappings.ensures.value at c.paint_slot.ensures.exchanged in
+    (tree-match ms 5 0 c.args.self.now.root laid tree) (tree-match c.args.list.now.mappings 5 0 c.paint_slot.new.slot c.mappings-mappings.ensures.laid_out
+    (subst (λ (xs : List Mapping). IsTreeOf xs 5 0 c.paint_slot.new.slot) c.mappings-mappings.ensures.value c.paint_slot.ensures.tree)) in
+    let exchanged = rw c.mappings-mappings.ensures.value at c.paint_slot.ensures.exchanged in
     omega (arith, same, exchanged, c.requires.enough)
 
 pub returns-clause-owed : goal.returns-clause-owed
 returns-clause-owed c = λ ms laid tree.
     let same = gained-lost ms c.args.list.now.mappings 5 0 c.args.self.now.root c.paint_slot.new.slot
-    (tree-match ms 5 0 c.args.self.now.root laid tree) (tree-match c.args.list.now.mappings 5 0 c.paint_slot.new.slot c.mappings.ensures.laid_out
-    (subst (λ (xs : List Mapping). IsTreeOf xs 5 0 c.paint_slot.new.slot) c.mappings.ensures.value c.paint_slot.ensures.tree)) in
-    let lost = rw c.mappings.ensures.value at c.paint_slot.ensures.lost in
+    (tree-match ms 5 0 c.args.self.now.root laid tree) (tree-match c.args.list.now.mappings 5 0 c.paint_slot.new.slot c.mappings-mappings.ensures.laid_out
+    (subst (λ (xs : List Mapping). IsTreeOf xs 5 0 c.paint_slot.new.slot) c.mappings-mappings.ensures.value c.paint_slot.ensures.tree)) in
+    let lost = rw c.mappings-mappings.ensures.value at c.paint_slot.ensures.lost in
     omega (arith, same, lost)

@@ -1,6 +1,4 @@
-use Rattle.std.proofs.Common.{arith, ap}
-use Rattle.gv_types.specs.Span.{Span}
-use Rattle.gv_table.specs.Counts.{needed}
+use Rattle.std.proofs.Common.{arith}
 use Rattle.gv_table.proofs.Foresight.{gained-needed}
 use Rattle.gv_table.proofs.PagesOf.{pages_of-top}
 use Rattle.gv_table.proofs.page_table.PageTable.spare.Goals as goal
@@ -10,12 +8,10 @@ needed_in-end-requires-clause-in_space c = let all = pages_of-top in omega (arit
 
 pub returns-clause-number : goal.returns-clause-number
 returns-clause-number c =
-    let same = ap (λ (s : Span). needed c.args.pieces.now s 5 0 c.args.self.now.root) c.whole-near.ensures.range in
-    omega (arith, same, c.needed_in-end.ensures.count, c.loop.invariant)
+    omega (arith, c.needed_in-end.ensures.count, c.loop.invariant)
 
 pub returns-clause-enough : goal.returns-clause-enough
 returns-clause-enough c = λ ms laid outside is.
     let all = pages_of-top in
-    let same = ap (λ (s : Span). needed c.args.pieces.now s 5 0 c.args.self.now.root) c.whole-near.ensures.range in
     let enough = gained-needed c.args.range ms c.args.pieces.now 5 0 c.args.self.now.root outside laid is (omega (arith, all)) in
-    omega (arith, same, enough, c.needed_in-end.ensures.count, c.loop.invariant)
+    omega (arith, enough, c.needed_in-end.ensures.count, c.loop.invariant)

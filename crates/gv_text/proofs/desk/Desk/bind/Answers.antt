@@ -1,11 +1,7 @@
 use Rattle.std.proofs.Common.{sym}
 use Rattle.gv_text.proofs.Places.{names_of-declared, answers_none, answers_some}
 use Rattle.gv_text.proofs.Binding.{IsDesk-bound, binds_ok, binds_err}
-use Rattle.gv_text.proofs.RenamedLists.{has_range_of}
 use Rattle.gv_text.proofs.desk.Desk.bind.Goals as goal
-
-pub apply-requires : goal.apply-requires
-apply-requires c = has_range_of _ c.in-Some.op c.in-Some.ensures.declared
 
 pub returns-in_default : goal.returns-in_default
 returns-in_default c =

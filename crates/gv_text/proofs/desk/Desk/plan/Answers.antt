@@ -13,5 +13,5 @@ returns c =
     let d = c.self.inside in
     rw (← c.self.view_is)
     (answers_some _ _ _ _ (sym (c.in-Some.ensures.value _ (names_of-declared d.bindings.space.buffers d.names.entries))) (
-    plans d.begun d.bindings d.names.entries c.in-Some.op c.plan.result c.space.ensures.space c.self.invariant.declared c.in-Some.ensures.declared
+    plans d.begun d.bindings d.names.entries c.in-Some.op c.plan.result c.space.ensures.space c.space.ensures.work c.self.invariant.declared c.in-Some.ensures.declared
     (rw c.space.ensures.value at c.plan.ensures.fault) (rw c.space.ensures.value at c.plan.ensures.steps) (rw c.space.ensures.value at c.plan.ensures.placed)))

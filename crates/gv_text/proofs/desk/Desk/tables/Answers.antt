@@ -1,5 +1,5 @@
 use Rattle.std.proofs.Common.{sym}
-use Rattle.gv_text.proofs.RenamedTables.{tables_of-renamed}
+use Rattle.gv_table.proofs.RenamingLemmas.{tables_of-renamed}
 use Rattle.gv_text.proofs.desk.Desk.tables.Goals as goal
 
 pub returns : goal.returns

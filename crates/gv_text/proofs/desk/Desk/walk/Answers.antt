@@ -1,7 +1,7 @@
 use Rattle.std.proofs.Common.{sym}
 use Rattle.gv_text.proofs.Held.{held_entry}
 use Rattle.gv_text.proofs.Places.{names_of-declared}
-use Rattle.gv_text.proofs.Renamed.{at-renamed}
+use Rattle.gv_ranges.proofs.RenamingLemmas.{at-renamed}
 use Rattle.gv_text.proofs.Shown.{held_list}
 use Rattle.gv_text.specs.State.{texts}
 use Rattle.gv_text.proofs.desk.Desk.walk.Goals as goal

@@ -1,0 +1,12 @@
+use Rattle.std.proofs.Common.{inl, inr, ⊎_elim}
+use Rattle.gv_cli.specs.CommandLine.{texts}
+use Rattle.gv_cli.proofs.Reading.{version_is_no_task, version_is_shown}
+use Rattle.gv_cli.proofs.program.obey.Goals as goal
+
+pub returns-in-Ok-clause-version : goal.returns-in-Ok-clause-version
+returns-in-Ok-clause-version g c = λ name given. absurd (version_is_no_task (texts c.args.words.now) name given c.in-Ok.ensures.kinds)
+
+pub returns-in-Err-Printed-clause-version : goal.returns-in-Err-Printed-clause-version
+returns-in-Err-Printed-clause-version g c = λ name given.
+    let same = version_is_shown (texts c.args.words.now) name c.in-Err-Printed.error given (rw c.in-Err-Printed.field-0-is at c.in-Err-Printed.ensures.kinds) in
+    ⊎_elim (λ is. inl is) (λ is. inr (inr is)) (c.printed.ensures.shown (inr same))

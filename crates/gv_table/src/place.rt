@@ -1,0 +1,75 @@
+//! The mapping of a list that decides what a slot holds.
+ghost use Rattle.std.specs.Prelude.{◌≡◌, ◌≤◌, ◌<◌, ◌+◌, IsTrue, MatchOption, None, Some, length};
+ghost use Rattle.gv_types.specs.Page.{PAGES};
+ghost use Rattle.gv_types.specs.Span.{meets, end_of};
+ghost use Rattle.gv_ranges.specs.List.{IsLaidOut, AreEnded, IsPlaceOf};
+ghost use Rattle.gv_table.specs.Levels.{top_level, slot_pages, entered};
+ghost use Rattle.gv_table.specs.Reads.{IsReadBy, EndsBefore, IsNeighbour};
+
+use crate::levels::pages_of;
+use gv_types::{Mapping, PageRange};
+
+/// The place of the first mapping that ends past the page, given a place that is not behind it. It looks at the mappings
+/// from there on, one after another.
+pub fn advance(mappings: &[Mapping], place: usize, page: u64) -> usize
+    requires laid_out { IsLaidOut mappings.now }
+    requires ended { AreEnded mappings.now page place }
+    ensures { IsPlaceOf mappings.now page result }
+{
+    let mut place = place;
+    while place < mappings.len() && mappings[place].range.end() <= page {
+        place += 1;
+    }
+    place
+}
+
+/// The mapping before the place, where it reaches into a slot that begins before the range.
+fn neighbour<'a>(
+    mappings: &'a [Mapping],
+    range: PageRange,
+    place: usize,
+    first: u64,
+) -> Option<&'a Mapping>
+    requires { place ≤ length mappings.now }
+    ensures { MatchOption result (EndsBefore mappings.now range place first)
+        (λ m. IsNeighbour mappings.now range place first m.now) }
+{
+    if place == 0 || range.first() <= first {
+        return None;
+    }
+    let m = &mappings[place - 1];
+    if m.range.end() <= first {
+        return None;
+    }
+    Some(m)
+}
+
+/// A mapping that meets the pages of a slot which meets the range, if one does: it decides what the list says of them.
+/// The place is that of the first mapping which ends past the slot's first page in the range.
+pub fn met_by<'a>(
+    mappings: &'a [Mapping],
+    range: PageRange,
+    place: usize,
+    level: usize,
+    first: u64,
+) -> Option<&'a Mapping>
+    requires known { level ≤ top_level }
+    requires in_space { end_of (slot_pages level first) ≤ PAGES }
+    requires laid_out { IsLaidOut mappings.now }
+    requires place { IsPlaceOf mappings.now (entered range first) place }
+    requires met { IsTrue (meets (slot_pages level first) range) }
+    ensures { MatchOption result (IsReadBy mappings.now (slot_pages level first) None)
+        (λ m. IsReadBy mappings.now (slot_pages level first) (Some m.now)) }
+{
+    if let Some(m) = neighbour(mappings, range, place, first) {
+        return Some(m);
+    }
+    if place == mappings.len() {
+        return None;
+    }
+    let m = &mappings[place];
+    if first + pages_of(level) <= m.range.first() {
+        return None;
+    }
+    Some(m)
+}
