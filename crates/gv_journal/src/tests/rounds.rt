@@ -1,0 +1,255 @@
+//! Many requests, rewinds, withdrawals and settles in a row, against the plain definitions: what each page holds is looked up
+//! in the history, page by page, and a rewind gives the very list that was before.
+ghost use Rattle.gv_journal.specs.State.{FitsSpace};
+
+use super::desk::{Desk, Reply, Step, play};
+use crate::{Item, ItemKind, Journal};
+use gv_space::Space;
+use gv_types::{Backing, Bounds, Entry, Limits, Mapping, PageOp};
+use std::alloc::Global;
+use std::test::Fail;
+
+/// How many pages a round looks at.
+const PAGES: u64 = 12;
+
+/// Whether an item is a withdrawal of the item with a number.
+fn withdraws(item: &Item, number: u64) -> bool {
+    match &item.kind {
+        ItemKind::Bind { .. } => false,
+        ItemKind::Withdrawal { of } => *of == number,
+    }
+}
+
+/// What an operation gives a page that it covers.
+fn given(op: &PageOp, page: u64) -> Option<Option<Entry>> {
+    match *op {
+        PageOp::Map {
+            range,
+            backing,
+            flags,
+        } => {
+            if !range.covers(page) {
+                return None;
+            }
+            let backing = match backing {
+                Backing::Buffer { id, page: start } => Backing::Buffer {
+                    id,
+                    page: start.saturating_add(page.saturating_sub(range.first())),
+                },
+                Backing::Zero => Backing::Zero,
+            };
+            Some(Some(Entry { backing, flags }))
+        }
+        PageOp::Unmap { range } => { if range.covers(page) { Some(None) } else { None } }
+        PageOp::UnmapBuffer { .. } => None,
+    }
+}
+
+/// The last operation of an item that covers a page decides; a withdrawal says nothing.
+fn said_by(item: &Item, page: u64, before: Option<Entry>) -> Option<Entry> {
+    let mut held = before;
+    if let ItemKind::Bind { done, .. } = &item.kind {
+        for op in done {
+            if let Some(entry) = given(op, page) {
+                held = entry;
+            }
+        }
+    }
+    held
+}
+
+/// What the live items say of a page, the newest last, where something lay below.
+fn view(items: &[Item], first: u64, page: u64, below: Option<Entry>) -> Option<Entry> {
+    let mut held = below;
+    for (place, item) in items.iter().enumerate() {
+        let number = first.saturating_add(place as u64);
+        if !items.iter().any(|other| withdraws(other, number)) {
+            held = said_by(item, page, held);
+        }
+    }
+    held
+}
+
+/// What lies below the oldest item, page by page, and the list before each item.
+#[derive(Drop)]
+struct Past {
+    base: Vec<Option<Entry>>,
+    lists: Vec<Vec<Mapping>>,
+}
+
+/// What lay below a page.
+fn below(past: &Past, page: u64) -> Option<Entry> {
+    match past.base.get(page as usize) {
+        Some(entry) => *entry,
+        None => None,
+    }
+}
+
+/// Whether list and page table say of each page what the items say over what lies below them.
+fn agrees(space: &Space, journal: &Journal, past: &Past) -> bool {
+    for page in 0..PAGES {
+        let wanted = view(journal.items(), journal.first(), page, below(past, page));
+        if space.find(page) != wanted || space.walk(page) != wanted {
+            return false;
+        }
+    }
+    true
+}
+
+/// What lies below once so many items are settled.
+fn settled(
+    alloc: Global,
+    journal: &Journal,
+    past: &Past,
+    count: usize,
+) -> Result<Vec<Option<Entry>>, Fail> {
+    // The borrow checker proves this only where the function names the types inside the entries.
+    let _backing = Backing::Zero;
+    let mut base = Vec::new(alloc);
+    let gone = match journal.items().get(..count) {
+        Some(items) => items,
+        None => &[],
+    };
+    for page in 0..PAGES {
+        base.push(view(gone, journal.first(), page, below(past, page)))?;
+    }
+    Ok(base)
+}
+
+/// A step by chance.
+fn step_of(number: u64, journal: &Journal) -> Step {
+    let first = ((number >> 8) % 10) as u32;
+    let count = ((number >> 16) % 3) as u32 + 1;
+    let buffer = ((number >> 24) % 3) as usize;
+    let entry = journal
+        .first()
+        .saturating_add((number >> 32) % (journal.items().len() as u64 + 1));
+    match number % 24 {
+        0..=4 => Step::Map {
+            first,
+            count,
+            buffer,
+            page: ((number >> 40) % 4) as u32,
+        },
+        5..=6 => Step::Zero { first, count },
+        7 => Step::Fixed { first, count },
+        8..=10 => Step::Unmap { first, count },
+        11 => Step::UnmapAll { buffer },
+        12..=17 => Step::Bind,
+        18..=19 => Step::Rewind,
+        20..=22 => Step::Withdraw { entry },
+        _ => Step::Settle { to: entry },
+    }
+}
+
+/// Plays a step, and looks at what it made of the list.
+fn turn(
+    alloc: Global,
+    space: &mut Space,
+    journal: &mut Journal,
+    desk: &mut Desk,
+    past: &mut Past,
+    step: Step,
+) -> Result<bool, Fail>
+    requires { FitsSpace space.old journal.old }
+    ensures { FitsSpace space.new journal.new }
+{
+    let held = journal.items().len();
+    let list = Vec::from_slice(alloc, space.mappings())?;
+    let gone = match step {
+        Step::Settle { to } => to.saturating_sub(journal.first()) as usize,
+        _ => 0,
+    };
+    let base = settled(alloc, journal, past, gone)?;
+    let reply = play(alloc, space, journal, desk, step)?;
+    let now = journal.items().len();
+    let mut same = true;
+    match (step, reply) {
+        (Step::Settle { .. }, Some(Reply::Number { .. })) => {
+            past.base = base;
+            let lists = std::mem::replace(&mut past.lists, Vec::new(alloc));
+            for (place, list) in lists.into_iter().enumerate() {
+                if place >= gone {
+                    past.lists.push(list)?;
+                }
+            }
+        }
+        (Step::Rewind, Some(Reply::Number { .. })) => {
+            same = match past.lists.pop() {
+                Some(list) => list.as_slice() == space.mappings(),
+                None => false,
+            };
+        }
+        _ => {
+            if now > held {
+                past.lists.push(list)?;
+            } else {
+                same = list.as_slice() == space.mappings();
+            }
+        }
+    }
+    Ok(same && past.lists.len() == now && agrees(space, journal, past))
+}
+
+/// So many steps by chance.
+fn round(
+    alloc: Global,
+    space: &mut Space,
+    journal: &mut Journal,
+    seed: u64,
+    steps: u32,
+) -> Result<bool, Fail>
+    requires { FitsSpace space.old journal.old }
+    ensures { FitsSpace space.new journal.new }
+{
+    let mut desk = Desk {
+        buffers: Vec::new(alloc),
+        ops: Vec::new(alloc),
+        number: 0,
+    };
+    let mut past = Past {
+        base: Vec::new(alloc),
+        lists: Vec::new(alloc),
+    };
+    let make = Step::Create { pages: 6 };
+    let _first = play(alloc, space, journal, &mut desk, make)?;
+    let _second = play(alloc, space, journal, &mut desk, make)?;
+    let _third = play(alloc, space, journal, &mut desk, make)?;
+    let mut number = seed;
+    for turn_number in 0..steps {
+        number = number
+            .wrapping_mul(6_364_136_223_846_793_005)
+            .wrapping_add(1_442_695_040_888_963_407);
+        let step = step_of(number >> 13, journal);
+        if !turn(alloc, space, journal, &mut desk, &mut past, step)? {
+            return Ok(false);
+        }
+    }
+    Ok(true)
+}
+
+/// A round on a space of its own, whose journal is closed in the end.
+fn run(alloc: Global, mappings: u64, items: u64, seed: u64, steps: u32) -> Result<bool, Fail> {
+    let limits = Limits::new(3, mappings, items, 1).ok_or("limits")?;
+    let mut space = Space::new(alloc, Bounds::whole(), limits)?;
+    let mut journal = Journal::new(alloc, items);
+    let agreed = round(alloc, &mut space, &mut journal, seed, steps);
+    journal.close(&mut space);
+    agreed
+}
+
+#[test]
+fn chance_agrees_with_the_definitions(rt: HostRuntime) -> Result<(), Fail> {
+    for seed in 0..6u64 {
+        assert!(rt; run(rt.alloc(), 64, 40, seed, 400)?);
+    }
+    Ok(())
+}
+
+#[test]
+fn chance_agrees_under_small_limits(rt: HostRuntime) -> Result<(), Fail> {
+    for seed in 0..6u64 {
+        assert!(rt; run(rt.alloc(), 4, 6, seed.wrapping_add(100), 400)?);
+    }
+    Ok(())
+}
