@@ -1,19 +1,15 @@
 -- What holds of a machine still holds after each call.
-use Rattle.std.proofs.Common.{◌≡◌, ◌≢◌, ℕ, zero, suc, ◌+◌, ◌<◌, ◌≤◌, true, false, not, eqb, List, [], ◌∷◌, ◌++◌, length, map, reverse, take, drop, arith, refl, sym, ◌∙◌, ap, subst, Some, None, Option, Result, Ok, Err}
-use Rattle.std.specs.Prelude.{IsSomeAnd, IfOk, OnOk, OnErr, IsOk, MatchOption, slice_get, is_some}
+use Rattle.std.proofs.Common.{◌≡◌, ◌≢◌, ℕ, ◌+◌, true, not, eqb, List, [], ◌∷◌, length, take, drop, arith, refl, sym, ◌∙◌, ap, subst, Some, None, Option, Result, Ok, Err}
+use Rattle.std.specs.Prelude.{IsSomeAnd, IfOk, OnOk, OnErr, IsOk, MatchOption, is_some}
 use Rattle.std.specs.Option.{option_map}
-use Rattle.std.specs.Bool.{⊤}
-use Rattle.std.specs.List.{All, AllZip, list_any, insert}
-use Rattle.std.proofs.lemmas.Bool.{eqb-true, eqb-false, and_parts}
-use Rattle.std.proofs.lemmas.List.Elements.{All-nil, All-cons, All-head, All-tail, All-weaker, All-map, All-filter, All-take, All-drop, All-append}
-use Rattle.std.proofs.lemmas.List.{get_or-set_same, get_or-set_other, length-set}
+use Rattle.std.specs.List.{All, list_any, insert}
+use Rattle.std.proofs.lemmas.Bool.{eqb-true, and_parts}
+use Rattle.std.proofs.lemmas.List.Elements.{All-nil, All-cons, All-tail, All-weaker, All-map, All-filter, All-take, All-drop, All-append}
 use Rattle.gv_types.specs.Operation.{range_of}
 use Rattle.gv_types.specs.declared.mapping.BufferId.{BufferId}
 use Rattle.gv_types.specs.declared.mapping.Mapping.{Mapping}
 use Rattle.gv_types.specs.declared.fault.Fault.{Fault}
 use Rattle.gv_types.specs.declared.operation.PageOp.{PageOp}
-use Rattle.gv_types.specs.declared.request.Point.{Point}
-use Rattle.gv_types.specs.declared.request.Request.{Request}
 use Rattle.gv_buffers.specs.declared.usage.User.{User}
 use Rattle.gv_buffers.specs.Users.{HaveNoConflict}
 use Rattle.gv_buffers.specs.Table.{Buffer, Table, buffer, fresh, without, has_id, use_fault, destroy_fault, destroy_fault_of, left_everywhere, IsBuffer, IsCreated, IsTable}
@@ -24,24 +20,18 @@ use Rattle.gv_space.specs.State.{AddressSpace, IsSpace, AreKept}
 use Rattle.gv_space.specs.Undo.{UndoValue, reverted}
 use Rattle.gv_space.proofs.TableLemmas.{found_live, IsFound, buffer-each}
 use Rattle.gv_space.proofs.ByCountLemmas.{IsOfCounts, counted_of_counts, more_kept_of_counts, less_kept_of_counts}
-use Rattle.gv_sync.specs.Sights.{Sight}
-use Rattle.gv_journal.specs.Items.{Journaled, Numbered, numbered, entries, next}
+use Rattle.gv_journal.specs.Items.{Journaled, Numbered, numbered, entries}
 use Rattle.gv_journal.specs.History.{kept_by, undos_of}
 use Rattle.gv_journal.specs.Undoing.{reverted_by}
 use Rattle.gv_journal.specs.State.{FitsSpace}
-use Rattle.gv_journal.specs.Applying.{met, after_all, all_do}
+use Rattle.gv_journal.specs.Applying.{met, after_all}
 use Rattle.gv_journal.specs.Binding.{IsRewound}
 use Rattle.gv_journal.specs.declared.item.Item.{Item}
-use Rattle.gv_journal.specs.declared.item.ItemKind.{ItemKind}
-use Rattle.gv_journal.specs.declared.item.ItemKind.TheVariants.{Bind, Withdrawal}
 use Rattle.gv_vm.specs.Jobs.{RunningJob, Running, AreHeld, IsHeld, IsBegun, IsEnded, all_held}
 use Rattle.gv_vm.specs.declared.jobs.Access.{Access}
 use Rattle.gv_vm.specs.declared.jobs.Job.{Job}
-use Rattle.gv_vm.specs.Outcomes.{told_to, with_outcome, tell_fault}
-use Rattle.gv_vm.specs.Told.{CameTo, seen_by}
 use Rattle.gv_vm.specs.State.{Machine, IsMachine, WasTold, ToldMatchesJournal, SawItsWaits, WaitsWereReached, NoConflictingJobs}
 use Rattle.gv_vm.specs.declared.outcome.Outcome.{Outcome}
-use Rattle.gv_vm.specs.declared.outcome.Outcome.TheVariants.{Accepted, Refused, NotReady}
 use Rattle.gv_vm.specs.declared.places.Target.{Target}
 use Rattle.gv_vm.specs.declared.places.Target.TheVariants.{Buffer as BufferByte, Zero}
 
@@ -229,112 +219,3 @@ begun_buffers s t before after accesses (Err fault) begun same = other_buffers s
 pub ended_buffers : (s t : AddressSpace) (before after : Running) (number : ℕ) (r : Result (Unit {0}) Fault) → OnOk r (IsEnded s t before after number) → OnErr r (t ≡ s) → t ≡ record s { buffers = t.buffers }
 ended_buffers s t before after number (Ok u) ended same = other_buffers s t (left_everywhere number s.buffers) ended.space
 ended_buffers s t before after number (Err fault) ended same = other_buffers s t s.buffers same
-
--- what was told stays told
-still_there : (told : List Outcome) (n : ℕ) (more x : Outcome) → slice_get told n ≡ Some x → slice_get (told ++ more ∷ []) n ≡ Some x
-still_there [] n more x h = cc
-still_there (t ∷ told) zero more x h = h
-still_there (t ∷ told) (suc n) more x h = still_there told n more x h
-
-there_last : (told : List Outcome) (x : Outcome) → slice_get (told ++ x ∷ []) (length told) ≡ Some x
-there_last [] x = refl
-there_last (t ∷ told) x = there_last told x
-
-still_told : (told : List (List Outcome)) (queue other n : ℕ) (more x : Outcome) → queue < length told → slice_get (told_to told other) n ≡ Some x → slice_get (told_to (with_outcome told queue more) other) n ≡ Some x
-still_told told queue other n more x less h =
-    elim (eqb other queue) as (λ t. eqb other queue ≡ t → slice_get (told_to (with_outcome told queue more) other) n ≡ Some x) [
-      | true ↦ (λ same.
-          let is : other ≡ queue = eqb-true other queue same in
-          let here : told_to (with_outcome told queue more) queue ≡ told_to told queue ++ more ∷ [] = get_or-set_same told queue (told_to told queue ++ more ∷ []) [] less in
-          let before : slice_get (told_to told queue) n ≡ Some x = subst (λ (q : ℕ). slice_get (told_to told q) n ≡ Some x) is h in
-          subst (λ (q : ℕ). slice_get (told_to (with_outcome told queue more) q) n ≡ Some x) (sym is)
-          (subst (λ (xs : List Outcome). slice_get xs n ≡ Some x) (sym here) (still_there (told_to told queue) n more x before)))
-      | false ↦ (λ apart.
-          let same : told_to (with_outcome told queue more) other ≡ told_to told other = get_or-set_other told queue other (told_to told queue ++ more ∷ []) [] (eqb-false other queue apart) in
-          subst (λ (xs : List Outcome). slice_get xs n ≡ Some x) (sym same) h)
-    ] refl
-
-was_told_still : (told : List (List Outcome)) (queue : ℕ) (more : Outcome) (kind : ItemKind) (entry : ℕ) → queue < length told → WasTold kind entry told → WasTold kind entry (with_outcome told queue more)
-was_told_still told queue more (Bind other number request seen done) entry less h = still_told told queue other number more (Accepted entry) less h
-was_told_still told queue more (Withdrawal of) entry less h = tt
-
-all_told_still : (told : List (List Outcome)) (queue : ℕ) (more : Outcome) (xs : List Numbered) → queue < length told → ToldMatchesJournal xs told → ToldMatchesJournal xs (with_outcome told queue more)
-all_told_still told queue more xs less all = All-weaker (λ x. WasTold x.item.kind x.number told) (λ x. WasTold x.item.kind x.number (with_outcome told queue more)) (λ x h. was_told_still told queue more x.item.kind x.number less h) xs all
-
--- a queue was told something more, and nothing else changed
-pub IsMachine-told : (v : Machine) (queue : ℕ) (outcome : Outcome) (told : List (List Outcome)) → IsMachine v → queue < 16 → told ≡ with_outcome v.told queue outcome →
-    IsMachine (record { space = v.space; journal = v.journal; running = v.running; told = told })
-IsMachine-told v queue outcome told holds less is =
-    let within : queue < length v.told = omega (arith, holds.queues) in
-    subst (λ (x : List (List Outcome)). IsMachine (record { space = v.space; journal = v.journal; running = v.running; told = x })) (sym is)
-    (IsMachine-of v.space v.journal v.running (with_outcome v.told queue outcome) (fits_space v holds) holds.buffers_counted.used holds.buffers_counted.held
-    (all_told_still v.told queue outcome (entries v.journal) within holds.told_matches_journal) holds.waits_were_reached
-    (length-set v.told queue (told_to v.told queue ++ outcome ∷ []) ∙ holds.queues))
-
--- what reached points saw is at least their values
-saw_waits : (sights : List Sight) → All (λ r. r.point.value ≤ r.number) sights → AllZip (λ (p : Point) n. p.value ≤ n) (map (λ r. r.point) sights) (seen_by sights)
-saw_waits [] reached = tt
-saw_waits (r ∷ sights) reached = (All-head (λ r. r.point.value ≤ r.number) r sights reached, saw_waits sights (All-tail (λ r. r.point.value ≤ r.number) r sights reached))
-
--- a request was carried out and told
-came_held : (s t : AddressSpace) (old new : Journaled) (queue number : ℕ) (request : Request) (seen : List ℕ) (outcome : Outcome) (js : List RunningJob) →
-    CameTo s t old new queue number request seen outcome → AreHeld s.buffers js → AreHeld t.buffers js
-came_held s t old new queue number request seen (Accepted entry) js came held =
-    let ops : List PageOp = reverse (all_do s.mappings request.ops.items) in
-    subst (λ (x : AddressSpace). AreHeld x.buffers js) (sym came.space.state) (AreHeld-after_all s ops js held)
-came_held s t old new queue number request seen (Refused op fault) js came held = subst (λ (x : AddressSpace). AreHeld x.buffers js) (sym came.space.state) held
-came_held s t old new queue number request seen (NotReady point have) js came held = absurd came
-
-came_told : (s t : AddressSpace) (old new : Journaled) (queue number : ℕ) (request : Request) (seen : List ℕ) (outcome : Outcome) (told : List (List Outcome)) →
-    CameTo s t old new queue number request seen outcome → queue < length told → number ≡ length (told_to told queue) → ToldMatchesJournal (entries old) told → ToldMatchesJournal (entries new) (with_outcome told queue outcome)
-came_told s t old new queue number request seen (Accepted entry) told came less turn all =
-    let P : Numbered → Type 0 = λ x. WasTold x.item.kind x.number (with_outcome told queue (Accepted entry)) in
-    let here : told_to (with_outcome told queue (Accepted entry)) queue ≡ told_to told queue ++ Accepted entry ∷ [] = get_or-set_same told queue (told_to told queue ++ Accepted entry ∷ []) [] less in
-    let last : slice_get (told_to (with_outcome told queue (Accepted entry)) queue) number ≡ Some (Accepted entry) =
-    subst (λ (xs : List Outcome). slice_get xs number ≡ Some (Accepted entry)) (sym here)
-    (subst (λ (n : ℕ). slice_get (told_to told queue ++ Accepted entry ∷ []) n ≡ Some (Accepted entry)) (sym turn) (there_last (told_to told queue) (Accepted entry))) in
-    let newest : WasTold came.item.item.kind (next old) (with_outcome told queue (Accepted entry)) =
-    subst (λ (k : ItemKind). WasTold k (next old) (with_outcome told queue (Accepted entry))) (sym came.item.kind)
-    (subst (λ (e : ℕ). slice_get (told_to (with_outcome told queue (Accepted entry)) queue) number ≡ Some (Accepted e)) came.entry_is last) in
-    subst (λ (j : Journaled). All P (entries j)) (sym came.item.items)
-    (All-cons P (record { number = next old; item = came.item.item }) (entries old) newest (all_told_still told queue (Accepted entry) (entries old) less all))
-came_told s t old new queue number request seen (Refused op fault) told came less turn all =
-    subst (λ (j : Journaled). ToldMatchesJournal (entries j) (with_outcome told queue (Refused op fault))) (sym came.journal) (all_told_still told queue (Refused op fault) (entries old) less all)
-came_told s t old new queue number request seen (NotReady point have) told came less turn all = absurd came
-
-came_saw : (s t : AddressSpace) (old new : Journaled) (queue number : ℕ) (request : Request) (seen : List ℕ) (outcome : Outcome) →
-    CameTo s t old new queue number request seen outcome → AllZip (λ (p : Point) n. p.value ≤ n) request.waits.items seen → WaitsWereReached (entries old) → WaitsWereReached (entries new)
-came_saw s t old new queue number request seen (Accepted entry) came saw all =
-    let P : Numbered → Type 0 = λ x. SawItsWaits x.item.kind in
-    let newest : SawItsWaits came.item.item.kind =
-    subst SawItsWaits (sym came.item.kind) (subst (λ (ns : List ℕ). AllZip (λ (p : Point) n. p.value ≤ n) request.waits.items ns) (sym came.saw_is) saw) in
-    subst (λ (j : Journaled). All P (entries j)) (sym came.item.items) (All-cons P (record { number = next old; item = came.item.item }) (entries old) newest all)
-came_saw s t old new queue number request seen (Refused op fault) came saw all = subst (λ (j : Journaled). WaitsWereReached (entries j)) (sym came.journal) all
-came_saw s t old new queue number request seen (NotReady point have) came saw all = absurd came
-
-turn_from_none : (limit : ℕ) (told : List (List Outcome)) (queue number : ℕ) → tell_fault limit told queue number ≡ None → number ≡ length (told_to told queue)
-turn_from_none limit told queue number none = grind arith
-
-pub IsMachine-carried_out : (v : Machine) (t : AddressSpace) (j : Journaled) (queue number : ℕ) (request : Request) (sights : List Sight) (outcome : Outcome) (told : List (List Outcome)) → IsMachine v →
-    FitsSpace t j → IsSpace t → CameTo v.space t v.journal j queue number request (seen_by sights) outcome → queue < 16 → tell_fault v.space.limits.told v.told queue number ≡ None →
-    map (λ r. r.point) sights ≡ request.waits.items → All (λ r. r.point.value ≤ r.number) sights → told ≡ with_outcome v.told queue outcome →
-    IsMachine (record { space = t; journal = j; running = v.running; told = told })
-IsMachine-carried_out v t j queue number request sights outcome told holds fits space came less none points reached is =
-    let within : queue < length v.told = omega (arith, holds.queues) in
-    let turn : number ≡ length (told_to v.told queue) = turn_from_none v.space.limits.told v.told queue number none in
-    let saw : AllZip (λ (p : Point) n. p.value ≤ n) request.waits.items (seen_by sights) =
-    subst (λ (ps : List Point). AllZip (λ (p : Point) n. p.value ≤ n) ps (seen_by sights)) points (saw_waits sights reached) in
-    subst (λ (x : List (List Outcome)). IsMachine (record { space = t; journal = j; running = v.running; told = x })) (sym is)
-    (IsMachine-of t j v.running (with_outcome v.told queue outcome) fits space
-    (came_held v.space t v.journal j queue number request (seen_by sights) outcome v.running.jobs came holds.buffers_counted.held)
-    (came_told v.space t v.journal j queue number request (seen_by sights) outcome v.told came within turn holds.told_matches_journal)
-    (came_saw v.space t v.journal j queue number request (seen_by sights) outcome came saw holds.waits_were_reached)
-    (length-set v.told queue (told_to v.told queue ++ outcome ∷ []) ∙ holds.queues))
-
-abbrev made : Unit {0} → Result (Unit {0}) Fault
-made u = Ok u
-
--- where there was room to tell, the number is the next one
-pub none_if_prepared : (o : Option Fault) (u : Unit {0}) → MatchOption o ⊤ (λ fault. made u ≡ Err fault) → o ≡ None
-none_if_prepared None u h = refl
-none_if_prepared (Some fault) u h = cc

@@ -11,7 +11,7 @@ use Rattle.gv_table.specs.Table.{IsTree, IsHeldAt}
 use Rattle.gv_table.specs.declared.page_table.PageTable.{PageTable}
 use Rattle.gv_buffers.specs.Table.{uses, kept}
 use Rattle.gv_space.specs.Counts.{count_of}
-use Rattle.gv_journal.specs.Items.{entries, view, without}
+use Rattle.gv_journal.specs.Items.{entries, view, view_without}
 use Rattle.gv_journal.specs.History.{base, back}
 use Rattle.gv_vm.specs.World.{World}
 use Rattle.gv_vm.specs.Run.{RunsWith}
@@ -56,7 +56,7 @@ RemembersBefore before after = (n : ℕ) → back after.space.mappings after.jou
 abbrev pub GivesTheRest : ℕ → Machine → Machine → Type 0
 GivesTheRest entry before after =
     (page : ℕ) → IsPage page →
-    at after.space.mappings page ≡ view (without entry (entries before.journal)) (base before.space.mappings before.journal.items) page
+    at after.space.mappings page ≡ view_without entry (entries before.journal) (base before.space.mappings before.journal.items) page
 
 abbrev pub SaysOfOutcome : Outcome → Machine → Machine → Type 0
 SaysOfOutcome (Accepted entry) before after = RemembersBefore before after

@@ -4,6 +4,7 @@
 
 mod carry;
 mod event;
+mod holding;
 mod jobs;
 mod outcome;
 mod places;

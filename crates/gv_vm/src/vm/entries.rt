@@ -1,13 +1,16 @@
-//! Entries of the journal taken back, and settled.
+//! Entries of the journal taken back, withdrawn and settled.
 ghost use Rattle.std.specs.Prelude.{◌≡◌, ◌+◌, [], ℕ, Some, None, IfOk, IfErr, OnOk, OnErr};
 ghost use Rattle.gv_journal.specs.Items.{next};
 ghost use Rattle.gv_journal.specs.History.{back};
 ghost use Rattle.gv_journal.specs.Binding.{IsRewound};
 ghost use Rattle.gv_journal.specs.Settling.{settle_fault, IsSettled};
+ghost use Rattle.gv_journal.specs.Withdrawing.{withdraw_fault, IsWithdrawRefused, IsWithdrawn};
+ghost use Rattle.gv_space.specs.State.{IsUnchanged};
 
 use super::Vm;
 use gv_journal::SettleFault;
 use gv_types::Fault;
+use std::alloc::Global;
 
 impl Vm {
     /// Takes the newest entry back and answers its number: the list of mappings is what it was before that entry, boundaries
@@ -28,6 +31,30 @@ impl Vm {
         let rewound = self.journal.rewind(&mut self.space);
         let _mappings = self.space.mappings();
         rewound
+    }
+
+    /// Withdraws an older request that no later live one touches: the pages that its operations cover hold again what they
+    /// held before each of them, and each page is what the other entries say. The withdrawal is an entry of its own, whose
+    /// number is answered. `NoEntry`, `NotABind`, `Withdrawn`, `Touched` with the least live later entry that touches it,
+    /// `JournalFull`, `OutOfMemory` for the entry's place, then for each operation from the last to the first
+    /// `TooManyMappings` and `OutOfMemory`. After a refusal all is as before, but for room.
+    pub fn withdraw(&mut self, alloc: Global, entry: u64) -> Result<u64, Fault>
+        ensures accepted { OnOk result (withdraw_fault self.old.space self.old.journal entry ≡ None) }
+        ensures refused { IfErr result (IsWithdrawRefused self.old.space self.old.journal entry) }
+        ensures number { IfOk result (λ n. n ≡ next self.old.journal) }
+        ensures withdrawn { OnOk result
+            (IsWithdrawn self.old.space self.new.space self.old.journal self.new.journal entry) }
+        ensures back { OnOk result ((n : ℕ)
+            → back self.new.space.mappings self.new.journal.items (n + 1)
+            ≡ back self.old.space.mappings self.old.journal.items n) }
+        ensures rest { self.new
+            ≡ record self.old { space = self.new.space; journal = self.new.journal } }
+        ensures space_unchanged { OnErr result (IsUnchanged self.old.space self.new.space) }
+        ensures journal_unchanged { OnErr result (self.new.journal ≡ self.old.journal) }
+    {
+        let withdrawn = self.journal.withdraw(alloc, &mut self.space, entry);
+        let _mappings = self.space.mappings();
+        withdrawn
     }
 
     /// Settles the entries below a number: they can't be taken back or withdrawn any more, and what their undo values kept is

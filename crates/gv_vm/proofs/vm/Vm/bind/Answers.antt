@@ -4,7 +4,7 @@ use Rattle.gv_vm.specs.Telling.{lists_of}
 use Rattle.gv_vm.specs.Told.{CameTo, seen_by}
 use Rattle.gv_vm.specs.Outcomes.{with_outcome, tell_fault}
 use Rattle.gv_vm.specs.declared.outcome.Outcome.{Outcome}
-use Rattle.gv_vm.proofs.Machines.{IsMachine-carried_out, none_if_prepared}
+use Rattle.gv_vm.proofs.Carried.{IsMachine-carried_out, none_if_prepared}
 use Rattle.gv_vm.proofs.vm.Vm.bind.Goals as goal
 
 pub invariant_of-self-2 : goal.invariant_of-self-2

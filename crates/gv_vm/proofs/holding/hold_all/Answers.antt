@@ -4,7 +4,7 @@ use Rattle.gv_vm.specs.declared.jobs.Access.{Access}
 use Rattle.gv_vm.specs.declared.places.Place.{Place}
 use Rattle.gv_vm.specs.Holding.{HoldsSoFar}
 use Rattle.gv_vm.proofs.Holdings.{HoldsSoFar-none, HoldsSoFar-more, AreRefused-here, no_fault}
-use Rattle.gv_vm.proofs.jobs.hold_all.Goals as goal
+use Rattle.gv_vm.proofs.holding.hold_all.Goals as goal
 
 abbrev any : Access
 any = record { addr = 0; usage = Read }
