@@ -8,6 +8,7 @@ use Rattle.gv_types.specs.declared.mapping.BufferId.{BufferId}
 use Rattle.gv_types.specs.declared.request.Point.{Point}
 use Rattle.gv_types.specs.declared.request.Request.{Request}
 use Rattle.gv_buffers.specs.Table.{create_fault, destroy_fault, without, IsCreated}
+use Rattle.gv_space.specs.State.{IsUnchanged}
 use Rattle.gv_sync.specs.Raises.{IsReached, with_raise}
 use Rattle.gv_sync.specs.Sights.{Sight, sight}
 use Rattle.gv_journal.specs.Items.{next}
@@ -235,10 +236,15 @@ event_fault v (JobBegin accesses) = begin_fault v.space v.running accesses.items
 event_fault v (JobEnd job) = end_fault v.running job
 event_fault v _ = None
 
+-- all is as it was, but for room
+pub record IsAsBefore (old new : World) : Type 0 where
+  pub state : new ≡ record old { machine = record old.machine { space = new.machine.space } }
+  pub space : IsUnchanged old.machine.space new.machine.space
+
 -- From `old` the world may give this reply to the event and go on to `new`.
 abbrev pub step : World → Event → Reply → World → Type 0
 step old event Idle new = (¬ IsEnabled old event) × (new ≡ old)
-step old event (Refused fault) new = (event_fault old.machine event ≡ Some fault) × (new ≡ old)
+step old event (Refused fault) new = (event_fault old.machine event ≡ Some fault) × IsAsBefore old new
 step old (Put queue request) (IsPut number) new = IsPutAs old queue request number new
 step old (Put queue request) (NotPut fault back) new = IsNotPut old queue request fault back new
 step old (Take queue) (Taken number) new = IsTaken old queue number new

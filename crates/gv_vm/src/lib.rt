@@ -1,5 +1,5 @@
-//! One GPU address space as a whole: the places that addresses reach, and the running jobs that hold the buffers behind
-//! them.
+//! One GPU address space as a whole: requests carried out or given up, each told what it came to; entries taken back,
+//! withdrawn and settled; the places that addresses reach, and the running jobs that hold the buffers behind them.
 #![tactic(auto)]
 
 mod carry;

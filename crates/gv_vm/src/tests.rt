@@ -1,3 +1,4 @@
+mod entries;
 mod fixtures;
 mod jobs;
 mod limits;

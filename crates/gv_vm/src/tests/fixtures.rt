@@ -26,6 +26,17 @@ pub fn map(page: u32, id: &BufferId, of: u32, read_only: bool) -> Op {
     }
 }
 
+/// A map of `count` pages from the page `first` on to the pages of a buffer from `of` on.
+pub fn map_run(first: u32, count: u32, id: &BufferId, of: u32) -> Op {
+    Op::Map {
+        addr: u64::from(first) * PAGE_BYTES,
+        len: u64::from(count) * PAGE_BYTES,
+        buffer: *id,
+        offset: u64::from(of) * PAGE_BYTES,
+        flags: Flags { read_only: false },
+    }
+}
+
 /// A map of one page of zeros.
 pub fn zero(page: u32) -> Op {
     Op::MapZero {
