@@ -13,7 +13,7 @@ use Rattle.gv_types.specs.declared.mapping.Entry.{Entry}
 use Rattle.gv_types.specs.declared.mapping.Mapping.{Mapping}
 use Rattle.gv_types.specs.declared.operation.PageOp.{PageOp}
 use Rattle.gv_types.specs.declared.request.Request.{Request}
-use Rattle.gv_ranges.specs.List.{IsMeetingRun, run}
+use Rattle.gv_ranges.specs.List.{IsOverlappingRun, run}
 use Rattle.gv_ranges.specs.Edit.{clipped, replaced, restored, edited_by_all}
 use Rattle.gv_space.specs.State.{AddressSpace, AreKept}
 use Rattle.gv_space.specs.Undo.{UndoValue, IsUndoOf, AreAmongKept}
@@ -99,7 +99,7 @@ no_pieces range (m ∷ ms) all =
     rw (here, no_pieces range ms (All-tail (λ m. clip range.first (end_of range) m ≡ None) m ms all)) refl
 
 -- what lies in a range lies in the run that meets it
-pub clipped_run : (ms : List Mapping) (range : Span) (place count : ℕ) → IsMeetingRun ms range place count →
+pub clipped_run : (ms : List Mapping) (range : Span) (place count : ℕ) → IsOverlappingRun ms range place count →
     clipped range.first (end_of range) ms ≡ clipped range.first (end_of range) (run ms place count)
 clipped_run ms range place count is =
     let cut : List Mapping → List Mapping = clipped range.first (end_of range) in
@@ -109,7 +109,7 @@ clipped_run ms range place count is =
     (no_pieces range (take place ms) (λ k d below. clip_before range _ (is.before k d below)))
     ∙ filter_map-append (clip range.first (end_of range)) (run ms place count) (drop (place + count) ms)
     ∙ ap (λ (xs : List Mapping). clipped range.first (end_of range) (run ms place count) ++ xs)
-    (no_pieces range (drop (place + count) ms) (λ k d below. clip_behind range _ (is.behind k d below)))
+    (no_pieces range (drop (place + count) ms) (λ k d below. clip_behind range _ (is.beyond k d below)))
     ∙ append-nil (clipped range.first (end_of range) (run ms place count))
 
 -- to put back what an undo value took is to put back what the list before it held

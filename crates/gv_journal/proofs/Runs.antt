@@ -6,7 +6,7 @@ use Rattle.std.proofs.lemmas.List.Elements.{All-head, All-tail, filter-append}
 use Rattle.std.specs.List.{All, filter}
 use Rattle.gv_types.specs.Span.{Span, meets}
 use Rattle.gv_types.specs.declared.mapping.Mapping.{Mapping}
-use Rattle.gv_ranges.specs.List.{IsMeetingRun, run}
+use Rattle.gv_ranges.specs.List.{IsOverlappingRun, run}
 use Rattle.gv_space.specs.Undo.{UndoValue, IsUndoOf}
 use Rattle.gv_journal.specs.Applying.{met}
 
@@ -30,12 +30,12 @@ split_at_run ms place count =
     sym (take-append-drop place ms)
     ∙ ap (λ (xs : List Mapping). take place ms ++ xs) (sym (take-append-drop count (drop place ms)) ∙ ap (λ (xs : List Mapping). run ms place count ++ xs) (drop-drop count place ms))
 
-pub met_run : (ms : List Mapping) (range : Span) (place count : ℕ) → IsMeetingRun ms range place count → met ms range ≡ run ms place count
+pub met_run : (ms : List Mapping) (range : Span) (place count : ℕ) → IsOverlappingRun ms range place count → met ms range ≡ run ms place count
 met_run ms range place count is =
     let before : All (λ (m : Mapping). meets m.range range ≡ false) (take place ms) =
     λ k d below. and_right _ _ (le-ltb _ _ (is.before k d below)) in
     let behind : All (λ (m : Mapping). meets m.range range ≡ false) (drop (place + count) ms) =
-    λ k d below. and_left _ _ (le-ltb _ _ (is.behind k d below)) in
+    λ k d below. and_left _ _ (le-ltb _ _ (is.beyond k d below)) in
     ap (filter (λ (m : Mapping). meets m.range range)) (split_at_run ms place count) ∙
     filter-append (λ (m : Mapping). meets m.range range) (take place ms) (run ms place count ++ drop (place + count) ms) ∙
     rw (

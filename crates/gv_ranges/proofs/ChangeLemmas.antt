@@ -9,7 +9,7 @@ use Rattle.gv_types.specs.Operation.{range_of, own_mapping, own_part, after, vie
 use Rattle.gv_types.specs.declared.mapping.Mapping.{Mapping}
 use Rattle.gv_types.specs.declared.operation.PageOp.{PageOp}
 use Rattle.gv_types.specs.declared.operation.PageOp.TheVariants.{Map, Unmap, UnmapBuffer}
-use Rattle.gv_ranges.specs.List.{at, IsLaidOut, IsMeetingRun, run}
+use Rattle.gv_ranges.specs.List.{at, IsLaidOut, IsOverlappingRun, run}
 use Rattle.gv_ranges.specs.Edit.{clipped, edited, edited_by_all, LieIn}
 use Rattle.gv_ranges.specs.Laws.{EditedListSays, EditedListIsViewed, EditedListIsLaidOut, EditedRunInPlace, UndoneEditIsOld, RestoredListSays, RestoredListIsLaidOut, RestoredRunInPlace, UndoneRestoreIsOld}
 use Rattle.gv_ranges.proofs.ClipLemmas.{at-clipped}
@@ -64,11 +64,11 @@ undone-edited ms op place count laid is = undone-replaced ms (range_of op) (own_
 -- The edited list is a splice of what `replacement` gives for the run that `overlapping` found. The premises are what
 -- the calls ensure: `now` is the list at the splice, `all` the list that the run was taken from.
 pub spliced_edit : (ms now all ys pieces : List Mapping) (op : PageOp) (range : Span) (place count : ℕ) →
-    IsLaidOut ms → range ≡ range_of op → IsMeetingRun ms range place count →
+    IsLaidOut ms → range ≡ range_of op → IsOverlappingRun ms range place count →
     now ≡ ms → all ≡ ms → ys ≡ pieces → pieces ≡ edited (take (place + count - place) (drop place all)) op →
     splice now place (place + count) ys ≡ edited ms op
 spliced_edit ms now all ys pieces op range place count laid range_is is now_is all_is ys_is pieces_are =
-    let is' : IsMeetingRun ms (range_of op) place count = rw range_is at is in
+    let is' : IsOverlappingRun ms (range_of op) place count = rw range_is at is in
     let size : place + count - place ≡ count = omega arith in
     let pieces' : pieces ≡ edited (run ms place count) op = rw (all_is, size) at pieces_are in
     rw (now_is, ys_is, pieces') (sym (edited_run_in_place ms op place count laid is'))

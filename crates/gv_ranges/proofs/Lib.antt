@@ -9,6 +9,6 @@ pub mod OrderLemmas
 pub mod ChangeLemmas
 pub mod OverlapLemmas
 pub mod RestLemmas
-pub mod MeetingLemmas
+pub mod OverlappingLemmas
 pub mod PlaceLemmas
 pub mod RenamingLemmas

@@ -6,7 +6,7 @@ use Rattle.std.proofs.lemmas.List.Elements.{All-head, All-tail, filter-append}
 use Rattle.std.specs.List.{All, filter}
 use Rattle.gv_types.specs.Span.{Span, meets}
 use Rattle.gv_types.specs.declared.mapping.Mapping.{Mapping}
-use Rattle.gv_ranges.specs.List.{IsMeetingRun, run}
+use Rattle.gv_ranges.specs.List.{IsOverlappingRun, run}
 use Rattle.gv_ranges.proofs.ReplacedLemmas.{split_at_run}
 
 filter_all : {X : Type 0} (p : X → Bool) (xs : List X) → All (λ x. p x ≡ true) xs → filter p xs ≡ xs
@@ -23,13 +23,13 @@ filter_none p (x ∷ xs) all =
     let rest : filter p xs ≡ [] = filter_none p xs (All-tail (λ x. p x ≡ false) x xs all) in
     rw (here, rest) refl
 
-pub filter_meets : (ms : List Mapping) (range : Span) (place count : ℕ) → IsMeetingRun ms range place count →
+pub filter_meets : (ms : List Mapping) (range : Span) (place count : ℕ) → IsOverlappingRun ms range place count →
     filter (λ m. meets m.range range) ms ≡ run ms place count
 filter_meets ms range place count is =
     let before : All (λ (m : Mapping). meets m.range range ≡ false) (take place ms) =
     λ k d below. and_right _ _ (le-ltb _ _ (is.before k d below)) in
     let behind : All (λ (m : Mapping). meets m.range range ≡ false) (drop (place + count) ms) =
-    λ k d below. and_left _ _ (le-ltb _ _ (is.behind k d below)) in
+    λ k d below. and_left _ _ (le-ltb _ _ (is.beyond k d below)) in
     ap (filter (λ (m : Mapping). meets m.range range)) (split_at_run ms place count) ∙
     filter-append (λ (m : Mapping). meets m.range range) (take place ms) (run ms place count ++ drop (place + count) ms) ∙
     rw (

@@ -4,7 +4,7 @@ use Rattle.std.proofs.lemmas.List.{take-append-le, take_all, length-take-le, len
 use Rattle.std.specs.List.{All, splice}
 use Rattle.gv_types.specs.Span.{Span, end_of}
 use Rattle.gv_types.specs.declared.mapping.Mapping.{Mapping}
-use Rattle.gv_ranges.specs.List.{AreEnded, IsMeetingRun}
+use Rattle.gv_ranges.specs.List.{AreEnded, IsOverlappingRun}
 
 -- a run of a list replaced from a place on leaves those before it
 pub take-splice : (ms pieces : List Mapping) (place end : ℕ) → place ≤ length ms → take place (splice ms place end pieces) ≡ take place ms
@@ -28,5 +28,5 @@ ended-unspliced ms now pieces page place end within is ended =
     subst (λ (xs : List Mapping). AreEnded xs page place) (sym is)
     (ended-spliced ms pieces page place end (record { within = within; ended = ended }))
 
-pub met-ended : (ms : List Mapping) (range : Span) (place count : ℕ) → IsMeetingRun ms range place count → AreEnded ms range.first place
+pub met-ended : (ms : List Mapping) (range : Span) (place count : ℕ) → IsOverlappingRun ms range place count → AreEnded ms range.first place
 met-ended ms range place count is = let within = is.within in record { within = omega (arith, within); ended = is.before }

@@ -9,7 +9,7 @@ use Rattle.gv_types.specs.Page.{PAGES, IsPage}
 use Rattle.gv_types.specs.Span.{Span, end_of, covers, lies_in}
 use Rattle.gv_types.specs.Mapping.{clip, IsMapping}
 use Rattle.gv_types.specs.declared.mapping.Mapping.{Mapping}
-use Rattle.gv_ranges.specs.List.{at, IsLaidOut, IsLaidOutFrom, IsMeetingRun, run}
+use Rattle.gv_ranges.specs.List.{at, IsLaidOut, IsLaidOutFrom, IsOverlappingRun, run}
 use Rattle.gv_ranges.specs.Edit.{clipped, replaced, LieIn, undone}
 use Rattle.gv_ranges.proofs.ClipLemmas.{at-clipped, at-clipped_out, at-append_none, at-append_left, clip_whole, clip_none}
 use Rattle.gv_ranges.proofs.Splices.{drop-splice}
@@ -98,7 +98,7 @@ split_at_run ms place count =
 
 -- a range is replaced in the run that meets it
 pub replaced_run_in_place : (ms : List Mapping) (range : Span) (pieces : List Mapping) (place count : ℕ) →
-    IsLaidOut ms → IsMeetingRun ms range place count →
+    IsLaidOut ms → IsOverlappingRun ms range place count →
     replaced ms range pieces ≡ splice ms place (place + count) (replaced (run ms place count) range pieces)
 replaced_run_in_place ms range pieces place count laid is =
     let mappings : All IsMapping ms = all_mappings ms 0 laid in
@@ -107,9 +107,9 @@ replaced_run_in_place ms range pieces place count laid is =
     let before' : All (LiesOutside (end_of range) PAGES) (take place ms) =
     λ k d below. inl (let h : end_of (get_or (take place ms) k d).range ≤ range.first = is.before k d below in omega arith) in
     let behind : All (LiesBetween (end_of range) PAGES) (drop (place + count) ms) =
-    λ k d below. let h : IsMapping (get_or (drop (place + count) ms) k d) = All-drop IsMapping (place + count) ms mappings k d below in (h, is.behind k d below, h.0.1) in
+    λ k d below. let h : IsMapping (get_or (drop (place + count) ms) k d) = All-drop IsMapping (place + count) ms mappings k d below in (h, is.beyond k d below, h.0.1) in
     let behind' : All (LiesOutside 0 range.first) (drop (place + count) ms) =
-    λ k d below. inr (let h : end_of range ≤ (get_or (drop (place + count) ms) k d).range.first = is.behind k d below in omega arith) in
+    λ k d below. inr (let h : end_of range ≤ (get_or (drop (place + count) ms) k d).range.first = is.beyond k d below in omega arith) in
     let low : clipped 0 range.first ms ≡ take place ms ++ clipped 0 range.first (run ms place count) =
     ap (clipped 0 range.first) (split_at_run ms place count) ∙
     filter_map-append (clip 0 range.first) (take place ms) (run ms place count ++ drop (place + count) ms) ∙
@@ -140,7 +140,7 @@ undone-splice ms ys place count within =
 
 -- a replaced range taken back gives the list before it, with its boundaries
 pub undone-replaced : (ms : List Mapping) (range : Span) (pieces : List Mapping) (place count : ℕ) →
-    IsLaidOut ms → IsMeetingRun ms range place count →
+    IsLaidOut ms → IsOverlappingRun ms range place count →
     undone (replaced ms range pieces) (record { place = place; put_in = length (replaced (run ms place count) range pieces); taken = run ms place count }) ≡ ms
 undone-replaced ms range pieces place count laid is =
     rw (replaced_run_in_place ms range pieces place count laid is)

@@ -6,7 +6,7 @@ use Rattle.gv_types.specs.Span.{Span, covers}
 use Rattle.gv_types.specs.Operation.{range_of, after, view, IsPageOp}
 use Rattle.gv_types.specs.declared.mapping.Mapping.{Mapping}
 use Rattle.gv_types.specs.declared.operation.PageOp.{PageOp}
-use Rattle.gv_ranges.specs.List.{at, IsLaidOut, IsMeetingRun, run}
+use Rattle.gv_ranges.specs.List.{at, IsLaidOut, IsOverlappingRun, run}
 use Rattle.gv_ranges.specs.Edit.{edited, edited_by_all, restored, undone}
 
 -- an edited list says of each page what the operation makes of the list's address map
@@ -24,12 +24,12 @@ EditedListIsLaidOut = (ms : List Mapping) (op : PageOp) → IsLaidOut ms → IsP
 
 -- to edit a list is to edit, in its place, the run that meets the range
 abbrev pub EditedRunInPlace : Type 0
-EditedRunInPlace = (ms : List Mapping) (op : PageOp) (place count : ℕ) → IsLaidOut ms → IsMeetingRun ms (range_of op) place count →
+EditedRunInPlace = (ms : List Mapping) (op : PageOp) (place count : ℕ) → IsLaidOut ms → IsOverlappingRun ms (range_of op) place count →
     edited ms op ≡ splice ms place (place + count) (edited (run ms place count) op)
 
 -- an operation taken back gives the list before it, with its boundaries
 abbrev pub UndoneEditIsOld : Type 0
-UndoneEditIsOld = (ms : List Mapping) (op : PageOp) (place count : ℕ) → IsLaidOut ms → IsMeetingRun ms (range_of op) place count →
+UndoneEditIsOld = (ms : List Mapping) (op : PageOp) (place count : ℕ) → IsLaidOut ms → IsOverlappingRun ms (range_of op) place count →
     undone (edited ms op) (record { place = place; put_in = length (edited (run ms place count) op); taken = run ms place count }) ≡ ms
 
 -- a restored list says of each page of the range what the saved mappings say, and of each other page what it said
@@ -43,15 +43,15 @@ RestoredListIsLaidOut = (ms saved : List Mapping) (range : Span) → IsLaidOut m
 
 -- to restore a range is to restore it in the run that meets it, in its place
 abbrev pub RestoredRunInPlace : Type 0
-RestoredRunInPlace = (ms saved : List Mapping) (range : Span) (place count : ℕ) → IsLaidOut ms → IsMeetingRun ms range place count →
+RestoredRunInPlace = (ms saved : List Mapping) (range : Span) (place count : ℕ) → IsLaidOut ms → IsOverlappingRun ms range place count →
     restored ms range saved ≡ splice ms place (place + count) (restored (run ms place count) range saved)
 
 -- a restored range taken back gives the list before it, with its boundaries
 abbrev pub UndoneRestoreIsOld : Type 0
-UndoneRestoreIsOld = (ms saved : List Mapping) (range : Span) (place count : ℕ) → IsLaidOut ms → IsMeetingRun ms range place count →
+UndoneRestoreIsOld = (ms saved : List Mapping) (range : Span) (place count : ℕ) → IsLaidOut ms → IsOverlappingRun ms range place count →
     undone (restored ms range saved) (record { place = place; put_in = length (restored (run ms place count) range saved); taken = run ms place count }) ≡ ms
 
 -- the run that meets a range says of each page of the range what the list says
-abbrev pub MeetingRunSays : Type 0
-MeetingRunSays = (ms : List Mapping) (range : Span) (place count page : ℕ) → IsMeetingRun ms range place count → IsTrue (covers range page) →
+abbrev pub OverlappingRunSays : Type 0
+OverlappingRunSays = (ms : List Mapping) (range : Span) (place count page : ℕ) → IsOverlappingRun ms range place count → IsTrue (covers range page) →
     at (run ms place count) page ≡ at ms page

@@ -35,11 +35,11 @@ abbrev pub run : List Mapping → ℕ → ℕ → List Mapping
 run ms place count = take count (drop place ms)
 
 -- the mappings that meet a range are the `count` from `place` on
-pub record IsMeetingRun (ms : List Mapping) (range : Span) (place count : ℕ) : Type 0 where
+pub record IsOverlappingRun (ms : List Mapping) (range : Span) (place count : ℕ) : Type 0 where
   pub within : place + count ≤ length ms
   pub before : All (λ m. end_of m.range ≤ range.first) (take place ms)
   pub meeting : All (λ m. IsTrue (meets m.range range)) (run ms place count)
-  pub behind : All (λ m. end_of range ≤ m.range.first) (drop (place + count) ms)
+  pub beyond : All (λ m. end_of range ≤ m.range.first) (drop (place + count) ms)
 
 -- the mappings before the place end at the page or before it
 pub record AreEnded (ms : List Mapping) (page place : ℕ) : Type 0 where

@@ -2,7 +2,7 @@
 ghost use Rattle.gv_ranges.specs.Laws.{EditedListSays, EditedListIsViewed, EditedListIsLaidOut};
 ghost use Rattle.gv_ranges.specs.Laws.{EditedRunInPlace, UndoneEditIsOld};
 ghost use Rattle.gv_ranges.specs.Laws.{RestoredListSays, RestoredListIsLaidOut};
-ghost use Rattle.gv_ranges.specs.Laws.{RestoredRunInPlace, UndoneRestoreIsOld, MeetingRunSays};
+ghost use Rattle.gv_ranges.specs.Laws.{RestoredRunInPlace, UndoneRestoreIsOld, OverlappingRunSays};
 
 /// Edits do to a list what operations do to an address map, in place, and can be taken back.
 pub fn edits()
@@ -23,5 +23,5 @@ pub fn restores()
 
 /// The run that meets a range says all that the list says of the range's pages.
 pub fn meetings()
-    ensures { MeetingRunSays }
+    ensures { OverlappingRunSays }
 {}

@@ -27,7 +27,7 @@ impl Model for RangeList {
 
 impl RangeList {
     ghost use Rattle.std.specs.List.{splice};
-    ghost use Rattle.gv_ranges.specs.List.{at, IsLaidOut, IsMeetingRun, IsUnchanged};
+    ghost use Rattle.gv_ranges.specs.List.{at, IsLaidOut, IsOverlappingRun, IsUnchanged};
 
     /// A list of no mapping, which takes no memory.
     pub fn new(alloc: Global) -> RangeList
@@ -81,7 +81,7 @@ impl RangeList {
     /// does, the place is the number of mappings that end before the range. One search, and a look at each
     /// of the mappings that meet it.
     pub fn overlapping(&self, range: PageRange) -> (usize, usize)
-        ensures { IsMeetingRun self.now.mappings range result.0 result.1 }
+        ensures { IsOverlappingRun self.now.mappings range result.0 result.1 }
     {
         overlapping_run(&self.mappings, range)
     }

@@ -8,7 +8,7 @@ use Rattle.gv_types.specs.Page.{PAGES}
 use Rattle.gv_types.specs.Span.{Span, end_of, meets, IsInSpace}
 use Rattle.gv_types.specs.Mapping.{IsMapping}
 use Rattle.gv_types.specs.declared.mapping.Mapping.{Mapping}
-use Rattle.gv_ranges.specs.List.{IsLaidOut, IsLaidOutFrom, IsMeetingRun, run}
+use Rattle.gv_ranges.specs.List.{IsLaidOut, IsLaidOutFrom, IsOverlappingRun, run}
 use Rattle.gv_ranges.specs.Edit.{clipped, restored}
 use Rattle.gv_ranges.proofs.ChangeLemmas.{restored_run_in_place}
 use Rattle.gv_ranges.proofs.OverlapLemmas.{filter_meets}
@@ -42,7 +42,7 @@ pub length-run : (ms : List Mapping) (place count : ℕ) → place + count ≤ l
 length-run ms place count within = length-take-le count (drop place ms) (omega (arith, length-drop place ms))
 
 -- how many mappings meet a range is how long their run is
-pub count_met-run : (ms : List Mapping) (range : Span) (place count : ℕ) → IsMeetingRun ms range place count → count_met ms range ≡ count
+pub count_met-run : (ms : List Mapping) (range : Span) (place count : ℕ) → IsOverlappingRun ms range place count → count_met ms range ≡ count
 count_met-run ms range place count met =
     ap (λ (l : List Mapping). length l) (filter_meets ms range place count met) ∙ length-run ms place count met.within
 

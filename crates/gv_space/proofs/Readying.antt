@@ -7,7 +7,7 @@ use Rattle.gv_types.specs.Span.{Span, end_of}
 use Rattle.gv_types.specs.Mapping.{IsMapping}
 use Rattle.gv_types.specs.declared.fault.Fault.TheVariants.{TooManyMappings}
 use Rattle.gv_types.specs.declared.mapping.Mapping.{Mapping}
-use Rattle.gv_ranges.specs.List.{IsLaidOut, IsMeetingRun, Ranges, run}
+use Rattle.gv_ranges.specs.List.{IsLaidOut, IsOverlappingRun, Ranges, run}
 use Rattle.gv_ranges.specs.Edit.{LieIn, clipped, replaced, restored}
 use Rattle.gv_ranges.proofs.KeptLemmas.{All-clipped}
 use Rattle.gv_ranges.proofs.OrderLemmas.{laid_out-clipped, laid_out-replaced, lie_in-clipped}
@@ -72,7 +72,7 @@ module _ (s : AddressSpace) (range : Span) (saved : List Mapping) (space : IsSpa
         sorted = inside_sorted;
         lie = lie;
         placed = inside_placed placed;
-        met = subst (λ (n : ℕ). IsMeetingRun s.mappings range overlap.place n) (sym long) is.met;
+        met = subst (λ (n : ℕ). IsOverlappingRun s.mappings range overlap.place n) (sym long) is.met;
         taken_is = subst (λ (n : ℕ). taken ≡ run s.mappings overlap.place n) (sym long) taken_is;
         pieces_are = pieces_is ∙ rw (is.prev, is.next, taken_is) refl;
         room = omega (arith, ap (λ (l : List Mapping). length l) same, room, fits);

@@ -15,6 +15,9 @@ use Rattle.gv_space.specs.Counts.{count_of, by_count, counted, more_used, less_u
 use Rattle.gv_space.specs.Live.{IsLiveBacking}
 use Rattle.gv_space.specs.State.{AddressSpace, IsSpace, IsPlaced}
 use Rattle.gv_space.specs.Undo.{UndoValue, IsUndoOf, CanRevert, reverted}
+use Rattle.gv_space.specs.Inside.{space_of}
+use Rattle.gv_space.specs.declared.space.Space.TheInside.{Inside}
+use Rattle.gv_space.specs.declared.undo.OpUndo.TheInside.{Inside as UndoInside}
 use Rattle.gv_space.proofs.ByCountLemmas.{live_from_placed}
 use Rattle.gv_space.proofs.Lengths.{length-splice}
 use Rattle.gv_space.proofs.Recounted.{moved_back}
@@ -96,3 +99,22 @@ module _ (s : AddressSpace) (u : UndoValue) (space : IsSpace s) (fits : CanRever
       IsSpace-reverted s u fits.kept.others space fits.undo.laid_out fits.few
       (All-splice (IsPlaced s.area s.buffers) s.mappings u.change.taken u.change.place (u.change.place + u.change.put_in) space.placed taken_placed)
       fits.kept.are_kept
+
+-- an undo value as contracts see it
+abbrev pub undo_of : UndoInside → UndoValue
+undo_of u = record { change = record { place = u.place; put_in = u.put_in; taken = u.taken.items }; range = u.range; tables = u.tables }
+
+pub fits_inside : (s : Inside) (u : UndoInside) (space : AddressSpace) (undo : UndoValue) → space_of s ≡ space → undo_of u ≡ undo → CanRevert space undo → CanRevert (space_of s) (undo_of u)
+fits_inside s u space undo space_is undo_is fits =
+    subst (λ (v : UndoValue). CanRevert (space_of s) v) (sym undo_is) (subst (λ (t : AddressSpace). CanRevert t undo) (sym space_is) fits)
+
+-- the list is spliced and the counts are moved back: that is the space before the change
+pub state_made : (s : AddressSpace) (u : UndoValue) (space : IsSpace s) (fits : CanRevert s u) (shown taken put_back : List Mapping) (list : Ranges) (buffers : Table) (count : ℕ) →
+    shown ≡ s.mappings → taken ≡ u.change.taken → put_back ≡ u.change.taken →
+    list.mappings ≡ splice s.mappings u.change.place (u.change.place + u.change.put_in) put_back → list.room ≡ s.room →
+    buffers ≡ by_count less_used (run shown u.change.place (u.change.place + u.change.put_in - u.change.place)) (by_count more_used taken (by_count less_kept taken s.buffers)) →
+    count ≡ length u.change.taken →
+    record s { mappings = list.mappings; room = list.room; buffers = buffers; kept_count = s.kept_count - count } ≡ reverted s u
+state_made s u space fits shown taken put_back list buffers count shown_is taken_is put_back_is list_is room_is buffers_is count_is =
+    let size : u.change.place + u.change.put_in - u.change.place ≡ u.change.put_in = omega arith in
+    state_before s u space fits list buffers count (rw put_back_is at list_is) room_is (rw (shown_is, size, taken_is) at buffers_is) count_is

@@ -12,7 +12,7 @@ use Rattle.gv_ranges.proofs.ClipLemmas.{clip_whole}
 use Rattle.gv_ranges.proofs.ChangeLemmas.{at-edited}
 use Rattle.gv_space.specs.State.{AddressSpace}
 use Rattle.gv_space.specs.Undo.{UndoValue, IsUndoOf, TookWhatWas}
-use Rattle.gv_ranges.proofs.MeetingLemmas.{at_run}
+use Rattle.gv_ranges.proofs.OverlappingLemmas.{at_run}
 use Rattle.gv_space.specs.Change.{IsChanged}
 
 -- what an undo value holds says what the list before the change said of its range

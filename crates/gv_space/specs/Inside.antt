@@ -7,8 +7,8 @@ space_of s =
     record {
       area = s.bounds;
       limits = s.limits;
-      mappings = s.painted.mappings;
-      room = s.painted.room;
+      mappings = s.mapped.mappings;
+      room = s.mapped.room;
       buffers = s.buffers;
       kept_count = s.kept_count;
     }

@@ -5,7 +5,7 @@ use Rattle.std.specs.Option.{option_to_list}
 use Rattle.gv_types.specs.Page.{PAGES}
 use Rattle.gv_types.specs.Span.{Span, end_of}
 use Rattle.gv_types.specs.declared.mapping.Mapping.{Mapping}
-use Rattle.gv_ranges.specs.List.{IsLaidOut, IsMeetingRun, run}
+use Rattle.gv_ranges.specs.List.{IsLaidOut, IsOverlappingRun, run}
 use Rattle.gv_ranges.specs.Edit.{LieIn, clipped, replaced}
 use Rattle.gv_table.specs.declared.page_table.PageTable.{PageTable}
 use Rattle.gv_table.specs.Table.{IsTree, gained_by}
@@ -14,7 +14,7 @@ use Rattle.gv_space.specs.declared.overlap.Overlap.{Overlap}
 
 -- the run of a list that meets a range, and the rests of it on both sides
 pub record IsOverlap (ms : List Mapping) (range : Span) (overlap : Overlap) : Type 0 where
-  pub met : IsMeetingRun ms range overlap.place overlap.count
+  pub met : IsOverlappingRun ms range overlap.place overlap.count
   pub prev : option_to_list overlap.prev ≡ clipped 0 range.first (run ms overlap.place overlap.count)
   pub next : option_to_list overlap.next ≡ clipped (end_of range) PAGES (run ms overlap.place overlap.count)
 
@@ -24,7 +24,7 @@ pub record IsReady (inside : List Mapping) (s : AddressSpace) (range : Span) (pl
   pub sorted : IsLaidOut inside
   pub lie : LieIn range inside
   pub placed : All (IsPlaced s.area s.buffers) inside
-  pub met : IsMeetingRun s.mappings range place (length taken)
+  pub met : IsOverlappingRun s.mappings range place (length taken)
   pub taken_is : taken ≡ run s.mappings place (length taken)
   pub pieces_are : pieces ≡ replaced taken range inside
   pub room : length s.mappings + length pieces ≤ s.room + length taken

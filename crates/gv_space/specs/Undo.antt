@@ -2,7 +2,7 @@
 use Rattle.std.specs.Prelude.{◌≡◌, ℕ, ◌-◌, ◌≤◌, ◌++◌, IsTrue, List, length}
 use Rattle.gv_types.specs.Span.{Span, covers}
 use Rattle.gv_types.specs.declared.mapping.Mapping.{Mapping}
-use Rattle.gv_ranges.specs.List.{at, IsLaidOut, IsMeetingRun, run}
+use Rattle.gv_ranges.specs.List.{at, IsLaidOut, IsOverlappingRun, run}
 use Rattle.gv_ranges.specs.Edit.{Undo, LieIn, replaced, undone}
 use Rattle.gv_table.specs.declared.page_table.PageTable.{PageTable}
 use Rattle.gv_table.specs.Table.{IsTree, gained_by}
@@ -25,7 +25,7 @@ pub record IsUndoOf (old new : List Mapping) (u : UndoValue) : Type 0 where
   pub sorted : IsLaidOut pieces
   pub lie : LieIn u.range pieces
   pub made : new ≡ replaced old u.range pieces
-  pub met : IsMeetingRun old u.range u.change.place (length u.change.taken)
+  pub met : IsOverlappingRun old u.range u.change.place (length u.change.taken)
   pub taken : u.change.taken ≡ run old u.change.place (length u.change.taken)
   pub put_in : u.change.put_in ≡ length (replaced u.change.taken u.range pieces)
   pub tables : (table : PageTable) → IsTree new table → gained_by old table ≡ u.tables

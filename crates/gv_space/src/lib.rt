@@ -4,11 +4,10 @@
 
 mod counts;
 pub mod laws;
+mod list_with_table;
 mod overlap;
-mod painted;
 mod pieces;
 mod ranges;
-mod refusal;
 mod space;
 mod undo;
 

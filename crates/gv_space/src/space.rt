@@ -7,7 +7,7 @@ ghost use Rattle.gv_types.specs.Span.{covers};
 ghost use Rattle.gv_types.specs.Operation.{has_range, in_pages, own_mapping, range_of, after, IsChecked};
 ghost use Rattle.gv_types.specs.declared.mapping.Mapping.{Mapping};
 
-use crate::painted::ListWithTable;
+use crate::list_with_table::ListWithTable;
 use crate::undo::OpUndo;
 use crate::{counts, ranges};
 use gv_buffers::{Buffers, Usage};
@@ -18,9 +18,7 @@ use std::marker::Model;
 
 mod buffers;
 mod change;
-
-/// Undo values of one space hold at most so many mappings.
-const MAX_KEPT: u64 = 1 << 62;
+mod refusal;
 
 /// One GPU address space: a list of mappings as a `drm_gpuvm` of DRM GPUVM keeps it, the page table that is always the
 /// list's, and the buffers, whose counts of mappings are always right. One operation edits all three; its undo value
@@ -29,7 +27,7 @@ const MAX_KEPT: u64 = 1 << 62;
 pub struct Space {
     bounds: Bounds,
     limits: Limits,
-    painted: ListWithTable,
+    mapped: ListWithTable,
     buffers: Buffers,
     kept_count: u64,
 }
@@ -71,7 +69,7 @@ impl Space {
         Ok(Space {
             bounds,
             limits,
-            painted: ListWithTable::new(alloc),
+            mapped: ListWithTable::new(alloc),
             buffers,
             kept_count: 0,
         })
@@ -96,14 +94,14 @@ impl Space {
         ensures value { result.now ≡ self.now.mappings }
         ensures space { IsSpace self.now }
     {
-        self.painted.list().mappings()
+        self.mapped.list().mappings()
     }
 
     /// What the page holds, by the list: one binary search. None past the end of the address space.
     pub fn find(&self, page: u64) -> Option<Entry>
         ensures { result ≡ at self.now.mappings page }
     {
-        self.painted.list().at(page)
+        self.mapped.list().at(page)
     }
 
     /// What the page holds, by the page table, which is the list's: at most five steps. None past the end of the address
@@ -112,14 +110,14 @@ impl Space {
         ensures value { result ≡ at self.now.mappings page }
         ensures tree { (table : PageTable) × IsTree self.now.mappings table × IsHeldAt table page result }
     {
-        self.painted.walk(page)
+        self.mapped.walk(page)
     }
 
     /// How many tables stand at the levels 4, 3, 2, 1 and 0.
     pub fn tables(&self) -> [u64; 5]
         ensures { result ≡ tables_of self.now.mappings }
     {
-        self.painted.tables()
+        self.mapped.tables()
     }
 
     /// The split steps of an operation, as DRM GPUVM plans them; nothing changes. An unmap of a whole buffer has a step
@@ -139,7 +137,7 @@ impl Space {
             Ok(op) => op,
             Err(fault) => return Err(fault),
         };
-        gv_split::plan(alloc, self.painted.list(), &op)
+        gv_split::plan(alloc, self.mapped.list(), &op)
     }
 
     /// Applies an operation, given in bytes, that names its pages: an unmap of a whole buffer is applied as an unmap of
@@ -212,10 +210,10 @@ impl Space {
             taken,
             tables,
         } = undo;
-        let pieces = &self.painted.list().mappings()[place..place + put_in];
+        let pieces = &self.mapped.list().mappings()[place..place + put_in];
         counts::move_counts_back(&mut self.buffers, pieces, taken.as_slice());
         let _lost = self
-            .painted
+            .mapped
             .replace(range, place, put_in, taken.as_slice(), tables);
         self.kept_count -= taken.len() as u64;
     }

@@ -81,9 +81,9 @@ pub alike-outside : (range : Span) (one other : List Mapping) (t : Span) → Are
 alike-outside range one other t alike laid laid' some within apart =
     elim (apart-cases t range apart) [
       | inl behind ↦ (
-        sym (any_meets-clipped (end_of range) PAGES 0 one t laid behind some within) ∙ ap (λ (ms : List Mapping). any_meets ms t) alike.behind ∙
+        sym (any_meets-clipped (end_of range) PAGES 0 one t laid behind some within) ∙ ap (λ (ms : List Mapping). any_meets ms t) alike.beyond ∙
             any_meets-clipped (end_of range) PAGES 0 other t laid' behind some within,
-        sym (covering-clipped (end_of range) PAGES one t behind some within) ∙ ap (λ (ms : List Mapping). covering ms t) alike.behind ∙
+        sym (covering-clipped (end_of range) PAGES one t behind some within) ∙ ap (λ (ms : List Mapping). covering ms t) alike.beyond ∙
             covering-clipped (end_of range) PAGES other t behind some within,
       )
       | inr before ↦ (

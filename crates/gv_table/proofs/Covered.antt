@@ -9,7 +9,8 @@ use Rattle.gv_types.specs.declared.mapping.Mapping.{Mapping}
 use Rattle.gv_ranges.specs.List.{at, IsLaidOutFrom}
 use Rattle.gv_ranges.proofs.LookupLemmas.{first_above}
 use Rattle.gv_ranges.proofs.ClipLemmas.{advanced-advanced}
-use Rattle.gv_table.specs.Reads.{any_meets, covering, entry_after, IsReadBy}
+use Rattle.gv_table.specs.Reads.{any_meets, covering, IsReadBy}
+use Rattle.gv_types.specs.Mapping.{entry_advanced}
 use Rattle.gv_table.proofs.Spans.{meets-bounds, meets-after, meets-before, apart-cases, lies-bounds, lies-from, lies-not-low, lies-not-high, covers-lies}
 
 pub true-or-false : (b : Bool) → (b ≡ true) ⊎ (b ≡ false)
@@ -53,7 +54,7 @@ covering-above (m ∷ ms) low s entry laid found =
 
 -- a part of a range that one mapping covers is covered too, and holds what lies so far on
 pub covering-part : (ms : List Mapping) (low : ℕ) (s t : Span) (entry : Entry) → IsLaidOutFrom low ms → covering ms s ≡ Some entry →
-    s.first ≤ t.first → 0 < t.count → end_of t ≤ end_of s → covering ms t ≡ Some (entry_after entry (t.first - s.first))
+    s.first ≤ t.first → 0 < t.count → end_of t ≤ end_of s → covering ms t ≡ Some (entry_advanced entry (t.first - s.first))
 covering-part [] low s t entry laid found up some down = cc
 covering-part (m ∷ ms) low s t entry laid found up some down =
     elim (true-or-false (lies_in s m.range)) [
@@ -62,9 +63,9 @@ covering-part (m ∷ ms) low s t entry laid found up some down =
           let here : lies_in t m.range ≡ true = lies-from t m.range (omega (arith, h)) (omega (arith, h)) in
           let same : part m s.first ≡ entry = cc in
           let made : Backing → Entry = λ b. record { backing = b; flags = m.flags } in
-          let further : entry_after (part m s.first) (t.first - s.first) ≡ part m t.first =
+          let further : entry_advanced (part m s.first) (t.first - s.first) ≡ part m t.first =
           ap made (advanced-advanced m.backing (s.first - m.range.first) (t.first - s.first) (t.first - m.range.first) (omega (arith, h))) in
-          rw here (ap (λ (e : Entry). Some e) (sym further ∙ ap (λ (e : Entry). entry_after e (t.first - s.first)) same)))
+          rw here (ap (λ (e : Entry). Some e) (sym further ∙ ap (λ (e : Entry). entry_advanced e (t.first - s.first)) same)))
       | inr other ↦ (let found' : covering ms s ≡ Some entry = rw other at found in
           let above = covering-above ms (end_of m.range) s entry laid.2 found' in
           let here : lies_in t m.range ≡ false = lies-not-high t m.range (omega (arith, above)) in

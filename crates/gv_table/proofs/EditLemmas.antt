@@ -60,8 +60,8 @@ module _ (ms pieces : List Mapping) (range : Span) (laid : IsLaidOut ms) (lie : 
         clipped_none 0 range.first (clipped (end_of range) PAGES ms) (λ k d below. inr (let h = high k d below in omega (arith, h.1))),
       ) (simp append-nil)
 
-  behind : clipped (end_of range) PAGES (replaced ms range pieces) ≡ clipped (end_of range) PAGES ms
-  behind =
+  beyond : clipped (end_of range) PAGES (replaced ms range pieces) ≡ clipped (end_of range) PAGES ms
+  beyond =
       rw (
         filter_map-append (clip (end_of range) PAGES) (clipped 0 range.first ms ++ pieces) (clipped (end_of range) PAGES ms),
         filter_map-append (clip (end_of range) PAGES) (clipped 0 range.first ms) pieces,
@@ -84,10 +84,10 @@ module _ (ms pieces : List Mapping) (range : Span) (laid : IsLaidOut ms) (lie : 
       ) (simp append-nil)
 
 pub replaced-alike : ReplacedListIsAlike
-replaced-alike ms pieces range laid lie = record { before = sym (before ms pieces range laid lie); behind = sym (behind ms pieces range laid lie) }
+replaced-alike ms pieces range laid lie = record { before = sym (before ms pieces range laid lie); beyond = sym (beyond ms pieces range laid lie) }
 
 pub alike-mutual : AlikeIsMutual
-alike-mutual one other range alike = record { before = sym alike.before; behind = sym alike.behind }
+alike-mutual one other range alike = record { before = sym alike.before; beyond = sym alike.beyond }
 
 pub replaced-pieces : ReplacedListHasPieces
 replaced-pieces ms pieces range laid sorted lie = inside ms pieces range laid lie sorted

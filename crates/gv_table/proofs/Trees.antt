@@ -11,7 +11,8 @@ use Rattle.gv_table.specs.declared.wanted.Wanted.TheVariants as variant
 use Rattle.gv_table.specs.declared.slot.Slot.{Slot}
 use Rattle.gv_table.specs.declared.slot.Slot.TheVariants.{Empty, Table}
 use Rattle.gv_table.specs.Levels.{pages_of, slot_pages}
-use Rattle.gv_table.specs.Reads.{any_meets, covering, entry_after, AreAlikeOutside}
+use Rattle.gv_table.specs.Reads.{any_meets, covering, AreAlikeOutside}
+use Rattle.gv_types.specs.Mapping.{entry_advanced}
 use Rattle.gv_table.specs.Wanted.{wanted}
 use Rattle.gv_table.specs.Chain.{AreEmpty}
 use Rattle.gv_table.specs.Tree.{is_table, child, leaf, HasNoEntry, page_slot, HoldsWanted, IsTreeOf, IsTreeOutside}
@@ -114,7 +115,7 @@ read-empty ms (suc level) first page tree low high =
 
 -- a page of a leaf holds what lies so far on, and there no sum is great
 pub read-leaf : (ms : List Mapping) (level first page : ℕ) (entry : Entry) → IsLaidOut ms → IsTreeOf ms level first (leaf entry) → first ≤ page →
-    page < first + pages_of level → HasSmallPages entry.backing (pages_of level) × (at ms page ≡ Some (entry_after entry (page - first)))
+    page < first + pages_of level → HasSmallPages entry.backing (pages_of level) × (at ms page ≡ Some (entry_advanced entry (page - first)))
 read-leaf ms zero first page entry laid tree low high =
     let one = pages_of-zero in
     let found = page-leaf (at ms first) entry (page-of ms first (leaf entry) tree) in
@@ -154,18 +155,18 @@ empty-parts ms (suc level) first some tree k below =
     rw lower (IsTreeOf-nothing ms level (first + k * pages_of level) Empty (nothing-part ms level first k below (empty-wanted ms level first tree)) refl)
 
 pub leaf-parts : (ms : List Mapping) (level first : ℕ) (entry : Entry) → IsLaidOut ms → 0 < level → IsTreeOf ms level first (leaf entry) → (k : ℕ) → k < 512 →
-    IsTreeOf ms (level - 1) (first + k * pages_of (level - 1)) (leaf (entry_after entry (k * pages_of (level - 1))))
+    IsTreeOf ms (level - 1) (first + k * pages_of (level - 1)) (leaf (entry_advanced entry (k * pages_of (level - 1))))
 leaf-parts ms zero first entry laid some tree k below = absurd (omega arith)
 leaf-parts ms (suc level) first entry laid some tree k below =
     let lower : suc level - 1 ≡ level = omega arith in
-    rw lower (IsTreeOf-leaf ms level (first + k * pages_of level) (entry_after entry (k * pages_of level)) _
+    rw lower (IsTreeOf-leaf ms level (first + k * pages_of level) (entry_advanced entry (k * pages_of level)) _
     (entry-part ms level first k entry laid below (leaf-wanted ms level first entry tree)) refl)
 
 -- the parts of a slot that is no table, where a row has its entry's parts
 pub divided-parts :
     (entry : Option Entry) (slot : Slot) (row : List Slot) (ms : List Mapping) (level first p : ℕ) →
     MatchOption entry (HasNoEntry slot) (λ e. slot ≡ leaf e) → is_table slot ≡ false → (entry ≡ None → AreEmpty row) →
-    IfSome entry (λ e. HasSmallPages e.backing (512 * p) → (k : ℕ) → k < 512 → slice_index_or row k Empty ≡ leaf (entry_after e (k * p))) →
+    IfSome entry (λ e. HasSmallPages e.backing (512 * p) → (k : ℕ) → k < 512 → slice_index_or row k Empty ≡ leaf (entry_advanced e (k * p))) →
     IsLaidOut ms → 0 < level → p ≡ pages_of (level - 1) → IsTreeOf ms level first slot →
     (k : ℕ) → k < 512 → IsTreeOf ms (level - 1) (first + k * pages_of (level - 1)) (slice_index_or row k Empty)
 divided-parts None slot row ms level first p (inl none) other empty entries laid some pages tree k below =
@@ -178,7 +179,7 @@ divided-parts (Some entry) slot row ms level first p is other empty entries laid
     let whole : pages_of level ≡ 512 * p = omega (arith, below-of, pages) in
     let small : HasSmallPages entry.backing (512 * p) = rw whole at (leaf-small ms level first entry laid tree') in
     let far : k * p ≡ k * pages_of (level - 1) = ap (λ (n : ℕ). k * n) pages in
-    let made = entries small k below ∙ ap (λ (n : ℕ). leaf (entry_after entry n)) far in
+    let made = entries small k below ∙ ap (λ (n : ℕ). leaf (entry_advanced entry n)) far in
     subst (λ (s : Slot). IsTreeOf ms (level - 1) (first + k * pages_of (level - 1)) s) (sym made)
     (leaf-parts ms level first entry laid some tree' k below)
 

@@ -9,7 +9,8 @@ use Rattle.gv_ranges.specs.List.{IsLaidOut}
 use Rattle.gv_table.specs.declared.wanted.Wanted.{Wanted}
 use Rattle.gv_table.specs.declared.wanted.Wanted.TheVariants as variant
 use Rattle.gv_table.specs.Levels.{pages_of, slot_pages}
-use Rattle.gv_table.specs.Reads.{any_meets, covering, entry_after, IsReadBy}
+use Rattle.gv_table.specs.Reads.{any_meets, covering, IsReadBy}
+use Rattle.gv_types.specs.Mapping.{entry_advanced}
 use Rattle.gv_table.specs.Wanted.{wanted, leaf_or_table, is_divided}
 use Rattle.gv_table.proofs.Spans.{le-true}
 use Rattle.gv_table.proofs.Clips.{SayAlike}
@@ -113,13 +114,13 @@ nothing-part ms level first k below want =
 
 -- the parts of a leaf are leaves, each so far on
 pub entry-part : (ms : List Mapping) (level first k : ℕ) (entry : Entry) → IsLaidOut ms → k < 512 → wanted ms (suc level) first ≡ variant.Entry entry →
-    wanted ms level (first + k * pages_of level) ≡ variant.Entry (entry_after entry (k * pages_of level))
+    wanted ms level (first + k * pages_of level) ≡ variant.Entry (entry_advanced entry (k * pages_of level))
 entry-part ms level first k entry laid below want =
     let within = part-within k (pages_of (suc level)) (pages_of level) below (pages_of-more level) in
     let some = pages_of-some level in
     let h = entry-covers ms (suc level) first entry want in
     let far : first + k * pages_of level - first ≡ k * pages_of level = omega arith in
-    let covered : covering ms (slot_pages level (first + k * pages_of level)) ≡ Some (entry_after entry (k * pages_of level)) =
+    let covered : covering ms (slot_pages level (first + k * pages_of level)) ≡ Some (entry_advanced entry (k * pages_of level)) =
     rw far at (covering-part ms 0 (slot_pages (suc level) first) (slot_pages level (first + k * pages_of level)) entry laid h.1
     (omega arith) some (omega (arith, within))) in
     wanted-covered ms level (first + k * pages_of level) _

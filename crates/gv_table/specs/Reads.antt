@@ -2,7 +2,7 @@
 use Rattle.std.specs.Prelude.{◌≡◌, ◌<◌, ◌≤◌, ◌-◌, ℕ, Bool, true, false, ◌||◌, if◌then◌else◌, Option, Some, None, List, [], ◌∷◌, slice_index_or}
 use Rattle.gv_types.specs.Page.{PAGES}
 use Rattle.gv_types.specs.Span.{Span, end_of, meets, lies_in}
-use Rattle.gv_types.specs.Mapping.{part, advanced, IsMapping}
+use Rattle.gv_types.specs.Mapping.{part, IsMapping}
 use Rattle.gv_types.specs.declared.mapping.Entry.{Entry}
 use Rattle.gv_types.specs.declared.mapping.Mapping.{Mapping}
 use Rattle.gv_ranges.specs.Edit.{clipped}
@@ -27,11 +27,7 @@ IsReadBy ms range (Some m) =
 -- two lists have the same mappings before the range, and the same behind it
 pub record AreAlikeOutside (range : Span) (one other : List Mapping) : Type 0 where
   pub before : clipped 0 range.first one ≡ clipped 0 range.first other
-  pub behind : clipped (end_of range) PAGES one ≡ clipped (end_of range) PAGES other
-
--- what the page holds that lies some pages past the entry's, in the same mapping
-abbrev pub entry_after : Entry → ℕ → Entry
-entry_after entry distance = record { backing = advanced entry.backing distance; flags = entry.flags }
+  pub beyond : clipped (end_of range) PAGES one ≡ clipped (end_of range) PAGES other
 
 -- the mapping before a place, which reaches past a page before the range
 pub record IsNeighbour (ms : List Mapping) (range : Span) (place first : ℕ) (m : Mapping) : Type 0 where

@@ -63,7 +63,7 @@ pub fn slots_met(level: usize, first: u64, range: PageRange) -> (usize, usize)
         → end_of (slot_pages level (first + k * pages_of level)) ≤ range.first }
     ensures met { (k : ℕ) → result.0 ≤ k → k < result.1
         → IsTrue (meets (slot_pages level (first + k * pages_of level)) range) }
-    ensures behind { (k : ℕ) → result.1 ≤ k → k < slots_per_table
+    ensures beyond { (k : ℕ) → result.1 ≤ k → k < slots_per_table
         → end_of range ≤ first + k * pages_of level }
 {
     let low = slots_in(level, range.first().saturating_sub(first));

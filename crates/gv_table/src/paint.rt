@@ -9,13 +9,12 @@ ghost use Rattle.gv_ranges.specs.List.{IsLaidOut, IsPlaceOf, AreEnded};
 ghost use Rattle.gv_table.specs.declared.slot.Slot.TheVariants.{Empty};
 ghost use Rattle.gv_table.specs.Levels.{top_level, root_level, slots_per_table, pages_of};
 ghost use Rattle.gv_table.specs.Levels.{slot_pages, entered};
-ghost use Rattle.gv_table.specs.Reads.{entry_after};
 ghost use Rattle.gv_table.specs.Tree.{IsTreeOf, IsTreeOutside, is_table, child, leaf};
 ghost use Rattle.gv_table.specs.Counts.{gained, lost, row_gained, row_lost};
 ghost use Rattle.gv_table.specs.Counts.{one_if_not, one_if_new, HasSameTables};
 ghost use Rattle.gv_table.specs.Counts.{tables_at, row_tables_at, count_at};
 ghost use Rattle.gv_table.specs.Counts.{IsPartOf, IsRowOf};
-ghost use Rattle.gv_types.specs.Mapping.{HasSmallPages};
+ghost use Rattle.gv_types.specs.Mapping.{entry_advanced, HasSmallPages};
 
 use crate::levels::{SLOTS, pages_of, slots_met};
 use crate::place::advance;
@@ -23,7 +22,6 @@ use crate::release::release;
 use crate::slot::{Slot, overwrite};
 use crate::spares::Spares;
 use crate::table_counts::TableCounts;
-use crate::walk::entry_after;
 use crate::wanted::{Wanted, slot_wanted};
 use gv_types::{Entry, Mapping, PageRange};
 use std::mem;
@@ -35,10 +33,10 @@ fn spread(slots: &mut [Slot; SLOTS], entry: &Entry, pages: u64)
         → is_table (slice_index_or slots.new k Empty) ≡ false }
     ensures entries { HasSmallPages entry.now.backing (slots_per_table * pages)
         → (k : ℕ) → k < slots_per_table
-        → slice_index_or slots.new k Empty ≡ leaf (entry_after entry.now (k * pages)) }
+        → slice_index_or slots.new k Empty ≡ leaf (entry_advanced entry.now (k * pages)) }
 {
     for index in 0..SLOTS {
-        slots[index] = Slot::leaf(entry_after(entry, index as u64 * pages));
+        slots[index] = Slot::leaf(entry.advanced(index as u64 * pages));
     }
 }
 
@@ -51,7 +49,7 @@ fn filled(entry: Option<Entry>, pages: u64, spares: &mut Spares) -> Box<[Slot; S
         → is_table (slice_index_or result.value k Empty) ≡ false }
     ensures entries { IfSome entry (λ e. HasSmallPages e.backing (slots_per_table * pages)
         → (k : ℕ) → k < slots_per_table
-        → slice_index_or result.value k Empty ≡ leaf (entry_after e (k * pages))) }
+        → slice_index_or result.value k Empty ≡ leaf (entry_advanced e (k * pages))) }
     ensures taken { spares.new + 1 ≡ spares.old }
 {
     let mut slots = spares.take();
@@ -62,7 +60,7 @@ fn filled(entry: Option<Entry>, pages: u64, spares: &mut Spares) -> Box<[Slot; S
 }
 
 /// The table of a slot, or a spare one with the parts of what the slot held, which the counts then
-/// counts.
+/// count.
 #[inline(never)]
 fn divide(
     slot: Slot,

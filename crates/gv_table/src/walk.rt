@@ -1,34 +1,14 @@
 //! What a page of a tree holds.
 ghost use Rattle.std.specs.Prelude.{◌≡◌, ◌≤◌, ◌<◌, ◌+◌, ℕ, false, List};
 ghost use Rattle.gv_types.specs.Page.{PAGES};
-ghost use Rattle.gv_types.specs.Mapping.{HasSmallPages};
 ghost use Rattle.gv_types.specs.declared.mapping.Mapping.{Mapping};
 ghost use Rattle.gv_ranges.specs.List.{at, IsLaidOut};
 ghost use Rattle.gv_table.specs.Levels.{top_level, pages_of};
-ghost use Rattle.gv_table.specs.Reads.{entry_after};
 ghost use Rattle.gv_table.specs.Tree.{IsTreeOf, is_table};
 
 use crate::levels::{TOP_LEVEL, pages_of, slots_in};
 use crate::slot::Slot;
-use gv_types::{Backing, Entry};
-
-/// What the page holds that lies `distance` pages past the entry's, in the same mapping. The pages
-/// of a mapping are small numbers: in the tree of a list no sum wraps.
-pub fn entry_after(entry: &Entry, distance: u64) -> Entry
-    ensures { HasSmallPages entry.now.backing distance → result ≡ entry_after entry.now distance }
-{
-    let backing = match entry.backing {
-        Backing::Buffer { id, page } => Backing::Buffer {
-            id,
-            page: page.wrapping_add(distance),
-        },
-        Backing::Zero => Backing::Zero,
-    };
-    Entry {
-        backing,
-        flags: entry.flags,
-    }
-}
+use gv_types::Entry;
 
 /// What the page of a slot holds that lies `distance` pages past its first, where the slot is no table.
 fn held_by(slot: &Slot, distance: u64) -> Option<Entry>
@@ -36,7 +16,7 @@ fn held_by(slot: &Slot, distance: u64) -> Option<Entry>
         → is_table slot.now ≡ false → distance < pages_of level → result ≡ at ms (first + distance) }
 {
     let entry = slot.entry()?;
-    Some(entry_after(&entry, distance))
+    Some(entry.advanced(distance))
 }
 
 /// What a page of a tree holds: one step a level.

@@ -25,6 +25,10 @@ abbrev pub advanced : Backing → ℕ → Backing
 advanced (Buffer id page) pages = Buffer id (page + pages)
 advanced Zero pages = Zero
 
+-- what the page holds that lies some pages past an entry's, in the same mapping
+abbrev pub entry_advanced : Entry → ℕ → Entry
+entry_advanced e pages = record { backing = advanced e.backing pages; flags = e.flags }
+
 -- what a mapping holds at a page of its range
 abbrev pub part : Mapping → ℕ → Entry
 part m page = record { backing = advanced m.backing (page - m.range.first); flags = m.flags }

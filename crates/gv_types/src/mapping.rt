@@ -89,17 +89,30 @@ impl Backing {
         }
     }
 
-    /// The same backing, `pages` further on.
+    /// The same backing, `pages` further on. The pages of a mapping are small numbers: in a mapping no sum wraps.
     pub fn advanced(self, pages: u64) -> Backing
-        requires { HasSmallPages self pages }
-        ensures { result ≡ advanced self pages }
+        ensures { HasSmallPages self pages → result ≡ advanced self pages }
     {
         match self {
             Backing::Buffer { id, page } => Backing::Buffer {
                 id,
-                page: page + pages,
+                page: page.wrapping_add(pages),
             },
             Backing::Zero => Backing::Zero,
+        }
+    }
+}
+
+impl Entry {
+    ghost use Rattle.gv_types.specs.Mapping.{entry_advanced, HasSmallPages};
+
+    /// What the page holds that lies `pages` past the entry's, in the same mapping.
+    pub fn advanced(self, pages: u64) -> Entry
+        ensures { HasSmallPages self.backing pages → result ≡ entry_advanced self pages }
+    {
+        Entry {
+            backing: self.backing.advanced(pages),
+            flags: self.flags,
         }
     }
 }

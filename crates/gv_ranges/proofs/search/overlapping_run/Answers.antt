@@ -16,5 +16,5 @@ returns c =
       within = rw end c.count_begun-behind.ensures.within;
       before = rw c.first.ensures.value at c.count_ended-place.ensures.ended;
       meeting = run_meets _ c.args.range _ _ up c.count_begun-behind.ensures.within (rw c.first.ensures.value at c.count_ended-place.ensures.not_ended) (rw c.end.ensures.value at c.count_begun-behind.ensures.begun);
-      behind = rw end (rw c.end.ensures.value at c.count_begun-behind.ensures.not_begun);
+      beyond = rw end (rw c.end.ensures.value at c.count_begun-behind.ensures.not_begun);
     }

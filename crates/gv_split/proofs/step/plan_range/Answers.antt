@@ -7,7 +7,7 @@ use Rattle.gv_types.specs.Mapping.{IsMapping}
 use Rattle.gv_types.specs.Span.{meets}
 use Rattle.gv_types.specs.Operation.{range_of, own_mapping}
 use Rattle.gv_types.specs.declared.mapping.Mapping.{Mapping}
-use Rattle.gv_ranges.specs.List.{IsMeetingRun, run}
+use Rattle.gv_ranges.specs.List.{IsOverlappingRun, run}
 use Rattle.gv_ranges.proofs.ReplacedLemmas.{all_mappings}
 use Rattle.gv_ranges.proofs.OverlapLemmas.{filter_meets}
 use Rattle.gv_split.specs.Steps.{step_in}
@@ -21,7 +21,7 @@ steps_of_run-requires-clause-mappings c =
 
 pub returns-clause-ok : goal.returns-clause-ok
 returns-clause-ok c =
-    let is : IsMeetingRun c.args.list.now.mappings (range_of c.args.op.now) c.overlapping-place.result.0 c.overlapping-place.result.1 =
+    let is : IsOverlappingRun c.args.list.now.mappings (range_of c.args.op.now) c.overlapping-place.result.0 c.overlapping-place.result.1 =
     rw c.range.ensures at c.overlapping-place.ensures in
     let met : filter (λ (m : Mapping). meets m.range (range_of c.args.op.now)) c.args.list.now.mappings ≡ run c.args.list.now.mappings c.overlapping-place.result.0 c.overlapping-place.result.1 =
     filter_meets _ _ _ _ is in
@@ -32,7 +32,7 @@ returns-clause-ok c =
 
 pub returns-clause-some : goal.returns-clause-some
 returns-clause-some c =
-    let is : IsMeetingRun c.args.list.now.mappings (range_of c.args.op.now) c.overlapping-place.result.0 c.overlapping-place.result.1 =
+    let is : IsOverlappingRun c.args.list.now.mappings (range_of c.args.op.now) c.overlapping-place.result.0 c.overlapping-place.result.1 =
     rw c.range.ensures at c.overlapping-place.ensures in
     let met : filter (λ (m : Mapping). meets m.range (range_of c.args.op.now)) c.args.list.now.mappings ≡ run c.args.list.now.mappings c.overlapping-place.result.0 c.overlapping-place.result.1 =
     filter_meets _ _ _ _ is in

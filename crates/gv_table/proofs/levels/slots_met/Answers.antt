@@ -5,8 +5,8 @@ use Rattle.gv_table.proofs.PagesOf.{row-past, index-below, over-rises, pages_of-
 use Rattle.gv_table.proofs.Spans.{meets-bounds}
 use Rattle.gv_table.proofs.levels.slots_met.Goals as goal
 
-pub returns-clause-behind : goal.returns-clause-behind
-returns-clause-behind c = λ k from below.
+pub returns-clause-beyond : goal.returns-clause-beyond
+returns-clause-beyond c = λ k from below.
     let h = row-past (c.end.result - c.args.first - 1) k (pages_of c.args.level) (pages_of-some c.args.level) (omega arith) in
     let met = meets-bounds (span c.args.first (512 * pages_of c.args.level)) c.args.range c.requires.met in
     omega (arith, h, met)

@@ -146,13 +146,13 @@ pub paint_row-returns-clause-tree : goal.paint_row-returns-clause-tree
 paint_row-returns-clause-tree t c =
     row-tree c.args.mappings.now c.args.range c.args.level c.args.first c.loop-index.index c.args.slots.now c.loop-index.slots c.requires.laid_out c.requires.in_space
     c.loop-index.invariant.painted c.loop-index.invariant.untouched c.requires.outside
-    (λ k from below. c.slots_met-low.ensures.behind k (omega (arith, c.loop-index-test.false)) below)
+    (λ k from below. c.slots_met-low.ensures.beyond k (omega (arith, c.loop-index-test.false)) below)
 
 pub paint_row-returns-clause-lost : goal.paint_row-returns-clause-lost
 paint_row-returns-clause-lost t c =
     let tree = row-tree c.args.mappings.now c.args.range c.args.level c.args.first c.loop-index.index c.args.slots.now c.loop-index.slots c.requires.laid_out c.requires.in_space
     c.loop-index.invariant.painted c.loop-index.invariant.untouched c.requires.outside
-    (λ k from below. c.slots_met-low.ensures.behind k (omega (arith, c.loop-index-test.false)) below) in
+    (λ k from below. c.slots_met-low.ensures.beyond k (omega (arith, c.loop-index-test.false)) below) in
     let l = row_lost-zero c.args.mappings.now c.args.level c.args.first c.loop-index.slots c.requires.laid_out tree in
     omega (arith, l, c.loop-index.invariant.counted)
 
@@ -163,7 +163,7 @@ pub paint_row-returns-clause-exchanged : goal.paint_row-returns-clause-exchanged
 paint_row-returns-clause-exchanged t c =
     let tree = row-tree c.args.mappings.now c.args.range c.args.level c.args.first c.loop-index.index c.args.slots.now c.loop-index.slots c.requires.laid_out c.requires.in_space
     c.loop-index.invariant.painted c.loop-index.invariant.untouched c.requires.outside
-    (λ k from below. c.slots_met-low.ensures.behind k (omega (arith, c.loop-index-test.false)) below) in
+    (λ k from below. c.slots_met-low.ensures.beyond k (omega (arith, c.loop-index-test.false)) below) in
     let g = row_gained-zero c.args.mappings.now c.args.level c.args.first c.loop-index.slots c.requires.laid_out tree in
     let l = row_lost-zero c.args.mappings.now c.args.level c.args.first c.loop-index.slots c.requires.laid_out tree in
     omega (arith, g, l, c.loop-index.invariant.exchanged)

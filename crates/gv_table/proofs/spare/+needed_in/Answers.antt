@@ -83,7 +83,7 @@ returns-clause-count t c =
     let rest = sum_below-rest 512 f c.loop-index.index (omega (arith, last, c.slots_met-low.ensures.within)) (λ k from below.
     needed-apart c.args.pieces.now c.args.range (c.args.level - 1) (c.args.first + k * pages_of (c.args.level - 1)) (child c.args.slot.now k)
     (meets-after (slot_pages (c.args.level - 1) (c.args.first + k * pages_of (c.args.level - 1))) c.args.range
-    (c.slots_met-low.ensures.behind k (omega (arith, c.loop-index-test.false)) below))) in
+    (c.slots_met-low.ensures.beyond k (omega (arith, c.loop-index-test.false)) below))) in
     omega (arith, whole, rest, c.loop-index.invariant.counted, c.one_if_not_table-total.ensures)
 
 pub returns-clause-bound : goal.returns-clause-bound

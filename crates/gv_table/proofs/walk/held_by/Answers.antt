@@ -21,5 +21,5 @@ returns c = λ ms level first laid tree other below.
     let e = read-leaf ms level first (first + c.args.distance) c.in_ok-entry.entry laid (subst (λ (s : Slot). IsTreeOf ms level first s) is tree)
     (omega arith) (omega (arith, below)) in
     let far : first + c.args.distance - first ≡ c.args.distance = omega arith in
-    ap (λ (x : Entry). Some x) (c.entry_after.ensures (small-less c.in_ok-entry.entry.backing _ _ e.0 (omega (arith, below)))) ∙
+    ap (λ (x : Entry). Some x) (c.advanced.ensures (small-less c.in_ok-entry.entry.backing _ _ e.0 (omega (arith, below)))) ∙
     sym (rw far at e.1)

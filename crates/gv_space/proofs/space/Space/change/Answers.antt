@@ -26,7 +26,7 @@ spare-requires c =
 pub commit-requires : goal.commit-requires
 commit-requires c =
     let s : AddressSpace = space_of c.self.inside in
-    let list_is : c.list.result.now ≡ c.self.inside.painted = c.list.ensures in
+    let list_is : c.list.result.now ≡ c.self.inside.mapped = c.list.ensures in
     let overlap : IsOverlap s.mappings c.args.range c.of-overlap.result =
     subst (λ (l : Ranges). IsOverlap l.mappings c.args.range c.of-overlap.result) list_is c.of-overlap.ensures in
     let size : c.of-overlap.result.place + c.of-overlap.result.count - c.of-overlap.result.place ≡ c.of-overlap.result.count = omega arith in
@@ -54,7 +54,7 @@ commit-requires c =
 pub returns-clause-changed : goal.returns-clause-changed
 returns-clause-changed c =
     let s : AddressSpace = space_of c.self.inside in
-    let list_is : c.list.result.now ≡ c.self.inside.painted = c.list.ensures in
+    let list_is : c.list.result.now ≡ c.self.inside.mapped = c.list.ensures in
     let overlap : IsOverlap s.mappings c.args.range c.of-overlap.result =
     subst (λ (l : Ranges). IsOverlap l.mappings c.args.range c.of-overlap.result) list_is c.of-overlap.ensures in
     let size : c.of-overlap.result.place + c.of-overlap.result.count - c.of-overlap.result.place ≡ c.of-overlap.result.count = omega arith in

@@ -6,24 +6,22 @@ use Rattle.gv_space.specs.Counts.{by_count, more_used, less_used, less_kept}
 use Rattle.gv_space.specs.State.{AddressSpace, IsSpace, AreKept}
 use Rattle.gv_space.specs.Undo.{UndoValue, CanRevert, reverted}
 use Rattle.gv_space.specs.Inside.{space_of}
-use Rattle.gv_space.proofs.Reverts.{old, gone, ended, within, room_to_undo, old_alike, taken_live, gone_live, taken_kept, room_for_taken, gone_counted, state_before, space_before, undone_is}
+use Rattle.gv_space.proofs.Reverts.{undo_of, fits_inside, state_made, old, ended, within, room_to_undo, old_alike, taken_live, gone_live, taken_kept, room_for_taken, gone_counted, space_before, undone_is}
 use Rattle.gv_space.proofs.KeptLemmas.{AreKept-reverted}
 use Rattle.gv_space.proofs.space.Space.revert.Goals as goal
 
 pub overflow_add-pieces : goal.overflow_add-pieces
 overflow_add-pieces c =
     let s : AddressSpace = space_of c.self.inside in
-    let u : UndoValue = record { change = record { place = c.undo.inside.place; put_in = c.undo.inside.put_in; taken = c.undo.inside.taken.items }; range = c.undo.inside.range; tables = c.undo.inside.tables } in
-    let fits_now : CanRevert s c.args.undo = subst (λ (t : AddressSpace). CanRevert t c.args.undo) (sym c.self.view_is) c.requires in
-    let fits : CanRevert s u = subst (λ (v : UndoValue). CanRevert s v) (sym c.undo.view_is) fits_now in
+    let u : UndoValue = undo_of c.undo.inside in
+    let fits : CanRevert s u = fits_inside c.self.inside c.undo.inside c.args.self.now c.args.undo c.self.view_is c.undo.view_is c.requires in
     omega (arith, within s u c.self.invariant fits, c.self.invariant.few, c.self.invariant.limits.1)
 
 pub slice_bounds-pieces-end : goal.slice_bounds-pieces-end
 slice_bounds-pieces-end c =
     let s : AddressSpace = space_of c.self.inside in
-    let u : UndoValue = record { change = record { place = c.undo.inside.place; put_in = c.undo.inside.put_in; taken = c.undo.inside.taken.items }; range = c.undo.inside.range; tables = c.undo.inside.tables } in
-    let fits_now : CanRevert s c.args.undo = subst (λ (t : AddressSpace). CanRevert t c.args.undo) (sym c.self.view_is) c.requires in
-    let fits : CanRevert s u = subst (λ (v : UndoValue). CanRevert s v) (sym c.undo.view_is) fits_now in
+    let u : UndoValue = undo_of c.undo.inside in
+    let fits : CanRevert s u = fits_inside c.self.inside c.undo.inside c.args.self.now c.args.undo c.self.view_is c.undo.view_is c.requires in
     let mappings_are : c.mappings.result.now ≡ s.mappings = c.mappings.ensures.value ∙ ap (λ (l : Ranges). l.mappings) c.list.ensures in
     let size : c.undo.inside.place + c.undo.inside.put_in - c.undo.inside.place ≡ c.undo.inside.put_in = omega arith in
     omega (arith, within s u c.self.invariant fits, ap (λ (l : List Mapping). length l) mappings_are)
@@ -31,17 +29,15 @@ slice_bounds-pieces-end c =
 pub move_counts_back-requires-clause-taken : goal.move_counts_back-requires-clause-taken
 move_counts_back-requires-clause-taken c =
     let s : AddressSpace = space_of c.self.inside in
-    let u : UndoValue = record { change = record { place = c.undo.inside.place; put_in = c.undo.inside.put_in; taken = c.undo.inside.taken.items }; range = c.undo.inside.range; tables = c.undo.inside.tables } in
-    let fits_now : CanRevert s c.args.undo = subst (λ (t : AddressSpace). CanRevert t c.args.undo) (sym c.self.view_is) c.requires in
-    let fits : CanRevert s u = subst (λ (v : UndoValue). CanRevert s v) (sym c.undo.view_is) fits_now in
+    let u : UndoValue = undo_of c.undo.inside in
+    let fits : CanRevert s u = fits_inside c.self.inside c.undo.inside c.args.self.now c.args.undo c.self.view_is c.undo.view_is c.requires in
     rw c.as_slice.ensures (taken_live s u c.self.invariant fits)
 
 pub move_counts_back-requires-clause-pieces : goal.move_counts_back-requires-clause-pieces
 move_counts_back-requires-clause-pieces c =
     let s : AddressSpace = space_of c.self.inside in
-    let u : UndoValue = record { change = record { place = c.undo.inside.place; put_in = c.undo.inside.put_in; taken = c.undo.inside.taken.items }; range = c.undo.inside.range; tables = c.undo.inside.tables } in
-    let fits_now : CanRevert s c.args.undo = subst (λ (t : AddressSpace). CanRevert t c.args.undo) (sym c.self.view_is) c.requires in
-    let fits : CanRevert s u = subst (λ (v : UndoValue). CanRevert s v) (sym c.undo.view_is) fits_now in
+    let u : UndoValue = undo_of c.undo.inside in
+    let fits : CanRevert s u = fits_inside c.self.inside c.undo.inside c.args.self.now c.args.undo c.self.view_is c.undo.view_is c.requires in
     let mappings_are : c.mappings.result.now ≡ s.mappings = c.mappings.ensures.value ∙ ap (λ (l : Ranges). l.mappings) c.list.ensures in
     let size : c.undo.inside.place + c.undo.inside.put_in - c.undo.inside.place ≡ c.undo.inside.put_in = omega arith in
     rw (mappings_are, size) (gone_live s u c.self.invariant fits)
@@ -49,25 +45,22 @@ move_counts_back-requires-clause-pieces c =
 pub move_counts_back-requires-clause-kept : goal.move_counts_back-requires-clause-kept
 move_counts_back-requires-clause-kept c =
     let s : AddressSpace = space_of c.self.inside in
-    let u : UndoValue = record { change = record { place = c.undo.inside.place; put_in = c.undo.inside.put_in; taken = c.undo.inside.taken.items }; range = c.undo.inside.range; tables = c.undo.inside.tables } in
-    let fits_now : CanRevert s c.args.undo = subst (λ (t : AddressSpace). CanRevert t c.args.undo) (sym c.self.view_is) c.requires in
-    let fits : CanRevert s u = subst (λ (v : UndoValue). CanRevert s v) (sym c.undo.view_is) fits_now in
+    let u : UndoValue = undo_of c.undo.inside in
+    let fits : CanRevert s u = fits_inside c.self.inside c.undo.inside c.args.self.now c.args.undo c.self.view_is c.undo.view_is c.requires in
     rw c.as_slice.ensures (taken_kept s u c.self.invariant fits)
 
 pub move_counts_back-requires-clause-room : goal.move_counts_back-requires-clause-room
 move_counts_back-requires-clause-room c =
     let s : AddressSpace = space_of c.self.inside in
-    let u : UndoValue = record { change = record { place = c.undo.inside.place; put_in = c.undo.inside.put_in; taken = c.undo.inside.taken.items }; range = c.undo.inside.range; tables = c.undo.inside.tables } in
-    let fits_now : CanRevert s c.args.undo = subst (λ (t : AddressSpace). CanRevert t c.args.undo) (sym c.self.view_is) c.requires in
-    let fits : CanRevert s u = subst (λ (v : UndoValue). CanRevert s v) (sym c.undo.view_is) fits_now in
+    let u : UndoValue = undo_of c.undo.inside in
+    let fits : CanRevert s u = fits_inside c.self.inside c.undo.inside c.args.self.now c.args.undo c.self.view_is c.undo.view_is c.requires in
     rw c.as_slice.ensures (room_for_taken s u c.self.invariant fits)
 
 pub move_counts_back-requires-clause-counted : goal.move_counts_back-requires-clause-counted
 move_counts_back-requires-clause-counted c =
     let s : AddressSpace = space_of c.self.inside in
-    let u : UndoValue = record { change = record { place = c.undo.inside.place; put_in = c.undo.inside.put_in; taken = c.undo.inside.taken.items }; range = c.undo.inside.range; tables = c.undo.inside.tables } in
-    let fits_now : CanRevert s c.args.undo = subst (λ (t : AddressSpace). CanRevert t c.args.undo) (sym c.self.view_is) c.requires in
-    let fits : CanRevert s u = subst (λ (v : UndoValue). CanRevert s v) (sym c.undo.view_is) fits_now in
+    let u : UndoValue = undo_of c.undo.inside in
+    let fits : CanRevert s u = fits_inside c.self.inside c.undo.inside c.args.self.now c.args.undo c.self.view_is c.undo.view_is c.requires in
     let mappings_are : c.mappings.result.now ≡ s.mappings = c.mappings.ensures.value ∙ ap (λ (l : Ranges). l.mappings) c.list.ensures in
     let size : c.undo.inside.place + c.undo.inside.put_in - c.undo.inside.place ≡ c.undo.inside.put_in = omega arith in
     rw (mappings_are, size) (gone_counted s u c.self.invariant fits)
@@ -75,70 +68,50 @@ move_counts_back-requires-clause-counted c =
 pub replace-lost-requires-clause-ended : goal.replace-lost-requires-clause-ended
 replace-lost-requires-clause-ended c =
     let s : AddressSpace = space_of c.self.inside in
-    let u : UndoValue = record { change = record { place = c.undo.inside.place; put_in = c.undo.inside.put_in; taken = c.undo.inside.taken.items }; range = c.undo.inside.range; tables = c.undo.inside.tables } in
-    let fits_now : CanRevert s c.args.undo = subst (λ (t : AddressSpace). CanRevert t c.args.undo) (sym c.self.view_is) c.requires in
-    let fits : CanRevert s u = subst (λ (v : UndoValue). CanRevert s v) (sym c.undo.view_is) fits_now in
+    let u : UndoValue = undo_of c.undo.inside in
+    let fits : CanRevert s u = fits_inside c.self.inside c.undo.inside c.args.self.now c.args.undo c.self.view_is c.undo.view_is c.requires in
     ended s u c.self.invariant fits
 
 pub replace-lost-requires-clause-room : goal.replace-lost-requires-clause-room
 replace-lost-requires-clause-room c =
     let s : AddressSpace = space_of c.self.inside in
-    let u : UndoValue = record { change = record { place = c.undo.inside.place; put_in = c.undo.inside.put_in; taken = c.undo.inside.taken.items }; range = c.undo.inside.range; tables = c.undo.inside.tables } in
-    let fits_now : CanRevert s c.args.undo = subst (λ (t : AddressSpace). CanRevert t c.args.undo) (sym c.self.view_is) c.requires in
-    let fits : CanRevert s u = subst (λ (v : UndoValue). CanRevert s v) (sym c.undo.view_is) fits_now in
+    let u : UndoValue = undo_of c.undo.inside in
+    let fits : CanRevert s u = fits_inside c.self.inside c.undo.inside c.args.self.now c.args.undo c.self.view_is c.undo.view_is c.requires in
     rw c.as_slice-2.ensures (room_to_undo s u c.self.invariant fits)
 
 pub replace-lost-requires-clause-alike : goal.replace-lost-requires-clause-alike
 replace-lost-requires-clause-alike c =
     let s : AddressSpace = space_of c.self.inside in
-    let u : UndoValue = record { change = record { place = c.undo.inside.place; put_in = c.undo.inside.put_in; taken = c.undo.inside.taken.items }; range = c.undo.inside.range; tables = c.undo.inside.tables } in
-    let fits_now : CanRevert s c.args.undo = subst (λ (t : AddressSpace). CanRevert t c.args.undo) (sym c.self.view_is) c.requires in
-    let fits : CanRevert s u = subst (λ (v : UndoValue). CanRevert s v) (sym c.undo.view_is) fits_now in
+    let u : UndoValue = undo_of c.undo.inside in
+    let fits : CanRevert s u = fits_inside c.self.inside c.undo.inside c.args.self.now c.args.undo c.self.view_is c.undo.view_is c.requires in
     rw c.as_slice-2.ensures (old_alike s u c.self.invariant fits)
 
 pub invariant_of-self : goal.invariant_of-self
 invariant_of-self c =
     let s : AddressSpace = space_of c.self.inside in
-    let u : UndoValue = record { change = record { place = c.undo.inside.place; put_in = c.undo.inside.put_in; taken = c.undo.inside.taken.items }; range = c.undo.inside.range; tables = c.undo.inside.tables } in
-    let fits_now : CanRevert s c.args.undo = subst (λ (t : AddressSpace). CanRevert t c.args.undo) (sym c.self.view_is) c.requires in
-    let fits : CanRevert s u = subst (λ (v : UndoValue). CanRevert s v) (sym c.undo.view_is) fits_now in
-    let mappings_are : c.mappings.result.now ≡ s.mappings = c.mappings.ensures.value ∙ ap (λ (l : Ranges). l.mappings) c.list.ensures in
-    let size : c.undo.inside.place + c.undo.inside.put_in - c.undo.inside.place ≡ c.undo.inside.put_in = omega arith in
-    let list_is : c.replace-lost.new.self.mappings ≡ old s u c.self.invariant fits = rw (← c.as_slice-2.ensures) c.replace-lost.ensures.mappings in
-    let buffers_is : c.move_counts_back.new.buffers ≡ by_count less_used (gone s u c.self.invariant fits) (by_count more_used u.change.taken (by_count less_kept u.change.taken s.buffers)) =
-    rw (mappings_are, size, c.as_slice.ensures) at c.move_counts_back.ensures in
-    let state = state_before s u c.self.invariant fits c.replace-lost.new.self c.move_counts_back.new.buffers c.len.result list_is c.replace-lost.ensures.room buffers_is c.len.ensures.value in
-    let new : AddressSpace = record s { mappings = c.replace-lost.new.self.mappings; room = c.replace-lost.new.self.room; buffers = c.move_counts_back.new.buffers; kept_count = s.kept_count - c.len.result } in
+    let u : UndoValue = undo_of c.undo.inside in
+    let fits : CanRevert s u = fits_inside c.self.inside c.undo.inside c.args.self.now c.args.undo c.self.view_is c.undo.view_is c.requires in
+    let shown : c.mappings.result.now ≡ s.mappings = c.mappings.ensures.value ∙ ap (λ (l : Ranges). l.mappings) c.list.ensures in
+    let state = state_made s u c.self.invariant fits c.mappings.result.now c.as_slice.result.now c.as_slice-2.result.now c.replace-lost.new.self c.move_counts_back.new.buffers c.len.result
+    shown c.as_slice.ensures c.as_slice-2.ensures c.replace-lost.ensures.mappings c.replace-lost.ensures.room c.move_counts_back.ensures c.len.ensures.value in
     subst IsSpace (sym state) (space_before s u c.self.invariant fits)
 
 pub returns-clause-state : goal.returns-clause-state
 returns-clause-state c =
     let s : AddressSpace = space_of c.self.inside in
-    let u : UndoValue = record { change = record { place = c.undo.inside.place; put_in = c.undo.inside.put_in; taken = c.undo.inside.taken.items }; range = c.undo.inside.range; tables = c.undo.inside.tables } in
-    let fits_now : CanRevert s c.args.undo = subst (λ (t : AddressSpace). CanRevert t c.args.undo) (sym c.self.view_is) c.requires in
-    let fits : CanRevert s u = subst (λ (v : UndoValue). CanRevert s v) (sym c.undo.view_is) fits_now in
-    let mappings_are : c.mappings.result.now ≡ s.mappings = c.mappings.ensures.value ∙ ap (λ (l : Ranges). l.mappings) c.list.ensures in
-    let size : c.undo.inside.place + c.undo.inside.put_in - c.undo.inside.place ≡ c.undo.inside.put_in = omega arith in
-    let list_is : c.replace-lost.new.self.mappings ≡ old s u c.self.invariant fits = rw (← c.as_slice-2.ensures) c.replace-lost.ensures.mappings in
-    let buffers_is : c.move_counts_back.new.buffers ≡ by_count less_used (gone s u c.self.invariant fits) (by_count more_used u.change.taken (by_count less_kept u.change.taken s.buffers)) =
-    rw (mappings_are, size, c.as_slice.ensures) at c.move_counts_back.ensures in
-    let state = state_before s u c.self.invariant fits c.replace-lost.new.self c.move_counts_back.new.buffers c.len.result list_is c.replace-lost.ensures.room buffers_is c.len.ensures.value in
-    let new : AddressSpace = record s { mappings = c.replace-lost.new.self.mappings; room = c.replace-lost.new.self.room; buffers = c.move_counts_back.new.buffers; kept_count = s.kept_count - c.len.result } in
+    let u : UndoValue = undo_of c.undo.inside in
+    let fits : CanRevert s u = fits_inside c.self.inside c.undo.inside c.args.self.now c.args.undo c.self.view_is c.undo.view_is c.requires in
+    let shown : c.mappings.result.now ≡ s.mappings = c.mappings.ensures.value ∙ ap (λ (l : Ranges). l.mappings) c.list.ensures in
+    let state = state_made s u c.self.invariant fits c.mappings.result.now c.as_slice.result.now c.as_slice-2.result.now c.replace-lost.new.self c.move_counts_back.new.buffers c.len.result
+    shown c.as_slice.ensures c.as_slice-2.ensures c.replace-lost.ensures.mappings c.replace-lost.ensures.room c.move_counts_back.ensures c.len.ensures.value in
     state ∙ ap (λ (t : AddressSpace). reverted t u) c.self.view_is ∙ ap (λ (v : UndoValue). reverted c.args.self.now v) c.undo.view_is
 
 pub returns-clause-undone : goal.returns-clause-undone
 returns-clause-undone c =
     let s : AddressSpace = space_of c.self.inside in
-    let u : UndoValue = record { change = record { place = c.undo.inside.place; put_in = c.undo.inside.put_in; taken = c.undo.inside.taken.items }; range = c.undo.inside.range; tables = c.undo.inside.tables } in
-    let fits_now : CanRevert s c.args.undo = subst (λ (t : AddressSpace). CanRevert t c.args.undo) (sym c.self.view_is) c.requires in
-    let fits : CanRevert s u = subst (λ (v : UndoValue). CanRevert s v) (sym c.undo.view_is) fits_now in
-    let mappings_are : c.mappings.result.now ≡ s.mappings = c.mappings.ensures.value ∙ ap (λ (l : Ranges). l.mappings) c.list.ensures in
-    let size : c.undo.inside.place + c.undo.inside.put_in - c.undo.inside.place ≡ c.undo.inside.put_in = omega arith in
+    let u : UndoValue = undo_of c.undo.inside in
+    let fits : CanRevert s u = fits_inside c.self.inside c.undo.inside c.args.self.now c.args.undo c.self.view_is c.undo.view_is c.requires in
     let list_is : c.replace-lost.new.self.mappings ≡ old s u c.self.invariant fits = rw (← c.as_slice-2.ensures) c.replace-lost.ensures.mappings in
-    let buffers_is : c.move_counts_back.new.buffers ≡ by_count less_used (gone s u c.self.invariant fits) (by_count more_used u.change.taken (by_count less_kept u.change.taken s.buffers)) =
-    rw (mappings_are, size, c.as_slice.ensures) at c.move_counts_back.ensures in
-    let state = state_before s u c.self.invariant fits c.replace-lost.new.self c.move_counts_back.new.buffers c.len.result list_is c.replace-lost.ensures.room buffers_is c.len.ensures.value in
-    let new : AddressSpace = record s { mappings = c.replace-lost.new.self.mappings; room = c.replace-lost.new.self.room; buffers = c.move_counts_back.new.buffers; kept_count = s.kept_count - c.len.result } in
     λ before is.
     list_is ∙ ap (λ (v : UndoValue). undone s.mappings v.change) c.undo.view_is ∙ ap (λ (t : AddressSpace). undone t.mappings c.args.undo.change) c.self.view_is
     ∙ undone_is before c.args.self.now.mappings c.args.undo is
@@ -146,16 +119,11 @@ returns-clause-undone c =
 pub returns-clause-kept : goal.returns-clause-kept
 returns-clause-kept c =
     let s : AddressSpace = space_of c.self.inside in
-    let u : UndoValue = record { change = record { place = c.undo.inside.place; put_in = c.undo.inside.put_in; taken = c.undo.inside.taken.items }; range = c.undo.inside.range; tables = c.undo.inside.tables } in
-    let fits_now : CanRevert s c.args.undo = subst (λ (t : AddressSpace). CanRevert t c.args.undo) (sym c.self.view_is) c.requires in
-    let fits : CanRevert s u = subst (λ (v : UndoValue). CanRevert s v) (sym c.undo.view_is) fits_now in
-    let mappings_are : c.mappings.result.now ≡ s.mappings = c.mappings.ensures.value ∙ ap (λ (l : Ranges). l.mappings) c.list.ensures in
-    let size : c.undo.inside.place + c.undo.inside.put_in - c.undo.inside.place ≡ c.undo.inside.put_in = omega arith in
-    let list_is : c.replace-lost.new.self.mappings ≡ old s u c.self.invariant fits = rw (← c.as_slice-2.ensures) c.replace-lost.ensures.mappings in
-    let buffers_is : c.move_counts_back.new.buffers ≡ by_count less_used (gone s u c.self.invariant fits) (by_count more_used u.change.taken (by_count less_kept u.change.taken s.buffers)) =
-    rw (mappings_are, size, c.as_slice.ensures) at c.move_counts_back.ensures in
-    let state = state_before s u c.self.invariant fits c.replace-lost.new.self c.move_counts_back.new.buffers c.len.result list_is c.replace-lost.ensures.room buffers_is c.len.ensures.value in
-    let new : AddressSpace = record s { mappings = c.replace-lost.new.self.mappings; room = c.replace-lost.new.self.room; buffers = c.move_counts_back.new.buffers; kept_count = s.kept_count - c.len.result } in
+    let u : UndoValue = undo_of c.undo.inside in
+    let fits : CanRevert s u = fits_inside c.self.inside c.undo.inside c.args.self.now c.args.undo c.self.view_is c.undo.view_is c.requires in
+    let shown : c.mappings.result.now ≡ s.mappings = c.mappings.ensures.value ∙ ap (λ (l : Ranges). l.mappings) c.list.ensures in
+    let state = state_made s u c.self.invariant fits c.mappings.result.now c.as_slice.result.now c.as_slice-2.result.now c.replace-lost.new.self c.move_counts_back.new.buffers c.len.result
+    shown c.as_slice.ensures c.as_slice-2.ensures c.replace-lost.ensures.mappings c.replace-lost.ensures.room c.move_counts_back.ensures c.len.ensures.value in
     λ others are_kept.
     let saved : AreKept s (u.change.taken ++ others) =
     subst (λ (v : UndoValue). AreKept s (v.change.taken ++ others)) (sym c.undo.view_is)

@@ -6,7 +6,7 @@ use Rattle.std.specs.List.{All}
 use Rattle.gv_types.specs.Span.{end_of}
 use Rattle.gv_types.specs.declared.mapping.Mapping.{Mapping}
 use Rattle.gv_ranges.specs.List.{at, run}
-use Rattle.gv_ranges.specs.Laws.{MeetingRunSays}
+use Rattle.gv_ranges.specs.Laws.{OverlappingRunSays}
 use Rattle.gv_ranges.proofs.ClipLemmas.{at-append_none, at-append_left}
 use Rattle.gv_ranges.proofs.LookupLemmas.{at_none}
 use Rattle.gv_ranges.proofs.ReplacedLemmas.{split_at_run}
@@ -19,7 +19,7 @@ at_begun_past (m ∷ ms) page past =
     let rest : at ms page ≡ None = at_begun_past ms page (All-tail (λ (n : Mapping). page < n.range.first) m ms past) in
     rw (and_left _ _ (lt-leb m.range.first page here)) rest
 
-pub at_run : MeetingRunSays
+pub at_run : OverlappingRunSays
 at_run ms range place count page is covered =
     let parts = and_parts _ _ covered in
     let from : range.first ≤ page = leb-true _ _ parts.0 in
@@ -29,7 +29,7 @@ at_run ms range place count page is covered =
     (All-weaker (λ (m : Mapping). end_of m.range ≤ range.first) (λ (m : Mapping). end_of m.range ≤ page) (λ m h. omega (arith, h)) (take place ms) is.before) in
     let behind : at (drop (place + count) ms) page ≡ None =
     at_begun_past (drop (place + count) ms) page
-    (All-weaker (λ (m : Mapping). end_of range ≤ m.range.first) (λ (m : Mapping). page < m.range.first) (λ m h. omega (arith, h)) (drop (place + count) ms) is.behind) in
+    (All-weaker (λ (m : Mapping). end_of range ≤ m.range.first) (λ (m : Mapping). page < m.range.first) (λ m h. omega (arith, h)) (drop (place + count) ms) is.beyond) in
     sym (
     ap (λ (xs : List Mapping). at xs page) (split_at_run ms place count) ∙
     at-append_none (take place ms) (run ms place count ++ drop (place + count) ms) page before ∙

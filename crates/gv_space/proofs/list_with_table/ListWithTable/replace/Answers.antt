@@ -2,7 +2,7 @@ use Rattle.std.proofs.Common.{◌+◌, ◌∙◌, sym, subst}
 use Rattle.gv_ranges.specs.List.{AreEnded, Ranges}
 use Rattle.gv_table.proofs.LikenessLemmas.{tables-gained}
 use Rattle.gv_ranges.proofs.PlaceLemmas.{ended-spliced}
-use Rattle.gv_space.proofs.painted.ListWithTable.replace.Goals as goal
+use Rattle.gv_space.proofs.list_with_table.ListWithTable.replace.Goals as goal
 
 pub returns-clause-tables : goal.returns-clause-tables
 returns-clause-tables c =

@@ -57,6 +57,7 @@ impl ListWithTable {
         ensures value { result ≡ at self.now.mappings page }
         ensures tree { (table : PageTable) × IsTree self.now.mappings table × IsHeldAt table page result }
     {
+        // Tells that the list is laid out.
         let _mappings = self.list.mappings();
         self.table.walk(page)
     }
@@ -90,13 +91,14 @@ impl ListWithTable {
             → IsTree self.now.mappings table → gained_by ms table ≤ spares) }
         ensures err { IsOkUnless result Fault.OutOfMemory }
     {
+        // Tells that the list is laid out.
         let _mappings = self.list.mappings();
         self.table.spare(alloc, range, pieces)
     }
 
     /// Replaces `out_count` mappings from `place` on by `pieces`, and paints the range. The mappings before the place have
-    /// to end before the range, and the list to stay as it is outside the range: nothing is searched. It answers the tables that left the tree: just those that the old list needs to be painted
-    /// back. It takes no memory.
+    /// to end before the range, and the list to stay as it is outside the range: nothing is searched. It answers the tables
+    /// that left the tree: just those that the old list needs to be painted back. It takes no memory.
     pub fn replace(
         &mut self,
         range: PageRange,
@@ -121,6 +123,7 @@ impl ListWithTable {
             → gained_by self.old.mappings table ≡ result }
     {
         let mut spares = spares;
+        // Tells that the list is laid out.
         let _mappings = self.list.mappings();
         self.list.splice(place, out_count, pieces);
         let lost = self.table.paint(&self.list, range, place, &mut spares);

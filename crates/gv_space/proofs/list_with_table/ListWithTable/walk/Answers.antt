@@ -1,7 +1,7 @@
 use Rattle.std.proofs.Common.{subst}
 use Rattle.gv_ranges.specs.List.{Ranges}
 use Rattle.gv_table.specs.Table.{IsTree}
-use Rattle.gv_space.proofs.painted.ListWithTable.walk.Goals as goal
+use Rattle.gv_space.proofs.list_with_table.ListWithTable.walk.Goals as goal
 
 pub returns-clause-tree : goal.returns-clause-tree
 returns-clause-tree c =

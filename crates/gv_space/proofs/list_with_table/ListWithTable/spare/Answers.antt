@@ -8,7 +8,7 @@ use Rattle.gv_table.specs.Reads.{AreAlikeOutside}
 use Rattle.gv_table.specs.Table.{IsTree, FitsOutside, gained_by}
 use Rattle.gv_table.specs.declared.page_table.PageTable.{PageTable}
 use Rattle.gv_table.proofs.LikenessLemmas.{tables-gained}
-use Rattle.gv_space.proofs.painted.ListWithTable.spare.Goals as goal
+use Rattle.gv_space.proofs.list_with_table.ListWithTable.spare.Goals as goal
 
 pub returns-clause-enough : goal.returns-clause-enough
 returns-clause-enough c =
