@@ -1,5 +1,5 @@
 -- How many pages a slot covers, and which slot of a table a page is in.
-use Rattle.std.proofs.Common.{◌≡◌, ℕ, zero, suc, ◌+◌, ◌-◌, ◌*◌, ◌/◌, ◌%◌, ◌<◌, ◌≤◌, inl, inr, refl, arith, lit≤}
+use Rattle.std.proofs.Common.{◌≡◌, ℕ, zero, suc, ◌+◌, ◌-◌, ◌*◌, ◌/◌, ◌%◌, ◌<◌, ◌≤◌, inl, inr, refl, ap, ◌∙◌, arith, lit≤}
 use Rattle.std.proofs.lemmas.Bool.{cases_lt}
 use Rattle.gv_types.specs.Page.{PAGES}
 use Rattle.gv_table.specs.Levels.{pages_of}
@@ -7,6 +7,10 @@ use Rattle.gv_table.specs.Levels.{pages_of}
 pub pages_of-zero : pages_of 0 ≡ 1
 unfolding pages_of
 pages_of-zero = refl
+
+-- so many slots of one page are so many pages
+pub slots-of-one-page : (n : ℕ) → n * pages_of 0 ≡ n
+slots-of-one-page n = ap (λ (k : ℕ). n * k) pages_of-zero ∙ omega arith
 
 pub pages_of-top : pages_of 5 ≡ PAGES
 unfolding pages_of

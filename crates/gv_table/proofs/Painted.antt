@@ -9,7 +9,7 @@ use Rattle.gv_table.specs.declared.slot.Slot.{Slot}
 use Rattle.gv_table.specs.declared.slot.Slot.TheVariants.{Empty}
 use Rattle.gv_table.specs.Levels.{pages_of, slot_pages}
 use Rattle.gv_table.specs.Tree.{IsTreeOf, IsTreeOutside}
-use Rattle.gv_table.specs.Counts.{gained, lost, row_gained, row_lost}
+use Rattle.gv_table.specs.Counts.{gained, lost, row_gained, row_lost, tables_at, row_tables_at}
 use Rattle.gv_table.proofs.Sums.{sum_below-change, sum_below-zeros}
 use Rattle.gv_table.proofs.PagesOf.{part-within}
 use Rattle.gv_table.proofs.Spans.{meets-after}
@@ -82,3 +82,31 @@ row-tree ms range level first i before row laid within painted untouched outside
           subst (λ (s : Slot). IsTreeOf ms level (first + k * pages_of level) s) (sym (untouched k from))
           (outside-apart ms range level (first + k * pages_of level) (slice_index_or before k Empty) laid (outside k below) (omega (arith, fits)) apart))
     ]
+
+-- a row of single pages gains and loses no table, and holds none
+lost-page : (ms : List Mapping) (first : ℕ) (slot : Slot) → lost ms 0 first slot ≡ 0
+unfolding lost
+lost-page ms first slot = refl
+
+gained-page : (ms : List Mapping) (first : ℕ) (slot : Slot) → gained ms 0 first slot ≡ 0
+unfolding gained
+gained-page ms first slot = refl
+
+tables_at-page : (target : ℕ) (slot : Slot) → tables_at target 0 slot ≡ 0
+unfolding tables_at
+tables_at-page target slot = refl
+
+pub row_lost-pages : (ms : List Mapping) (level first : ℕ) (row : List Slot) → level ≡ 0 → row_lost ms level first row ≡ 0
+row_lost-pages ms level first row is =
+    sum_below-zeros 512 (λ k. lost ms level (first + k * pages_of level) (slice_index_or row k Empty))
+    (λ k below. ap (λ (n : ℕ). lost ms n (first + k * pages_of level) (slice_index_or row k Empty)) is ∙ lost-page ms (first + k * pages_of level) (slice_index_or row k Empty))
+
+pub row_gained-pages : (ms : List Mapping) (level first : ℕ) (row : List Slot) → level ≡ 0 → row_gained ms level first row ≡ 0
+row_gained-pages ms level first row is =
+    sum_below-zeros 512 (λ k. gained ms level (first + k * pages_of level) (slice_index_or row k Empty))
+    (λ k below. ap (λ (n : ℕ). gained ms n (first + k * pages_of level) (slice_index_or row k Empty)) is ∙ gained-page ms (first + k * pages_of level) (slice_index_or row k Empty))
+
+pub row_tables_at-pages : (target level : ℕ) (row : List Slot) → level ≡ 0 → row_tables_at target level row ≡ 0
+row_tables_at-pages target level row is =
+    sum_below-zeros 512 (λ k. tables_at target level (slice_index_or row k Empty))
+    (λ k below. ap (λ (n : ℕ). tables_at target n (slice_index_or row k Empty)) is ∙ tables_at-page target (slice_index_or row k Empty))

@@ -5,6 +5,7 @@
 pub mod laws;
 mod levels;
 mod page_table;
+mod pages;
 mod paint;
 mod place;
 mod release;

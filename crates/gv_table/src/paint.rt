@@ -17,6 +17,7 @@ ghost use Rattle.gv_table.specs.Counts.{IsPartOf, IsRowOf};
 ghost use Rattle.gv_types.specs.Mapping.{entry_advanced, HasSmallPages};
 
 use crate::levels::{SLOTS, pages_of, slots_met};
+use crate::pages::paint_pages;
 use crate::place::advance;
 use crate::release::release;
 use crate::slot::{Slot, overwrite};
@@ -176,6 +177,10 @@ fn paint_row(
     ensures counted { (target : ℕ) → count_at counts.new target + row_tables_at target level slots.old
         ≡ count_at counts.old target + row_tables_at target level slots.new }
 {
+    if level == 0 {
+        paint_pages(slots, first, mappings, range, place);
+        return 0;
+    }
     let pages = pages_of(level);
     let (low, high) = slots_met(level, first, range);
     let mut place = place;

@@ -12,7 +12,7 @@ use Rattle.gv_table.proofs.Counts.{gained-parts, lost-parts, gained-same, lost-s
 use Rattle.gv_table.proofs.Fewness.{row_lost-few}
 use Rattle.gv_table.proofs.Matches.{lost-whole, gained-none}
 use Rattle.gv_table.proofs.PagesOf.{pages_of-below, part-within, one-more-part}
-use Rattle.gv_table.proofs.Painted.{painted-below, painted-above, painted-gained, painted-lost, row-tree, row_gained-zero, row_lost-zero}
+use Rattle.gv_table.proofs.Painted.{painted-below, painted-above, painted-gained, painted-lost, row-tree, row_gained-zero, row_lost-zero, row_gained-pages, row_lost-pages, row_tables_at-pages}
 use Rattle.gv_table.proofs.Places.{ended-later, place-ended}
 use Rattle.gv_table.proofs.Rows.{row-other, row-here}
 use Rattle.gv_table.proofs.Slots.{is_table-Empty, is_table-leaf}
@@ -141,6 +141,22 @@ paint_row-overflow_add-lost t c =
     let part = sum_below-at 512 (λ (k : ℕ). lost ms c.args.level (c.args.first + k * pages_of c.args.level) (slice_index_or row k Empty)) i below in
     let few = row_lost-few ms c.args.level c.args.first c.args.slots.now in
     omega (arith, l1, l2, part, few, c.requires.in_space, c.loop-index.invariant.counted, c.paint_slot-lost.ensures.lost)
+
+pub paint_row-returns-then-level-eq0-clause-lost : goal.paint_row-returns-then-level-eq0-clause-lost
+paint_row-returns-then-level-eq0-clause-lost t c = sym (row_lost-pages c.args.mappings.now c.args.level c.args.first c.args.slots.now c.if-level-eq0.true)
+
+pub paint_row-returns-then-level-eq0-clause-exchanged : goal.paint_row-returns-then-level-eq0-clause-exchanged
+paint_row-returns-then-level-eq0-clause-exchanged t c =
+    let g = row_gained-pages c.args.mappings.now c.args.level c.args.first c.args.slots.now c.if-level-eq0.true in
+    let l = row_lost-pages c.args.mappings.now c.args.level c.args.first c.args.slots.now c.if-level-eq0.true in
+    omega (arith, g, l)
+
+pub paint_row-returns-then-level-eq0-clause-counted : goal.paint_row-returns-then-level-eq0-clause-counted
+paint_row-returns-then-level-eq0-clause-counted t c =
+    λ target.
+    let old = row_tables_at-pages target c.args.level c.args.slots.now c.if-level-eq0.true in
+    let new = row_tables_at-pages target c.args.level c.paint_pages.new.slots c.if-level-eq0.true in
+    omega (arith, old, new)
 
 pub paint_row-returns-clause-tree : goal.paint_row-returns-clause-tree
 paint_row-returns-clause-tree t c =
