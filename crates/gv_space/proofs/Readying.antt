@@ -1,5 +1,5 @@
 -- All that a change needs is there once its room was made.
-use Rattle.std.proofs.Common.{◌≡◌, ℕ, ◌+◌, ◌<◌, ◌≤◌, ◌++◌, List, Some, None, length, arith, refl, sym, subst, ap, ⊎_elim, ◌∙◌}
+use Rattle.std.proofs.Common.{◌≡◌, ℕ, ◌+◌, ◌-◌, ◌<◌, ◌≤◌, ◌++◌, List, Some, None, length, arith, refl, sym, subst, ap, ⊎_elim, ◌∙◌}
 use Rattle.std.specs.List.{All, splice}
 use Rattle.std.specs.Option.{option_to_list}
 use Rattle.std.proofs.lemmas.Bool.{cases_lt}
@@ -21,6 +21,8 @@ use Rattle.gv_space.specs.Undo.{UndoValue, IsUndoOf}
 use Rattle.gv_space.specs.Change.{IsChanged}
 use Rattle.gv_space.specs.Ready.{IsOverlap, IsReady}
 use Rattle.gv_space.specs.Refusal.{count_met, limit_fault}
+use Rattle.gv_space.specs.Inside.{space_of}
+use Rattle.gv_space.specs.declared.space.Space.TheInside.{Inside}
 use Rattle.gv_space.specs.declared.overlap.Overlap.{Overlap}
 use Rattle.gv_space.proofs.Lengths.{length-run, count_met-run}
 use Rattle.gv_space.proofs.Limits.{too_long, held_too_much}
@@ -104,3 +106,26 @@ changed_before s list new within range place taken pieces spares u space same ro
       kept = λ others saved. is'.kept others (record { placed = saved.placed; kept = saved.kept; kept_count = saved.kept_count });
       back = is'.back ∙ ap (λ (ms : List Mapping). record s { mappings = ms; room = new.room }) same;
     }
+
+-- the same from what each step of a change answers
+pub made_ready : (i : Inside) (now : AddressSpace) (range : Span) (saved : List Mapping) (space : IsSpace (space_of i)) (laid : IsLaidOut saved) (list reserved : Ranges) (overlap : Overlap)
+    (shown taken pieces middle : List Mapping) (spares more : ℕ) → space_of i ≡ now → list ≡ i.mapped → IsOverlap list.mappings range overlap →
+    shown ≡ now.mappings → taken ≡ run shown overlap.place (overlap.place + overlap.count - overlap.place) →
+    pieces ≡ option_to_list overlap.prev ++ inside (space_of i) range saved space laid ++ option_to_list overlap.next →
+    ((within : List Mapping) → pieces ≡ option_to_list overlap.prev ++ within ++ option_to_list overlap.next → middle ≡ within) →
+    All (IsPlaced now.area now.buffers) saved → limit_fault now range (restored now.mappings range saved) ≡ None →
+    reserved.mappings ≡ i.mapped.mappings → length reserved.mappings + more ≤ reserved.room → length pieces ≤ length taken + more →
+    ((ms : List Mapping) (table : PageTable) → IsLaidOut ms → AreAlikeOutside range i.mapped.mappings ms → clipped range.first (end_of range) ms ≡ middle → IsTree i.mapped.mappings table → gained_by ms table ≤ spares) →
+    IsReady (inside (space_of i) range saved space laid) (record (space_of i) { mappings = reserved.mappings; room = reserved.room }) range overlap.place taken pieces spares
+made_ready i now range saved space laid list reserved overlap shown taken pieces middle spares more space_is list_is is shown_is taken_is pieces_is middle_is placed none same room fits enough =
+    let s : AddressSpace = space_of i in
+    let size : overlap.place + overlap.count - overlap.place ≡ overlap.count = omega arith in
+    let taken_now : taken ≡ run now.mappings overlap.place overlap.count = rw (shown_is, size) at taken_is in
+    let between : middle ≡ inside s range saved space laid = middle_is (inside s range saved space laid) pieces_is in
+    ready_from s range saved space laid reserved overlap taken pieces spares more
+    (subst (λ (t : AddressSpace). All (IsPlaced t.area t.buffers) saved) (sym space_is) placed)
+    (subst (λ (l : Ranges). IsOverlap l.mappings range overlap) list_is is)
+    (subst (λ (t : AddressSpace). taken ≡ run t.mappings overlap.place overlap.count) (sym space_is) taken_now)
+    pieces_is same room fits
+    (subst (λ (t : AddressSpace). limit_fault t range (restored t.mappings range saved) ≡ None) (sym space_is) none)
+    (λ ms table laid_out alike has tree. enough ms table laid_out alike (has ∙ sym between) tree)

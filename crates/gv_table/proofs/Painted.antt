@@ -8,9 +8,11 @@ use Rattle.gv_ranges.specs.List.{IsLaidOut}
 use Rattle.gv_table.specs.declared.slot.Slot.{Slot}
 use Rattle.gv_table.specs.declared.slot.Slot.TheVariants.{Empty}
 use Rattle.gv_table.specs.Levels.{pages_of, slot_pages}
-use Rattle.gv_table.specs.Tree.{IsTreeOf, IsTreeOutside}
-use Rattle.gv_table.specs.Counts.{gained, lost, row_gained, row_lost, tables_at, row_tables_at}
-use Rattle.gv_table.proofs.Sums.{sum_below-change, sum_below-zeros}
+use Rattle.gv_table.specs.Sums.{sum_below}
+use Rattle.gv_table.specs.Tree.{IsTreeOf, IsTreeOutside, child}
+use Rattle.gv_table.specs.Counts.{gained, lost, row_gained, row_lost, tables_at, row_tables_at, HasSameTables}
+use Rattle.gv_table.proofs.Counts.{gained-same, lost-same}
+use Rattle.gv_table.proofs.Sums.{sum_below-change, sum_below-same, sum_below-zeros}
 use Rattle.gv_table.proofs.PagesOf.{part-within}
 use Rattle.gv_table.proofs.Spans.{meets-after}
 use Rattle.gv_table.proofs.Trees.{outside-apart}
@@ -110,3 +112,21 @@ pub row_tables_at-pages : (target level : ℕ) (row : List Slot) → level ≡ 0
 row_tables_at-pages target level row is =
     sum_below-zeros 512 (λ k. tables_at target level (slice_index_or row k Empty))
     (λ k below. ap (λ (n : ℕ). tables_at target n (slice_index_or row k Empty)) is ∙ tables_at-page target (slice_index_or row k Empty))
+
+-- the parts of a divided slot gain and lose what the slot's did
+module _ (ms : List Mapping) (level first : ℕ) (slot old : Slot) (divided row : List Slot)
+    (old_is : old ≡ slot) (row_is : row ≡ divided) (tables : (k : ℕ) → k < 512 → HasSameTables (child old k) (slice_index_or divided k Empty)) where
+  first-of : (k : ℕ) → slice_index_or row k Empty ≡ slice_index_or divided k Empty
+  first-of k = ap (λ (l : List Slot). slice_index_or l k Empty) row_is
+
+  pub lost-divided : row_lost ms level first row ≡ sum_below 512 (λ k. lost ms level (first + k * pages_of level) (child slot k))
+  lost-divided =
+      sum_below-same 512 (λ k. lost ms level (first + k * pages_of level) (slice_index_or row k Empty)) (λ k. lost ms level (first + k * pages_of level) (child slot k))
+      (λ k below. ap (λ (s : Slot). lost ms level (first + k * pages_of level) s) (first-of k) ∙ sym (lost-same ms level (first + k * pages_of level) _ _ (tables k below)) ∙
+      ap (λ (s : Slot). lost ms level (first + k * pages_of level) (child s k)) old_is)
+
+  pub gained-divided : row_gained ms level first row ≡ sum_below 512 (λ k. gained ms level (first + k * pages_of level) (child slot k))
+  gained-divided =
+      sum_below-same 512 (λ k. gained ms level (first + k * pages_of level) (slice_index_or row k Empty)) (λ k. gained ms level (first + k * pages_of level) (child slot k))
+      (λ k below. ap (λ (s : Slot). gained ms level (first + k * pages_of level) s) (first-of k) ∙ sym (gained-same ms level (first + k * pages_of level) _ _ (tables k below)) ∙
+      ap (λ (s : Slot). gained ms level (first + k * pages_of level) (child s k)) old_is)

@@ -1,4 +1,4 @@
-use Rattle.std.proofs.Common.{◌<◌, refl, sym, ◌∙◌, arith}
+use Rattle.std.proofs.Common.{refl, sym, ◌∙◌, arith}
 use Rattle.gv_table.proofs.Trees.{IsTreeOf-nothing, IsTreeOf-leaf}
 use Rattle.gv_table.proofs.Wants.{table-above}
 use Rattle.gv_table.proofs.pages.page_slot.Goals as goal

@@ -1,4 +1,4 @@
-use Rattle.std.proofs.Common.{rules, arith, ◌≡◌, ◌≢◌, ◌+◌, ◌*◌, ◌<◌, ◌≤◌, ℕ, true, length, slice_index_or, slice_set, List, refl, sym, ap, ◌∙◌, subst}
+use Rattle.std.proofs.Common.{rules, arith, ◌≡◌, ◌≢◌, ◌+◌, ◌*◌, ◌<◌, ◌≤◌, ℕ, true, length, slice_index_or, slice_set, List, refl, sym, subst}
 use Rattle.gv_types.specs.Span.{meets}
 use Rattle.gv_ranges.specs.List.{IsPlaceOf}
 use Rattle.gv_table.specs.declared.slot.Slot.{Slot}

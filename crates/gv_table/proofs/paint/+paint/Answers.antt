@@ -8,17 +8,17 @@ use Rattle.gv_table.specs.Levels.{pages_of, slot_pages, entered}
 use Rattle.gv_table.specs.Wanted.{is_divided}
 use Rattle.gv_table.specs.Tree.{IsTreeOf, IsTreeOutside, is_table, child}
 use Rattle.gv_table.specs.Counts.{gained, lost, one_if_not, one_if_new, tables_at, count_at, IsPartOf}
-use Rattle.gv_table.proofs.Counts.{gained-parts, lost-parts, gained-same, lost-same, tables_at-other, tables_at-same}
+use Rattle.gv_table.proofs.Counts.{gained-parts, lost-parts, tables_at-other, tables_at-same}
 use Rattle.gv_table.proofs.Fewness.{row_lost-few}
 use Rattle.gv_table.proofs.Matches.{lost-whole, gained-none}
 use Rattle.gv_table.proofs.PagesOf.{pages_of-below, part-within, one-more-part}
-use Rattle.gv_table.proofs.Painted.{painted-below, painted-above, painted-gained, painted-lost, row-tree, row_gained-zero, row_lost-zero, row_gained-pages, row_lost-pages, row_tables_at-pages}
+use Rattle.gv_table.proofs.Painted.{painted-below, painted-above, painted-gained, painted-lost, row-tree, row_gained-zero, row_lost-zero, gained-divided, lost-divided, row_gained-pages, row_lost-pages, row_tables_at-pages}
 use Rattle.gv_table.proofs.Places.{ended-later, place-ended}
 use Rattle.gv_table.proofs.Rows.{row-other, row-here}
 use Rattle.gv_table.proofs.Slots.{is_table-Empty, is_table-leaf}
 use Rattle.gv_table.proofs.Counting.{divided-row, divided-counted, row-part, row-counted}
 use Rattle.gv_table.proofs.Spans.{meets-before}
-use Rattle.gv_table.proofs.Sums.{sum_below-at, sum_below-same}
+use Rattle.gv_table.proofs.Sums.{sum_below-at}
 use Rattle.gv_table.proofs.Trees.{IsTreeOf-nothing, IsTreeOf-leaf, IsTreeOf-table, outside-apart}
 use Rattle.gv_table.proofs.Wants.{table-above}
 use Rattle.gv_table.proofs.paint.+paint.Goals as goal
@@ -207,12 +207,7 @@ paint_slot-paint_row-lost-requires t c =
     let first-of : (k : ℕ) → slice_index_or c.deref_mut.result.now k Empty ≡ slice_index_or c.divide-slots.result.value k Empty =
     λ k. ap (λ (l : List Slot). slice_index_or l k Empty) c.deref_mut.ensures.value in
     let old = c.replace-old.ensures.value in
-    let gains = sum_below-same 512
-    (λ k. gained ms (c.args.level - 1) (c.args.first + k * pages_of (c.args.level - 1)) (slice_index_or c.deref_mut.result.now k Empty))
-    (λ k. gained ms (c.args.level - 1) (c.args.first + k * pages_of (c.args.level - 1)) (child c.args.slot.now k))
-    (λ k below. ap (λ (s : Slot). gained ms (c.args.level - 1) (c.args.first + k * pages_of (c.args.level - 1)) s) (first-of k) ∙
-    sym (gained-same ms (c.args.level - 1) (c.args.first + k * pages_of (c.args.level - 1)) _ _ (c.divide-slots.ensures.tables k below)) ∙
-    ap (λ (s : Slot). gained ms (c.args.level - 1) (c.args.first + k * pages_of (c.args.level - 1)) (child s k)) old) in
+    let gains = gained-divided ms (c.args.level - 1) c.args.first c.args.slot.now _ c.divide-slots.result.value c.deref_mut.result.now old c.deref_mut.ensures.value c.divide-slots.ensures.tables in
     let gain = gained-parts ms c.args.level c.args.first c.args.slot.now some want in
     let one = ap (λ (s : Slot). one_if_not (is_table s)) old in
     let tree = subst (λ (s : Slot). IsTreeOf c.requires.outside.earlier c.args.level c.args.first s) (sym old) c.requires.outside.tree in (
@@ -319,15 +314,8 @@ paint_slot-returns-in-Table-clause-lost t c =
     let ms = c.args.mappings.now in
     let want = sym c.slot_wanted.ensures ∙ c.in-Table.is in
     let some = table-above ms c.args.level c.args.first want in
-    let first-of : (k : ℕ) → slice_index_or c.deref_mut.result.now k Empty ≡ slice_index_or c.divide-slots.result.value k Empty =
-    λ k. ap (λ (l : List Slot). slice_index_or l k Empty) c.deref_mut.ensures.value in
     let old = c.replace-old.ensures.value in
-    let losses = sum_below-same 512
-    (λ k. lost ms (c.args.level - 1) (c.args.first + k * pages_of (c.args.level - 1)) (slice_index_or c.deref_mut.result.now k Empty))
-    (λ k. lost ms (c.args.level - 1) (c.args.first + k * pages_of (c.args.level - 1)) (child c.args.slot.now k))
-    (λ k below. ap (λ (s : Slot). lost ms (c.args.level - 1) (c.args.first + k * pages_of (c.args.level - 1)) s) (first-of k) ∙
-    sym (lost-same ms (c.args.level - 1) (c.args.first + k * pages_of (c.args.level - 1)) _ _ (c.divide-slots.ensures.tables k below)) ∙
-    ap (λ (s : Slot). lost ms (c.args.level - 1) (c.args.first + k * pages_of (c.args.level - 1)) (child s k)) old) in
+    let losses = lost-divided ms (c.args.level - 1) c.args.first c.args.slot.now _ c.divide-slots.result.value c.deref_mut.result.now old c.deref_mut.ensures.value c.divide-slots.ensures.tables in
     let loss = lost-parts ms c.args.level c.args.first c.args.slot.now some want in
     omega (arith, losses, loss, c.paint_row-lost.ensures.lost)
 
@@ -336,21 +324,9 @@ paint_slot-returns-in-Table-clause-exchanged t c =
     let ms = c.args.mappings.now in
     let want = sym c.slot_wanted.ensures ∙ c.in-Table.is in
     let some = table-above ms c.args.level c.args.first want in
-    let first-of : (k : ℕ) → slice_index_or c.deref_mut.result.now k Empty ≡ slice_index_or c.divide-slots.result.value k Empty =
-    λ k. ap (λ (l : List Slot). slice_index_or l k Empty) c.deref_mut.ensures.value in
     let old = c.replace-old.ensures.value in
-    let gains = sum_below-same 512
-    (λ k. gained ms (c.args.level - 1) (c.args.first + k * pages_of (c.args.level - 1)) (slice_index_or c.deref_mut.result.now k Empty))
-    (λ k. gained ms (c.args.level - 1) (c.args.first + k * pages_of (c.args.level - 1)) (child c.args.slot.now k))
-    (λ k below. ap (λ (s : Slot). gained ms (c.args.level - 1) (c.args.first + k * pages_of (c.args.level - 1)) s) (first-of k) ∙
-    sym (gained-same ms (c.args.level - 1) (c.args.first + k * pages_of (c.args.level - 1)) _ _ (c.divide-slots.ensures.tables k below)) ∙
-    ap (λ (s : Slot). gained ms (c.args.level - 1) (c.args.first + k * pages_of (c.args.level - 1)) (child s k)) old) in
-    let losses = sum_below-same 512
-    (λ k. lost ms (c.args.level - 1) (c.args.first + k * pages_of (c.args.level - 1)) (slice_index_or c.deref_mut.result.now k Empty))
-    (λ k. lost ms (c.args.level - 1) (c.args.first + k * pages_of (c.args.level - 1)) (child c.args.slot.now k))
-    (λ k below. ap (λ (s : Slot). lost ms (c.args.level - 1) (c.args.first + k * pages_of (c.args.level - 1)) s) (first-of k) ∙
-    sym (lost-same ms (c.args.level - 1) (c.args.first + k * pages_of (c.args.level - 1)) _ _ (c.divide-slots.ensures.tables k below)) ∙
-    ap (λ (s : Slot). lost ms (c.args.level - 1) (c.args.first + k * pages_of (c.args.level - 1)) (child s k)) old) in
+    let gains = gained-divided ms (c.args.level - 1) c.args.first c.args.slot.now _ c.divide-slots.result.value c.deref_mut.result.now old c.deref_mut.ensures.value c.divide-slots.ensures.tables in
+    let losses = lost-divided ms (c.args.level - 1) c.args.first c.args.slot.now _ c.divide-slots.result.value c.deref_mut.result.now old c.deref_mut.ensures.value c.divide-slots.ensures.tables in
     let gain = gained-parts ms c.args.level c.args.first c.args.slot.now some want in
     let loss = lost-parts ms c.args.level c.args.first c.args.slot.now some want in
     let one = ap (λ (s : Slot). one_if_not (is_table s)) old in
