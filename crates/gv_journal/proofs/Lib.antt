@@ -23,6 +23,7 @@ pub mod Touches
 pub mod Withdrawals
 pub mod Founds
 pub mod Noting
+pub mod Leasts
 pub mod Crossings
 pub mod NotesSettled
 pub mod Entries

@@ -232,13 +232,8 @@ impl Journal {
         if own.withdrawal.is_some() {
             return Err(Fault::Withdrawn);
         }
-        match first_touched(
-            &items[place + 1..],
-            &notes[place + 1..],
-            own,
-            done,
-            entry + 1,
-        ) {
+        let from = place + 1;
+        match first_touched(&items[from..], &notes[from..], own, done, entry + 1) {
             Some(by) => Err(Fault::Touched { by }),
             None => Ok(place),
         }
