@@ -24,7 +24,7 @@ use Rattle.gv_journal.specs.Undoing.{taken_by, undone_by}
 use Rattle.gv_journal.specs.Items.{Journaled, entries, is_withdrawn}
 use Rattle.gv_journal.specs.History.{undos_of, kept_by, back, Rewinds, IsDone, AreUndosOf}
 use Rattle.gv_journal.specs.Applying.{met}
-use Rattle.gv_journal.specs.Withdrawing.{touched_by, touched_fault, kind_fault, after_restore, after_withdrawal, withdrawal_limits, withdrawn}
+use Rattle.gv_journal.specs.Withdrawing.{touched_by, touched_fault, kind_fault, found_fault, after_restore, after_withdrawal, withdrawal_limits, withdrawn}
 use Rattle.gv_journal.specs.Restoring.{after_put, after_puts, put_limits}
 use Rattle.gv_journal.specs.declared.item.Item.{Item}
 use Rattle.gv_journal.specs.declared.item.ItemKind.{ItemKind}
@@ -55,6 +55,11 @@ withdrawable j n (Bind queue number request seen done) none = by_cases (is_withd
         IsWithdrawable j n (Bind queue number request seen done)
     by_cases true is h = cc
     by_cases false is h = record { queue = queue; number = number; request = request; seen = seen; done = done; is = refl; live = is; untouched = no_touch (touched_by j n done.items) h }
+
+-- an item that can be withdrawn is live
+pub found_live : (j : Journaled) (n : ℕ) (o : Option Item) → found_fault j n o ≡ None → is_withdrawn (entries j) n ≡ false
+found_live j n None none = cc
+found_live j n (Some item) none = (withdrawable j n item.kind none).live
 
 -- the items on both sides of a place
 pub items_around : (items : List Item) (place : ℕ) (item : Item) → place < length items → item ≡ get_or (reverse items) place item →

@@ -1,36 +1,21 @@
 -- An item found by its number.
-use Rattle.std.proofs.Common.{◌≡◌, ℕ, ◌+◌, ◌-◌, ◌<◌, ◌≤◌, Bool, true, false, not, cond, ◌||◌, ◌&&◌, List, [], ◌∷◌, length, take, drop, reverse, get_or, Option, Some, None, refl, ap, sym, ◌∙◌, arith}
-use Rattle.std.specs.Prelude.{slice_get, nat_lt, Vec}
+use Rattle.std.proofs.Common.{◌≡◌, ℕ, ◌+◌, ◌-◌, ◌<◌, ◌≤◌, Bool, true, false, cond, List, length, take, drop, reverse, get_or, Option, Some, None, ap, sym, ◌∙◌, arith}
+use Rattle.std.specs.Prelude.{slice_get, nat_lt, is_some, Vec}
 use Rattle.std.specs.Global.{Global}
-use Rattle.std.specs.List.{list_any}
 use Rattle.std.proofs.lemmas.Bool.Decides.{nat_tests}
-use Rattle.std.proofs.lemmas.List.{length-reverse, length-drop, take_all}
+use Rattle.std.proofs.lemmas.List.{length-reverse, length-drop, take_all, get_or-drop}
 use Rattle.std.proofs.lemmas.Option.{slice_get-get_or}
 use Rattle.gv_types.specs.declared.fault.Fault.TheVariants.{Withdrawn}
 use Rattle.gv_types.specs.declared.operation.PageOp.{PageOp}
 use Rattle.gv_types.specs.declared.request.Request.{Request}
-use Rattle.gv_journal.specs.Items.{Journaled, numbered, entries, next, names, is_withdrawn, done_by}
-use Rattle.gv_journal.specs.Withdrawing.{item_at, touch, touched_from, touched_by, touched_fault, kind_fault, found_fault}
+use Rattle.gv_journal.specs.Items.{Journaled, entries, next, is_withdrawn, done_by}
+use Rattle.gv_journal.specs.Notes.{named_by, reach_of, notes_of, AreReaches, TellGone}
+use Rattle.gv_journal.specs.Withdrawing.{item_at, touched_from, touched_by, touched_fault, kind_fault, found_fault}
 use Rattle.gv_journal.specs.declared.item.Item.{Item}
 use Rattle.gv_journal.specs.declared.item.ItemKind.{ItemKind}
 use Rattle.gv_journal.specs.declared.item.ItemKind.TheVariants.{Bind}
-use Rattle.gv_journal.proofs.Touches.{any-reverse}
-
-named_any : (first : ℕ) (items : List Item) (n : ℕ) → is_withdrawn (numbered first items) n ≡ list_any (λ item. names item.kind n) items
-named_any first [] n = refl
-named_any first (item ∷ items) n = ap (λ (b : Bool). names item.kind n || b) (named_any first items n)
-
--- the items in their order name the same
-pub withdrawn_is : (j : Journaled) (items : List Item) (n : ℕ) → items ≡ reverse j.items → list_any (λ item. names item.kind n) items ≡ is_withdrawn (entries j) n
-withdrawn_is j items n is =
-    ap (λ (xs : List Item). list_any (λ (item : Item). names item.kind n) xs) is
-    ∙ any-reverse (λ (item : Item). names item.kind n) j.items ∙ sym (named_any j.first j.items n)
-
-touched_same : (gone other : ℕ → Bool) (ops : List PageOp) (n : ℕ) (later : List Item) → ((k : ℕ) → gone k ≡ other k) → touched_from gone ops n later ≡ touched_from other ops n later
-touched_same gone other ops n [] same = refl
-touched_same gone other ops n (item ∷ later) same =
-    ap (λ (b : Bool). cond (touch ops (done_by item.kind) && not b) (Some n) (touched_from gone ops (n + 1) later)) (same n)
-    ∙ ap (λ (o : Option ℕ). cond (touch ops (done_by item.kind) && not (other n)) (Some n) o) (touched_same gone other ops (n + 1) later same)
+use Rattle.gv_journal.specs.declared.note.Note.{Note}
+use Rattle.gv_journal.proofs.Noted.{named_is, note_at, length-notes}
 
 not_less : (n low : ℕ) → low ≤ n → nat_lt n low ≡ false
 not_less n low le = grind (arith, nat_tests)
@@ -49,22 +34,73 @@ module _ (j : Journaled) (n start : ℕ) (items : List Item) (item : Item) (queu
   pub bind_fault : found_fault j n (item_at j n) ≡ kind_fault j n (Bind queue number request seen done)
   bind_fault = ap (λ (o : Option Item). found_fault j n o) (item_found j n start items item is low high all at) ∙ ap (λ (k : ItemKind). kind_fault j n k) kind
 
-  pub found_withdrawn : list_any (λ item. names item.kind n) items ≡ true → found_fault j n (item_at j n) ≡ Some Withdrawn
+  pub found_withdrawn : is_withdrawn (entries j) n ≡ true → found_fault j n (item_at j n) ≡ Some Withdrawn
   found_withdrawn gone =
-      bind_fault ∙ ap (λ (b : Bool). cond b (Some Withdrawn) (touched_fault (touched_by j n done.items))) (sym (withdrawn_is j items n all) ∙ gone)
+      bind_fault ∙ ap (λ (b : Bool). cond b (Some Withdrawn) (touched_fault (touched_by j n done.items))) gone
 
-  pub found_touched : list_any (λ item. names item.kind n) items ≡ false → (o : Option ℕ) →
-      o ≡ touched_from (λ k. list_any (λ item. names item.kind k) items) done.items (n + 1) (take (length items - (n - start + 1)) (drop (n - start + 1) items)) →
-      (found_fault j n (item_at j n) ≡ touched_fault o) × (touched_by j n done.items ≡ o)
+  pub found_touched : is_withdrawn (entries j) n ≡ false → (o : Option ℕ) →
+      o ≡ touched_from (is_withdrawn (entries j)) done.items (n + 1) (take (length items - (n - start + 1)) (drop (n - start + 1) items)) →
+      found_fault j n (item_at j n) ≡ touched_fault o
   found_touched live o found =
       let place : n + 1 - j.first ≡ n - start + 1 = omega arith in
       let whole : take (length items - (n - start + 1)) (drop (n - start + 1) items) ≡ drop (n + 1 - j.first) (reverse j.items) =
       take_all (length items - (n - start + 1)) (drop (n - start + 1) items) (omega (arith, length-drop (n - start + 1) items))
       ∙ ap (λ (k : ℕ). drop k items) (sym place) ∙ ap (λ (xs : List Item). drop (n + 1 - j.first) xs) all in
       let same : touched_by j n done.items ≡ o =
-      touched_same (is_withdrawn (entries j)) (λ k. list_any (λ item. names item.kind k) items) done.items (n + 1) (drop (n + 1 - j.first) (reverse j.items)) (λ k. sym (withdrawn_is j items k all))
-      ∙ ap (λ (xs : List Item). touched_from (λ k. list_any (λ (x : Item). names x.kind k) items) done.items (n + 1) xs) (sym whole) ∙ sym found in (
-        bind_fault ∙ ap (λ (b : Bool). cond b (Some Withdrawn) (touched_fault (touched_by j n done.items))) (sym (withdrawn_is j items n all) ∙ live)
-            ∙ ap (λ (x : Option ℕ). touched_fault x) same,
-        same,
+      ap (λ (xs : List Item). touched_from (is_withdrawn (entries j)) done.items (n + 1) xs) (sym whole) ∙ sym found in
+      bind_fault ∙ ap (λ (b : Bool). cond b (Some Withdrawn) (touched_fault (touched_by j n done.items))) live
+      ∙ ap (λ (x : Option ℕ). touched_fault x) same
+
+-- the notes beside the items
+module _ (j : Journaled) (n start : ℕ) (items : List Item) (notes : List Note) (is : start ≡ j.first) (low : start ≤ n) (high : n < next j) (all : items ≡ reverse j.items)
+    (noted : notes ≡ notes_of (entries j)) where
+  beside : length notes ≡ length items
+  beside = ap (λ (ms : List Note). length ms) noted ∙ length-notes (entries j) j.first j.items ∙ sym (ap (λ (xs : List Item). length xs) all ∙ length-reverse j.items)
+
+  each_note : (i : ℕ) (note : Note) (item : Item) → i < length items →
+      get_or notes i note ≡ record { withdrawal = named_by (entries j) (j.first + i); reach = reach_of (done_by (get_or items i item).kind) }
+  each_note i note item below =
+      ap (λ (ms : List Note). get_or ms i note) noted
+      ∙ note_at (entries j) j.first j.items i note item (omega (arith, ap (λ (xs : List Item). length xs) all, length-reverse j.items))
+      ∙ ap (λ (xs : List Item). record { withdrawal = named_by (entries j) (j.first + i); reach = reach_of (done_by (get_or xs i item).kind) }) (sym all)
+
+  -- that of the item itself
+  pub own_note : (own : Note) (item : Item) → own ≡ get_or notes (n - start) own → item ≡ get_or items (n - start) item →
+      (is_some own.withdrawal ≡ is_withdrawn (entries j) n) × (own.reach ≡ reach_of (done_by item.kind))
+  own_note own item at item_at_place =
+      let below : n - start < length items = omega (arith, ap (λ (xs : List Item). length xs) all, length-reverse j.items) in
+      let number : j.first + (n - start) ≡ n = omega arith in
+      let whole = at ∙ each_note (n - start) own item below in (
+        ap (λ (x : Note). is_some x.withdrawal) whole ∙ ap (λ (k : ℕ). is_some (named_by (entries j) k)) number ∙ named_is (entries j) n,
+        ap (λ (x : Note). x.reach) whole ∙ ap (λ (x : Item). reach_of (done_by x.kind)) (sym item_at_place),
       )
+
+  abbrev from : ℕ
+  from = n - start + 1
+
+  later_notes : take (length notes - from) (drop from notes) ≡ drop from notes
+  later_notes = take_all (length notes - from) (drop from notes) (omega (arith, length-drop from notes))
+
+  later_items : take (length items - from) (drop from items) ≡ drop from items
+  later_items = take_all (length items - from) (drop from items) (omega (arith, length-drop from items))
+
+  pub same_many : length (take (length notes - from) (drop from notes)) ≡ length (take (length items - from) (drop from items))
+  same_many =
+      ap (λ (ms : List Note). length ms) later_notes ∙ length-drop from notes ∙ ap (λ (k : ℕ). k - from) beside ∙ sym (length-drop from items)
+      ∙ sym (ap (λ (xs : List Item). length xs) later_items)
+
+  -- those of the later items
+  pub later_reaches : AreReaches (take (length notes - from) (drop from notes)) (take (length items - from) (drop from items))
+  later_reaches i note item below =
+      let within : from + i < length items = omega (arith, below, ap (λ (xs : List Item). length xs) later_items, length-drop from items) in
+      ap (λ (ms : List Note). (get_or ms i note).reach) later_notes ∙ ap (λ (x : Note). x.reach) (get_or-drop from notes i note ∙ each_note (from + i) note item within)
+      ∙ ap (λ (x : Item). reach_of (done_by x.kind)) (sym (ap (λ (xs : List Item). get_or xs i item) later_items ∙ get_or-drop from items i item))
+
+  pub later_gone : Item → TellGone (is_withdrawn (entries j)) (n + 1) (take (length notes - from) (drop from notes))
+  later_gone item i note below =
+      let within : from + i < length items = omega (arith, below, beside, ap (λ (ms : List Note). length ms) later_notes, length-drop from notes) in
+      let number : j.first + (from + i) ≡ n + 1 + i = omega arith in
+      sym (named_is (entries j) (n + 1 + i))
+      ∙ ap (λ (k : ℕ). is_some (named_by (entries j) k)) (sym number)
+      ∙ ap (λ (x : Note). is_some x.withdrawal) (sym (get_or-drop from notes i note ∙ each_note (from + i) note item within))
+      ∙ ap (λ (ms : List Note). is_some (get_or ms i note).withdrawal) (sym later_notes)

@@ -11,7 +11,7 @@ use Rattle.gv_journal.specs.Undoing.{taken_by, undone_by, reverted_by, AreRevert
 use Rattle.gv_journal.specs.History.{undos_of, kept_by, base, Translates, UndoSavesTheView, Rewinds}
 use Rattle.gv_journal.specs.Items.{Journaled, numbered}
 use Rattle.gv_journal.specs.State.{FitsSpace}
-use Rattle.gv_journal.specs.Inside.{IsSpent}
+use Rattle.gv_journal.specs.Shelf.{IsSpent}
 use Rattle.gv_journal.specs.declared.item.Item.{Item}
 use Rattle.gv_journal.proofs.Releases.{released-released}
 use Rattle.gv_journal.proofs.Undoings.{reverted_by-mappings}

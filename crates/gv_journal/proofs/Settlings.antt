@@ -1,172 +1,28 @@
 -- The items that stay when the older ones are settled.
-use Rattle.std.proofs.Common.{◌≡◌, ℕ, ◌+◌, ◌-◌, ◌<◌, ◌≤◌, Bool, true, false, cond, ◌||◌, zero, suc, List, [], ◌∷◌, ◌++◌, length, reverse, take, drop, Option, refl, ap, sym, ◌∙◌, subst, arith, append_assoc, length-append}
-use Rattle.std.proofs.lemmas.List.{append-nil, take-append-drop, reverse-append, reverse-reverse, length-reverse, length-drop, take_at, drop_at, drop-drop, drop_all, take_all, length-take-le, length-take}
+use Rattle.std.proofs.Common.{◌≡◌, ℕ, ◌+◌, ◌-◌, ◌≤◌, Bool, true, false, cond, ◌||◌, zero, suc, List, [], ◌∷◌, ◌++◌, length, reverse, take, drop, Option, refl, ap, sym, ◌∙◌, subst, arith}
+use Rattle.std.proofs.lemmas.List.{append-nil, take-append-drop, reverse-append, reverse-reverse, length-reverse, length-drop, take_at, drop_at, length-take-le}
 use Rattle.std.proofs.lemmas.Bool.Decides.{nat_tests}
 use Rattle.std.specs.Prelude.{position, None, Some, nat_lt}
 use Rattle.std.specs.Option.{option_map}
 use Rattle.gv_types.specs.Page.{IsPage}
-use Rattle.gv_types.specs.Operation.{view as view_of_ops}
 use Rattle.gv_types.specs.declared.mapping.Entry.{Entry}
 use Rattle.gv_types.specs.declared.mapping.Mapping.{Mapping}
-use Rattle.gv_types.specs.declared.operation.PageOp.{PageOp}
-use Rattle.gv_ranges.specs.List.{at}
 use Rattle.gv_space.specs.State.{AddressSpace, AreKept}
-use Rattle.gv_space.specs.Undo.{UndoValue, AreAmongKept, released}
+use Rattle.gv_space.specs.Undo.{AreAmongKept, released}
 use Rattle.gv_space.proofs.KeptLemmas.{kept_in_any_order}
 use Rattle.gv_journal.specs.Undoing.{undone_by}
-use Rattle.gv_journal.specs.Items.{Journaled, next, Numbered, numbered, entries, names, is_withdrawn, done_by, ops_without, view}
-use Rattle.gv_journal.specs.History.{undos_of, kept_by, back, base, Translates, SavesBelow, EachSaves, UndoSavesTheView, Rewinds}
-use Rattle.gv_journal.specs.Settling.{crosses, later, earlier, settle_fault, IsSettled}
+use Rattle.gv_journal.specs.Items.{Journaled, next, Numbered, numbered, entries, view}
+use Rattle.gv_journal.specs.History.{undos_of, kept_by, back, base, Translates, Rewinds}
+use Rattle.gv_journal.specs.Settling.{crosses, crossing, later, earlier, settle_fault, IsSettled}
 use Rattle.gv_types.specs.declared.fault.Fault.TheVariants.{Crossed}
 use Rattle.gv_journal.specs.State.{FitsOver, FitsSpace}
 use Rattle.gv_journal.specs.Inside.{NameOlder}
 use Rattle.gv_journal.specs.declared.item.Item.{Item}
-use Rattle.gv_journal.specs.declared.item.ItemKind.{ItemKind}
-use Rattle.gv_journal.specs.declared.item.ItemKind.TheVariants.{Bind, Withdrawal}
-use Rattle.gv_journal.proofs.Views.{view-at, view-append}
-use Rattle.gv_journal.proofs.Bindings.{not_named, Save-at}
 use Rattle.gv_journal.proofs.Histories.{kept_by-append}
 use Rattle.gv_journal.proofs.Held.{journaled}
 use Rattle.std.proofs.lemmas.Iterator.Adapters.{position_from-zero}
 use Rattle.std.specs.List.{position_from}
-
--- numbers go on through a list
-pub numbered-append : (first : ℕ) (later earlier : List Item) → numbered first (later ++ earlier) ≡ numbered (first + length earlier) later ++ numbered first earlier
-numbered-append first [] earlier = refl
-numbered-append first (item ∷ later) earlier =
-    let number : first + length (later ++ earlier) ≡ first + length earlier + length later = omega (arith, length-append later earlier) in
-    ap (λ (n : ℕ). record { number = n; item = item } ∷ numbered first (later ++ earlier)) number
-    ∙ ap (λ (xs : List Numbered). record { number = first + length earlier + length later; item = item } ∷ xs) (numbered-append first later earlier)
-
-pub ops_without-append : (gone : ℕ → Bool) (newer older : List Numbered) → ops_without gone (newer ++ older) ≡ ops_without gone newer ++ ops_without gone older
-ops_without-append gone [] older = refl
-ops_without-append gone (x ∷ newer) older =
-    ap (λ (ops : List PageOp). cond (gone x.number) [] (reverse (done_by x.item.kind)) ++ ops) (ops_without-append gone newer older)
-    ∙ sym (append_assoc (cond (gone x.number) [] (reverse (done_by x.item.kind))) (ops_without gone newer) (ops_without gone older))
-
--- the same of these numbers are gone
-abbrev pub SameGone : ℕ → ℕ → (ℕ → Bool) → (ℕ → Bool) → Type 0
-SameGone low high gone other = (n : ℕ) → low ≤ n → n < high → gone n ≡ other n
-
-pub ops_without-same : (first : ℕ) (items : List Item) (gone other : ℕ → Bool) → SameGone first (first + length items) gone other →
-    ops_without gone (numbered first items) ≡ ops_without other (numbered first items)
-ops_without-same first [] gone other same = refl
-ops_without-same first (item ∷ items) gone other same =
-    ap (λ (b : Bool). cond b [] (reverse (done_by item.kind)) ++ ops_without gone (numbered first items)) (same (first + length items) (omega arith) (omega arith))
-    ∙ ap (λ (ops : List PageOp). cond (other (first + length items)) [] (reverse (done_by item.kind)) ++ ops)
-    (ops_without-same first items gone other (λ n low high. same n low (omega arith)))
-
--- what two lists of items say, one over the other
-pub view_over : (first : ℕ) (later earlier : List Item) (gone : ℕ → Bool) (below : ℕ → Option Entry) (page : ℕ) →
-    view_of_ops (ops_without gone (numbered first (later ++ earlier))) below page
-    ≡ view_of_ops (ops_without gone (numbered (first + length earlier) later)) (view_of_ops (ops_without gone (numbered first earlier)) below) page
-view_over first later earlier gone below page =
-    ap (λ (xs : List Numbered). view_of_ops (ops_without gone xs) below page) (numbered-append first later earlier)
-    ∙ ap (λ (ops : List PageOp). view_of_ops ops below page) (ops_without-append gone (numbered (first + length earlier) later) (numbered first earlier))
-    ∙ view-append (ops_without gone (numbered (first + length earlier) later)) (ops_without gone (numbered first earlier)) below page
-
-is_withdrawn-append : (newer older : List Numbered) (n : ℕ) → is_withdrawn (newer ++ older) n ≡ (is_withdrawn newer n || is_withdrawn older n)
-is_withdrawn-append [] older n = refl
-is_withdrawn-append (x ∷ newer) older n =
-    ap (λ (b : Bool). names x.item.kind n || b) (is_withdrawn-append newer older n) ∙ or_assoc (names x.item.kind n) (is_withdrawn newer n) (is_withdrawn older n)
-  where
-    or_assoc : (a b c : Bool) → (a || (b || c)) ≡ ((a || b) || c)
-    or_assoc true b c = refl
-    or_assoc false b c = refl
-
--- none of the items is a Withdrawal of one below a number
-abbrev pub NoneCross : ℕ → List Item → Type 0
-NoneCross to [] = Unit {0}
-NoneCross to (item ∷ items) = (crosses to item.kind ≡ false) × NoneCross to items
-
-not_crossing : (to : ℕ) (kind : ItemKind) (n : ℕ) → crosses to kind ≡ false → n < to → names kind n ≡ false
-not_crossing to (Bind queue number request seen done) n none below = refl
-not_crossing to (Withdrawal of) n none below = grind (arith, nat_tests)
-
-none_named : (to first : ℕ) (later : List Item) (n : ℕ) → NoneCross to later → n < to → is_withdrawn (numbered first later) n ≡ false
-none_named to first [] n none below = refl
-none_named to first (item ∷ later) n none below =
-    let here : names item.kind n ≡ false = not_crossing to item.kind n none.0 below in
-    rw (here, none_named to first later n none.1 below) refl
-
-or_nothing : (a b : Bool) → b ≡ false → (a || b) ≡ a
-or_nothing true b h = refl
-or_nothing false b h = h
-
-gone_of_both : (first : ℕ) (later earlier : List Item) (n : ℕ) →
-    is_withdrawn (numbered first (later ++ earlier)) n ≡ (is_withdrawn (numbered (first + length earlier) later) n || is_withdrawn (numbered first earlier) n)
-gone_of_both first later earlier n =
-    ap (λ (xs : List Numbered). is_withdrawn xs n) (numbered-append first later earlier)
-    ∙ is_withdrawn-append (numbered (first + length earlier) later) (numbered first earlier) n
-
--- of the later items only later ones decide which are withdrawn, and of the earlier ones only earlier ones
-pub gone_of_later : (first : ℕ) (later earlier : List Item) → NameOlder (numbered first earlier) → (n : ℕ) → first + length earlier ≤ n →
-    is_withdrawn (numbered first (later ++ earlier)) n ≡ is_withdrawn (numbered (first + length earlier) later) n
-gone_of_later first later earlier older n le =
-    gone_of_both first later earlier n
-    ∙ or_nothing (is_withdrawn (numbered (first + length earlier) later) n) (is_withdrawn (numbered first earlier) n) (not_named first earlier n older le)
-
-pub gone_of_earlier : (first : ℕ) (later earlier : List Item) → NoneCross (first + length earlier) later → (n : ℕ) → n < first + length earlier →
-    is_withdrawn (numbered first (later ++ earlier)) n ≡ is_withdrawn (numbered first earlier) n
-gone_of_earlier first later earlier none n below =
-    gone_of_both first later earlier n
-    ∙ ap (λ (b : Bool). b || is_withdrawn (numbered first earlier) n) (none_named (first + length earlier) (first + length earlier) later n none below)
-
-module _ (first : ℕ) (earlier : List Item) (below other : ℕ → Option Entry) (older : NameOlder (numbered first earlier))
-    (same : (page : ℕ) → IsPage page → other page ≡ view (numbered first earlier) below page) where
-  -- what the items say over the settled ones
-  settled_view : (later : List Item) → NoneCross (first + length earlier) later → (gone : ℕ → Bool) →
-      SameGone first (first + length earlier) gone (is_withdrawn (numbered first earlier)) → (page : ℕ) → IsPage page →
-      view_of_ops (ops_without gone (numbered first (later ++ earlier))) below page ≡ view_of_ops (ops_without gone (numbered (first + length earlier) later)) other page
-  settled_view later none gone early page is =
-      view_over first later earlier gone below page
-      ∙ view-at (ops_without gone (numbered (first + length earlier) later)) (view_of_ops (ops_without gone (numbered first earlier)) below) other page
-      (ap (λ (ops : List PageOp). view_of_ops ops below page) (ops_without-same first earlier gone (is_withdrawn (numbered first earlier)) early) ∙ sym (same page is))
-
-  early_gone : (later : List Item) → NoneCross (first + length earlier) later → SameGone first (first + length earlier) (is_withdrawn (numbered first (later ++ earlier))) (is_withdrawn (numbered first earlier))
-  early_gone later none = λ n low high. gone_of_earlier first later earlier none n high
-
-  pub translates_settled : (ms : List Mapping) (later : List Item) → NoneCross (first + length earlier) later → Translates ms (numbered first (later ++ earlier)) below →
-      Translates ms (numbered (first + length earlier) later) other
-  translates_settled ms later none was = λ page is.
-      was page is
-      ∙ settled_view later none (is_withdrawn (numbered first (later ++ earlier))) (early_gone later none) page is
-      ∙ ap (λ (ops : List PageOp). view_of_ops ops other page)
-      (ops_without-same (first + length earlier) later (is_withdrawn (numbered first (later ++ earlier))) (is_withdrawn (numbered (first + length earlier) later)) (λ n low high. gone_of_later first later earlier older n low))
-
-  saves_at : (kind : ItemKind) (us : List UndoValue) (map map' : ℕ → Option Entry) → ((page : ℕ) → IsPage page → map page ≡ map' page) → SavesBelow kind us map → SavesBelow kind us map'
-  saves_at (Bind queue number request seen done) us map map' agree h = Save-at (reverse done.items) us map map' agree h
-  saves_at (Withdrawal of) us map map' agree h = tt
-
-  each_saves : (later : List Item) (gone gone' : ℕ → Bool) → NoneCross (first + length earlier) later → SameGone first (first + length earlier) gone (is_withdrawn (numbered first earlier)) →
-      ((n : ℕ) → first + length earlier ≤ n → gone n ≡ gone' n) →
-      EachSaves gone (numbered first (later ++ earlier)) below → EachSaves gone' (numbered (first + length earlier) later) other
-  each_saves [] gone gone' none early late h = tt
-  each_saves (item ∷ later) gone gone' none early late h =
-      let number : first + length (later ++ earlier) ≡ first + length earlier + length later = omega (arith, length-append later earlier) in (
-        λ live. saves_at item.kind (undos_of item) (view_of_ops (ops_without gone (numbered first (later ++ earlier))) below) (view_of_ops (ops_without gone' (numbered (first + length earlier) later)) other)
-            (λ page is. settled_view later none.1 gone early page is
-            ∙ ap (λ (ops : List PageOp). view_of_ops ops other page) (ops_without-same (first + length earlier) later gone gone' (λ n low high. late n low)))
-            (h.0 (ap (λ (n : ℕ). gone n) number ∙ late (first + length earlier + length later) (omega arith) ∙ live)),
-        each_saves later gone gone' none.1 early late h.1,
-      )
-
-  pub saves_settled : (later : List Item) → NoneCross (first + length earlier) later → UndoSavesTheView (numbered first (later ++ earlier)) below →
-      UndoSavesTheView (numbered (first + length earlier) later) other
-  saves_settled later none h =
-      each_saves later (is_withdrawn (numbered first (later ++ earlier))) (is_withdrawn (numbered (first + length earlier) later)) none (early_gone later none)
-      (λ n low. gone_of_later first later earlier older n low) h
-
-  pub rewinds_settled : (limit room : ℕ) (ms : List Mapping) (later : List Item) → NoneCross (first + length earlier) later → Rewinds limit room first ms (later ++ earlier) below →
-      Rewinds limit room (first + length earlier) ms later other
-  rewinds_settled limit room ms [] none h = tt
-  rewinds_settled limit room ms (item ∷ later) none h = (
-    h.0,
-    h.1,
-    translates_settled (undone_by ms (undos_of item)) later none.1 h.2,
-    saves_settled later none.1 h.3,
-    rewinds_settled limit room (undone_by ms (undos_of item)) later none.1 h.4,
-  )
+use Rattle.gv_journal.proofs.SettledViews.{numbered-append, NoneCross, translates_settled, saves_settled, rewinds_settled}
 
 -- the list under the later items
 abbrev pub under : List Mapping → List Item → List Mapping
@@ -193,34 +49,6 @@ held_settled held count le =
     let size : length (reverse (drop count held)) ≡ length held - count = length-reverse (drop count held) ∙ length-drop count held in (
       ap (λ (xs : List Item). take (length held - count) xs) turned ∙ take_at (reverse (drop count held)) (reverse (take count held)) (length held - count) size,
       ap (λ (xs : List Item). drop (length held - count) xs) turned ∙ drop_at (reverse (drop count held)) (reverse (take count held)) (length held - count) size,
-    )
-
--- what a write of the first items leaves
-pub written : (all xs new : List Item) (len spent count m : ℕ) → xs ≡ all → length all ≡ len → spent + count ≤ len → m ≡ count → length new ≡ count →
-    take len ((take spent xs ++ (new ++ drop m (drop spent xs))) ++ drop (length (take spent xs ++ (new ++ drop m (drop spent xs)))) all)
-    ≡ take spent all ++ (new ++ drop (spent + count) all)
-written all xs new len spent count m same size within is filled =
-    let whole : take spent xs ++ (new ++ drop m (drop spent xs)) ≡ take spent all ++ (new ++ drop (spent + count) all) =
-    ap (λ (ys : List Item). take spent ys ++ (new ++ drop m (drop spent ys))) same
-    ∙ ap (λ (n : ℕ). take spent all ++ (new ++ drop n (drop spent all))) is
-    ∙ ap (λ (ys : List Item). take spent all ++ (new ++ ys)) (drop-drop count spent all) in
-    let long : length (take spent all ++ (new ++ drop (spent + count) all)) ≡ len =
-    length-append (take spent all) (new ++ drop (spent + count) all)
-    ∙ omega (arith, length-append new (drop (spent + count) all), length-drop (spent + count) all, length-take-le spent all (omega arith)) in
-    ap (λ (ys : List Item). take len (ys ++ drop (length ys) all)) whole
-    ∙ ap (λ (n : ℕ). take len ((take spent all ++ (new ++ drop (spent + count) all)) ++ drop n all)) long
-    ∙ ap (λ (ys : List Item). take len ((take spent all ++ (new ++ drop (spent + count) all)) ++ ys)) (drop_all len all (omega arith))
-    ∙ ap (λ (ys : List Item). take len ys) (append-nil (take spent all ++ (new ++ drop (spent + count) all)))
-    ∙ take_all len (take spent all ++ (new ++ drop (spent + count) all)) (omega (arith, long))
-
-pub front_written : (all new : List Item) (spent count : ℕ) → spent + count ≤ length all → length new ≡ count →
-    (take (spent + count) (take spent all ++ (new ++ drop (spent + count) all)) ≡ take spent all ++ new)
-    × (drop (spent + count) (take spent all ++ (new ++ drop (spent + count) all)) ≡ drop (spent + count) all)
-front_written all new spent count within filled =
-    let apart : take spent all ++ (new ++ drop (spent + count) all) ≡ (take spent all ++ new) ++ drop (spent + count) all = sym (append_assoc (take spent all) new (drop (spent + count) all)) in
-    let size : length (take spent all ++ new) ≡ spent + count = length-append (take spent all) new ∙ omega (arith, length-take-le spent all (omega arith)) in (
-      ap (λ (ys : List Item). take (spent + count) ys) apart ∙ take_at (take spent all ++ new) (drop (spent + count) all) (spent + count) size,
-      ap (λ (ys : List Item). drop (spent + count) ys) apart ∙ drop_at (take spent all ++ new) (drop (spent + count) all) (spent + count) size,
     )
 
 -- names stay in order
@@ -355,18 +183,8 @@ in_range : (low n high : ℕ) → low ≤ n → n ≤ high → (nat_lt n low || 
 in_range low n high le ge = grind (arith, nat_tests)
 
 -- the fault of a number of an item held or of the next one
-pub settle_fault_is : (j : Journaled) (to : ℕ) → j.first ≤ to → to ≤ next j → (o : Option ℕ) → position (λ item. crosses to item.kind) (reverse (later j to)) ≡ o →
-    settle_fault j to ≡ option_map (λ by. Crossed by) (option_map (λ place. to + place) o)
+pub settle_fault_is : (j : Journaled) (to : ℕ) → j.first ≤ to → to ≤ next j → (o : Option ℕ) → crossing j to ≡ o → settle_fault j to ≡ option_map (λ by. Crossed by) o
 settle_fault_is j to low high o is = rw (in_range j.first to (next j) low high, is) refl
-
--- what a search of the later items finds
-pub search_is : (j : Journaled) (to start : ℕ) (items : List Item) (found : Option ℕ) → start ≡ j.first → start ≤ to → to ≤ next j → items ≡ reverse j.items →
-    found ≡ position (λ item. crosses to item.kind) (take (length items - (to - start)) (drop (to - start) items)) → position (λ item. crosses to item.kind) (reverse (later j to)) ≡ found
-search_is j to start items found is low high all search =
-    let held : drop (to - start) items ≡ drop (to - start) (reverse j.items) = ap (λ (xs : List Item). drop (to - start) xs) all in
-    let whole : take (length items - (to - start)) (drop (to - start) items) ≡ drop (to - start) items =
-    take_all (length items - (to - start)) (drop (to - start) items) (omega (arith, length-drop (to - start) items)) in
-    ap (λ (xs : List Item). position (λ (item : Item). crosses to item.kind) xs) (reversed_later j to (to - start) (omega arith) high ∙ sym held ∙ sym whole) ∙ sym search
 
 later_alone : (limit first : ℕ) (held : List Item) (count : ℕ) → count ≤ length held → later (journaled limit first (reverse held)) (first + count) ≡ reverse (drop count held)
 later_alone limit first held count le =
@@ -374,39 +192,17 @@ later_alone limit first held count le =
     ap (λ (n : ℕ). take n (reverse held)) split ∙ (held_settled held count le).0
 
 -- how many items of a journal are settled
-pub count_is : (limit first spent : ℕ) (all : List Item) (j : Journaled) (to count : ℕ) → record { limit = limit; first = first; items = reverse (drop spent all) } ≡ j →
-    j.first + count ≡ to → to ≤ next j → (first + count ≡ to) × (count ≤ length (drop spent all))
-count_is limit first spent all j to count is number within =
+pub count_is : (limit first : ℕ) (held : List Item) (j : Journaled) (to count : ℕ) → journaled limit first (reverse held) ≡ j → j.first + count ≡ to → to ≤ next j →
+    (first + count ≡ to) × (count ≤ length held)
+count_is limit first held j to count is number within =
     let first_is : first ≡ j.first = ap (λ (k : Journaled). k.first) is in
-    let size : length (reverse (drop spent all)) ≡ length j.items = ap (λ (k : Journaled). length k.items) is in
-    (omega arith, omega (arith, length-reverse (drop spent all)))
-
--- the items that are settled
-pub settled_items : (all xs : List Item) (spent count : ℕ) → xs ≡ all → take (spent + count - spent) (drop spent xs) ≡ take count (drop spent all)
-settled_items all xs spent count same =
-    let n : spent + count - spent ≡ count = omega arith in
-    ap (λ (k : ℕ). take k (drop spent xs)) n ∙ ap (λ (ys : List Item). take count (drop spent ys)) same
-
--- the items that are written
-pub items_written : (spent count len m : ℕ) (all xs new : List Item) → xs ≡ all → length all ≡ len → count ≤ length (drop spent all) → spent ≤ length all → m ≡ count → length new ≡ count →
-    (drop (spent + count) (take len ((take spent xs ++ (new ++ drop m (drop spent xs))) ++ drop (length (take spent xs ++ (new ++ drop m (drop spent xs)))) all)) ≡ drop count (drop spent all))
-    × (take (spent + count) (take len ((take spent xs ++ (new ++ drop m (drop spent xs))) ++ drop (length (take spent xs ++ (new ++ drop m (drop spent xs)))) all)) ≡ take spent all ++ new)
-items_written spent count len m all xs new same size few within is filled =
-    let room : spent + count ≤ length all = omega (arith, length-drop spent all) in
-    let whole = written all xs new len spent count m same size (omega arith) is filled in
-    let parts = front_written all new spent count room filled in (
-      ap (λ (ys : List Item). drop (spent + count) ys) whole ∙ parts.1 ∙ sym (drop-drop count spent all),
-      ap (λ (ys : List Item). take (spent + count) ys) whole ∙ parts.0,
-    )
-
--- no less is left than was there
-pub still_within : (n : ℕ) (xs ys : List Item) → take n xs ≡ ys → length ys ≡ n → n ≤ length xs
-still_within n xs ys is size = omega (arith, length-take n xs, ap (λ (zs : List Item). length zs) is)
+    let size : length (reverse held) ≡ length j.items = ap (λ (k : Journaled). length k.items) is in
+    (omega arith, omega (arith, length-reverse held))
 
 -- the journal that is left
-pub left_is : (limit first to at count : ℕ) (items held : List Item) → first + count ≡ to → drop at items ≡ drop count held →
-    journaled limit to (reverse (drop at items)) ≡ journaled limit (first + count) (reverse (drop count held))
-left_is limit first to at count items held number is =
+pub left_is : (limit first to count : ℕ) (items held : List Item) → first + count ≡ to → items ≡ drop count held →
+    journaled limit to (reverse items) ≡ journaled limit (first + count) (reverse (drop count held))
+left_is limit first to count items held number is =
     ap (λ (xs : List Item). journaled limit to (reverse xs)) is ∙ ap (λ (n : ℕ). journaled limit n (reverse (drop count held))) (sym number)
 
 -- none of the later items crosses

@@ -7,7 +7,7 @@ use Rattle.gv_types.specs.declared.mapping.Mapping.{Mapping}
 use Rattle.gv_space.specs.State.{AddressSpace, AreKept}
 use Rattle.gv_journal.specs.Undoing.{taken_by}
 use Rattle.gv_journal.specs.History.{undos_of, kept_by}
-use Rattle.gv_journal.specs.Inside.{IsSpent}
+use Rattle.gv_journal.specs.Shelf.{IsSpent}
 use Rattle.gv_journal.specs.declared.item.Item.{Item}
 use Rattle.gv_journal.proofs.Lists.{last_first}
 

@@ -25,7 +25,7 @@ use Rattle.gv_journal.specs.declared.item.ItemKind.TheVariants.{Bind, Withdrawal
 use Rattle.gv_journal.proofs.Views.{view-at, view-append}
 use Rattle.gv_journal.proofs.Bindings.{bound}
 use Rattle.gv_journal.proofs.Histories.{Rewinds-room}
-use Rattle.gv_journal.proofs.Settlings.{view_over, ops_without-same, SameGone}
+use Rattle.gv_journal.proofs.SettledViews.{view_over, ops_without-same, SameGone}
 use Rattle.gv_journal.proofs.Touches.{covers_any, view-silent, any-reverse, NoneTouch, newer_silent, touch_none, Save-where}
 
 -- one more number is gone

@@ -6,6 +6,8 @@ pub mod Applying
 pub mod Verdict
 pub mod Binding
 pub mod Work
+pub mod Notes
+pub mod Shelf
 pub mod Inside
 pub mod Settling
 pub mod Withdrawing

@@ -1,15 +1,16 @@
 //! The journal of an address space.
 ghost use Rattle.std.specs.Prelude.{◌≡◌, ℕ, ◌+◌, ◌<◌, ◌≤◌, [], length, reverse, IsTrue, ◌↔◌, Some, None, position};
 ghost use Rattle.std.specs.Prelude.{IfOk, IfErr, OnOk, OnErr};
-ghost use Rattle.gv_journal.specs.Verdict.{refusal};
 
 use crate::applying::{Work, apply_all};
 use crate::item::{Item, ItemKind};
-use crate::refusal::Refusal;
+use crate::note::{Note, reach_of};
+use crate::refusal::{Refusal, whole};
 use crate::restoring::restore_all;
-use crate::settling::{first_crossing, release_items};
-use crate::touching::{first_touched, is_withdrawn};
-use crate::undoing::{release_all, revert_all};
+use crate::settling::first_crossing;
+use crate::shelf::Shelf;
+use crate::touching::first_touched;
+use crate::undoing::revert_all;
 use gv_space::Space;
 use gv_types::{Fault, Request};
 use std::alloc::Global;
@@ -25,8 +26,7 @@ const NUMBERS: u64 = 1 << 63;
 /// number is how many items stood before it, settled ones counted; after a rewind the number is given out again. A journal
 /// has to be closed: it isn't `Drop`, so a program that lets one go is refused.
 pub struct Journal {
-    items: Vec<Item>,
-    spent: usize,
+    shelf: Shelf,
     first: u64,
     limit: u64,
 }
@@ -59,8 +59,7 @@ impl Journal {
         ensures { result ≡ record { limit = limit; first = 0; items = [] } }
     {
         Journal {
-            items: Vec::new(alloc),
-            spent: 0,
+            shelf: Shelf::new(alloc),
             first: 0,
             limit,
         }
@@ -70,7 +69,7 @@ impl Journal {
     pub fn items(&self) -> &[Item]
         ensures { result.now ≡ reverse self.now.items }
     {
-        &self.items[self.spent..]
+        self.shelf.items()
     }
 
     /// The number of the oldest item held, or of the next one where none is.
@@ -84,14 +83,14 @@ impl Journal {
     pub fn next(&self) -> u64
         ensures { result ≡ next self.now }
     {
-        self.first + (self.items.len() - self.spent) as u64
+        self.first + self.shelf.len() as u64
     }
 
     /// Whether it holds as many items as it may, or has no number left.
     fn is_full(&self) -> bool
         ensures { IsTrue result ↔ (full_fault self.now ≡ Some Fault.JournalFull) }
     {
-        (self.items.len() - self.spent) as u64 >= self.limit || self.next() >= NUMBERS
+        self.shelf.len() as u64 >= self.limit || self.next() >= NUMBERS
     }
 
     /// Applies a request whole or not at all, and answers the number of its item. The refusals in this order:
@@ -126,7 +125,7 @@ impl Journal {
         if self.is_full() {
             return Err(whole(Fault::JournalFull));
         }
-        if self.items.reserve(1).is_err() {
+        if self.shelf.make_room().is_err() {
             return Err(whole(Fault::OutOfMemory));
         }
         let Work { ops: done, undos } = match apply_all(alloc, space, &request.ops) {
@@ -134,6 +133,10 @@ impl Journal {
             Err(refusal) => return Err(refusal),
         };
         let entry = self.next();
+        let note = Note {
+            withdrawal: None,
+            reach: reach_of(&done),
+        };
         let kind = ItemKind::Bind {
             queue,
             number,
@@ -141,7 +144,7 @@ impl Journal {
             seen,
             done,
         };
-        self.items.push_reserved(Item { kind, undos });
+        self.shelf.push(Item { kind, undos }, note);
         Ok(entry)
     }
 
@@ -159,10 +162,7 @@ impl Journal {
         ensures space_unchanged { OnErr result (space.new ≡ space.old) }
         ensures unchanged { OnErr result (self.new ≡ self.old) }
     {
-        if self.items.len() == self.spent {
-            return Err(Fault::NoEntry);
-        }
-        match self.items.pop() {
+        match self.shelf.take(self.first) {
             None => Err(Fault::NoEntry),
             Some(Item { kind: _, undos }) => {
                 revert_all(space, undos);
@@ -195,17 +195,22 @@ impl Journal {
         if self.is_full() {
             return Err(Fault::JournalFull);
         }
-        if self.items.reserve(1).is_err() {
+        if self.shelf.make_room().is_err() {
             return Err(Fault::OutOfMemory);
         }
-        let saved = &self.items[self.spent + place].undos;
+        let saved = &self.shelf.items()[place].undos;
         let undos = match restore_all(alloc, space, saved) {
             Ok(undos) => undos,
             Err(fault) => return Err(fault),
         };
         let number = self.next();
         let kind = ItemKind::Withdrawal { of: entry };
-        self.items.push_reserved(Item { kind, undos });
+        let note = Note {
+            withdrawal: None,
+            reach: None,
+        };
+        self.shelf.mark(place, Some(number));
+        self.shelf.push(Item { kind, undos }, note);
         Ok(number)
     }
 
@@ -218,15 +223,17 @@ impl Journal {
         if entry < self.first || self.next() <= entry {
             return Err(Fault::NoEntry);
         }
-        let items = self.items();
+        let (items, notes) = (self.shelf.items(), self.shelf.notes());
         let place = (entry - self.first) as usize;
         let ItemKind::Bind { done, .. } = &items[place].kind else {
             return Err(Fault::NotABind);
         };
-        if is_withdrawn(items, entry) {
+        let own = &notes[place];
+        if own.withdrawal.is_some() {
             return Err(Fault::Withdrawn);
         }
-        match first_touched(items, &items[place + 1..], done, entry + 1) {
+        let from = place + 1;
+        match first_touched(&items[from..], &notes[from..], own, done, entry + 1) {
             Some(by) => Err(Fault::Touched { by }),
             None => Ok(place),
         }
@@ -249,9 +256,7 @@ impl Journal {
             Ok(count) => count,
             Err(fault) => return Err(fault),
         };
-        let end = self.spent + count as usize;
-        release_items(space, &mut self.items[self.spent..end]);
-        self.spent = end;
+        self.shelf.settle(space, count as usize);
         self.first = to;
         Ok(count)
     }
@@ -268,11 +273,9 @@ impl Journal {
             return Err(Fault::NoEntry);
         }
         let count = to - self.first;
-        let later = &self.items()[count as usize..];
-        match first_crossing(later, to) {
-            Some(place) => Err(Fault::Crossed {
-                by: to + place as u64,
-            }),
+        let settled = &self.shelf.notes()[..count as usize];
+        match first_crossing(settled, to) {
+            Some(by) => Err(Fault::Crossed { by }),
             None => Ok(count),
         }
     }
@@ -284,22 +287,10 @@ impl Journal {
         ensures kept { AreKept space.new [] }
     {
         let Journal {
-            items,
-            spent: _,
+            shelf,
             first: _,
             limit: _,
         } = self;
-        let mut items = items;
-        while let Some(Item { kind: _, undos }) = items.pop() {
-            release_all(space, undos);
-        }
-        items.destroy_empty();
+        shelf.close(space);
     }
-}
-
-/// A refusal of the whole request.
-fn whole(fault: Fault) -> Refusal
-    ensures { result ≡ refusal 0 fault }
-{
-    Refusal { op: 0, fault }
 }

@@ -6,9 +6,11 @@ mod applying;
 mod item;
 mod journal;
 pub mod laws;
+mod note;
 mod refusal;
 mod restoring;
 mod settling;
+mod shelf;
 mod touching;
 mod undoing;
 

@@ -1,44 +1,58 @@
 //! Old items settled: what they keep is given up, and they go.
-ghost use Rattle.std.specs.Prelude.{◌≡◌, ◌++◌, [], List, length, reverse, position};
+ghost use Rattle.std.specs.Prelude.{◌≡◌, ◌++◌, List, reverse, None};
 ghost use Rattle.std.specs.List.{All};
 ghost use Rattle.gv_types.specs.declared.mapping.Mapping.{Mapping};
 ghost use Rattle.gv_space.specs.State.{AreKept};
 ghost use Rattle.gv_space.specs.Undo.{AreAmongKept, released};
-ghost use Rattle.gv_journal.specs.Undoing.{taken_by};
 ghost use Rattle.gv_journal.specs.History.{kept_by};
-ghost use Rattle.gv_journal.specs.Settling.{crosses};
-ghost use Rattle.gv_journal.specs.Inside.{IsSpent};
+ghost use Rattle.gv_journal.specs.Notes.{crossed, lesser, crossing_from};
+ghost use Rattle.gv_journal.specs.Shelf.{IsSpent};
 
 use crate::item::{Item, ItemKind};
-use gv_space::{OpUndo, Space};
+use crate::note::Note;
+use crate::undoing::release_all;
+use gv_space::Space;
+use std::alloc::Global;
 
-/// Whether it is a withdrawal of an item below a number.
-fn crosses(kind: &ItemKind, to: u64) -> bool
-    ensures { result ≡ crosses to kind.now }
+/// The number of the withdrawal of an item, where it is this one or above.
+fn crossed(note: &Note, to: u64) -> Option<u64>
+    ensures { result ≡ crossed to note.now.withdrawal }
 {
-    match kind {
-        ItemKind::Bind { .. } => false,
-        ItemKind::Withdrawal { of } => *of < to,
+    match note.withdrawal {
+        Some(by) if by >= to => Some(by),
+        _ => None,
     }
 }
 
-/// The place of the first withdrawal of an item below a number.
-pub fn first_crossing(items: &[Item], to: u64) -> Option<usize>
-    ensures { result ≡ position (λ item. crosses to item.kind) items.now }
+/// The lesser of two numbers that there may be.
+fn lesser(least: Option<u64>, other: Option<u64>) -> Option<u64>
+    ensures { result ≡ lesser least other }
 {
-    items.iter().position(|item| crosses(&item.kind, to))
+    match (least, other) {
+        (Some(least), Some(other)) => Some(least.min(other)),
+        (Some(least), None) => Some(least),
+        (None, other) => other,
+    }
 }
 
-/// Gives up what undo values keep, and leaves none. It takes no memory.
-fn release_each(space: &mut Space, undos: &mut Vec<OpUndo>)
-    requires { AreAmongKept space.old (taken_by (reverse undos.old.items)) }
-    ensures state { space.new ≡ released space.old (taken_by (reverse undos.old.items)) }
-    ensures kept { (others : List Mapping)
-        → AreKept space.old (taken_by (reverse undos.old.items) ++ others) → AreKept space.new others }
-    ensures empty { undos.new.items ≡ [] }
+/// The least number, from this one on, of a withdrawal of one of the items.
+pub fn first_crossing(notes: &[Note], to: u64) -> Option<u64>
+    ensures { result ≡ crossing_from to None notes.now }
 {
-    while let Some(undo) = undos.pop() {
-        space.release(undo);
+    let mut least = None;
+    for note in notes {
+        least = lesser(least, crossed(note, to));
+    }
+    least
+}
+
+/// What stands in the place of a settled item. It takes no memory.
+fn blank(alloc: Global) -> Item
+    ensures { IsSpent result }
+{
+    Item {
+        kind: ItemKind::Withdrawal { of: 0 },
+        undos: Vec::new(alloc),
     }
 }
 
@@ -54,6 +68,8 @@ pub fn release_items(space: &mut Space, items: &mut [Item])
     while left > 0 {
         left -= 1;
         let item = &mut items[left];
-        release_each(space, &mut item.undos);
+        let alloc = *item.undos.allocator();
+        let Item { kind: _, undos } = std::mem::replace(item, blank(alloc));
+        release_all(space, undos);
     }
 }

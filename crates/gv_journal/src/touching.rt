@@ -1,17 +1,19 @@
-//! Which items touch, and which are withdrawn.
-ghost use Rattle.std.specs.Prelude.{◌≡◌, ◌+◌, ◌<◌, ◌^◌, ◌&&◌, not, length};
+//! Which items touch.
+ghost use Rattle.std.specs.Prelude.{◌≡◌, ℕ, ◌+◌, ◌<◌, ◌^◌, Bool, ◌&&◌, not, is_some, length};
 ghost use Rattle.std.specs.List.{list_any};
 ghost use Rattle.gv_types.specs.Span.{meets};
 ghost use Rattle.gv_types.specs.Operation.{range_of};
-ghost use Rattle.gv_journal.specs.Items.{names, done_by};
+ghost use Rattle.gv_journal.specs.Items.{done_by};
+ghost use Rattle.gv_journal.specs.Notes.{reach_of, AreReaches, TellGone};
 ghost use Rattle.gv_journal.specs.Restoring.{pages_named};
 ghost use Rattle.gv_journal.specs.Withdrawing.{touch, touched_from};
 
 use crate::item::{Item, ItemKind};
+use crate::note::{Note, reaches};
 use gv_types::{PageOp, PageRange};
 
 /// The pages of an operation, if it names any.
-fn pages_of(op: &PageOp) -> Option<PageRange>
+pub fn pages_of(op: &PageOp) -> Option<PageRange>
     ensures { result ≡ pages_named op.now }
 {
     match *op {
@@ -55,41 +57,40 @@ fn done_by(kind: &ItemKind) -> &[PageOp]
     }
 }
 
-/// Whether it withdraws the item with a number.
-fn names(kind: &ItemKind, number: u64) -> bool
-    ensures { result ≡ names kind.now number }
+/// Whether an item that isn't withdrawn touches operations: they are compared only where the pages from the least to the
+/// greatest of both meet.
+fn is_in_way(note: &Note, item: &Item, own: &Note, ops: &[PageOp]) -> bool
+    requires note { note.now.reach ≡ reach_of (done_by item.now.kind) }
+    requires own { own.now.reach ≡ reach_of ops.now }
+    ensures { result ≡ (touch ops.now (done_by item.now.kind) && not (is_some note.now.withdrawal)) }
 {
-    match kind {
-        ItemKind::Bind { .. } => false,
-        ItemKind::Withdrawal { of } => *of == number,
+    if note.withdrawal.is_some() {
+        return false;
     }
+    if !reaches(own.reach, note.reach) {
+        return false;
+    }
+    touch(ops, done_by(&item.kind))
 }
 
-/// Whether one of the items withdraws the item with a number.
-pub fn is_withdrawn(items: &[Item], number: u64) -> bool
-    ensures { result ≡ list_any (λ item. names item.kind number) items.now }
+/// The number of the first item that isn't withdrawn and touches the operations of another. The first of these items has the
+/// number `from`, and a note stands beside each.
+pub fn first_touched(
+    items: &[Item],
+    notes: &[Note],
+    own: &Note,
+    ops: &[PageOp],
+    from: u64,
+) -> Option<u64>
+    requires numbers { from + length items.now < 2 ^ 64 }
+    requires beside { length notes.now ≡ length items.now }
+    requires notes { AreReaches notes.now items.now }
+    requires own { own.now.reach ≡ reach_of ops.now }
+    ensures { (gone : ℕ → Bool) → TellGone gone from notes.now → result ≡ touched_from gone ops.now from items.now }
 {
-    items.iter().any(|item| names(&item.kind, number))
-}
-
-/// Whether an item with this number touches the operations, and isn't withdrawn by one of all items.
-fn is_in_way(items: &[Item], number: u64, item: &Item, ops: &[PageOp]) -> bool
-    ensures { result ≡ (touch ops.now (done_by item.now.kind)
-        && not (list_any (λ other. names other.kind number) items.now)) }
-{
-    touch(ops, done_by(&item.kind)) && !is_withdrawn(items, number)
-}
-
-/// The number of the first item that isn't withdrawn by one of all items and touches the operations. The first of the
-/// later items has the number `from`.
-pub fn first_touched(items: &[Item], later: &[Item], ops: &[PageOp], from: u64) -> Option<u64>
-    requires { from + length later.now < 2 ^ 64 }
-    ensures { result ≡ touched_from (λ n. list_any (λ item. names item.kind n) items.now) ops.now from later.now }
-{
-    for (place, item) in later.iter().enumerate() {
-        let number = from + place as u64;
-        if is_in_way(items, number, item, ops) {
-            return Some(number);
+    for (place, note) in notes.iter().enumerate() {
+        if is_in_way(note, &items[place], own, ops) {
+            return Some(from + place as u64);
         }
     }
     None

@@ -1,27 +1,46 @@
-use Rattle.std.proofs.Common.{◌≡◌, ◌≤◌, Some, None, arith, ◌∙◌, ap}
-use Rattle.gv_journal.specs.Items.{Journaled, next}
-use Rattle.gv_journal.proofs.Settlings.{search_is, settle_fault_is}
+use Rattle.std.proofs.Common.{◌≡◌, ◌≤◌, ◌-◌, ◌+◌, List, take, Some, None, arith, sym, ◌∙◌, ap, subst}
+use Rattle.gv_journal.specs.Items.{Journaled, entries, next}
+use Rattle.gv_journal.specs.Inside.{NameOnce}
+use Rattle.gv_journal.specs.Notes.{notes_of}
+use Rattle.gv_journal.specs.declared.note.Note.{Note}
+use Rattle.gv_journal.proofs.Settlings.{settle_fault_is}
+use Rattle.gv_journal.proofs.Crossings.{crossing_is, none_is}
 use Rattle.gv_journal.proofs.journal.Journal.count_below.Goals as goal
 
 pub returns-in-Some-clause-refused : goal.returns-in-Some-clause-refused
 returns-in-Some-clause-refused c =
-    let first_is : c.self.inside.first ≡ c.args.self.now.first = ap (λ (j : Journaled). j.first) c.self.view_is in
+    let j = c.args.self.now in
+    let first_is : c.self.inside.first ≡ j.first = ap (λ (k : Journaled). k.first) c.self.view_is in
     let low : c.self.inside.first ≤ c.args.to = omega arith in
-    let high : c.args.to ≤ next c.args.self.now = omega arith in
-    settle_fault_is c.args.self.now c.args.to (omega arith) high (Some c.in-Some.place)
-    (search_is c.args.self.now c.args.to c.self.inside.first c.items.result.now c.first_crossing.result first_is low high c.items.ensures c.first_crossing.ensures ∙ c.in-Some.is)
+    let high : c.args.to ≤ next j = omega arith in
+    let number : j.first + (c.args.to - c.self.inside.first) ≡ c.args.to = omega arith in
+    let once : NameOnce j.first (entries j) = subst (λ (k : Journaled). NameOnce k.first (entries k)) c.self.view_is c.self.invariant.name_once in
+    let front : take (c.args.to - c.self.inside.first) c.notes.result.now ≡ take (c.args.to - c.self.inside.first) (notes_of (entries j)) =
+    ap (λ (ms : List Note). take (c.args.to - c.self.inside.first) ms) (c.notes.ensures.value ∙ c.self.invariant.notes ∙ ap (λ (k : Journaled). notes_of (entries k)) c.self.view_is) in
+    settle_fault_is c.args.self.now c.args.to (omega arith) high (Some c.in-Some.by)
+    (crossing_is c.args.self.now c.args.to (c.args.to - c.self.inside.first) (take (c.args.to - c.self.inside.first) c.notes.result.now) number high once front ∙ sym c.first_crossing.ensures ∙ c.in-Some.is)
 
 pub returns-in-None-clause-none : goal.returns-in-None-clause-none
 returns-in-None-clause-none c =
-    let first_is : c.self.inside.first ≡ c.args.self.now.first = ap (λ (j : Journaled). j.first) c.self.view_is in
+    let j = c.args.self.now in
+    let first_is : c.self.inside.first ≡ j.first = ap (λ (k : Journaled). k.first) c.self.view_is in
     let low : c.self.inside.first ≤ c.args.to = omega arith in
-    let high : c.args.to ≤ next c.args.self.now = omega arith in
-    search_is c.args.self.now c.args.to c.self.inside.first c.items.result.now c.first_crossing.result first_is low high c.items.ensures c.first_crossing.ensures ∙ c.in-None.is
+    let high : c.args.to ≤ next j = omega arith in
+    let number : j.first + (c.args.to - c.self.inside.first) ≡ c.args.to = omega arith in
+    let once : NameOnce j.first (entries j) = subst (λ (k : Journaled). NameOnce k.first (entries k)) c.self.view_is c.self.invariant.name_once in
+    let front : take (c.args.to - c.self.inside.first) c.notes.result.now ≡ take (c.args.to - c.self.inside.first) (notes_of (entries j)) =
+    ap (λ (ms : List Note). take (c.args.to - c.self.inside.first) ms) (c.notes.ensures.value ∙ c.self.invariant.notes ∙ ap (λ (k : Journaled). notes_of (entries k)) c.self.view_is) in
+    none_is c.args.self.now c.args.to (c.args.to - c.self.inside.first) (take (c.args.to - c.self.inside.first) c.notes.result.now) number high once front (sym c.first_crossing.ensures ∙ c.in-None.is)
 
 pub returns-in-None-clause-accepted : goal.returns-in-None-clause-accepted
 returns-in-None-clause-accepted c =
-    let first_is : c.self.inside.first ≡ c.args.self.now.first = ap (λ (j : Journaled). j.first) c.self.view_is in
+    let j = c.args.self.now in
+    let first_is : c.self.inside.first ≡ j.first = ap (λ (k : Journaled). k.first) c.self.view_is in
     let low : c.self.inside.first ≤ c.args.to = omega arith in
-    let high : c.args.to ≤ next c.args.self.now = omega arith in
+    let high : c.args.to ≤ next j = omega arith in
+    let number : j.first + (c.args.to - c.self.inside.first) ≡ c.args.to = omega arith in
+    let once : NameOnce j.first (entries j) = subst (λ (k : Journaled). NameOnce k.first (entries k)) c.self.view_is c.self.invariant.name_once in
+    let front : take (c.args.to - c.self.inside.first) c.notes.result.now ≡ take (c.args.to - c.self.inside.first) (notes_of (entries j)) =
+    ap (λ (ms : List Note). take (c.args.to - c.self.inside.first) ms) (c.notes.ensures.value ∙ c.self.invariant.notes ∙ ap (λ (k : Journaled). notes_of (entries k)) c.self.view_is) in
     settle_fault_is c.args.self.now c.args.to (omega arith) high None
-    (search_is c.args.self.now c.args.to c.self.inside.first c.items.result.now c.first_crossing.result first_is low high c.items.ensures c.first_crossing.ensures ∙ c.in-None.is)
+    (crossing_is c.args.self.now c.args.to (c.args.to - c.self.inside.first) (take (c.args.to - c.self.inside.first) c.notes.result.now) number high once front ∙ sym c.first_crossing.ensures ∙ c.in-None.is)

@@ -2,18 +2,18 @@ use Rattle.std.proofs.Common.{◌≡◌, List, [], reverse, sym, ◌∙◌, ap, 
 use Rattle.gv_space.specs.State.{AreKept}
 use Rattle.gv_types.specs.declared.mapping.Mapping.{Mapping}
 use Rattle.gv_space.specs.Undo.{released}
-use Rattle.gv_journal.specs.Items.{Journaled}
+use Rattle.gv_journal.specs.Shelf.{Shelved}
 use Rattle.gv_journal.specs.History.{kept_by}
 use Rattle.gv_journal.specs.declared.item.Item.{Item}
 use Rattle.gv_journal.proofs.Lists.{last_first}
 use Rattle.gv_journal.proofs.Releases.{released-none}
 use Rattle.gv_journal.proofs.Histories.{held_keep, kept_without, released_without}
-use Rattle.gv_journal.proofs.journal.Journal.close.Goals as goal
+use Rattle.gv_journal.proofs.shelf.Shelf.close.Goals as goal
 
 pub loop-undos-init : goal.loop-undos-init
 loop-undos-init c =
-    let same : kept_by (reverse c.self.inside.items.items) ≡ kept_by c.args.self.items =
-    held_keep c.self.inside.items.items c.self.inside.spent c.self.invariant.spent_items ∙ ap (λ (j : Journaled). kept_by j.items) c.self.view_is in
+    let same : kept_by (reverse c.self.inside.items.items) ≡ kept_by (reverse c.args.self.items) =
+    held_keep c.self.inside.items.items c.self.inside.spent c.self.invariant.spent_items ∙ ap (λ (s : Shelved). kept_by (reverse s.items)) c.self.view_is in
     record {
       kept = subst (λ (ms : List Mapping). AreKept c.args.space.now ms) (sym same) c.requires;
       rest = ap (λ (ms : List Mapping). released c.args.space.now ms) same;

@@ -2,12 +2,12 @@ use Rattle.std.proofs.Common.{◌≡◌, reverse}
 use Rattle.gv_space.specs.State.{AreKept}
 use Rattle.gv_space.specs.Undo.{released}
 use Rattle.gv_journal.specs.History.{kept_by}
-use Rattle.gv_journal.proofs.journal.Journal.close.Given as goal
+use Rattle.gv_journal.proofs.shelf.Shelf.close.Given as goal
 
 abbrev pub invariant-loop-undos : goal.invariant-loop-undos
 invariant-loop-undos l = record {
   kept : AreKept l.space (kept_by (reverse l.items.items));
-  rest : released l.space (kept_by (reverse l.items.items)) ≡ released l.fn.space (kept_by l.fn.self.items);
+  rest : released l.space (kept_by (reverse l.items.items)) ≡ released l.fn.space (kept_by (reverse l.fn.self.items));
 }
 
 abbrev pub decreases-loop-undos : goal.decreases-loop-undos

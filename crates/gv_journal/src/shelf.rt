@@ -1,0 +1,207 @@
+//! The items that a journal holds, in one slice that older items leave in front.
+ghost use Rattle.std.specs.Prelude.{◌≡◌, ◌++◌, ◌<◌, ◌≤◌, [], ◌∷◌, List, length, take, drop, set, reverse, slice_index_or, option_to_list, vec_len, vec_capacity, MatchOption, OnOk};
+ghost use Rattle.std.specs.List.{All};
+ghost use Rattle.gv_types.specs.declared.mapping.Mapping.{Mapping};
+ghost use Rattle.gv_space.specs.State.{AreKept};
+ghost use Rattle.gv_space.specs.Undo.{AreAmongKept, released};
+ghost use Rattle.gv_journal.specs.History.{kept_by};
+ghost use Rattle.gv_journal.specs.Shelf.{IsSpent};
+
+use crate::item::{Item, ItemKind};
+use crate::note::Note;
+use crate::settling::release_items;
+use crate::undoing::release_all;
+use gv_space::Space;
+use gv_types::OutOfMemory;
+use std::alloc::Global;
+use std::marker::Model;
+
+/// The items held, the oldest one first, and a note beside each. What is left of settled items stands in front of them, and
+/// gives way before the vectors grow: once at least half of what stands here is spent, the rest is moved to the front.
+pub struct Shelf {
+    items: Vec<Item>,
+    notes: Vec<Note>,
+    spent: usize,
+}
+
+impl Model for Shelf {
+    ghost use Rattle.gv_journal.specs.Shelf.{Shelved};
+
+    ghost Value = { Shelved };
+
+    ghost use Rattle.gv_journal.specs.Shelf.{shelved, IsShelf};
+
+    ghost view = { shelved };
+
+    ghost invariant = { IsShelf };
+}
+
+impl Shelf {
+    ghost use Rattle.gv_journal.specs.Shelf.{HasPlace};
+    ghost use Rattle.gv_journal.specs.Notes.{NamesWithin, cleared};
+
+    /// No items. It takes no memory.
+    pub fn new(alloc: Global) -> Shelf
+        ensures items { result.items ≡ [] }
+        ensures notes { result.notes ≡ [] }
+    {
+        Shelf {
+            items: Vec::new(alloc),
+            notes: Vec::new(alloc),
+            spent: 0,
+        }
+    }
+
+    /// The items, the oldest one first.
+    pub fn items(&self) -> &[Item]
+        ensures { result.now ≡ self.now.items }
+    {
+        &self.items[self.spent..]
+    }
+
+    /// The notes, that of the oldest item first.
+    pub fn notes(&self) -> &[Note]
+        ensures value { result.now ≡ self.now.notes }
+        ensures beside { length self.now.notes ≡ length self.now.items }
+    {
+        &self.notes[self.spent..]
+    }
+
+    /// How many items.
+    pub fn len(&self) -> usize
+        ensures { result ≡ length self.now.items }
+    {
+        self.items.len() - self.spent
+    }
+
+    /// Makes room for one item more. It grows only where less than half of what stands here is spent.
+    pub fn make_room(&mut self) -> Result<(), OutOfMemory>
+        ensures items { self.new.items ≡ self.old.items }
+        ensures notes { self.new.notes ≡ self.old.notes }
+        ensures room { OnOk result (HasPlace self.new) }
+    {
+        let full = self.items.len() == self.items.capacity()
+            || self.notes.len() == self.notes.capacity();
+        if full && self.items.len() - self.spent <= self.spent {
+            self.compact();
+        }
+        self.items.reserve(1)?;
+        self.notes.reserve(1)?;
+        Ok(())
+    }
+
+    /// Lets go of what is left of settled items.
+    fn compact(&mut self)
+        ensures items { self.new.items ≡ self.old.items }
+        ensures notes { self.new.notes ≡ self.old.notes }
+    {
+        let held = self.items.len() - self.spent;
+        self.items.rotate_left(self.spent);
+        drop_spent(&mut self.items, held);
+        self.notes.rotate_left(self.spent);
+        self.notes.truncate(held);
+        self.spent = 0;
+    }
+
+    /// Adds an item.
+    pub fn push(&mut self, item: Item, note: Note)
+        requires { HasPlace self.old }
+        ensures items { self.new.items ≡ self.old.items ++ item ∷ [] }
+        ensures notes { self.new.notes ≡ self.old.notes ++ note ∷ [] }
+    {
+        // The borrow checker proves this only where the types inside a note are named.
+        let Note { withdrawal, reach } = note;
+        self.items.push_reserved(item);
+        self.notes.push_reserved(Note { withdrawal, reach });
+    }
+
+    /// Takes the newest item, and writes that what it names isn't withdrawn. The oldest item has the number `first`.
+    pub fn take(&mut self, first: u64) -> Option<Item>
+        requires { (rest : List Item) (item : Item) → self.old.items ≡ rest ++ item ∷ []
+            → NamesWithin item.kind first (length rest) }
+        ensures items { self.old.items ≡ self.new.items ++ option_to_list result }
+        ensures notes { MatchOption result ((self.old.items ≡ []) × (self.new ≡ self.old)) (λ item. (note : Note) → self.new.notes
+            ≡ cleared note item.kind first (take (length self.new.items) self.old.notes)) }
+    {
+        let item = match self.pop() {
+            Some(item) => item,
+            None => return None,
+        };
+        if let ItemKind::Withdrawal { of } = item.kind {
+            self.mark((of - first) as usize, None);
+        }
+        Some(item)
+    }
+
+    /// Takes the newest item.
+    fn pop(&mut self) -> Option<Item>
+        ensures items { self.old.items ≡ self.new.items ++ option_to_list result }
+        ensures notes { MatchOption result ((self.old.items ≡ []) × (self.new ≡ self.old))
+            (λ item. self.new.notes ≡ take (length self.new.items) self.old.notes) }
+        ensures beside { length self.new.notes ≡ length self.new.items }
+    {
+        if self.items.len() == self.spent {
+            return None;
+        }
+        self.notes.truncate(self.items.len() - 1);
+        Some(self.items.take_last())
+    }
+
+    /// Writes which withdrawal names an item.
+    pub fn mark(&mut self, place: usize, withdrawal: Option<u64>)
+        requires { place < length self.old.notes }
+        ensures items { self.new.items ≡ self.old.items }
+        ensures notes { (note : Note) → self.new.notes
+            ≡ set self.old.notes place (record (slice_index_or self.old.notes place note) { withdrawal = withdrawal }) }
+        ensures item_room { self.new.item_room ≡ self.old.item_room }
+        ensures note_room { self.new.note_room ≡ self.old.note_room }
+    {
+        self.notes[self.spent + place].withdrawal = withdrawal;
+    }
+
+    /// Gives up what the oldest items keep, and lets them go. It takes no memory.
+    pub fn settle(&mut self, space: &mut Space, count: usize)
+        requires few { count ≤ length self.old.items }
+        requires kept { AreAmongKept space.old (kept_by (reverse (take count self.old.items))) }
+        ensures items { self.new.items ≡ drop count self.old.items }
+        ensures notes { self.new.notes ≡ drop count self.old.notes }
+        ensures state { space.new ≡ released space.old (kept_by (reverse (take count self.old.items))) }
+        ensures kept { (others : List Mapping)
+            → AreKept space.old (kept_by (reverse (take count self.old.items)) ++ others) → AreKept space.new others }
+    {
+        let end = self.spent + count;
+        release_items(space, &mut self.items[self.spent..end]);
+        self.spent = end;
+    }
+
+    /// Gives up all undo values. It takes no memory.
+    pub fn close(self, space: &mut Space)
+        requires { AreKept space.old (kept_by (reverse self.items)) }
+        ensures state { space.new ≡ released space.old (kept_by (reverse self.items)) }
+        ensures kept { AreKept space.new [] }
+    {
+        let Shelf {
+            items,
+            notes: _,
+            spent: _,
+        } = self;
+        let mut items = items;
+        while let Some(Item { kind: _, undos }) = items.pop() {
+            release_all(space, undos);
+        }
+        items.destroy_empty();
+    }
+}
+
+/// Lets go of what is left of settled items behind those held.
+fn drop_spent(items: &mut Vec<Item>, held: usize)
+    requires held { held ≤ vec_len items.old }
+    requires spent { All IsSpent (drop held items.old.items) }
+    ensures items { items.new.items ≡ take held items.old.items }
+    ensures capacity { vec_capacity items.new ≡ vec_capacity items.old }
+{
+    while items.len() > held {
+        let Item { kind: _, undos } = items.take_last();
+        undos.destroy_empty();
+    }
+}
