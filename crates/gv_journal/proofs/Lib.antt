@@ -21,3 +21,6 @@ pub mod Founds
 pub mod Entries
 pub mod Withdrawn
 pub mod JournalLemmas
+pub mod RenamedListLemmas
+pub mod RenamedItemLemmas
+pub mod RenamingLemmas

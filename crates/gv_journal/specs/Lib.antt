@@ -11,3 +11,4 @@ pub mod Settling
 pub mod Withdrawing
 pub mod Restoring
 pub mod Laws
+pub mod Renamed

@@ -1,0 +1,40 @@
+-- What items say of pages, and undo values, with the buffers renamed.
+use Rattle.std.specs.Prelude.{◌≡◌, ℕ, List, [], map, Option, Some, None}
+use Rattle.gv_types.specs.Renamed.{renamed_mapping, renamed_op}
+use Rattle.gv_types.specs.declared.operation.PageOp.{PageOp}
+use Rattle.gv_ranges.specs.Edit.{Undo}
+use Rattle.gv_space.specs.Undo.{UndoValue}
+use Rattle.gv_journal.specs.Items.{Journaled}
+use Rattle.gv_journal.specs.declared.item.Item.{Item}
+use Rattle.gv_journal.specs.declared.item.ItemKind.{ItemKind}
+use Rattle.gv_journal.specs.declared.item.ItemKind.TheVariants.{Bind, Withdrawal}
+
+-- a change with the buffers of what it took out renamed
+abbrev pub renamed_change : Undo → Undo
+renamed_change u = record u { taken = map renamed_mapping u.taken }
+
+-- an undo value with its buffers renamed
+abbrev pub renamed_undo : UndoValue → UndoValue
+renamed_undo u = record u { change = renamed_change u.change }
+
+-- what an item says of pages: the item that it withdraws, if it is a Withdrawal, and what it did
+pub record Said : Type 0 where
+  pub withdraws : Option ℕ
+  pub done : List PageOp
+
+abbrev pub said_by : ItemKind → Said
+said_by (Bind queue number request seen done) = record { withdraws = None; done = done.items }
+said_by (Withdrawal of) = record { withdraws = Some of; done = [] }
+
+abbrev pub renamed_said : Said → Said
+renamed_said said = record said { done = map renamed_op said.done }
+
+-- what all items say
+abbrev pub all_said : List Item → List Said
+all_said items = map (λ item. said_by item.kind) items
+
+-- a journal is another with its buffers renamed, as far as its items say something of pages
+pub record IsRenamedJournal (new j : Journaled) : Type 0 where
+  pub limit : new.limit ≡ j.limit
+  pub first : new.first ≡ j.first
+  pub items : all_said new.items ≡ map renamed_said (all_said j.items)
