@@ -1,8 +1,9 @@
 -- For callers: with the buffers renamed a request meets the same verdict, and a withdrawal the same fault, where equal
 -- generations mean equal buffers.
-use Rattle.std.proofs.Common.{◌≡◌, ℕ, zero, suc, ◌+◌, List, [], ◌∷◌, map, filter, reverse, length, Option, Some, None, slice_get, inl, inr, refl, sym, ap, ◌∙◌, subst}
+use Rattle.std.proofs.Common.{◌≡◌, ℕ, zero, suc, ◌+◌, List, [], ◌∷◌, map, filter, reverse, length, Option, Some, None, option_map, ◌<◌, slice_get, inl, inr, refl, sym, ap, ◌∙◌, subst}
 use Rattle.std.specs.Prelude.{◌⊎◌}
 use Rattle.std.proofs.lemmas.List.{length-map}
+use Rattle.std.proofs.lemmas.Option.{slice_get-map}
 use Rattle.gv_types.specs.Span.{Span, meets}
 use Rattle.gv_types.specs.Operation.{range_of, in_pages}
 use Rattle.gv_types.specs.Renamed.{renamed, renamed_mapping, renamed_op, renamed_bytes, AreOf, IsOperationOf}
@@ -131,3 +132,77 @@ pub verdict-renamed : (ids : List BufferId) (new s : AddressSpace) (new_j j : Jo
 verdict-renamed ids new s new_j j ops is journal are all =
     ap (λ (o : Option Fault). refused_or 0 o (verdict_from 0 new (map renamed_bytes ops))) (request_fault-renamed new_j j ops journal)
     ∙ ap (refused_or 0 (request_fault j ops)) (verdict_from-renamed ids 0 new s ops is are all)
+
+-- an unmap of a whole buffer stays one
+pub IsUnmapAllAt-renamed : (ops : List Op) (op : ℕ) → IsUnmapAllAt ops op → IsUnmapAllAt (map renamed_bytes ops) op
+IsUnmapAllAt-renamed ops op at = record {
+  buffer = renamed at.buffer;
+  is = slice_get-map renamed_bytes ops op ∙ ap (option_map renamed_bytes) at.is;
+}
+
+comes_before : (ops : List Op) (op : ℕ) (o : Option Refusal) → ComesBefore op ops o → ComesBefore op (map renamed_bytes ops) o
+comes_before ops op None before = tt
+comes_before ops op (Some later) (inl earlier) = inl earlier
+comes_before ops op (Some later) (inr (inl first)) = inr (inl first)
+comes_before ops op (Some later) (inr (inr limit)) = inr (inr (IsUnmapAllAt-renamed ops op limit.0, limit.1))
+
+there : (ops : List Op) (op : ℕ) → (op ≡ 0) ⊎ (op < length ops) → (op ≡ 0) ⊎ (op < length (map renamed_bytes ops))
+there ops op (inl first) = inl first
+there ops op (inr within) = inr (rw (length-map ops renamed_bytes) within)
+
+-- a refusal of a request is one of it with its buffers renamed
+pub IsRefused-renamed : (ids : List BufferId) (new s : AddressSpace) (new_j j : Journaled) (ops : List Op) (refused : Refusal) → IsRenamed ids new s → IsRenamedJournal new_j j →
+    AreOf ids s.mappings → AreRequested ids ops → IsRefused s j ops refused → IsRefused new new_j (map renamed_bytes ops) refused
+IsRefused-renamed ids new s new_j j ops refused is journal are all (inl by_verdict) = inl (verdict-renamed ids new s new_j j ops is journal are all ∙ by_verdict)
+IsRefused-renamed ids new s new_j j ops refused is journal are all (inr want) = inr (record {
+  fault = want.fault;
+  whole = request_fault-renamed new_j j ops journal ∙ want.whole;
+  there = there ops refused.op want.there;
+  before = subst (ComesBefore refused.op (map renamed_bytes ops)) (sym (verdict_from-renamed ids 0 new s ops is are all)) (comes_before ops refused.op (verdict_from 0 s ops) want.before);
+})
+
+list_put : (ids : List BufferId) (new s : AddressSpace) (op : PageOp) (old : List Mapping) → IsRenamed ids new s →
+    restored new.mappings (range_of (renamed_op op)) (map renamed_mapping old) ≡ map renamed_mapping (restored s.mappings (range_of op) old)
+list_put ids new s op old is =
+    ap (λ (ms : List Mapping). restored ms (range_of (renamed_op op)) (map renamed_mapping old)) is.mappings
+    ∙ ap (λ (range : Span). restored (map renamed_mapping s.mappings) range (map renamed_mapping old)) (range_of-renamed op)
+    ∙ restored-renamed s.mappings (range_of op) old
+
+-- a space in which the pages of an operation are put back
+pub IsRenamed-after_restore : (ids : List BufferId) (new s : AddressSpace) (op : PageOp) (old : List Mapping) → IsRenamed ids new s →
+    IsRenamed ids (after_restore new (renamed_op op) (map renamed_mapping old)) (after_restore s op old)
+IsRenamed-after_restore ids new s op old is =
+    IsRenamed-changed ids new s (restored new.mappings (range_of (renamed_op op)) (map renamed_mapping old)) (met new.mappings (range_of (renamed_op op)))
+    (restored s.mappings (range_of op) old) (met s.mappings (range_of op)) (list_put ids new s op old is) (met_count ids new s op is) is
+
+-- the first limit that a withdrawal passes
+pub withdrawal_limits-renamed : (ids : List BufferId) (before : List Mapping) (ops : List PageOp) (new s : AddressSpace) → IsRenamed ids new s →
+    withdrawal_limits (map renamed_mapping before) (map renamed_op ops) new ≡ withdrawal_limits before ops s
+withdrawal_limits-renamed ids before [] new s is = refl
+withdrawal_limits-renamed ids before (op ∷ older) new s is =
+    let old : List Mapping = edited_by_all older before in
+    let list : edited_by_all (map renamed_op older) (map renamed_mapping before) ≡ map renamed_mapping old = edited_by_all-renamed older before in
+    let limit : limit_fault new (range_of (renamed_op op)) (restored new.mappings (range_of (renamed_op op)) (map renamed_mapping old)) ≡ limit_fault s (range_of op) (restored s.mappings (range_of op) old) =
+    ap (λ (range : Span). limit_fault new range (restored new.mappings (range_of (renamed_op op)) (map renamed_mapping old))) (range_of-renamed op)
+    ∙ ap (limit_fault new (range_of op)) (list_put ids new s op old is) ∙ limit_fault-renamed ids new s (range_of op) (restored s.mappings (range_of op) old) is in
+    ap (λ (ms : List Mapping). first_of (limit_fault new (range_of (renamed_op op)) (restored new.mappings (range_of (renamed_op op)) ms))
+    (withdrawal_limits (map renamed_mapping before) (map renamed_op older) (after_restore new (renamed_op op) ms))) list
+    ∙ ap (λ (o : Option Fault). first_of o (withdrawal_limits (map renamed_mapping before) (map renamed_op older) (after_restore new (renamed_op op) (map renamed_mapping old)))) limit
+    ∙ ap (first_of (limit_fault s (range_of op) (restored s.mappings (range_of op) old)))
+    (withdrawal_limits-renamed ids before older (after_restore new (renamed_op op) (map renamed_mapping old)) (after_restore s op old) (IsRenamed-after_restore ids new s op old is))
+
+-- why an item isn't withdrawn, where the lists before it are the same
+pub withdraw_fault-renamed : (ids : List BufferId) (new s : AddressSpace) (new_j j : Journaled) (n : ℕ) → IsRenamed ids new s → IsRenamedJournal new_j j →
+    list_before new new_j n ≡ map renamed_mapping (list_before s j n) → withdraw_fault new new_j n ≡ withdraw_fault s j n
+withdraw_fault-renamed ids new s new_j j n is journal list =
+    ap (λ (o : Option Fault). first_of o (withdrawal_limits (list_before new new_j n) (ops_at new_j n) new)) (entry_fault-renamed new_j j n journal)
+    ∙ ap (first_of (entry_fault j n))
+    (ap (λ (ms : List Mapping). withdrawal_limits ms (ops_at new_j n) new) list
+    ∙ ap (λ (ops : List PageOp). withdrawal_limits (map renamed_mapping (list_before s j n)) ops new) (ops_at-renamed new_j j n journal)
+    ∙ withdrawal_limits-renamed ids (list_before s j n) (ops_at j n) new s is)
+
+-- a refusal of a withdrawal is one with the buffers renamed
+pub IsWithdrawRefused-renamed : (ids : List BufferId) (new s : AddressSpace) (new_j j : Journaled) (n : ℕ) (fault : Fault) → IsRenamed ids new s → IsRenamedJournal new_j j →
+    list_before new new_j n ≡ map renamed_mapping (list_before s j n) → IsWithdrawRefused s j n fault → IsWithdrawRefused new new_j n fault
+IsWithdrawRefused-renamed ids new s new_j j n fault is journal list (inl refused) = inl (withdraw_fault-renamed ids new s new_j j n is journal list ∙ refused)
+IsWithdrawRefused-renamed ids new s new_j j n fault is journal list (inr want) = inr (want.0, entry_fault-renamed new_j j n journal ∙ want.1)
