@@ -24,3 +24,4 @@ pub mod JournalLemmas
 pub mod RenamedListLemmas
 pub mod RenamedItemLemmas
 pub mod RenamingLemmas
+pub mod RenamedHistoryLemmas

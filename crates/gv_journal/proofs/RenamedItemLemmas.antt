@@ -104,7 +104,7 @@ said_at-renamed new j n is =
     ∙ sym (option_map-cond renamed_said (nat_lt n j.first) said)
     ∙ ap (option_map renamed_said) (sym (option_map-cond (λ item. said_by item.kind) (nat_lt n j.first) (slice_get (reverse j.items) (n - j.first))))
 
-done_said : (kind : ItemKind) → done_by kind ≡ (said_by kind).done
+pub done_said : (kind : ItemKind) → done_by kind ≡ (said_by kind).done
 done_said (Bind queue number request seen done) = refl
 done_said (Withdrawal of) = refl
 

@@ -1,10 +1,12 @@
 -- What items say of pages, and undo values, with the buffers renamed.
 use Rattle.std.specs.Prelude.{◌≡◌, ℕ, List, [], map, Option, Some, None}
-use Rattle.gv_types.specs.Renamed.{renamed_mapping, renamed_op}
+use Rattle.gv_types.specs.Renamed.{renamed_mapping, renamed_op, AreOf}
+use Rattle.gv_types.specs.declared.mapping.BufferId.{BufferId}
 use Rattle.gv_types.specs.declared.operation.PageOp.{PageOp}
 use Rattle.gv_ranges.specs.Edit.{Undo}
 use Rattle.gv_space.specs.Undo.{UndoValue}
 use Rattle.gv_journal.specs.Items.{Journaled}
+use Rattle.gv_journal.specs.History.{undos_of}
 use Rattle.gv_journal.specs.declared.item.Item.{Item}
 use Rattle.gv_journal.specs.declared.item.ItemKind.{ItemKind}
 use Rattle.gv_journal.specs.declared.item.ItemKind.TheVariants.{Bind, Withdrawal}
@@ -38,3 +40,15 @@ pub record IsRenamedJournal (new j : Journaled) : Type 0 where
   pub limit : new.limit ≡ j.limit
   pub first : new.first ≡ j.first
   pub items : all_said new.items ≡ map renamed_said (all_said j.items)
+
+-- the undo values of all items
+abbrev pub all_undos : List Item → List (List UndoValue)
+all_undos items = map undos_of items
+
+-- items have the undo values of others, with the buffers renamed
+abbrev pub HaveRenamedUndos : List Item → List Item → Type 0
+HaveRenamedUndos new items = all_undos new ≡ map (map renamed_undo) (all_undos items)
+
+-- each buffer of what an undo value keeps is the one of its generation
+abbrev pub TookOf : List BufferId → UndoValue → Type 0
+TookOf ids u = AreOf ids u.change.taken
