@@ -25,3 +25,4 @@ pub mod RenamedListLemmas
 pub mod RenamedItemLemmas
 pub mod RenamingLemmas
 pub mod RenamedHistoryLemmas
+pub mod RenamedTableLemmas

@@ -12,3 +12,4 @@ pub mod Withdrawing
 pub mod Restoring
 pub mod Laws
 pub mod Renamed
+pub mod RenamedSpace
