@@ -26,3 +26,4 @@ pub mod RenamedItemLemmas
 pub mod RenamingLemmas
 pub mod RenamedHistoryLemmas
 pub mod RenamedTableLemmas
+pub mod RenamedLiveLemmas
