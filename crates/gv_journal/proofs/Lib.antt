@@ -27,3 +27,4 @@ pub mod RenamingLemmas
 pub mod RenamedHistoryLemmas
 pub mod RenamedTableLemmas
 pub mod RenamedLiveLemmas
+pub mod RenamedSpaceLemmas

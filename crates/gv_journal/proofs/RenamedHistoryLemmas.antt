@@ -87,7 +87,7 @@ list_before-renamed ms new j n is are =
     ap (λ (at : ℕ). back (map renamed_mapping ms) new.items (at - n)) (next-renamed new j is) ∙ back-renamed ms new.items j.items (next j - n) are
 
 -- the buffers of what lies back are of their generations
-AreOf-undone : (ids : List BufferId) (ms : List Mapping) (u : Undo) → AreOf ids ms → AreOf ids u.taken → AreOf ids (undone ms u)
+pub AreOf-undone : (ids : List BufferId) (ms : List Mapping) (u : Undo) → AreOf ids ms → AreOf ids u.taken → AreOf ids (undone ms u)
 AreOf-undone ids ms u are taken =
     AreOf-append ids (take u.place ms) (u.taken ++ drop (u.place + u.put_in) ms) (AreOf-take ids u.place ms are)
     (AreOf-append ids u.taken (drop (u.place + u.put_in) ms) taken (AreOf-drop ids (u.place + u.put_in) ms are))

@@ -1,5 +1,8 @@
 -- What items say of pages, and undo values, with the buffers renamed.
 use Rattle.std.specs.Prelude.{◌≡◌, ℕ, List, [], map, Option, Some, None}
+use Rattle.std.specs.Global.{Vec}
+use Rattle.std.proofs.Common.{sym, ◌∙◌}
+use Rattle.std.proofs.lemmas.List.{length-map}
 use Rattle.gv_types.specs.Renamed.{renamed_mapping, renamed_op, AreOf}
 use Rattle.gv_types.specs.declared.mapping.BufferId.{BufferId}
 use Rattle.gv_types.specs.declared.operation.PageOp.{PageOp}
@@ -52,3 +55,8 @@ HaveRenamedUndos new items = all_undos new ≡ map (map renamed_undo) (all_undos
 -- each buffer of what an undo value keeps is the one of its generation
 abbrev pub TookOf : List BufferId → UndoValue → Type 0
 TookOf ids u = AreOf ids u.change.taken
+
+-- a vector of as many things, each changed
+abbrev pub with_each : {X : Type 0} → (X → X) → Vec X → Vec X
+with_each f v =
+    record { ptr = v.ptr; len = v.len; cap = v.cap; alloc = v.alloc; items = map f v.items; ok = (v.ok.0 ∙ sym (length-map v.items f), v.ok.1); small = v.small }

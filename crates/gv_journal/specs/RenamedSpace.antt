@@ -32,3 +32,7 @@ TellsBuffers ids new t = (id : BufferId) → IsOf ids id → buffer new (renamed
 -- the k-th id is that of the k-th buffer that was made
 abbrev pub AreNumbered : List BufferId → Type 0
 AreNumbered ids = (k : ℕ) (id : BufferId) → slice_get ids k ≡ Some id → id.generation ≡ k
+
+-- what can be told of an address space by the new names: nothing asks for how many mappings it has room
+abbrev pub seen_space : List BufferId → AddressSpace → AddressSpace
+seen_space ids s = record (renamed_space ids s) { room = 0 }
