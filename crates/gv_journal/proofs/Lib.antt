@@ -28,3 +28,4 @@ pub mod RenamedHistoryLemmas
 pub mod RenamedTableLemmas
 pub mod RenamedLiveLemmas
 pub mod RenamedSpaceLemmas
+pub mod Recounts

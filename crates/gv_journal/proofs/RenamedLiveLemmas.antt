@@ -13,7 +13,7 @@ use Rattle.gv_types.proofs.IdLemmas.{IsOf-last}
 use Rattle.gv_buffers.specs.Table.{Buffer, Table, buffer, has_id, fresh, only, changed, without, left_by, left_everywhere, IsCreated}
 use Rattle.gv_buffers.proofs.FoundLemmas.{found_id, changed_is_found, left_is_found, destroyed_is_dead, others_stay_destroyed, made_is_found, others_stay_made}
 use Rattle.gv_space.specs.Counts.{count_of, by_count}
-use Rattle.gv_space.proofs.TableLemmas.{buffer-each}
+use Rattle.gv_space.proofs.TableLemmas.{each, buffer-each}
 use Rattle.gv_journal.specs.RenamedSpace.{renamed_buffer, renamed_live, renamed_table, TellsBuffers, AreNumbered}
 use Rattle.gv_journal.proofs.RenamedTableLemmas.{IsNameless, CountsNameless, each_found, only-renamed, by_count_same, has_id-renamed, other_name}
 
@@ -28,7 +28,7 @@ numbered_of ids (id ∷ rest) from numbered same =
 pub AreNumbered-of : (ids : List BufferId) → AreNumbered ids → All (IsOf ids) ids
 AreNumbered-of ids numbered = numbered_of ids ids 0 numbered (λ k. ap (slice_get ids) (let same : k ≡ 0 + k = omega arith in same))
 
-cons_mapped : (f : Buffer → Buffer) (o : Option Buffer) (bs : List Buffer) → cons_option (option_map f o) (map f bs) ≡ map f (cons_option o bs)
+pub cons_mapped : (f : Buffer → Buffer) (o : Option Buffer) (bs : List Buffer) → cons_option (option_map f o) (map f bs) ≡ map f (cons_option o bs)
 cons_mapped f None bs = refl
 cons_mapped f (Some b) bs = refl
 
@@ -49,6 +49,13 @@ table_changed ids new t f numbered limit made finds =
     ap (λ (bs : List Buffer). let x : Table = record new { live = bs } in x) (live_changed ids ids new t f (AreNumbered-of ids numbered) finds)
     ∙ ap (λ n. let x : Table = record { limit = n; made = new.made; live = map f (renamed_live ids t) } in x) limit
     ∙ ap (λ n. let x : Table = record { limit = t.limit; made = n; live = map f (renamed_live ids t) } in x) made
+
+-- each buffer was changed
+pub renamed_table-each : (ids : List BufferId) (change : Buffer → Buffer) (t : Table) → AreNumbered ids → IsNameless change →
+    renamed_table ids (each change t) ≡ each change (renamed_table ids t)
+renamed_table-each ids change t numbered nameless =
+    table_changed ids (each change t) t change numbered refl refl (λ id is.
+    ap (option_map renamed_buffer) (buffer-each change t id nameless.keeps) ∙ sym (each_found change change (buffer t id) (λ b found. nameless.same b)))
 
 -- counts moved
 pub renamed_table-by_count : (ids : List BufferId) (change : Buffer → ℕ → Buffer) (ms : List Mapping) (t : Table) → AreNumbered ids → CountsNameless change → AreOf ids ms →
@@ -85,7 +92,7 @@ another : (id : BufferId) (b : Buffer) → b.id.generation ≢ id.generation →
 another id b apart = let other : eqb b.id.generation id.generation ≡ false = ne_eqb _ _ apart in rw other refl
 
 -- a buffer of another generation is passed over
-skipped : (id other : BufferId) (t : Table) (bs : List Buffer) → other.generation ≢ id.generation →
+pub skipped : (id other : BufferId) (t : Table) (bs : List Buffer) → other.generation ≢ id.generation →
     find (has_id (renamed id)) (cons_option (option_map renamed_buffer (buffer t other)) bs) ≡ find (has_id (renamed id)) bs
 skipped id other t bs apart =
     (elim (buffer t other) as (λ o. buffer t other ≡ o → find (has_id (renamed id)) (cons_option (option_map renamed_buffer o) bs) ≡ find (has_id (renamed id)) bs) [

@@ -13,3 +13,4 @@ pub mod Restoring
 pub mod Laws
 pub mod Renamed
 pub mod RenamedSpace
+pub mod Alike
