@@ -29,3 +29,4 @@ pub mod RenamedTableLemmas
 pub mod RenamedLiveLemmas
 pub mod RenamedSpaceLemmas
 pub mod Recounts
+pub mod AlikeLemmas

@@ -3,9 +3,10 @@ use Rattle.std.specs.Prelude.{◌≡◌, ℕ, List, [], map, Option, Some, None}
 use Rattle.std.specs.Global.{Vec}
 use Rattle.std.proofs.Common.{sym, ◌∙◌}
 use Rattle.std.proofs.lemmas.List.{length-map}
-use Rattle.gv_types.specs.Renamed.{renamed_mapping, renamed_op, AreOf}
+use Rattle.gv_types.specs.Renamed.{renamed_mapping, renamed_op, renamed_bytes, AreOf}
 use Rattle.gv_types.specs.declared.mapping.BufferId.{BufferId}
 use Rattle.gv_types.specs.declared.operation.PageOp.{PageOp}
+use Rattle.gv_types.specs.declared.request.Request.{Request}
 use Rattle.gv_ranges.specs.Edit.{Undo}
 use Rattle.gv_space.specs.Undo.{UndoValue}
 use Rattle.gv_journal.specs.Items.{Journaled}
@@ -60,3 +61,19 @@ TookOf ids u = AreOf ids u.change.taken
 abbrev pub with_each : {X : Type 0} → (X → X) → Vec X → Vec X
 with_each f v =
     record { ptr = v.ptr; len = v.len; cap = v.cap; alloc = v.alloc; items = map f v.items; ok = (v.ok.0 ∙ sym (length-map v.items f), v.ok.1); small = v.small }
+
+-- a request with its buffers renamed
+abbrev pub renamed_request : Request → Request
+renamed_request request = record request { ops = with_each renamed_bytes request.ops }
+
+abbrev pub renamed_kind : ItemKind → ItemKind
+renamed_kind (Bind queue number request seen done) = Bind queue number (renamed_request request) seen (with_each renamed_op done)
+renamed_kind (Withdrawal of) = Withdrawal of
+
+-- an item with its buffers renamed
+abbrev pub renamed_item : Item → Item
+renamed_item item = record { kind = renamed_kind item.kind; undos = with_each renamed_undo item.undos }
+
+-- a journal with its buffers renamed
+abbrev pub renamed_journal : Journaled → Journaled
+renamed_journal j = record j { items = map renamed_item j.items }
