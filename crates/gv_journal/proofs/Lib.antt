@@ -30,3 +30,5 @@ pub mod RenamedLiveLemmas
 pub mod RenamedSpaceLemmas
 pub mod Recounts
 pub mod AlikeLemmas
+pub mod AlikeStateLemmas
+pub mod AlikeChangeLemmas

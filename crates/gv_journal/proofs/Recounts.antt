@@ -138,7 +138,7 @@ recounted s ks space kept =
     ∙ each-itself (λ b. (b.uses ≡ count_of b.id s.mappings) × (b.kept ≡ count_of b.id ks)) (λ b. counted (keeps b) (count_of b.id s.mappings)) s.buffers
     (λ k d within. (space.used k d within, kept.kept k d within)) (λ b is. recounted_one b (count_of b.id s.mappings) (count_of b.id ks) is.0 is.1)
 
-uncounted_nameless : IsNameless uncounted
+pub uncounted_nameless : IsNameless uncounted
 uncounted_nameless = record { keeps = λ b. refl; same = λ b. refl }
 
 recounted_table : (ids : List BufferId) (s : AddressSpace) (ks : List Mapping) → AreIdsOf ids s.buffers → IsSpace s → AreKept s ks →
