@@ -42,7 +42,7 @@ use Rattle.gv_journal.proofs.AlikeLemmas.{list_alike, table_alike, next_alike, o
 
 -- Parts of what is told.
 
-seen_from : (ids ids' : List BufferId) (s s' : AddressSpace) → s.area ≡ s'.area → s.limits ≡ s'.limits → map renamed_mapping s.mappings ≡ map renamed_mapping s'.mappings →
+pub seen_from : (ids ids' : List BufferId) (s s' : AddressSpace) → s.area ≡ s'.area → s.limits ≡ s'.limits → map renamed_mapping s.mappings ≡ map renamed_mapping s'.mappings →
     renamed_table ids s.buffers ≡ renamed_table ids' s'.buffers → s.kept_count ≡ s'.kept_count → seen_space ids s ≡ seen_space ids' s'
 seen_from ids ids' s s' area limits list table count =
     ap (λ (a : Area). record (seen_space ids s) { area = a }) area

@@ -32,3 +32,4 @@ pub mod Recounts
 pub mod AlikeLemmas
 pub mod AlikeStateLemmas
 pub mod AlikeChangeLemmas
+pub mod AlikeSettledLemmas
