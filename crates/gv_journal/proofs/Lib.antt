@@ -33,3 +33,4 @@ pub mod AlikeLemmas
 pub mod AlikeStateLemmas
 pub mod AlikeChangeLemmas
 pub mod AlikeSettledLemmas
+pub mod RenamedMakingLemmas

@@ -124,12 +124,12 @@ TellsBuffers-by_count ids change ms new t nameless are tells other is =
     (λ b found. by_count_same ids change ms b nameless are (subst (IsOf ids) (sym (found_id t other b found)) is))
     ∙ ap (option_map renamed_buffer) (sym (buffer-each (λ b. change b (count_of b.id ms)) t other (λ b. nameless.keeps b (count_of b.id ms))))
 
-same_from_test : (a b : BufferId) → is_same_id a b ≡ true → a ≡ b
+pub same_from_test : (a b : BufferId) → is_same_id a b ≡ true → a ≡ b
 same_from_test a b same =
     let parts = and_parts (eqb a.index b.index) (eqb a.generation b.generation) same in
     ap (λ (n : ℕ). buffer_id n a.generation) (eqb-true _ _ parts.0) ∙ ap (λ (n : ℕ). buffer_id b.index n) (eqb-true _ _ parts.1)
 
-other_from_test : (a b : BufferId) → is_same_id a b ≡ false → a ≢ b
+pub other_from_test : (a b : BufferId) → is_same_id a b ≡ false → a ≢ b
 other_from_test a b apart one = false≢true (sym apart ∙ ap (λ (o : BufferId). is_same_id o b) one ∙ is_same_id-itself b)
 
 -- other ids have other names
