@@ -34,3 +34,4 @@ pub mod AlikeStateLemmas
 pub mod AlikeChangeLemmas
 pub mod AlikeSettledLemmas
 pub mod RenamedMakingLemmas
+pub mod RenamedCountLemmas
