@@ -24,7 +24,7 @@ use Rattle.gv_journal.specs.History.{undos_of, kept_by, back}
 use Rattle.gv_journal.specs.Binding.{IsRewound}
 use Rattle.gv_journal.specs.Settling.{later, earlier, IsSettled}
 use Rattle.gv_journal.specs.Withdrawing.{item_at, done_of, list_before, ops_at, after_withdrawal, IsWithdrawn}
-use Rattle.gv_journal.specs.Renamed.{said_by, renamed_said, TookOf}
+use Rattle.gv_journal.specs.Renamed.{said_by, renamed_said, TookOf, AreDoneOf}
 use Rattle.gv_journal.specs.RenamedSpace.{renamed_table, seen_space}
 use Rattle.gv_journal.specs.Alike.{SeenItem, seen_item, count_at, CountAlike, AreAlike, AreIdsOf, IsKeptSpace}
 use Rattle.gv_journal.specs.declared.item.Item.{Item}
@@ -60,10 +60,6 @@ AreOf-back ids ms (item ∷ older) (suc n) are kept =
     AreOf-back ids (undone_by ms (undos_of item)) older n
     (AreOf-undone_by ids ms (undos_of item) are (took_each ids (undos_of item) (AreOf-front ids (taken_by (undos_of item)) (kept_by older) kept)))
     (AreOf-behind ids (taken_by (undos_of item)) (kept_by older) kept)
-
--- each operation of an item names no buffer, or the one of its generation
-abbrev pub AreDoneOf : List BufferId → List Item → Type 0
-AreDoneOf ids = All (λ item. All (IsOperationOf ids) (done_by item.kind))
 
 pub done_at_of : (ids : List BufferId) (items : List Item) (k : ℕ) → AreDoneOf ids items → All (IsOperationOf ids) (done_of (slice_get items k))
 done_at_of ids [] k all = All-nil (IsOperationOf ids)

@@ -24,7 +24,8 @@ use Rattle.gv_journal.specs.declared.item.Item.{Item}
 use Rattle.gv_journal.specs.declared.item.ItemKind.{ItemKind}
 use Rattle.gv_journal.specs.declared.item.ItemKind.TheVariants.{Bind, Withdrawal}
 use Rattle.gv_journal.specs.declared.refusal.Refusal.{Refusal}
-use Rattle.gv_journal.proofs.RenamedListLemmas.{AreRequested, reverse-map}
+use Rattle.gv_journal.specs.Renamed.{AreRequested}
+use Rattle.gv_journal.proofs.RenamedListLemmas.{reverse-map}
 use Rattle.gv_journal.proofs.RenamedItemLemmas.{next-renamed, full_fault-renamed, is_withdrawn-renamed, entry_fault-renamed, settle_fault-renamed, ops_at-renamed}
 use Rattle.gv_journal.proofs.RenamedHistoryLemmas.{back-renamed}
 use Rattle.gv_journal.proofs.RenamedSpaceLemmas.{IsRenamed-seen}

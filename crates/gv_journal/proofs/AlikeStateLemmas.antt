@@ -33,7 +33,8 @@ use Rattle.gv_journal.specs.declared.item.Item.{Item}
 use Rattle.gv_journal.specs.declared.item.ItemKind.{ItemKind}
 use Rattle.gv_journal.specs.declared.item.ItemKind.TheVariants.{Bind, Withdrawal}
 use Rattle.gv_journal.proofs.Undoings.{reverted_by-mappings}
-use Rattle.gv_journal.proofs.RenamedListLemmas.{AreRequested, all_do-renamed}
+use Rattle.gv_journal.specs.Renamed.{AreRequested}
+use Rattle.gv_journal.proofs.RenamedListLemmas.{all_do-renamed}
 use Rattle.gv_journal.proofs.RenamedTableLemmas.{IsNameless}
 use Rattle.gv_journal.proofs.RenamedLiveLemmas.{renamed_table-each}
 use Rattle.gv_journal.proofs.RenamedSpaceLemmas.{applied-seen, after_withdrawal-seen}

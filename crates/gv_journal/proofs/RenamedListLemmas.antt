@@ -22,7 +22,7 @@ use Rattle.gv_space.specs.Undo.{UndoValue}
 use Rattle.gv_journal.specs.Undoing.{taken_by, undone_by}
 use Rattle.gv_journal.specs.Applying.{does, all_do}
 use Rattle.gv_journal.specs.Withdrawing.{withdrawn}
-use Rattle.gv_journal.specs.Renamed.{renamed_change, renamed_undo}
+use Rattle.gv_journal.specs.Renamed.{renamed_change, renamed_undo, AreRequested}
 
 -- lists of what is changed, seen the other way round
 pub reverse-map : {A B : Type 0} (f : A → B) (xs : List A) → reverse (map f xs) ≡ map f (reverse xs)
@@ -88,10 +88,6 @@ pub AreOf-done : (ids : List BufferId) (ms : List Mapping) (op : Op) → AreOf i
     AreOf ids (edited_by_all (reverse (does ms op)) ms)
 AreOf-done ids ms op are is =
     AreOf-edited_by_all ids (reverse (does ms op)) ms (All-reverse (IsOperationOf ids) (does ms op) (operations_of-does ids ms op is)) are
-
--- each operation of a request names no buffer, or the one of its generation
-abbrev pub AreRequested : List BufferId → List Op → Type 0
-AreRequested ids = All (λ op. IsOperationOf ids (in_pages op))
 
 pub requested_head : (ids : List BufferId) (op : Op) (ops : List Op) → AreRequested ids (op ∷ ops) → IsOperationOf ids (in_pages op)
 requested_head ids op ops all = All-head (λ (o : Op). IsOperationOf ids (in_pages o)) op ops all

@@ -27,7 +27,8 @@ use Rattle.gv_journal.specs.Binding.{IsApplied}
 use Rattle.gv_journal.specs.Renamed.{renamed_change, renamed_undo, TookOf}
 use Rattle.gv_journal.specs.RenamedSpace.{renamed_table, seen_space, AreNumbered}
 use Rattle.gv_journal.proofs.Changing.{after_all-mappings}
-use Rattle.gv_journal.proofs.RenamedListLemmas.{AreRequested, reverse-map, All-reverse, all_do-renamed, operations_of-all_do, edited_by_all-renamed, AreOf-edited_by_all, undone-renamed}
+use Rattle.gv_journal.specs.Renamed.{AreRequested}
+use Rattle.gv_journal.proofs.RenamedListLemmas.{reverse-map, All-reverse, all_do-renamed, operations_of-all_do, edited_by_all-renamed, AreOf-edited_by_all, undone-renamed}
 use Rattle.gv_journal.proofs.RenamedTableLemmas.{tells_sizes, counted_nameless, more_kept_nameless, less_kept_nameless}
 use Rattle.gv_journal.proofs.RenamedLiveLemmas.{renamed_table-by_count, TellsBuffers-renamed_table}
 use Rattle.gv_journal.proofs.RenamedHistoryLemmas.{AreOf-undone}

@@ -30,7 +30,8 @@ use Rattle.gv_journal.specs.Withdrawing.{after_restore, withdrawal_limits, withd
 use Rattle.gv_journal.specs.Renamed.{IsRenamedJournal}
 use Rattle.gv_journal.specs.declared.refusal.Refusal.{Refusal}
 use Rattle.gv_journal.proofs.Changing.{after_all-mappings}
-use Rattle.gv_journal.proofs.RenamedListLemmas.{reverse-map, does-renamed, done-renamed, edited_by_all-renamed, AreOf-done, AreRequested, requested_head, requested_tail}
+use Rattle.gv_journal.specs.Renamed.{AreRequested}
+use Rattle.gv_journal.proofs.RenamedListLemmas.{reverse-map, does-renamed, done-renamed, edited_by_all-renamed, AreOf-done, requested_head, requested_tail}
 use Rattle.gv_journal.proofs.RenamedItemLemmas.{full_fault-renamed, entry_fault-renamed, ops_at-renamed}
 
 -- a change of the list leaves the sizes

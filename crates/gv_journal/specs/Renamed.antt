@@ -1,15 +1,18 @@
 -- What items say of pages, and undo values, with the buffers renamed.
 use Rattle.std.specs.Prelude.{◌≡◌, ℕ, List, [], map, Option, Some, None}
 use Rattle.std.specs.Global.{Vec}
+use Rattle.std.specs.List.{All}
 use Rattle.std.proofs.Common.{sym, ◌∙◌}
 use Rattle.std.proofs.lemmas.List.{length-map}
-use Rattle.gv_types.specs.Renamed.{renamed_mapping, renamed_op, renamed_bytes, AreOf}
+use Rattle.gv_types.specs.Renamed.{renamed_mapping, renamed_op, renamed_bytes, AreOf, IsOperationOf}
+use Rattle.gv_types.specs.Operation.{in_pages}
 use Rattle.gv_types.specs.declared.mapping.BufferId.{BufferId}
+use Rattle.gv_types.specs.declared.operation.Op.{Op}
 use Rattle.gv_types.specs.declared.operation.PageOp.{PageOp}
 use Rattle.gv_types.specs.declared.request.Request.{Request}
 use Rattle.gv_ranges.specs.Edit.{Undo}
 use Rattle.gv_space.specs.Undo.{UndoValue}
-use Rattle.gv_journal.specs.Items.{Journaled}
+use Rattle.gv_journal.specs.Items.{Journaled, done_by}
 use Rattle.gv_journal.specs.History.{undos_of}
 use Rattle.gv_journal.specs.declared.item.Item.{Item}
 use Rattle.gv_journal.specs.declared.item.ItemKind.{ItemKind}
@@ -77,3 +80,11 @@ renamed_item item = record { kind = renamed_kind item.kind; undos = with_each re
 -- a journal with its buffers renamed
 abbrev pub renamed_journal : Journaled → Journaled
 renamed_journal j = record j { items = map renamed_item j.items }
+
+-- each operation of a request names no buffer, or the one of its generation
+abbrev pub AreRequested : List BufferId → List Op → Type 0
+AreRequested ids = All (λ op. IsOperationOf ids (in_pages op))
+
+-- so does each operation of an item
+abbrev pub AreDoneOf : List BufferId → List Item → Type 0
+AreDoneOf ids = All (λ item. All (IsOperationOf ids) (done_by item.kind))
