@@ -29,3 +29,17 @@ pub mod NotesSettled
 pub mod Entries
 pub mod Withdrawn
 pub mod JournalLemmas
+pub mod RenamedListLemmas
+pub mod RenamedItemLemmas
+pub mod RenamingLemmas
+pub mod RenamedHistoryLemmas
+pub mod RenamedTableLemmas
+pub mod RenamedLiveLemmas
+pub mod RenamedSpaceLemmas
+pub mod Recounts
+pub mod AlikeLemmas
+pub mod AlikeStateLemmas
+pub mod AlikeChangeLemmas
+pub mod AlikeSettledLemmas
+pub mod RenamedMakingLemmas
+pub mod RenamedCountLemmas

@@ -11,3 +11,4 @@ pub mod World
 pub mod Step
 pub mod Run
 pub mod Headline
+pub mod Renamed
