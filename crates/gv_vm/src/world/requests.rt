@@ -69,18 +69,19 @@ impl World {
         let Some(point) = hand.wait() else {
             return Ok(Reply::Idle);
         };
-        match self.clock.look(&point) {
-            Ok(reached) => {
-                let seen = reached.seen();
-                hand.reach(reached)?;
-                Ok(Reply::Reached { point, seen })
-            }
+        let reached = match self.clock.look(&point) {
+            Ok(reached) => reached,
             Err(lacking) => {
                 let have = lacking.have();
                 hand.lack(lacking);
-                Ok(Reply::Lacking { point, have })
+                return Ok(Reply::Lacking { point, have });
             }
+        };
+        let seen = reached.seen();
+        if hand.reach(reached).is_err() {
+            return Err(OutOfMemory);
         }
+        Ok(Reply::Reached { point, seen })
     }
 
     /// The request in hand is carried out, where each of its waits is reached.
@@ -90,17 +91,18 @@ impl World {
         if queue >= self.queues.len() as u64 {
             return Ok(Reply::Idle);
         }
-        let Some(hand) = self.queues[queue as usize].ready() else {
+        let place = &mut self.queues[queue as usize];
+        let Some(hand) = place.ready() else {
             return Ok(Reply::Idle);
         };
         let number = self.vm.told(queue).len() as u64;
         match bind_hand(alloc, &mut self.vm, queue, number, hand) {
             Ok(Bound { outcome, owed }) => {
-                self.queues[queue as usize].owe(owed);
+                place.owe(owed);
                 Ok(Reply::Told { number, outcome })
             }
             Err(hand) => {
-                self.queues[queue as usize].hold(hand);
+                place.hold(hand);
                 Err(OutOfMemory)
             }
         }
@@ -113,14 +115,15 @@ impl World {
         if queue >= self.queues.len() as u64 {
             return Ok(Reply::Idle);
         }
-        let Some(hand) = self.queues[queue as usize].lacking() else {
+        let place = &mut self.queues[queue as usize];
+        let Some(hand) = place.lacking() else {
             return Ok(Reply::Idle);
         };
         let number = self.vm.told(queue).len() as u64;
         match give_up_hand(&mut self.vm, queue, number, hand) {
             Ok(outcome) => Ok(Reply::Told { number, outcome }),
             Err(hand) => {
-                self.queues[queue as usize].hold(hand);
+                place.hold(hand);
                 Err(OutOfMemory)
             }
         }
