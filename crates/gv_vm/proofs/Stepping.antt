@@ -1,7 +1,9 @@
 -- Turns of a queue are steps of its world.
-use Rattle.std.proofs.Common.{◌≡◌, ◌≢◌, ℕ, ◌+◌, ◌<◌, ◌≤◌, true, false, Bool, List, [], ◌∷◌, ◌++◌, length, arith, refl, sym, ◌∙◌, ap, subst, Some, None, Option, Result, Ok, Err}
-use Rattle.std.specs.Prelude.{slice_index, slice_index_or, MatchOption, IfOk, IfErr, IsErrAnd, OnOk, OnErr, is_err}
-use Rattle.std.proofs.lemmas.List.{get_or_default, set-get_or}
+use Rattle.std.proofs.Common.{◌≡◌, ◌≢◌, ℕ, ◌+◌, ◌<◌, ◌≤◌, true, false, Bool, List, [], ◌∷◌, ◌++◌, length, reverse, inl, inr, arith, refl, sym, ◌∙◌, ap, subst, Some, None, Option, Result, Ok, Err}
+use Rattle.std.specs.Prelude.{slice_index, slice_index_or, MatchOption, IfOk, IfErr, IsErrAnd, OnOk, OnErr, IsErr, is_err}
+use Rattle.std.specs.List.{All}
+use Rattle.std.proofs.lemmas.List.Elements.{All-nil}
+use Rattle.std.proofs.lemmas.List.{get_or_default, set-get_or, reverse-reverse}
 use Rattle.gv_types.specs.Request.{Fits}
 use Rattle.gv_types.specs.declared.fault.Fault.{Fault}
 use Rattle.gv_types.specs.declared.fault.Fault.TheVariants.{OutOfMemory}
@@ -9,19 +11,24 @@ use Rattle.gv_types.specs.declared.request.Point.{Point}
 use Rattle.gv_types.specs.declared.request.Request.{Request}
 use Rattle.gv_sync.specs.Raises.{IsReached, with_raise}
 use Rattle.gv_sync.specs.Sights.{Sight, sight}
-use Rattle.gv_vm.specs.Outcomes.{with_outcome}
+use Rattle.gv_vm.specs.Outcomes.{told_to, with_outcome, tell_fault}
 use Rattle.gv_vm.specs.Told.{IsCarriedOut, seen_by}
 use Rattle.gv_vm.specs.State.{Machine}
 use Rattle.gv_vm.specs.World.{World, InHand, Queue, put_fault_of, new_queue, queue_at, with_queue, next_number, next_wait, seen_at}
-use Rattle.gv_vm.specs.Turns.{MayTake, TookFront, wait_in, wait_of, hand_reached, with_reached, hand_lacked, with_lacked, IsReady, IsLacking, without_hand, PaidFirst, IsToldLacking}
-use Rattle.gv_vm.specs.Step.{step, MayGrow, IsAsBefore, IsEnabled, CanTake, CanLook, CanBind, CanGiveUp, CanPay, IsTaken, IsReachedNow, IsLackingNow, IsBoundNow, IsGivenUp, IsPaid, owed_for}
+use Rattle.gv_vm.specs.Turns.{IsPutReply, owed_in, MayTake, TookFront, wait_in, wait_of, hand_reached, with_reached, hand_lacked, with_lacked, IsReady, IsLacking, without_hand, PaidFirst, IsToldLacking}
+use Rattle.gv_vm.specs.Step.{step, IsStep, MayGrow, IsAsBefore, IsEnabled, CanTake, CanLook, CanBind, CanGiveUp, CanPay, IsTaken, IsReachedNow, IsLackingNow, IsBoundNow, IsGivenUp, IsPaid, owed_for}
+use Rattle.gv_vm.specs.declared.event.Event.{Event}
+use Rattle.gv_vm.specs.declared.event.Reply.{Reply}
+use Rattle.gv_types.specs.declared.fault.OutOfMemory.{OutOfMemory as WantOfMemory}
 use Rattle.gv_vm.specs.declared.event.Event.TheVariants.{Put, Take, Look, Bind, GiveUp, Pay}
 use Rattle.gv_vm.specs.declared.event.Reply.TheVariants.{Idle, Put as IsPut, NotPut, Taken, Reached, Lacking, Told, Raised}
 use Rattle.gv_vm.specs.Queues.{IsQueueOf, AreQueues}
 use Rattle.gv_vm.specs.declared.outcome.NotTold.{NotTold}
 use Rattle.gv_vm.specs.declared.outcome.Outcome.{Outcome}
-use Rattle.gv_vm.proofs.Worlds.{AreQueues-with_queue}
-use Rattle.gv_vm.proofs.Turning.{IsQueueOf-put}
+use Rattle.gv_vm.specs.declared.outcome.Outcome.TheVariants.{Accepted, Refused, NotReady}
+use Rattle.gv_vm.proofs.Limited.{limits-came}
+use Rattle.gv_vm.proofs.Worlds.{AreQueues-with_queue, AreQueues-told}
+use Rattle.gv_vm.proofs.Turning.{IsQueueOf-put, signals_fit}
 
 abbrev put_ok : ℕ → Result ℕ NotTold
 put_ok number = Ok number
@@ -222,3 +229,42 @@ pub put_wanted : (w : World) (n : ℕ) (request : Request) (q : Queue) (e : NotT
     PutCameTo w.machine.space.limits.told w.depth request (queue_at w n) q (Err e) → MayGrow w (Put n request) × IsAsBefore w (with_queue w n q)
 put_wanted w n request q e less fits memory came =
     (((less, fits), put_allowed w.machine.space.limits.told w.depth (queue_at w n) e memory came.fault), subst (IsAsBefore w) (sym (same_world w n q came.err)) (as_before w))
+
+wanted : (w new : World) (event : Event) (a : Result Reply WantOfMemory) → IsErr a → MayGrow w event × IsAsBefore w new → IsStep w event a new
+wanted w new event (Ok reply) is h = cc
+wanted w new event (Err e) is h = h
+
+pub put_answers : (w : World) (n : ℕ) (request : Request) (q : Queue) (r : Result ℕ NotTold) (a : Result Reply WantOfMemory) → n < length w.queues → Fits (length w.numbers) request →
+    PutCameTo w.machine.space.limits.told w.depth request (queue_at w n) q r → IfErr r (λ e. e.request ≡ request) → IsPutReply r a → IsStep w (Put n request) a (with_queue w n q)
+put_answers w n request q (Ok number) a less fits came back is =
+    subst (λ (x : Result Reply WantOfMemory). IsStep w (Put n request) x (with_queue w n q)) (sym is) (was_put w n request q number less fits came)
+put_answers w n request q (Err e) a less fits came back (inl memory) = wanted w (with_queue w n q) (Put n request) a memory.0 (put_wanted w n request q e less fits memory.1 came)
+put_answers w n request q (Err e) a less fits came back (inr named) =
+    subst (λ (x : Result Reply WantOfMemory). IsStep w (Put n request) x (with_queue w n q)) (sym named.0) (was_not_put w n request q e less fits named.1 back came)
+
+-- what an accepted request makes its queue owe
+pub owed_last_first : (request : Request) (outcome : Outcome) (signals : List Point) → signals ≡ reverse request.signals.items → reverse (owed_in outcome signals) ≡ owed_for request outcome
+owed_last_first request (Accepted entry) signals is = ap (λ (ps : List Point). reverse ps) is ∙ reverse-reverse request.signals.items
+owed_last_first request (Refused op fault) signals is = refl
+owed_last_first request (NotReady point have) signals is = refl
+
+-- no fault stands in the way of the request in hand
+pub tell_none : (limit : ℕ) (told : List (List Outcome)) (queue number : ℕ) → number ≡ length (told_to told queue) → length (told_to told queue) < limit → tell_fault limit told queue number ≡ None
+tell_none limit told queue number is less = grind arith
+
+owed_fit : (timelines : ℕ) (request : Request) (outcome : Outcome) → All (λ p. p.timeline < timelines) request.signals.items → All (λ p. p.timeline < timelines) (owed_for request outcome)
+owed_fit timelines request (Accepted entry) all = all
+owed_fit timelines request (Refused op fault) all = All-nil (λ p. p.timeline < timelines)
+owed_fit timelines request (NotReady point have) all = All-nil (λ p. p.timeline < timelines)
+
+-- nothing came of it
+pub came_back : (w : World) (v : Machine) (n : ℕ) (q : Queue) → q ≡ queue_at w n → v ≡ w.machine → IsAsBefore w (with_machine w v n q)
+came_back w v n q same machine =
+    subst (IsAsBefore w) (sym (ap (λ (x : Machine). with_machine w x n q) machine ∙ same_world w n q same)) (as_before w)
+
+pub bound_keeps : (w : World) (v : Machine) (n number : ℕ) (hand : InHand) (outcome : Outcome) → AreQueues w → n < length w.queues → (queue_at w n).hand ≡ Some hand →
+    IsCarriedOut w.machine v n number hand.request (seen_by hand.reached) outcome → AreQueues (with_machine w v n (record (queue_at w n) { hand = None; owed = owed_for hand.request outcome }))
+bound_keeps w v n number hand outcome holds less is carried =
+    AreQueues-told w v n hand outcome (owed_for hand.request outcome) holds less is
+    (limits-came w.machine.space v.space w.machine.journal v.journal n number hand.request (seen_by hand.reached) outcome carried.came) carried.told
+    (owed_fit (length w.numbers) hand.request outcome (signals_fit w.machine.space.limits.told (length w.numbers) (next_number w n) (queue_at w n) hand is (holds.each n less)))

@@ -33,5 +33,6 @@ pub record IsQueueOf (limit timelines told : ℕ) (q : Queue) : Type 0 where
 
 pub record AreQueues (w : World) : Type 0 where
   pub few : length w.queues ≤ queues
+  pub told : length w.machine.told ≡ queues
   pub each : (n : ℕ) → n < length w.queues →
       IsQueueOf w.machine.space.limits.told (length w.numbers) (next_number w n) (queue_at w n)

@@ -1,11 +1,16 @@
 -- What the events of one queue do to it. No public clause cites this module.
-use Rattle.std.specs.Prelude.{◌≡◌, ℕ, ◌<◌, List, [], ◌∷◌, ◌++◌, length, Option, Some, None}
+use Rattle.std.specs.Prelude.{◌≡◌, ℕ, ◌<◌, List, [], ◌∷◌, ◌++◌, length, Option, Some, None, Result, Ok, Err, IsErr, ◌⊎◌, ◌≢◌}
+use Rattle.gv_types.specs.declared.fault.Fault.TheVariants.{OutOfMemory}
+use Rattle.gv_types.specs.declared.fault.OutOfMemory.{OutOfMemory as WantOfMemory}
 use Rattle.gv_types.specs.declared.request.Point.{Point}
 use Rattle.gv_types.specs.declared.request.Request.{Request}
 use Rattle.gv_sync.specs.Sights.{Sight}
 use Rattle.gv_vm.specs.Outcomes.{with_outcome}
 use Rattle.gv_vm.specs.State.{Machine}
 use Rattle.gv_vm.specs.World.{InHand, Queue, taken, next_wait}
+use Rattle.gv_vm.specs.declared.event.Reply.{Reply}
+use Rattle.gv_vm.specs.declared.event.Reply.TheVariants.{Put as IsPut, NotPut}
+use Rattle.gv_vm.specs.declared.outcome.NotTold.{NotTold}
 use Rattle.gv_vm.specs.declared.outcome.Outcome.{Outcome}
 use Rattle.gv_vm.specs.declared.outcome.Outcome.TheVariants.{Accepted, Refused, NotReady}
 
@@ -81,3 +86,8 @@ pub record IsToldLacking (old new : Machine) (queue : ℕ) (hand : InHand) (outc
   pub lacked : hand.lacked ≡ Some saw
   pub outcome_is : outcome ≡ NotReady saw.point saw.number
   pub state : new ≡ record old { told = with_outcome old.told queue outcome }
+
+-- a put is answered by its number, or by why it was not, or by want of memory
+abbrev pub IsPutReply : Result ℕ NotTold → Result Reply WantOfMemory → Type 0
+IsPutReply (Ok number) r = r ≡ Ok (IsPut number)
+IsPutReply (Err n) r = (IsErr r × (n.fault ≡ OutOfMemory)) ⊎ ((r ≡ Ok (NotPut n.fault n.request)) × (n.fault ≢ OutOfMemory))

@@ -4,7 +4,7 @@ ghost use Rattle.gv_vm.specs.World.{next_wait};
 ghost use Rattle.gv_vm.specs.Outcomes.{queues, told_to, tell_fault};
 ghost use Rattle.gv_vm.specs.Told.{IsCarriedOut, seen_by};
 ghost use Rattle.gv_vm.specs.Step.{owed_for};
-ghost use Rattle.gv_vm.specs.Turns.{owed_in, IsToldLacking};
+ghost use Rattle.gv_vm.specs.Turns.{owed_in, IsToldLacking, IsPutReply};
 
 use super::World;
 use crate::event::{Event, Reply};
@@ -12,7 +12,7 @@ use crate::outcome::{NotTold, Outcome};
 use crate::queue::Hand;
 use crate::vm::Vm;
 use gv_types::{Fault, OutOfMemory, Point, Request};
-use std::alloc::Global;
+use std::alloc::{AllocError, Global};
 
 /// What a request in hand came to, and the signals that are owed for it, the first one last.
 struct Bound {
@@ -31,16 +31,8 @@ impl World {
             return Ok(Reply::Idle);
         }
         let limit = self.vm.limits().told();
-        match self.queues[queue as usize].put(limit, self.depth, request) {
-            Ok(number) => Ok(Reply::Put { number }),
-            Err(
-                NotTold {
-                    fault: Fault::OutOfMemory,
-                    request: _,
-                },
-            ) => Err(OutOfMemory),
-            Err(NotTold { fault, request }) => Ok(Reply::NotPut { fault, request }),
-        }
+        let put = self.queues[queue as usize].put(limit, self.depth, request);
+        put_reply(put)
     }
 
     /// The front of a queue comes in hand.
@@ -96,16 +88,15 @@ impl World {
             return Ok(Reply::Idle);
         };
         let number = self.vm.told(queue).len() as u64;
-        match bind_hand(alloc, &mut self.vm, queue, number, hand) {
-            Ok(Bound { outcome, owed }) => {
-                place.owe(owed);
-                Ok(Reply::Told { number, outcome })
-            }
+        let Bound { outcome, owed } = match bind_hand(alloc, &mut self.vm, queue, number, hand) {
+            Ok(bound) => bound,
             Err(hand) => {
                 place.hold(hand);
-                Err(OutOfMemory)
+                return Err(OutOfMemory);
             }
-        }
+        };
+        place.owe(owed);
+        Ok(Reply::Told { number, outcome })
     }
 
     /// The request in hand is given up, where its last look lacked.
@@ -124,7 +115,7 @@ impl World {
             Ok(outcome) => Ok(Reply::Told { number, outcome }),
             Err(hand) => {
                 place.hold(hand);
-                Err(OutOfMemory)
+                return Err(OutOfMemory);
             }
         }
     }
@@ -146,6 +137,21 @@ impl World {
     }
 }
 
+/// What a put answers.
+fn put_reply(put: Result<u64, NotTold>) -> Result<Reply, OutOfMemory>
+    ensures { IsPutReply put result }
+{
+    match put {
+        Ok(number) => Ok(Reply::Put { number }),
+        Err(NotTold { fault, request }) => {
+            if fault == Fault::OutOfMemory {
+                return Err(OutOfMemory);
+            }
+            Ok(Reply::NotPut { fault, request })
+        }
+    }
+}
+
 /// Carries a request in hand out. For want of memory it comes back.
 fn bind_hand(alloc: Global, vm: &mut Vm, queue: u64, number: u64, hand: Hand) -> Result<Bound, Hand>
     requires queue { queue < queues }
@@ -161,7 +167,7 @@ fn bind_hand(alloc: Global, vm: &mut Vm, queue: u64, number: u64, hand: Hand) ->
         reached,
         lacked,
     } = hand;
-    let signals: Vec<Point> = match request.signals.iter().rev().copied().collect(alloc) {
+    let signals = match last_first(alloc, &request.signals) {
         Ok(signals) => signals,
         Err(_) => {
             return Err(Hand {
@@ -182,6 +188,13 @@ fn bind_hand(alloc: Global, vm: &mut Vm, queue: u64, number: u64, hand: Hand) ->
             lacked,
         }),
     }
+}
+
+/// These points, the first one last.
+fn last_first(alloc: Global, points: &[Point]) -> Result<Vec<Point>, AllocError>
+    ensures { IfOk result (λ v. v.items ≡ reverse points.now) }
+{
+    points.iter().rev().copied().collect(alloc)
 }
 
 /// Those signals where the request was accepted, and else none.
