@@ -268,3 +268,15 @@ bound_keeps w v n number hand outcome holds less is carried =
     AreQueues-told w v n hand outcome (owed_for hand.request outcome) holds less is
     (limits-came w.machine.space v.space w.machine.journal v.journal n number hand.request (seen_by hand.reached) outcome carried.came) carried.told
     (owed_fit (length w.numbers) hand.request outcome (signals_fit w.machine.space.limits.told (length w.numbers) (next_number w n) (queue_at w n) hand is (holds.each n less)))
+
+pub may_give_up : (w : World) (n : ℕ) (hand : InHand) → n < length w.queues → (queue_at w n).hand ≡ Some hand → hand.lacked ≢ None → CanGiveUp w n
+may_give_up w n hand less is lacks =
+    elim hand.lacked as (λ o. hand.lacked ≡ o → CanGiveUp w n) [
+      | None ↦ (λ none. absurd (lacks none))
+      | Some saw ↦ (λ same. record { has = record { there = less; hand = hand; is = is }; saw = saw; lacked = same })
+    ] refl
+
+pub given_up_keeps : (w : World) (v : Machine) (n : ℕ) (hand : InHand) (outcome : Outcome) → AreQueues w → n < length w.queues → (queue_at w n).hand ≡ Some hand →
+    IsToldLacking w.machine v n hand outcome → AreQueues (with_machine w v n (without_hand (queue_at w n)))
+given_up_keeps w v n hand outcome holds less is told =
+    AreQueues-told w v n hand outcome (queue_at w n).owed holds less is (ap (λ (x : Machine). x.space.limits) told.state) (ap (λ (x : Machine). x.told) told.state) (holds.each n less).owed
