@@ -15,8 +15,8 @@ use Rattle.gv_journal.specs.History.{undos_of}
 use Rattle.gv_journal.specs.Undoing.{reverted_by}
 use Rattle.gv_journal.specs.Applying.{all_do, after_all}
 use Rattle.gv_journal.specs.Binding.{IsRewound}
-use Rattle.gv_journal.specs.Settling.{IsSettled}
 use Rattle.gv_journal.specs.Withdrawing.{after_restore, after_withdrawal, list_before, ops_at, IsWithdrawn}
+use Rattle.gv_vm.specs.State.{Machine}
 use Rattle.gv_vm.specs.Told.{CameTo}
 use Rattle.gv_vm.specs.declared.outcome.Outcome.{Outcome}
 use Rattle.gv_vm.specs.declared.outcome.Outcome.TheVariants.{Accepted, Refused, NotReady}
@@ -52,6 +52,6 @@ pub limits-withdrawn : (s t : AddressSpace) (old new : Journaled) (n : ℕ) (r :
 limits-withdrawn s t old new n (Ok item) withdrawn same = ap limits_in withdrawn.state ∙ limits-after_withdrawal (list_before s old n) (ops_at old n) s
 limits-withdrawn s t old new n (Err fault) withdrawn same = limits-unchanged s t same
 
-pub limits-settled : (s t : AddressSpace) (old new : Journaled) (to : ℕ) (r : Result ℕ Fault) → OnOk r (IsSettled s t old new to) → OnErr r (t ≡ s) → t.limits ≡ s.limits
-limits-settled s t old new to (Ok count) settled same = ap limits_in settled.space
-limits-settled s t old new to (Err fault) settled same = ap limits_in same
+pub same_space : (v w : Machine) (r : Result ℕ Fault) → OnErr r (v ≡ w) → OnErr r (v.space ≡ w.space)
+same_space v w (Ok n) same = tt
+same_space v w (Err fault) same = ap (λ (x : Machine). x.space) same
