@@ -1,9 +1,11 @@
 -- Each step says what the headline says of it.
-use Rattle.std.proofs.Common.{◌≡◌, ℕ, zero, suc, ◌+◌, true, eqb, List, [], ◌∷◌, arith, refl, sym, ◌∙◌, ap, subst, Some, None, Option}
+use Rattle.std.proofs.Common.{◌≡◌, ℕ, zero, suc, ◌+◌, true, eqb, List, [], ◌∷◌, arith, refl, sym, ◌∙◌, ap, subst, Some, None, Option, Result, Ok, Err}
+use Rattle.std.specs.Prelude.{IfOk}
 use Rattle.std.specs.Option.{option_map}
 use Rattle.std.proofs.lemmas.Bool.{eqb-true, and_parts}
 use Rattle.std.proofs.lemmas.Option.{same_Some}
 use Rattle.gv_types.specs.Page.{IsPage}
+use Rattle.gv_types.specs.declared.fault.OutOfMemory.{OutOfMemory as WantOfMemory}
 use Rattle.gv_types.specs.declared.mapping.BufferId.{BufferId}
 use Rattle.gv_types.specs.declared.mapping.Mapping.{Mapping}
 use Rattle.gv_table.specs.Table.{IsTree}
@@ -22,7 +24,7 @@ use Rattle.gv_vm.specs.State.{Machine, IsMachine}
 use Rattle.gv_vm.specs.World.{World}
 use Rattle.gv_vm.specs.Told.{CameTo}
 use Rattle.gv_types.specs.declared.request.Request.{Request}
-use Rattle.gv_vm.specs.Step.{step, IsBoundNow, IsGivenUp, IsRewoundNow, IsWithdrawnNow}
+use Rattle.gv_vm.specs.Step.{step, IsStep, IsBoundNow, IsGivenUp, IsRewoundNow, IsWithdrawnNow}
 use Rattle.gv_vm.specs.Headline.{EachPageTranslates, LeavesAll, TakesBack, SaysOfOutcome, SaysOfReply, Says}
 use Rattle.gv_vm.specs.declared.event.Event.{Event}
 use Rattle.gv_vm.specs.declared.event.Event.TheVariants.{Bind, GiveUp, Rewind, Withdraw}
@@ -114,3 +116,8 @@ reply_says before after event reply holds h = tt
 
 pub says : (before after : World) (event : Event) (reply : Reply) → IsMachine after.machine → step before event reply after → Says before event reply after
 says before after event reply holds h = (pages after.machine holds, reply_says before after event reply holds h)
+
+-- and so it does where a step is answered
+pub said : (before after : World) (event : Event) (r : Result Reply WantOfMemory) → IsMachine after.machine → IsStep before event r after → IfOk r (λ reply. Says before event reply after)
+said before after event (Ok reply) holds h = says before after event reply holds h
+said before after event (Err e) holds h = tt

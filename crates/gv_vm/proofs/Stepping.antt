@@ -90,15 +90,15 @@ reached w n point s q less is sees enough new =
     elim (queue_at w n).hand as (λ o. (queue_at w n).hand ≡ o → wait_in o ≡ Some point → step w (Look n) (Reached point s.number) (with_queue w n q)) [
       | None ↦ (λ _ g. cc)
       | Some hand ↦ (λ same g. record {
-          enabled = can_look w n hand point less same g;
-          point_is = refl;
-          seen_is = ap (λ (x : Sight). sight point x.number) sees;
-          reached = enough;
-          state =
-              let s_is : s ≡ sight point s.number = sees ∙ ap (λ (x : Sight). sight point x.number) (sym sees) in
-              ap (λ (x : Queue). with_queue w n x) (new ∙ ap (λ (o : Option InHand). record (queue_at w n) { hand = hand_reached s o }) same
-              ∙ ap (λ (x : Sight). record (queue_at w n) { hand = Some (record hand { reached = hand.reached ++ x ∷ []; lacked = None }) }) s_is);
-        })
+        enabled = can_look w n hand point less same g;
+        point_is = refl;
+        seen_is = ap (λ (x : Sight). sight point x.number) sees;
+        reached = enough;
+        state =
+            let s_is : s ≡ sight point s.number = sees ∙ ap (λ (x : Sight). sight point x.number) (sym sees) in
+            ap (λ (x : Queue). with_queue w n x) (new ∙ ap (λ (o : Option InHand). record (queue_at w n) { hand = hand_reached s o }) same
+            ∙ ap (λ (x : Sight). record (queue_at w n) { hand = Some (record hand { reached = hand.reached ++ x ∷ []; lacked = None }) }) s_is);
+      })
     ] refl is
 
 pub lacked : (w : World) (n : ℕ) (point : Point) (s : Sight) (q : Queue) → n < length w.queues → wait_of (queue_at w n) ≡ Some point → s ≡ seen_at w point → s.number < point.value →
@@ -107,15 +107,15 @@ lacked w n point s q less is sees short new =
     elim (queue_at w n).hand as (λ o. (queue_at w n).hand ≡ o → wait_in o ≡ Some point → step w (Look n) (Lacking point s.number) (with_queue w n q)) [
       | None ↦ (λ _ g. cc)
       | Some hand ↦ (λ same g. record {
-          enabled = can_look w n hand point less same g;
-          point_is = refl;
-          have_is = ap (λ (x : Sight). sight point x.number) sees;
-          lacking = short;
-          state =
-              let s_is : s ≡ sight point s.number = sees ∙ ap (λ (x : Sight). sight point x.number) (sym sees) in
-              ap (λ (x : Queue). with_queue w n x) (new ∙ ap (λ (o : Option InHand). record (queue_at w n) { hand = hand_lacked s o }) same
-              ∙ ap (λ (x : Sight). record (queue_at w n) { hand = Some (record hand { lacked = Some x }) }) s_is);
-        })
+        enabled = can_look w n hand point less same g;
+        point_is = refl;
+        have_is = ap (λ (x : Sight). sight point x.number) sees;
+        lacking = short;
+        state =
+            let s_is : s ≡ sight point s.number = sees ∙ ap (λ (x : Sight). sight point x.number) (sym sees) in
+            ap (λ (x : Queue). with_queue w n x) (new ∙ ap (λ (o : Option InHand). record (queue_at w n) { hand = hand_lacked s o }) same
+            ∙ ap (λ (x : Sight). record (queue_at w n) { hand = Some (record hand { lacked = Some x }) }) s_is);
+      })
     ] refl is
 
 pub not_bound : (w : World) (n : ℕ) → (IsReady (queue_at w n) → ⊥) → CanBind w n → ⊥

@@ -142,7 +142,7 @@ fn no_requests(alloc: Global, count: u64) -> Result<Vec<Queue>, OutOfMemory>
     ensures { IfOk result (λ queues. queues.items ≡ replicate count new_queue) }
 {
     let mut queues = Vec::with_capacity(alloc, count as usize)?;
-    for _ in 0..count {
+    for queue in 0..count {
         queues.push_reserved(Queue::new(alloc));
     }
     Ok(queues)
