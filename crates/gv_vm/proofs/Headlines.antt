@@ -1,15 +1,13 @@
 -- Each step says what the headline says of it.
-use Rattle.std.proofs.Common.{◌≡◌, ℕ, zero, suc, ◌+◌, true, eqb, List, [], ◌∷◌, arith, refl, sym, ◌∙◌, ap, subst, Some, None, Option, Result, Ok, Err}
+use Rattle.std.proofs.Common.{◌≡◌, ℕ, suc, ◌+◌, true, eqb, List, [], ◌∷◌, arith, refl, sym, ◌∙◌, ap, subst, Some, None, Option, Result, Ok, Err}
 use Rattle.std.specs.Prelude.{IfOk}
 use Rattle.std.specs.Option.{option_map}
 use Rattle.std.proofs.lemmas.Bool.{eqb-true, and_parts}
 use Rattle.std.proofs.lemmas.Option.{same_Some}
-use Rattle.gv_types.specs.Page.{IsPage}
 use Rattle.gv_types.specs.declared.fault.OutOfMemory.{OutOfMemory as WantOfMemory}
 use Rattle.gv_types.specs.declared.mapping.BufferId.{BufferId}
 use Rattle.gv_types.specs.declared.mapping.Mapping.{Mapping}
 use Rattle.gv_table.specs.Table.{IsTree}
-use Rattle.gv_table.specs.declared.page_table.PageTable.{PageTable}
 use Rattle.gv_buffers.specs.Table.{Buffer, uses, kept, buffer}
 use Rattle.gv_space.specs.Counts.{count_of}
 use Rattle.gv_space.specs.State.{AddressSpace, IsUnchanged}
@@ -24,7 +22,7 @@ use Rattle.gv_vm.specs.State.{Machine, IsMachine}
 use Rattle.gv_vm.specs.World.{World}
 use Rattle.gv_vm.specs.Told.{CameTo}
 use Rattle.gv_types.specs.declared.request.Request.{Request}
-use Rattle.gv_vm.specs.Step.{step, IsStep, IsBoundNow, IsGivenUp, IsRewoundNow, IsWithdrawnNow}
+use Rattle.gv_vm.specs.Step.{step, IsStep, IsGivenUp}
 use Rattle.gv_vm.specs.Headline.{EachPageTranslates, LeavesAll, TakesBack, SaysOfOutcome, SaysOfReply, Says}
 use Rattle.gv_vm.specs.declared.event.Event.{Event}
 use Rattle.gv_vm.specs.declared.event.Event.TheVariants.{Bind, GiveUp, Rewind, Withdraw}

@@ -1,5 +1,5 @@
 -- Events run one after another.
-use Rattle.std.proofs.Common.{◌≡◌, List, [], ◌∷◌, ◌++◌, refl, sym, ◌∙◌, subst}
+use Rattle.std.proofs.Common.{List, [], ◌∷◌, ◌++◌, refl, subst}
 use Rattle.gv_vm.specs.World.{World}
 use Rattle.gv_vm.specs.Step.{step}
 use Rattle.gv_vm.specs.Run.{RunsWith}

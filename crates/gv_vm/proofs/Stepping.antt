@@ -1,5 +1,5 @@
 -- Turns of a queue are steps of its world.
-use Rattle.std.proofs.Common.{◌≡◌, ◌≢◌, ℕ, ◌+◌, ◌<◌, ◌≤◌, true, false, Bool, List, [], ◌∷◌, ◌++◌, length, reverse, inl, inr, arith, refl, sym, ◌∙◌, ap, subst, Some, None, Option, Result, Ok, Err}
+use Rattle.std.proofs.Common.{◌≡◌, ◌≢◌, ℕ, ◌+◌, ◌<◌, true, false, List, [], ◌∷◌, ◌++◌, length, reverse, inl, inr, arith, refl, sym, ◌∙◌, ap, subst, Some, None, Option, Result, Ok, Err}
 use Rattle.std.specs.Prelude.{slice_index, slice_index_or, MatchOption, IfOk, IfErr, IsErrAnd, OnOk, OnErr, IsErr, is_err}
 use Rattle.std.specs.List.{All}
 use Rattle.std.proofs.lemmas.List.Elements.{All-nil}
@@ -16,12 +16,12 @@ use Rattle.gv_vm.specs.Told.{IsCarriedOut, seen_by}
 use Rattle.gv_vm.specs.State.{Machine}
 use Rattle.gv_vm.specs.World.{World, InHand, Queue, put_fault_of, new_queue, queue_at, with_queue, next_number, next_wait, seen_at}
 use Rattle.gv_vm.specs.Turns.{IsPutReply, owed_in, MayTake, TookFront, wait_in, wait_of, hand_reached, with_reached, hand_lacked, with_lacked, IsReady, IsLacking, without_hand, PaidFirst, IsToldLacking}
-use Rattle.gv_vm.specs.Step.{step, IsStep, MayGrow, IsAsBefore, IsEnabled, CanTake, CanLook, CanBind, CanGiveUp, CanPay, IsTaken, IsReachedNow, IsLackingNow, IsBoundNow, IsGivenUp, IsPaid, owed_for}
+use Rattle.gv_vm.specs.Step.{step, IsStep, MayGrow, IsAsBefore, CanTake, CanLook, CanBind, CanGiveUp, CanPay, owed_for}
 use Rattle.gv_vm.specs.declared.event.Event.{Event}
 use Rattle.gv_vm.specs.declared.event.Reply.{Reply}
 use Rattle.gv_types.specs.declared.fault.OutOfMemory.{OutOfMemory as WantOfMemory}
 use Rattle.gv_vm.specs.declared.event.Event.TheVariants.{Put, Take, Look, Bind, GiveUp, Pay}
-use Rattle.gv_vm.specs.declared.event.Reply.TheVariants.{Idle, Put as IsPut, NotPut, Taken, Reached, Lacking, Told, Raised}
+use Rattle.gv_vm.specs.declared.event.Reply.TheVariants.{Put as IsPut, NotPut, Taken, Reached, Lacking, Told, Raised}
 use Rattle.gv_vm.specs.Queues.{IsQueueOf, AreQueues}
 use Rattle.gv_vm.specs.declared.outcome.NotTold.{NotTold}
 use Rattle.gv_vm.specs.declared.outcome.Outcome.{Outcome}

@@ -1,16 +1,16 @@
 -- What holds of a queue still holds after each of its turns.
-use Rattle.std.proofs.Common.{◌≡◌, ℕ, zero, suc, ◌+◌, ◌<◌, ◌≤◌, List, [], ◌∷◌, ◌++◌, length, map, take, arith, refl, sym, ◌∙◌, ap, subst, Some, None, Option}
+use Rattle.std.proofs.Common.{◌≡◌, ℕ, zero, suc, ◌+◌, ◌<◌, List, [], ◌∷◌, ◌++◌, length, take, arith, sym, ◌∙◌, ap, subst, Some, None, Option}
 use Rattle.std.specs.Prelude.{slice_get}
 use Rattle.std.specs.List.{All}
 use Rattle.std.proofs.lemmas.Option.{same_Some}
 use Rattle.std.proofs.lemmas.List.{length-append, map-append}
-use Rattle.std.proofs.lemmas.List.Elements.{All-nil, All-push, All-head, All-tail}
+use Rattle.std.proofs.lemmas.List.Elements.{All-push, All-head, All-tail}
 use Rattle.gv_types.specs.Request.{Fits}
 use Rattle.gv_types.specs.declared.request.Point.{Point}
 use Rattle.gv_types.specs.declared.request.Request.{Request}
-use Rattle.gv_vm.specs.World.{InHand, Queue, put_fault_of, taken, next_wait}
+use Rattle.gv_vm.specs.World.{InHand, Queue, put_fault_of, next_wait}
 use Rattle.gv_vm.specs.Queues.{IsQueueOf, HandFits, IsInOrder, in_hand}
-use Rattle.gv_vm.specs.Turns.{TookFront, wait_in, wait_of, with_reached, with_lacked, without_hand, PaidFirst}
+use Rattle.gv_vm.specs.Turns.{TookFront, wait_in, wait_of, with_reached, with_lacked, PaidFirst}
 use Rattle.gv_sync.specs.Sights.{Sight}
 
 few_from_none : (limit depth : ℕ) (q : Queue) → put_fault_of limit depth q ≡ None → q.put < limit

@@ -1,11 +1,9 @@
 -- What always holds of the queues of a world.
-use Rattle.std.specs.Prelude.{◌≡◌, ℕ, ◌+◌, ◌<◌, ◌≤◌, List, length, map, take, slice_get, MatchOption, Contains, Option, Some, None}
+use Rattle.std.specs.Prelude.{◌≡◌, ℕ, ◌+◌, ◌<◌, ◌≤◌, length, map, take, MatchOption, Contains, Option, Some, None}
 use Rattle.std.specs.List.{All}
 use Rattle.gv_types.specs.Request.{Fits}
-use Rattle.gv_types.specs.declared.request.Point.{Point}
-use Rattle.gv_sync.specs.Sights.{Sight}
 use Rattle.gv_vm.specs.Outcomes.{queues}
-use Rattle.gv_vm.specs.World.{World, InHand, Queue, queue_at, next_number, next_wait}
+use Rattle.gv_vm.specs.World.{World, InHand, Queue, queue_at, next_number}
 
 -- Those waits of a request in hand that were reached are its first ones, in order, and what lacked last is one of its waits.
 pub record IsInOrder (h : InHand) : Type 0 where

@@ -1,9 +1,8 @@
-use Rattle.std.proofs.Common.{◌≡◌, ◌<◌, List, ◌∷◌, [], arith, length, ◌∙◌, sym, ap, Some, None, Option, is_some, subst, refl, reverse, true, false, vec_len}
+use Rattle.std.proofs.Common.{◌≡◌, ◌<◌, List, ◌∷◌, [], arith, length, sym, ap, Some, None, Option, is_some, subst, refl, reverse, false, vec_len}
 use Rattle.std.proofs.lemmas.Bool.{eqb-true}
-use Rattle.std.proofs.lemmas.Grind.{common_steps}
 use Rattle.gv_types.specs.declared.request.Point.{Point}
 use Rattle.gv_sync.specs.Sights.{Sight}
-use Rattle.gv_vm.specs.World.{Queue, InHand, taken}
+use Rattle.gv_vm.specs.World.{Queue}
 use Rattle.gv_vm.specs.Turns.{TookFront}
 use Rattle.gv_vm.proofs.queue.Queue.take.Goals as goal
 

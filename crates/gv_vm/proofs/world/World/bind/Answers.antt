@@ -1,12 +1,12 @@
-use Rattle.std.proofs.Common.{◌≡◌, ◌<◌, ℕ, ◌∙◌, arith, ap, subst, sym, refl, length, List, Some, None, reverse}
+use Rattle.std.proofs.Common.{◌≡◌, ◌<◌, ℕ, ◌∙◌, arith, ap, subst, sym, length, List, Some, None, reverse}
 use Rattle.gv_types.specs.declared.request.Point.{Point}
-use Rattle.gv_vm.specs.World.{World, Queue, InHand, queue_at, with_queue, next_number, next_wait}
+use Rattle.gv_vm.specs.World.{World, Queue, InHand, queue_at, with_queue, next_number}
 use Rattle.gv_vm.specs.WorldInside.{world_of}
 use Rattle.gv_vm.specs.Queues.{AreQueues}
 use Rattle.gv_vm.specs.Told.{IsCarriedOut, seen_by}
 use Rattle.gv_vm.specs.declared.outcome.Outcome.{Outcome}
-use Rattle.gv_vm.specs.Turns.{IsReady, without_hand}
-use Rattle.gv_vm.specs.Step.{step, MayGrow, CanBind, IsAsBefore, owed_for}
+use Rattle.gv_vm.specs.Turns.{IsReady}
+use Rattle.gv_vm.specs.Step.{step, CanBind, IsAsBefore, owed_for}
 use Rattle.gv_vm.specs.declared.event.Event.TheVariants.{Bind}
 use Rattle.gv_vm.specs.declared.event.Reply.TheVariants.{Idle, Told}
 use Rattle.gv_vm.proofs.Stepping.{queue_read, same_world, not_bound, may_bind, bound, bound_keeps, came_back}

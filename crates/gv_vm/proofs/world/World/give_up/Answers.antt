@@ -1,4 +1,4 @@
-use Rattle.std.proofs.Common.{◌≡◌, ◌<◌, ℕ, ◌∙◌, arith, ap, subst, sym, refl, length, List, Some, None}
+use Rattle.std.proofs.Common.{◌≡◌, ◌<◌, ℕ, ◌∙◌, arith, ap, subst, sym, length, List, Some}
 use Rattle.gv_vm.specs.World.{World, Queue, InHand, queue_at, with_queue, next_number}
 use Rattle.gv_vm.specs.WorldInside.{world_of}
 use Rattle.gv_vm.specs.Queues.{AreQueues}

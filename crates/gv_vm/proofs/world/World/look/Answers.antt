@@ -1,15 +1,14 @@
-use Rattle.std.proofs.Common.{◌≡◌, ◌<◌, ℕ, ◌∙◌, arith, ap, subst, sym, refl, Some, Option, length}
+use Rattle.std.proofs.Common.{◌≡◌, ◌<◌, ℕ, ◌∙◌, arith, ap, subst, sym, refl, Some, length}
 use Rattle.gv_sync.specs.Sights.{Sight}
 use Rattle.gv_sync.specs.Raises.{IsReached}
 use Rattle.gv_vm.specs.World.{World, Queue, queue_at, with_queue, seen_at}
 use Rattle.gv_vm.specs.WorldInside.{world_of}
-use Rattle.gv_vm.specs.Queues.{AreQueues}
 use Rattle.gv_vm.specs.Step.{step, CanLook, IsAsBefore}
 use Rattle.gv_vm.specs.Turns.{wait_of, with_reached, with_lacked}
 use Rattle.gv_vm.specs.declared.event.Event.TheVariants.{Look}
 use Rattle.gv_vm.specs.declared.event.Reply.TheVariants.{Reached, Lacking}
 use Rattle.gv_vm.proofs.Worlds.{IsOf, AreQueues-with_queue}
-use Rattle.gv_vm.proofs.Stepping.{from_err, from_ok, queue_read, same_world, reached, lacked, may_look, not_looked, as_before}
+use Rattle.gv_vm.proofs.Stepping.{from_err, from_ok, queue_read, same_world, reached, lacked, may_look, as_before}
 use Rattle.gv_vm.proofs.Turning.{IsQueueOf-reached, IsQueueOf-lacked}
 use Rattle.gv_vm.proofs.world.World.look.Goals as goal
 

@@ -1,6 +1,5 @@
 use Rattle.std.proofs.Common.{◌≡◌, ◌<◌, ℕ, ◌∙◌, arith, ap, subst, sym, refl, length, List}
 use Rattle.std.proofs.lemmas.List.{length-set}
-use Rattle.gv_sync.specs.Raises.{with_raise}
 use Rattle.gv_vm.specs.World.{World, Queue, queue_at, with_queue, next_number}
 use Rattle.gv_vm.specs.WorldInside.{world_of}
 use Rattle.gv_vm.specs.Queues.{IsQueueOf}

@@ -1,4 +1,4 @@
-use Rattle.std.proofs.Common.{◌≡◌, ◌<◌, ℕ, ◌∙◌, arith, ap, subst, sym, refl, length}
+use Rattle.std.proofs.Common.{◌≡◌, ◌<◌, ℕ, ◌∙◌, arith, ap, subst, length}
 use Rattle.gv_types.specs.Request.{Fits}
 use Rattle.gv_vm.specs.World.{World, Queue, queue_at, with_queue}
 use Rattle.gv_vm.specs.WorldInside.{world_of}

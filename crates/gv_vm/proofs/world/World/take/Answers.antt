@@ -6,7 +6,7 @@ use Rattle.gv_vm.specs.Step.{step}
 use Rattle.gv_vm.specs.Turns.{TookFront, MayTake}
 use Rattle.gv_vm.specs.declared.event.Event.TheVariants.{Take}
 use Rattle.gv_vm.specs.declared.event.Reply.{Reply}
-use Rattle.gv_vm.specs.declared.event.Reply.TheVariants.{Idle, Taken}
+use Rattle.gv_vm.specs.declared.event.Reply.TheVariants.{Taken}
 use Rattle.gv_vm.specs.declared.outcome.Outcome.{Outcome}
 use Rattle.gv_vm.proofs.Worlds.{AreQueues-with_queue}
 use Rattle.gv_vm.proofs.Stepping.{queue_read, same_world, took, not_taken}

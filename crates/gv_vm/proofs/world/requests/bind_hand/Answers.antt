@@ -2,7 +2,6 @@ use Rattle.std.proofs.Common.{◌≡◌, ◌∙◌, List, ap, subst, reverse}
 use Rattle.gv_types.specs.declared.request.Point.{Point}
 use Rattle.gv_sync.specs.Sights.{Sight}
 use Rattle.gv_vm.specs.World.{InHand}
-use Rattle.gv_vm.specs.HandInside.{hand_of}
 use Rattle.gv_vm.specs.Told.{IsCarriedOut, seen_by}
 use Rattle.gv_vm.specs.Step.{owed_for}
 use Rattle.gv_vm.proofs.Stepping.{owed_last_first}
