@@ -14,7 +14,7 @@ use Rattle.gv_space.specs.Counts.{count_of}
 use Rattle.gv_journal.specs.Items.{entries, view, view_without}
 use Rattle.gv_journal.specs.History.{base, back}
 use Rattle.gv_vm.specs.World.{World}
-use Rattle.gv_vm.specs.Run.{RunsWith}
+use Rattle.gv_vm.specs.Run.{RunsWith, StoppedWith}
 use Rattle.gv_vm.specs.State.{Machine}
 use Rattle.gv_vm.specs.declared.event.Event.{Event}
 use Rattle.gv_vm.specs.declared.event.Event.TheVariants.{Withdraw}
@@ -76,3 +76,7 @@ Says before event reply after = EachPageTranslates after.machine × SaysOfReply 
 -- it holds along every run
 abbrev pub Headline : World → List Event → List Reply → World → Type 0
 Headline old events replies new = RunsWith Says old events replies new
+
+-- it holds along the events that ran, where want of memory stopped them
+abbrev pub StoppedHeadline : World → List Event → List Reply → World → Type 0
+StoppedHeadline old events replies new = StoppedWith Says old events replies new

@@ -8,6 +8,10 @@ pub mod State
 pub mod VmInside
 pub mod Told
 pub mod World
+pub mod Queues
+pub mod WorldInside
+pub mod HandInside
+pub mod Turns
 pub mod Step
 pub mod Run
 pub mod Headline

@@ -1,9 +1,10 @@
 -- What each event does to a world, and which reply it gets. An event that is not enabled is answered by `Idle` and changes
 -- nothing; `Idle` is the answer to no other.
-use Rattle.std.specs.Prelude.{◌≡◌, ℕ, ◌+◌, ◌<◌, List, [], ◌∷◌, ◌++◌, length, slice_index, Option, Some, None}
+use Rattle.std.specs.Prelude.{◌≡◌, ℕ, ◌+◌, ◌<◌, List, [], ◌∷◌, ◌++◌, length, slice_index, Option, Some, None, Result, Ok, Err}
 use Rattle.gv_types.specs.Request.{Fits}
 use Rattle.gv_types.specs.declared.fault.Fault.{Fault}
 use Rattle.gv_types.specs.declared.fault.Fault.TheVariants.{NoEntry, OutOfMemory}
+use Rattle.gv_types.specs.declared.fault.OutOfMemory.{OutOfMemory as WantOfMemory}
 use Rattle.gv_types.specs.declared.mapping.BufferId.{BufferId}
 use Rattle.gv_types.specs.declared.request.Point.{Point}
 use Rattle.gv_types.specs.declared.request.Request.{Request}
@@ -12,6 +13,7 @@ use Rattle.gv_space.specs.State.{IsUnchanged}
 use Rattle.gv_sync.specs.Raises.{IsReached, with_raise}
 use Rattle.gv_sync.specs.Sights.{Sight, sight}
 use Rattle.gv_journal.specs.Items.{next}
+use Rattle.gv_journal.specs.History.{back}
 use Rattle.gv_journal.specs.Binding.{IsRewound}
 use Rattle.gv_journal.specs.declared.item.Item.{Item}
 use Rattle.gv_journal.specs.Settling.{settle_fault, IsSettled}
@@ -200,6 +202,7 @@ pub record IsWithdrawnNow (old : World) (entry item : ℕ) (new : World) : Type 
   pub allowed : withdraw_fault old.machine.space old.machine.journal entry ≡ None
   pub number_is : item ≡ next old.machine.journal
   pub withdrawn : IsWithdrawn old.machine.space new.machine.space old.machine.journal new.machine.journal entry
+  pub rewinds : (n : ℕ) → back new.machine.space.mappings new.machine.journal.items (n + 1) ≡ back old.machine.space.mappings old.machine.journal.items n
   pub state : HasOtherEntries old new
 
 pub record IsSettledNow (old : World) (to count : ℕ) (new : World) : Type 0 where
@@ -275,3 +278,9 @@ MayGrow w (Create pages) = create_fault w.machine.space.buffers pages ≡ None
 MayGrow w (Withdraw entry) = entry_fault w.machine.journal entry ≡ None
 MayGrow w (JobBegin accesses) = IsBeginRefused w.machine.space w.machine.running accesses.items OutOfMemory
 MayGrow w _ = ⊥
+
+-- What a world answers to an event: a reply of a step; or want of memory, at an event that may grow, and all is as it was,
+-- but for room.
+abbrev pub IsStep : World → Event → Result Reply WantOfMemory → World → Type 0
+IsStep old event (Ok reply) new = step old event reply new
+IsStep old event (Err _) new = MayGrow old event × IsAsBefore old new

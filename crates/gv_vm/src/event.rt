@@ -32,7 +32,7 @@ pub enum Event {
 }
 
 /// The answer to an event. `Idle` where the event is not enabled, and only there.
-#[derive(Drop)]
+#[derive(Debug, PartialEq, Drop)]
 pub enum Reply {
     Idle,
     Put { number: u64 },

@@ -11,6 +11,7 @@ mod places;
 mod queue;
 mod told;
 mod vm;
+mod world;
 
 pub use event::{Event, Reply};
 pub use jobs::{Access, Job, MAX_ACCESSES, MAX_RUNNING};
@@ -18,6 +19,7 @@ pub use outcome::{NotTold, Outcome};
 pub use places::{Place, Target};
 pub use told::QUEUES;
 pub use vm::Vm;
+pub use world::{Stopped, World};
 
 #[cfg(test)]
 mod tests;

@@ -1,10 +1,13 @@
 //! One queue of requests: those that wait, the one in hand, and the signals owed.
-ghost use Rattle.std.specs.Prelude.{◌≡◌, ◌+◌, ◌++◌, ◌∷◌, [], Some, None, IfOk, IfErr, IsErrAnd, OnErr, IfSome, IfNone, MatchOption, length};
+ghost use Rattle.std.specs.Prelude.{◌≡◌, ◌≢◌, ◌≤◌, ◌+◌, ◌++◌, ◌∷◌, [], true, false, Some, None, IfOk, IsOk, IfErr, IsErrAnd, OnOk, OnErr, IfSome, IfNone, MatchOption, length, map, reverse};
+ghost use Rattle.gv_types.specs.declared.request.Point.{Point};
 ghost use Rattle.gv_vm.specs.World.{new_queue, taken, put_fault_of, next_wait};
+ghost use Rattle.gv_vm.specs.Queues.{IsInOrder};
+ghost use Rattle.gv_vm.specs.Turns.{MayTake, TookFront, wait_of, with_reached, with_lacked, IsReady, IsLacking, without_hand, PaidFirst};
 
 use crate::outcome::NotTold;
 use gv_sync::{Lacking, Reached};
-use gv_types::{Fault, Point, Request};
+use gv_types::{Fault, OutOfMemory, Point, Request};
 use std::alloc::{AllocFailed, Global};
 use std::collections::VecDeque;
 use std::marker::Model;
@@ -22,24 +25,59 @@ impl Model for Hand {
 
     ghost Value = { InHand };
 
-    ghost view = { λ h. record { request = h.request; reached = h.reached.items; lacked = h.lacked } };
+    ghost use Rattle.gv_vm.specs.HandInside.{hand_of, IsSound};
+
+    ghost view = { hand_of };
+
+    ghost invariant = { IsSound };
 }
 
-/// One queue. Room for requests comes with them.
+/// One queue. Room for requests comes with them. The signals owed stand the first one last.
 #[derive(Drop)]
 pub struct Queue {
     put: u64,
     waiting: VecDeque<Request>,
     hand: Option<Hand>,
-    owed: VecDeque<Point>,
+    owed: Vec<Point>,
 }
 
 impl Model for Queue {
+    ghost use Rattle.std.specs.Prelude.{reverse};
     ghost use Rattle.gv_vm.specs.World.{Queue as QueueState};
 
     ghost Value = { QueueState };
 
-    ghost view = { λ q. record { put = q.put; waiting = q.waiting.items; hand = q.hand; owed = q.owed.items } };
+    ghost view = { λ q. record { put = q.put; waiting = q.waiting.items; hand = q.hand; owed = reverse q.owed.items } };
+}
+
+impl Hand {
+    /// The first wait that is not reached yet.
+    pub fn wait(&self) -> Option<Point>
+        ensures { result ≡ next_wait self.now }
+    {
+        self.request.waits.get(self.reached.len()).copied()
+    }
+
+    /// One wait more is reached. `OutOfMemory` leaves all as it was.
+    pub fn reach(&mut self, reached: Reached) -> Result<(), OutOfMemory>
+        requires { next_wait self.old ≡ Some reached.point }
+        ensures ok { OnOk result (self.new
+            ≡ record self.old { reached = self.old.reached ++ reached ∷ []; lacked = None }) }
+        ensures err { OnErr result (self.new ≡ self.old) }
+    {
+        self.reached.reserve(1)?;
+        self.reached.push_reserved(reached);
+        self.lacked = None;
+        Ok(())
+    }
+
+    /// The first wait that is not reached yet lacks.
+    pub fn lack(&mut self, lacking: Lacking)
+        requires { next_wait self.old ≡ Some lacking.point }
+        ensures { self.new ≡ record self.old { lacked = Some lacking } }
+    {
+        self.lacked = Some(lacking);
+    }
 }
 
 impl Queue {
@@ -51,7 +89,7 @@ impl Queue {
             put: 0,
             waiting: VecDeque::new(alloc),
             hand: None,
-            owed: VecDeque::new(alloc),
+            owed: Vec::new(alloc),
         }
     }
 
@@ -82,6 +120,120 @@ impl Queue {
         push(&mut self.waiting, request)?;
         self.put = number + 1;
         Ok(number)
+    }
+
+    /// Takes the request at the front in hand, where one waits, none is in hand and nothing is owed. Whether it did.
+    pub fn take(&mut self, alloc: Global) -> bool
+        ensures took { result ≡ true → TookFront self.old self.new }
+        ensures not { result ≡ false → MayTake self.old → ⊥ }
+        ensures same { result ≡ false → self.new ≡ self.old }
+    {
+        if self.hand.is_some() || !self.owed.is_empty() {
+            return false;
+        }
+        let Some(request) = self.waiting.pop_front() else {
+            return false;
+        };
+        self.hand = Some(Hand {
+            request,
+            reached: Vec::new(alloc),
+            lacked: None,
+        });
+        true
+    }
+
+    /// The first wait, of the request in hand, that is not reached yet.
+    pub fn wait(&self) -> Option<Point>
+        ensures { result ≡ wait_of self.now }
+    {
+        match &self.hand {
+            Some(hand) => hand.wait(),
+            None => None,
+        }
+    }
+
+    /// That wait is reached. `OutOfMemory` leaves all as it was.
+    pub fn reach(&mut self, reached: Reached) -> Result<(), OutOfMemory>
+        requires { wait_of self.old ≡ Some reached.point }
+        ensures ok { OnOk result (self.new ≡ with_reached reached self.old) }
+        ensures err { OnErr result (self.new ≡ self.old) }
+    {
+        match &mut self.hand {
+            Some(hand) => hand.reach(reached),
+            None => Ok(()),
+        }
+    }
+
+    /// That wait lacks.
+    pub fn lack(&mut self, lacking: Lacking)
+        requires { wait_of self.old ≡ Some lacking.point }
+        ensures { self.new ≡ with_lacked lacking self.old }
+    {
+        match &mut self.hand {
+            Some(hand) => hand.lack(lacking),
+            None => {}
+        }
+    }
+
+    /// Gives the request in hand away, where each of its waits is reached.
+    pub fn ready(&mut self) -> Option<Hand>
+        ensures not { IfNone result (IsReady self.old → ⊥) }
+        ensures same { IfNone result (self.new ≡ self.old) }
+        ensures hand { IfSome result (λ hand. self.old.hand ≡ Some hand) }
+        ensures reached { IfSome result (λ hand. next_wait hand ≡ None) }
+        ensures gone { IfSome result (λ hand. self.new ≡ without_hand self.old) }
+    {
+        match &self.hand {
+            None => return None,
+            Some(hand) => {
+                if hand.wait().is_some() {
+                    return None;
+                }
+            }
+        }
+        self.hand.take()
+    }
+
+    /// Gives the request in hand away, where its last look lacked.
+    pub fn lacking(&mut self) -> Option<Hand>
+        ensures not { IfNone result (IsLacking self.old → ⊥) }
+        ensures same { IfNone result (self.new ≡ self.old) }
+        ensures hand { IfSome result (λ hand. self.old.hand ≡ Some hand) }
+        ensures lacked { IfSome result (λ hand. hand.lacked ≢ None) }
+        ensures gone { IfSome result (λ hand. self.new ≡ without_hand self.old) }
+    {
+        match &self.hand {
+            None => return None,
+            Some(hand) => {
+                if hand.lacked.is_none() {
+                    return None;
+                }
+            }
+        }
+        self.hand.take()
+    }
+
+    /// Takes a request in hand.
+    pub fn hold(&mut self, hand: Hand)
+        ensures { self.new ≡ record self.old { hand = Some hand } }
+    {
+        self.hand = Some(hand);
+    }
+
+    /// Owes these signals, the first one last, and no others.
+    pub fn owe(&mut self, signals: Vec<Point>)
+        ensures { self.new ≡ record self.old { owed = reverse signals.items } }
+    {
+        self.owed = signals;
+    }
+
+    /// Takes the first signal off those owed.
+    pub fn pay(&mut self) -> Option<Point>
+        ensures none { IfNone result (self.old.owed ≡ []) }
+        ensures same { IfNone result (self.new ≡ self.old) }
+        ensures paid { IfSome result (λ point. PaidFirst self.old point self.new) }
+    {
+        self.owed.pop()
     }
 }
 

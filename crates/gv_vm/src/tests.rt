@@ -1,4 +1,6 @@
+mod calls;
 mod entries;
+mod events;
 mod fixtures;
 mod jobs;
 mod limits;

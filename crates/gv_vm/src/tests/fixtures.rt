@@ -46,6 +46,29 @@ pub fn zero(page: u32) -> Op {
     }
 }
 
+/// A map of no page, which is refused.
+pub fn empty(page: u32) -> Op {
+    Op::MapZero {
+        addr: u64::from(page) * PAGE_BYTES,
+        len: 0,
+        flags: Flags { read_only: false },
+    }
+}
+
+/// A request with points to wait for and points to signal.
+pub fn timed(
+    alloc: Global,
+    ops: &[Op],
+    waits: &[Point],
+    signals: &[Point],
+) -> Result<Request, AllocError> {
+    Ok(Request {
+        ops: Vec::from_slice(alloc, ops)?,
+        waits: Vec::from_slice(alloc, waits)?,
+        signals: Vec::from_slice(alloc, signals)?,
+    })
+}
+
 /// A request that waits for nothing.
 pub fn request(alloc: Global, ops: &[Op]) -> Result<Request, AllocError>
     ensures { IfOk result (λ r. r.waits.items ≡ []) }

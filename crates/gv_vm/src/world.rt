@@ -1,0 +1,149 @@
+//! The world: one address space, the numbers of its timelines, and queues of requests. It runs events one at a time.
+ghost use Rattle.std.specs.Prelude.{◌≡◌, ◌<◌, ◌≤◌, IfOk, replicate};
+ghost use Rattle.gv_types.specs.Limits.{IsFromOneTo};
+ghost use Rattle.gv_sync.specs.Seats.{most_timelines};
+ghost use Rattle.gv_vm.specs.Outcomes.{queues as most_queues};
+ghost use Rattle.gv_vm.specs.World.{new_queue};
+
+use crate::event::{Event, Reply};
+use crate::queue::Queue;
+use crate::vm::Vm;
+use gv_sync::Clock;
+use gv_types::{Bounds, Limits, OutOfMemory};
+use std::alloc::Global;
+use std::marker::Model;
+
+mod calls;
+mod requests;
+mod run;
+
+pub use run::Stopped;
+
+/// One address space with the requests that wait for it. It owns a `Vm`, so it is not `Drop`: a program that lets one go
+/// without closing it is refused.
+pub struct World {
+    vm: Vm,
+    clock: Clock,
+    depth: u64,
+    queues: Vec<Queue>,
+}
+
+impl Model for World {
+    ghost use Rattle.gv_vm.specs.World.{World as WorldState};
+
+    ghost Value = { WorldState };
+
+    ghost use Rattle.gv_vm.specs.WorldInside.{world_of, IsSound};
+
+    ghost view = { world_of };
+
+    ghost invariant = { IsSound };
+}
+
+impl World {
+    ghost use Rattle.gv_vm.specs.World.{new_world};
+    ghost use Rattle.gv_vm.specs.State.{IsMachine};
+    ghost use Rattle.gv_vm.specs.Step.{IsStep};
+    ghost use Rattle.gv_vm.specs.Headline.{Says};
+
+    /// A world that holds nothing, in which nothing was put and every timeline is at 0. `queues` from 1 to 16, `depth`
+    /// places each for requests that wait, from 1 to 65,536, and `timelines` from 1 to 64. It asks for room for the first
+    /// things alone, and for none that grows with `depth`.
+    pub fn new(
+        alloc: Global,
+        bounds: Bounds,
+        limits: Limits,
+        queues: u64,
+        depth: u64,
+        timelines: u64,
+    ) -> Result<World, OutOfMemory>
+        requires queues { IsFromOneTo most_queues queues }
+        requires depth { IsFromOneTo 65536 depth }
+        requires timelines { IsFromOneTo most_timelines timelines }
+        ensures { IfOk result (λ w. w ≡ new_world bounds limits queues depth timelines) }
+    {
+        let clock = Clock::new(alloc, timelines)?;
+        let queues = no_requests(alloc, queues)?;
+        let vm = match Vm::new(alloc, bounds, limits) {
+            Ok(vm) => vm,
+            Err(_) => return Err(OutOfMemory),
+        };
+        Ok(World {
+            vm,
+            clock,
+            depth,
+            queues,
+        })
+    }
+
+    /// The machine.
+    pub fn vm(&self) -> &Vm
+        ensures { result.now ≡ self.now.machine }
+    {
+        &self.vm
+    }
+
+    /// The numbers of its timelines.
+    pub fn clock(&self) -> &Clock
+        ensures { result.now ≡ self.now.numbers }
+    {
+        &self.clock
+    }
+
+    /// Carries out one event and answers it. `Idle` exactly where it is not enabled, and then nothing changes. `OutOfMemory`
+    /// comes only at an event that may grow (`Put`, `Look`, `Bind`, `GiveUp`, `Create`, `Withdraw`, `JobBegin`, where it is
+    /// enabled and not refused before), and all is as it was, but for room; a request that was to be put is dropped.
+    pub fn step(&mut self, alloc: Global, event: Event) -> Result<Reply, OutOfMemory>
+        ensures step { IsStep self.old event result self.new }
+        ensures says { IfOk result (λ reply. Says self.old event reply self.new) }
+    {
+        let _before = self.vm.space();
+        let reply = self.carry(alloc, event);
+        let _after = self.vm.space();
+        reply
+    }
+
+    fn carry(&mut self, alloc: Global, event: Event) -> Result<Reply, OutOfMemory>
+        ensures { IsStep self.old event result self.new }
+    {
+        match event {
+            Event::Put { queue, request } => self.put(queue, request),
+            Event::Take { queue } => Ok(self.take(alloc, queue)),
+            Event::Look { queue } => self.look(queue),
+            Event::Bind { queue } => self.bind(alloc, queue),
+            Event::GiveUp { queue } => self.give_up(queue),
+            Event::Pay { queue } => Ok(self.pay(queue)),
+            Event::Raise { point } => Ok(self.raise(point)),
+            Event::Create { pages } => self.create(alloc, pages),
+            Event::Destroy { id } => Ok(self.destroy(id)),
+            Event::Rewind => Ok(self.rewind()),
+            Event::Withdraw { entry } => self.withdraw(alloc, entry),
+            Event::Settle { to } => Ok(self.settle(to)),
+            Event::JobBegin { accesses } => self.job_begin(alloc, accesses),
+            Event::JobEnd { job } => Ok(self.job_end(job)),
+            Event::Translate { addr } => Ok(self.translate(addr)),
+        }
+    }
+
+    /// Closes its machine: all undo values are given up and all jobs end. It takes no memory.
+    pub fn close(self) {
+        let World {
+            vm,
+            clock: _,
+            depth: _,
+            queues: _,
+        } = self;
+        vm.close();
+    }
+}
+
+/// So many queues on which nothing was put.
+fn no_requests(alloc: Global, count: u64) -> Result<Vec<Queue>, OutOfMemory>
+    ensures { IfOk result (λ queues. queues.items ≡ replicate count new_queue) }
+{
+    let mut queues = Vec::with_capacity(alloc, count as usize)?;
+    for queue in 0..count {
+        queues.push_reserved(Queue::new(alloc));
+    }
+    Ok(queues)
+}
