@@ -35,3 +35,4 @@ pub mod AlikeChangeLemmas
 pub mod AlikeSettledLemmas
 pub mod RenamedMakingLemmas
 pub mod RenamedCountLemmas
+pub mod AlikeNamesLemmas
