@@ -107,7 +107,7 @@ module _ (ids ids' : List BufferId) (s s' : AddressSpace) (j j' : Journaled) (al
 
 -- What rewinding leaves.
 
-reverted_bare : (s : AddressSpace) (us : List UndoValue) → each uncounted (reverted_by s us).buffers ≡ each uncounted s.buffers
+pub reverted_bare : (s : AddressSpace) (us : List UndoValue) → each uncounted (reverted_by s us).buffers ≡ each uncounted s.buffers
 reverted_bare s [] = refl
 reverted_bare s (u ∷ older) =
     let before : List Mapping = undone s.mappings u.change in

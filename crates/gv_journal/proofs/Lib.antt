@@ -43,3 +43,4 @@ pub mod AlikeChangeLemmas
 pub mod AlikeSettledLemmas
 pub mod RenamedMakingLemmas
 pub mod RenamedCountLemmas
+pub mod AlikeNamesLemmas

@@ -16,3 +16,4 @@ pub mod Step
 pub mod Run
 pub mod Headline
 pub mod Renamed
+pub mod Alike

@@ -1,0 +1,84 @@
+-- Two worlds that tell the same by the new names of their buffers: these may have other indexes, spaces other room, and undo
+-- values other insides.
+use Rattle.std.specs.Prelude.{◌≡◌, ◌≢◌, ℕ, List, [], ◌∷◌, ◌++◌, map, Option, Some, None}
+use Rattle.std.specs.List.{All}
+use Rattle.std.specs.Option.{option_map}
+use Rattle.gv_types.specs.Renamed.{renamed, renamed_bytes, IsOf}
+use Rattle.gv_types.specs.declared.fault.Fault.TheVariants.{OutOfMemory}
+use Rattle.gv_types.specs.declared.mapping.BufferId.{BufferId}
+use Rattle.gv_types.specs.declared.operation.Op.{Op}
+use Rattle.gv_types.specs.declared.request.Point.{Point}
+use Rattle.gv_types.specs.declared.request.Request.{Request}
+use Rattle.gv_sync.specs.Sights.{Sight}
+use Rattle.gv_journal.specs.Renamed.{AreRequested, AreDoneOf}
+use Rattle.gv_journal.specs.Alike.{AreAlike, AreIdsOf}
+use Rattle.gv_vm.specs.State.{Machine, IsMachine}
+use Rattle.gv_vm.specs.World.{World, Queue, InHand}
+use Rattle.gv_vm.specs.Renamed.{renamed_place, renamed_running}
+use Rattle.gv_vm.specs.declared.event.Event.{Event}
+use Rattle.gv_vm.specs.declared.event.Event.TheVariants.{Put, Take, Look, Bind, GiveUp, Pay, Raise, Create, Destroy, Rewind, Withdraw, Settle, JobBegin, JobEnd, Translate}
+use Rattle.gv_vm.specs.declared.event.Reply.{Reply}
+use Rattle.gv_vm.specs.declared.event.Reply.TheVariants.{Idle, Put as IsPut, NotPut, Taken, Reached, Lacking, Told, Raised, Created, Destroyed, Rewound, Withdrawn, Settled, Begun, Ended, Found, Refused}
+use Rattle.gv_vm.specs.declared.outcome.Outcome.TheVariants.{Refused as RefusedAt}
+
+-- a request as it is told
+pub record SeenRequest : Type 0 where
+  pub ops : List Op
+  pub waits : List Point
+  pub signals : List Point
+
+abbrev pub seen_request : Request → SeenRequest
+seen_request request =
+    record { ops = map renamed_bytes request.ops.items; waits = request.waits.items; signals = request.signals.items }
+
+pub record SeenHand : Type 0 where
+  pub request : SeenRequest
+  pub reached : List Sight
+  pub lacked : Option Sight
+
+abbrev pub seen_hand : InHand → SeenHand
+seen_hand hand = record { request = seen_request hand.request; reached = hand.reached; lacked = hand.lacked }
+
+-- a queue as it is told
+pub record SeenQueue : Type 0 where
+  pub put : ℕ
+  pub waiting : List SeenRequest
+  pub hand : Option SeenHand
+  pub owed : List Point
+
+abbrev pub seen_queue : Queue → SeenQueue
+seen_queue q = record { put = q.put; waiting = map seen_request q.waiting; hand = option_map seen_hand q.hand; owed = q.owed }
+
+-- machines that tell the same
+pub record AreAlikeMachines (ids ids' : List BufferId) (v v' : Machine) : Type 0 where
+  pub entries : AreAlike ids ids' v.space v'.space v.journal v'.journal
+  pub running : renamed_running v.running ≡ renamed_running v'.running
+  pub told : v.told ≡ v'.told
+
+-- worlds that do
+pub record AreAlikeWorlds (ids ids' : List BufferId) (w w' : World) : Type 0 where
+  pub machine : AreAlikeMachines ids ids' w.machine w'.machine
+  pub numbers : w.numbers ≡ w'.numbers
+  pub depth : w.depth ≡ w'.depth
+  pub queues : map seen_queue w.queues ≡ map seen_queue w'.queues
+
+abbrev pub IsHandOf : List BufferId → Option InHand → Type 0
+IsHandOf ids None = Unit {0}
+IsHandOf ids (Some hand) = AreRequested ids hand.request.ops.items
+
+-- the requests of a queue name buffers that were made
+pub record IsQueueOf (ids : List BufferId) (q : Queue) : Type 0 where
+  pub waiting : All (λ request. AreRequested ids request.ops.items) q.waiting
+  pub hand : IsHandOf ids q.hand
+
+-- The ids are those of the buffers that were made, all that the world names is one of them, and its machine is as it has to be.
+pub record IsWorldOf (ids : List BufferId) (w : World) : Type 0 where
+  pub named : AreIdsOf ids w.machine.space.buffers
+  pub done : AreDoneOf ids w.machine.journal.items
+  pub queues : All (IsQueueOf ids) w.queues
+  pub machine : IsMachine w.machine
+
+-- the ids once a buffer is made
+abbrev pub ids_after : List BufferId → Reply → List BufferId
+ids_after ids (Created id) = ids ++ id ∷ []
+ids_after ids _ = ids
