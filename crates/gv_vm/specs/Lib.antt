@@ -15,3 +15,5 @@ pub mod Turns
 pub mod Step
 pub mod Run
 pub mod Headline
+pub mod Past
+pub mod Laws

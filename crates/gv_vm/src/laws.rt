@@ -1,0 +1,17 @@
+//! Laws of worlds, each proved once for all callers.
+ghost use Rattle.gv_vm.specs.Laws.{RequestsStayInOrder, WhatIsToldWasPut, NoTimelineFalls, TimelinesFollowRaises};
+
+/// What a queue has after any run of a new world: requests are told in the order in which they were put, each once, and only
+/// accepted ones are signalled.
+pub fn queues()
+    ensures order { RequestsStayInOrder }
+    ensures told { WhatIsToldWasPut }
+{}
+
+/// What the timelines have after any run.
+pub fn timelines()
+    ensures rise { NoTimelineFalls }
+    ensures raises { TimelinesFollowRaises }
+{
+    gv_sync::laws::raises();
+}
