@@ -1,5 +1,5 @@
 -- Each step of a world goes on with what its queues remember.
-use Rattle.std.proofs.Common.{◌≡◌, ◌≢◌, ℕ, zero, suc, ◌+◌, ◌-◌, ◌<◌, ◌≤◌, true, false, Bool, cond, eqb, List, [], ◌∷◌, ◌++◌, length, replicate, arith, refl, sym, ◌∙◌, ap, subst, append-nil, Some, None}
+use Rattle.std.proofs.Common.{◌≡◌, ◌≢◌, ℕ, zero, suc, ◌+◌, ◌-◌, ◌<◌, ◌≤◌, true, false, Bool, cond, eqb, List, [], ◌∷◌, ◌++◌, length, replicate, map, arith, refl, sym, ◌∙◌, ap, subst, append-nil, Some, None, Option}
 use Rattle.std.specs.Prelude.{slice_get, slice_set, slice_index_or}
 use Rattle.std.specs.List.{All}
 use Rattle.std.proofs.lemmas.List.{get_or-set_same, get_or-set_other, length-set, length-append}
@@ -18,15 +18,16 @@ use Rattle.gv_vm.specs.State.{Machine}
 use Rattle.gv_vm.specs.World.{World, InHand, Queue, new_queue, new_world, queue_at, with_queue, next_number}
 use Rattle.gv_vm.specs.Outcomes.{told_to, with_outcome}
 use Rattle.gv_vm.specs.Told.{CameTo}
-use Rattle.gv_vm.specs.Step.{step, owed_for, IsAsBefore, IsBoundNow, IsGivenUp, IsPaid, IsReachedNow, IsLackingNow, IsRewoundNow, IsWithdrawnNow, IsSettledNow}
+use Rattle.gv_vm.specs.Step.{step, owed_for, IsAsBefore, CanBind, IsBoundNow, IsGivenUp, IsPaid, IsReachedNow, IsLackingNow, IsRewoundNow, IsWithdrawnNow, IsSettledNow}
 use Rattle.gv_vm.specs.Run.{run}
-use Rattle.gv_vm.specs.Past.{Past, no_past, after_event, one_more, past_from, due_for, HoldsPut, IsQueueAfter, AreHeldAsPut, AreAfter, IsAfterPast}
+use Rattle.gv_vm.specs.Past.{Past, HasReached, IsInTurn, HasReachedAll, no_past, after_event, one_more, past_from, due_for, HoldsPut, IsQueueAfter, AreHeldAsPut, AreAfter, IsAfterPast}
 use Rattle.gv_vm.specs.declared.event.Event.{Event}
 use Rattle.gv_vm.specs.declared.event.Event.TheVariants.{Put, Take, Look, Bind, GiveUp, Pay, Raise, Create, Destroy, Rewind, Withdraw, Settle, JobBegin, JobEnd, Translate}
 use Rattle.gv_vm.specs.declared.event.Reply.{Reply}
 use Rattle.gv_vm.specs.declared.event.Reply.TheVariants.{Idle, Put as IsPut, NotPut, Taken, Reached, Lacking, Told, Raised, Created, Destroyed, Rewound, Withdrawn, Settled, Begun, Ended, Found, Refused}
 use Rattle.gv_vm.specs.declared.outcome.Outcome.{Outcome}
 use Rattle.gv_vm.specs.declared.outcome.Outcome.TheVariants.{Accepted, Refused as RefusedAt, NotReady}
+use Rattle.gv_vm.proofs.Turning.{all_reached}
 use Rattle.gv_vm.proofs.Pasts.{after_put, after_take, after_reach, after_lack, after_bind, after_give_up, after_pay, after_turn, put_in_hand, held_more}
 
 -- the queues and what they were told are as before
@@ -152,7 +153,7 @@ reaches queue n p old new point seen st h =
     let enough : point.value ≤ seen = subst (λ (k : ℕ). point.value ≤ k) (sym (ap (λ (s : Sight). s.number) st.seen_is)) st.reached in
     quiet queue n p (record p { looked = p.looked ++ sight point seen ∷ [] }) old new (record (queue_at old n) { hand = Some (record hand { reached = hand.reached ++ sight point seen ∷ []; lacked = None }) }) st.enabled.has.there
     (ap queues_in st.state) (ap told_in st.state) (ap journal_in st.state) (λ is. h.items_are)
-    (λ is before. after_reach p (length (told_to old.machine.told n)) (queue_at old n) hand (sight point seen) st.enabled.has.is enough before) h
+    (λ is before. after_reach p (length (told_to old.machine.told n)) (queue_at old n) hand (sight point seen) st.enabled.has.is (st.enabled.wait ∙ ap (λ (x : Point). Some x) (sym st.point_is)) enough before) h
 
 lacks : (queue n : ℕ) (p : Past) (old new : World) (point : Point) (have : ℕ) → IsLackingNow old n point have new → IsAfterPast queue p old → IsAfterPast queue (one_more queue (Look n) (Lacking point have) p) new
 lacks queue n p old new point have st h =
@@ -239,7 +240,7 @@ at_first queue area limits queues depth timelines few =
       there = omega (arith, length-replicate queues new_queue, few);
       queue_is = subst (λ (os : List Outcome). IsQueueAfter no_past (length os) (slice_index_or (replicate queues new_queue) queue new_queue)) (sym none)
           (subst (λ (q : Queue). IsQueueAfter no_past 0 q) (sym empty)
-          (record { few = omega arith; rest = refl; put = refl; looked = tt; reached = All-nil (λ s. s.point.value ≤ s.number); free = tt; signals = refl }));
+          (record { few = omega arith; rest = refl; put = refl; looked = tt; in_turn = tt; reached = All-nil (λ s. s.point.value ≤ s.number); free = tt; signals = refl }));
       items_are = All-nil (λ x. HoldsPut queue [] x.kind);
     }
 
@@ -252,3 +253,15 @@ pub told_was_put : (area : Area) (limits : Caps) (queues depth timelines queue :
     run (new_world area limits queues depth timelines) events replies w → (queue_at w queue).hand ≡ Some hand → slice_get (past_from queue no_past events replies).puts (next_number w queue) ≡ Some hand.request
 told_was_put area limits queues depth timelines queue events replies w hand few ran is =
     put_in_hand (past_from queue no_past events replies) (next_number w queue) (queue_at w queue) hand is (runs_remember area limits queues depth timelines queue events replies w few ran).queue_is
+
+pub waits_were_reached : (area : Area) (limits : Caps) (queues depth timelines queue : ℕ) (events : List Event) (replies : List Reply) (w : World) (can : CanBind w queue) → queues ≤ 16 →
+    run (new_world area limits queues depth timelines) events replies w → HasReachedAll (past_from queue no_past events replies) can.has.hand.request
+waits_were_reached area limits queues depth timelines queue events replies w can few ran =
+    let p : Past = past_from queue no_past events replies in
+    let hand : InHand = can.has.hand in
+    let h : IsQueueAfter p (next_number w queue) (queue_at w queue) = (runs_remember area limits queues depth timelines queue events replies w few ran).queue_is in
+    let looked : hand.reached ≡ p.looked = subst (λ (o : Option InHand). HasReached o p.looked) can.has.is h.looked in
+    record {
+      points = ap (λ (ss : List Sight). map (λ (x : Sight). x.point) ss) (sym looked) ∙ all_reached hand (subst IsInTurn can.has.is h.in_turn) can.reached;
+      reached = h.reached;
+    }

@@ -1,5 +1,5 @@
 -- What a queue remembers of the events before, step by step.
-use Rattle.std.proofs.Common.{◌≡◌, ◌≢◌, ℕ, zero, suc, ◌+◌, ◌<◌, ◌≤◌, true, false, Bool, cond, eqb, List, [], ◌∷◌, ◌++◌, length, drop, take, arith, refl, sym, ◌∙◌, ap, subst, append_assoc, append-nil, Some, None, Option}
+use Rattle.std.proofs.Common.{◌≡◌, ◌≢◌, ℕ, zero, suc, ◌+◌, ◌<◌, ◌≤◌, true, false, Bool, cond, eqb, List, [], ◌∷◌, ◌++◌, length, map, drop, take, arith, refl, sym, ◌∙◌, ap, subst, append_assoc, append-nil, Some, None, Option}
 use Rattle.std.specs.Prelude.{slice_get, slice_set, slice_index_or}
 use Rattle.std.specs.List.{All}
 use Rattle.std.proofs.lemmas.Bool.{eqb-true, eqb-false}
@@ -11,11 +11,12 @@ use Rattle.gv_sync.specs.Sights.{Sight}
 use Rattle.gv_journal.specs.declared.item.Item.{Item}
 use Rattle.gv_journal.specs.declared.item.ItemKind.{ItemKind}
 use Rattle.gv_journal.specs.declared.item.ItemKind.TheVariants.{Bind as BindItem, Withdrawal}
-use Rattle.gv_vm.specs.World.{InHand, Queue, new_queue, taken}
+use Rattle.gv_vm.specs.World.{InHand, Queue, new_queue, taken, next_wait}
 use Rattle.gv_vm.specs.Outcomes.{told_to, with_outcome}
 use Rattle.gv_vm.specs.Step.{owed_for}
-use Rattle.gv_vm.specs.Past.{Past, signals_of, due_for, held_in, held_by, HasReached, HasNoDebt, HoldsPut, IsQueueAfter, AreHeldAsPut, AreAfter}
+use Rattle.gv_vm.specs.Past.{Past, signals_of, due_for, held_in, held_by, HasReached, IsInTurn, HasNoDebt, HoldsPut, IsQueueAfter, AreHeldAsPut, AreAfter}
 use Rattle.gv_vm.specs.declared.outcome.Outcome.{Outcome}
+use Rattle.gv_vm.proofs.Turning.{points_more}
 use Rattle.gv_vm.specs.declared.outcome.Outcome.TheVariants.{Accepted, Refused, NotReady}
 
 drop-push : {X : Type 0} (xs : List X) (n : ℕ) (x : X) → n ≤ length xs → drop n (xs ++ x ∷ []) ≡ drop n xs ++ x ∷ []
@@ -58,6 +59,7 @@ after_put p told q r h = record {
   rest = drop-push p.puts told r h.few ∙ ap (λ (rs : List Request). rs ++ r ∷ []) h.rest ∙ held-push q.hand q.waiting r;
   put = omega (arith, h.put, length-append p.puts (r ∷ []));
   looked = h.looked;
+  in_turn = h.in_turn;
   reached = h.reached;
   free = h.free;
   signals = h.signals;
@@ -71,21 +73,24 @@ after_take p told q r later front none paid h = record {
   rest = h.rest ∙ ap (λ (o : Option InHand). held_in o q.waiting) none ∙ front;
   put = h.put;
   looked = refl;
+  in_turn = refl;
   reached = All-nil (λ s. s.point.value ≤ s.number);
   free = paid;
   signals = h.signals;
 }
 
 -- one wait more is reached
-pub after_reach : (p : Past) (told : ℕ) (q : Queue) (hand : InHand) (s : Sight) → q.hand ≡ Some hand → s.point.value ≤ s.number → IsQueueAfter p told q →
+pub after_reach : (p : Past) (told : ℕ) (q : Queue) (hand : InHand) (s : Sight) → q.hand ≡ Some hand → next_wait hand ≡ Some s.point → s.point.value ≤ s.number → IsQueueAfter p told q →
     IsQueueAfter (record p { looked = p.looked ++ s ∷ [] }) told (record q { hand = Some (record hand { reached = hand.reached ++ s ∷ []; lacked = None }) })
-after_reach p told q hand s is enough h =
+after_reach p told q hand s is wait enough h =
+    let turn : map (λ (x : Sight). x.point) hand.reached ≡ take (length hand.reached) hand.request.waits.items = subst IsInTurn is h.in_turn in
     let looked : hand.reached ≡ p.looked = subst (λ (o : Option InHand). HasReached o p.looked) is h.looked in
     record {
       few = h.few;
       rest = h.rest ∙ ap (λ (o : Option InHand). held_in o q.waiting) is;
       put = h.put;
       looked = ap (λ (ss : List Sight). ss ++ s ∷ []) looked;
+      in_turn = points_more hand s turn wait;
       reached = All-push (λ s. s.point.value ≤ s.number) p.looked s h.reached enough;
       free = subst (λ (o : Option InHand). HasNoDebt o q.owed) is h.free;
       signals = h.signals;
@@ -99,6 +104,7 @@ after_lack p told q hand s is h = record {
   rest = h.rest ∙ ap (λ (o : Option InHand). held_in o q.waiting) is;
   put = h.put;
   looked = subst (λ (o : Option InHand). HasReached o p.looked) is h.looked;
+  in_turn = subst IsInTurn is h.in_turn;
   reached = h.reached;
   free = subst (λ (o : Option InHand). HasNoDebt o q.owed) is h.free;
   signals = h.signals;
@@ -118,6 +124,7 @@ after_told p told q hand owed due is signals h =
       rest = drop-one p.puts told hand.request q.waiting rest;
       put = h.put;
       looked = tt;
+      in_turn = tt;
       reached = h.reached;
       free = tt;
       signals = signals;
@@ -147,6 +154,7 @@ after_pay p told q point later owed h = record {
   rest = h.rest;
   put = h.put;
   looked = h.looked;
+  in_turn = h.in_turn;
   reached = h.reached;
   free = elim q.hand as (λ o. HasNoDebt o q.owed → HasNoDebt o later) [
     | None ↦ (λ _. tt)

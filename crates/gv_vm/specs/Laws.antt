@@ -6,8 +6,9 @@ use Rattle.gv_types.specs.declared.request.Request.{Request}
 use Rattle.gv_sync.specs.Raises.{IsAfter}
 use Rattle.gv_vm.specs.Outcomes.{queues as most_queues}
 use Rattle.gv_vm.specs.World.{World, InHand, queue_at, next_number, new_world}
+use Rattle.gv_vm.specs.Step.{CanBind}
 use Rattle.gv_vm.specs.Run.{run}
-use Rattle.gv_vm.specs.Past.{no_past, past_from, raised_by, IsAfterPast}
+use Rattle.gv_vm.specs.Past.{no_past, past_from, raised_by, HasReachedAll, IsAfterPast}
 use Rattle.gv_vm.specs.declared.event.Event.{Event}
 use Rattle.gv_vm.specs.declared.event.Reply.{Reply}
 
@@ -25,6 +26,13 @@ WhatIsToldWasPut =
     (area : Area) (limits : Caps) (queues depth timelines queue : ℕ) (events : List Event) (replies : List Reply) (w : World) (hand : InHand)
     → queues ≤ most_queues → run (new_world area limits queues depth timelines) events replies w → (queue_at w queue).hand ≡ Some hand
     → slice_get (past_from queue no_past events replies).puts (next_number w queue) ≡ Some hand.request
+
+-- a request is carried out only where looks at all its waits reached them, since it was taken
+abbrev pub WaitsAreReachedFirst : Type 0
+WaitsAreReachedFirst =
+    (area : Area) (limits : Caps) (queues depth timelines queue : ℕ) (events : List Event) (replies : List Reply) (w : World) (can : CanBind w queue)
+    → queues ≤ most_queues → run (new_world area limits queues depth timelines) events replies w
+    → HasReachedAll (past_from queue no_past events replies) can.has.hand.request
 
 -- no timeline falls, whatever is taken back
 abbrev pub NoTimelineFalls : Type 0

@@ -1,5 +1,5 @@
 -- What events did on one queue, as their replies tell it, and what a world has to do with it.
-use Rattle.std.specs.Prelude.{◌≡◌, ◌==◌, ℕ, ◌≤◌, Bool, false, if◌then◌else◌, List, [], ◌∷◌, ◌++◌, length, drop, slice_get, slice_index_or, Option, Some, None}
+use Rattle.std.specs.Prelude.{◌≡◌, ◌==◌, ℕ, ◌≤◌, Bool, false, if◌then◌else◌, List, [], ◌∷◌, ◌++◌, length, map, take, drop, slice_get, slice_index_or, Option, Some, None}
 use Rattle.std.specs.List.{All}
 use Rattle.gv_types.specs.declared.request.Point.{Point}
 use Rattle.gv_types.specs.declared.request.Request.{Request}
@@ -83,6 +83,11 @@ abbrev pub HoldsPut : ℕ → List Request → ItemKind → Type 0
 HoldsPut queue puts (BindItem n number request seen done) = n ≡ queue → slice_get puts number ≡ Some request
 HoldsPut queue puts (Withdrawal of) = Unit {0}
 
+-- those are its first waits, in order
+abbrev pub IsInTurn : Option InHand → Type 0
+IsInTurn None = Unit {0}
+IsInTurn (Some h) = map (λ s. s.point) h.reached ≡ take (length h.reached) h.request.waits.items
+
 -- nothing is owed while a request is in hand
 abbrev pub HasNoDebt : Option InHand → List Point → Type 0
 HasNoDebt None owed = Unit {0}
@@ -96,6 +101,7 @@ pub record IsQueueAfter (p : Past) (told : ℕ) (q : Queue) : Type 0 where
   pub rest : drop told p.puts ≡ held_by q
   pub put : q.put ≡ length p.puts
   pub looked : HasReached q.hand p.looked
+  pub in_turn : IsInTurn q.hand
   pub reached : All (λ s. s.point.value ≤ s.number) p.looked
   pub free : HasNoDebt q.hand q.owed
   pub signals : p.paid ++ q.owed ≡ p.due
@@ -111,6 +117,11 @@ pub record AreAfter (queue : ℕ) (p : Past) (told : List (List Outcome)) (queue
 
 abbrev pub IsAfterPast : ℕ → Past → World → Type 0
 IsAfterPast queue p w = AreAfter queue p w.machine.told w.queues w.machine.journal.items
+
+-- looks reached all waits of a request, in order
+pub record HasReachedAll (p : Past) (request : Request) : Type 0 where
+  pub points : map (λ s. s.point) p.looked ≡ request.waits.items
+  pub reached : All (λ s. s.point.value ≤ s.number) p.looked
 
 -- the points that were raised
 abbrev pub raised_by : List Reply → List Point
