@@ -1,15 +1,18 @@
 -- Laws of runs from a new world.
-use Rattle.std.specs.Prelude.{◌≡◌, ℕ, ◌≤◌, List, length, slice_get, slice_index, Some}
+use Rattle.std.specs.Prelude.{◌≡◌, ◌≢◌, ℕ, ◌<◌, ◌≤◌, List, length, slice_get, slice_index, Some}
+use Rattle.std.specs.List.{All}
 use Rattle.gv_types.specs.Bounds.{Area}
 use Rattle.gv_types.specs.Limits.{Caps}
 use Rattle.gv_types.specs.declared.request.Request.{Request}
 use Rattle.gv_sync.specs.Raises.{IsAfter}
+use Rattle.gv_vm.specs.Jobs.{places_in}
 use Rattle.gv_vm.specs.Outcomes.{queues as most_queues}
 use Rattle.gv_vm.specs.World.{World, InHand, queue_at, next_number, new_world}
 use Rattle.gv_vm.specs.Step.{CanBind}
 use Rattle.gv_vm.specs.Run.{run}
 use Rattle.gv_vm.specs.Past.{no_past, past_from, raised_by, HasReachedAll, IsAfterPast}
 use Rattle.gv_vm.specs.declared.event.Event.{Event}
+use Rattle.gv_vm.specs.declared.event.Event.TheVariants.{JobEnd}
 use Rattle.gv_vm.specs.declared.event.Reply.{Reply}
 
 -- Of the requests that were put on a queue the first ones are told, each once, in order, and the others are the one in hand and
@@ -45,3 +48,9 @@ abbrev pub TimelinesFollowRaises : Type 0
 TimelinesFollowRaises =
     (area : Area) (limits : Caps) (queues depth timelines : ℕ) (events : List Event) (replies : List Reply) (w : World)
     → run (new_world area limits queues depth timelines) events replies w → IsAfter (raised_by replies) w.numbers
+
+-- a job keeps its places until it ends, whatever is unmapped or taken back meanwhile, and no other job gets its number
+abbrev pub JobsKeepTheirPlaces : Type 0
+JobsKeepTheirPlaces =
+    (old new : World) (events : List Event) (replies : List Reply) (number : ℕ) → run old events replies new → number < old.machine.running.begun
+    → All (λ event. event ≢ JobEnd number) events → places_in new.machine.running.jobs number ≡ places_in old.machine.running.jobs number

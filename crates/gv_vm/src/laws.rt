@@ -1,5 +1,5 @@
 //! Laws of worlds, each proved once for all callers.
-ghost use Rattle.gv_vm.specs.Laws.{RequestsStayInOrder, WhatIsToldWasPut, WaitsAreReachedFirst, NoTimelineFalls, TimelinesFollowRaises};
+ghost use Rattle.gv_vm.specs.Laws.{RequestsStayInOrder, WhatIsToldWasPut, WaitsAreReachedFirst, NoTimelineFalls, TimelinesFollowRaises, JobsKeepTheirPlaces};
 
 /// What a queue has after any run of a new world: requests are told in the order in which they were put, each once, and only
 /// accepted ones are signalled.
@@ -16,3 +16,8 @@ pub fn timelines()
 {
     gv_sync::laws::raises();
 }
+
+/// What a running job has after any run.
+pub fn jobs()
+    ensures { JobsKeepTheirPlaces }
+{}
