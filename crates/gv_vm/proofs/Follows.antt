@@ -1,7 +1,6 @@
 -- Each step of a world goes on with what its queues remember.
-use Rattle.std.proofs.Common.{◌≡◌, ◌≢◌, ℕ, zero, suc, ◌+◌, ◌-◌, ◌<◌, ◌≤◌, true, false, Bool, cond, eqb, List, [], ◌∷◌, ◌++◌, length, replicate, map, arith, refl, sym, ◌∙◌, ap, subst, append-nil, Some, None, Option}
+use Rattle.std.proofs.Common.{◌≡◌, ◌≢◌, ℕ, zero, suc, ◌+◌, ◌-◌, ◌<◌, ◌≤◌, true, false, Bool, cond, eqb, List, [], ◌∷◌, ◌++◌, length, replicate, map, arith, refl, sym, ◌∙◌, ap, subst, Some, None, Option}
 use Rattle.std.specs.Prelude.{slice_get, slice_set, slice_index_or}
-use Rattle.std.specs.List.{All}
 use Rattle.std.proofs.lemmas.List.{get_or-set_same, get_or-set_other, length-set, length-append}
 use Rattle.std.proofs.lemmas.List.{length-replicate}
 use Rattle.std.proofs.lemmas.List.Elements.{All-nil, All-cons, All-tail, All-take}
@@ -13,14 +12,13 @@ use Rattle.gv_types.specs.declared.request.Request.{Request}
 use Rattle.gv_sync.specs.Sights.{Sight, sight}
 use Rattle.gv_journal.specs.Items.{Journaled, next}
 use Rattle.gv_journal.specs.declared.item.Item.{Item}
-use Rattle.gv_journal.specs.declared.item.ItemKind.{ItemKind}
 use Rattle.gv_vm.specs.State.{Machine}
-use Rattle.gv_vm.specs.World.{World, InHand, Queue, new_queue, new_world, queue_at, with_queue, next_number}
+use Rattle.gv_vm.specs.World.{World, InHand, Queue, new_queue, new_world, queue_at, next_number}
 use Rattle.gv_vm.specs.Outcomes.{told_to, with_outcome}
 use Rattle.gv_vm.specs.Told.{CameTo}
 use Rattle.gv_vm.specs.Step.{step, owed_for, IsAsBefore, CanBind, IsBoundNow, IsGivenUp, IsPaid, IsReachedNow, IsLackingNow, IsRewoundNow, IsWithdrawnNow, IsSettledNow}
 use Rattle.gv_vm.specs.Run.{run}
-use Rattle.gv_vm.specs.Past.{Past, HasReached, IsInTurn, HasReachedAll, no_past, after_event, one_more, past_from, due_for, HoldsPut, IsQueueAfter, AreHeldAsPut, AreAfter, IsAfterPast}
+use Rattle.gv_vm.specs.Past.{Past, HasReached, IsInTurn, HasReachedAll, no_past, one_more, past_from, due_for, HoldsPut, IsQueueAfter, AreHeldAsPut, AreAfter, IsAfterPast}
 use Rattle.gv_vm.specs.declared.event.Event.{Event}
 use Rattle.gv_vm.specs.declared.event.Event.TheVariants.{Put, Take, Look, Bind, GiveUp, Pay, Raise, Create, Destroy, Rewind, Withdraw, Settle, JobBegin, JobEnd, Translate}
 use Rattle.gv_vm.specs.declared.event.Reply.{Reply}

@@ -1,17 +1,14 @@
 -- Running jobs keep their places.
-use Rattle.std.proofs.Common.{◌≡◌, ◌≢◌, ℕ, ◌+◌, ◌<◌, ◌≤◌, true, false, cond, eqb, List, [], ◌∷◌, ◌++◌, arith, refl, sym, ◌∙◌, ap, subst, Some, None, Option}
+use Rattle.std.proofs.Common.{◌≡◌, ◌≢◌, ℕ, ◌<◌, ◌≤◌, true, false, cond, eqb, List, [], ◌∷◌, ◌++◌, arith, refl, sym, ◌∙◌, ap, subst, Some}
 use Rattle.std.specs.Option.{option_map}
 use Rattle.std.specs.List.{All, find}
-use Rattle.std.proofs.lemmas.Bool.{eqb-true, eqb-false}
+use Rattle.std.proofs.lemmas.Bool.{eqb-true}
 use Rattle.std.proofs.lemmas.List.Elements.{All-head, All-tail}
-use Rattle.gv_types.specs.declared.fault.Fault.{Fault}
-use Rattle.gv_types.specs.declared.request.Point.{Point}
 use Rattle.gv_vm.specs.Jobs.{Running, RunningJob, has_number, places_in, without_job}
 use Rattle.gv_vm.specs.State.{Machine}
 use Rattle.gv_vm.specs.World.{World}
 use Rattle.gv_vm.specs.Step.{step}
 use Rattle.gv_vm.specs.Run.{run}
-use Rattle.gv_vm.specs.declared.places.Place.{Place}
 use Rattle.gv_vm.specs.declared.event.Event.{Event}
 use Rattle.gv_vm.specs.declared.event.Event.TheVariants.{Put, Take, Look, Bind, GiveUp, Pay, Raise, Create, Destroy, Rewind, Withdraw, Settle, JobBegin, JobEnd, Translate}
 use Rattle.gv_vm.specs.declared.event.Reply.{Reply}

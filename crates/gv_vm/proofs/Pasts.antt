@@ -1,10 +1,9 @@
 -- What a queue remembers of the events before, step by step.
-use Rattle.std.proofs.Common.{◌≡◌, ◌≢◌, ℕ, zero, suc, ◌+◌, ◌<◌, ◌≤◌, true, false, Bool, cond, eqb, List, [], ◌∷◌, ◌++◌, length, map, drop, take, arith, refl, sym, ◌∙◌, ap, subst, append_assoc, append-nil, Some, None, Option}
+use Rattle.std.proofs.Common.{◌≡◌, ◌≢◌, ℕ, zero, suc, ◌+◌, ◌<◌, ◌≤◌, true, false, cond, eqb, List, [], ◌∷◌, ◌++◌, length, map, drop, take, arith, refl, sym, ◌∙◌, ap, subst, append_assoc, append-nil, Some, None, Option}
 use Rattle.std.specs.Prelude.{slice_get, slice_set, slice_index_or}
-use Rattle.std.specs.List.{All}
 use Rattle.std.proofs.lemmas.Bool.{eqb-true, eqb-false}
 use Rattle.std.proofs.lemmas.List.{get_or-set_same, get_or-set_other, length-set, length-append}
-use Rattle.std.proofs.lemmas.List.Elements.{All-nil, All-cons, All-push, All-weaker}
+use Rattle.std.proofs.lemmas.List.Elements.{All-nil, All-push, All-weaker}
 use Rattle.gv_types.specs.declared.request.Point.{Point}
 use Rattle.gv_types.specs.declared.request.Request.{Request}
 use Rattle.gv_sync.specs.Sights.{Sight}
@@ -12,9 +11,9 @@ use Rattle.gv_journal.specs.declared.item.Item.{Item}
 use Rattle.gv_journal.specs.declared.item.ItemKind.{ItemKind}
 use Rattle.gv_journal.specs.declared.item.ItemKind.TheVariants.{Bind as BindItem, Withdrawal}
 use Rattle.gv_vm.specs.World.{InHand, Queue, new_queue, taken, next_wait}
-use Rattle.gv_vm.specs.Outcomes.{told_to, with_outcome}
+use Rattle.gv_vm.specs.Outcomes.{told_to}
 use Rattle.gv_vm.specs.Step.{owed_for}
-use Rattle.gv_vm.specs.Past.{Past, signals_of, due_for, held_in, held_by, HasReached, IsInTurn, HasNoDebt, HoldsPut, IsQueueAfter, AreHeldAsPut, AreAfter}
+use Rattle.gv_vm.specs.Past.{Past, signals_of, due_for, held_in, HasReached, IsInTurn, HasNoDebt, HoldsPut, IsQueueAfter, AreHeldAsPut, AreAfter}
 use Rattle.gv_vm.specs.declared.outcome.Outcome.{Outcome}
 use Rattle.gv_vm.proofs.Turning.{points_more}
 use Rattle.gv_vm.specs.declared.outcome.Outcome.TheVariants.{Accepted, Refused, NotReady}

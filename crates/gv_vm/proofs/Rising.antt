@@ -5,7 +5,6 @@ use Rattle.std.proofs.lemmas.Bool.{eqb-true, eqb-false}
 use Rattle.std.proofs.lemmas.List.{get_or-set_same, get_or-set_other, length-set}
 use Rattle.gv_types.specs.Bounds.{Area}
 use Rattle.gv_types.specs.Limits.{Caps}
-use Rattle.gv_types.specs.declared.fault.Fault.{Fault}
 use Rattle.gv_types.specs.declared.request.Point.{Point}
 use Rattle.gv_sync.specs.Laws.{RaisedOnceMore}
 use Rattle.gv_sync.specs.Raises.{raised, values_on, with_raise, IsAfter}

@@ -1,9 +1,8 @@
 -- Laws of runs from a new world.
-use Rattle.std.specs.Prelude.{◌≡◌, ◌≢◌, ℕ, ◌<◌, ◌≤◌, List, length, slice_get, slice_index, Some}
+use Rattle.std.specs.Prelude.{◌≡◌, ◌≢◌, ℕ, ◌<◌, ◌≤◌, List, slice_get, slice_index, Some}
 use Rattle.std.specs.List.{All}
 use Rattle.gv_types.specs.Bounds.{Area}
 use Rattle.gv_types.specs.Limits.{Caps}
-use Rattle.gv_types.specs.declared.request.Request.{Request}
 use Rattle.gv_sync.specs.Raises.{IsAfter}
 use Rattle.gv_vm.specs.Jobs.{places_in}
 use Rattle.gv_vm.specs.Outcomes.{queues as most_queues}
