@@ -1,5 +1,5 @@
 -- What holds of a queue still holds after each of its turns.
-use Rattle.std.proofs.Common.{◌≡◌, ℕ, zero, suc, ◌+◌, ◌<◌, List, [], ◌∷◌, ◌++◌, length, take, arith, sym, ◌∙◌, ap, subst, Some, None, Option}
+use Rattle.std.proofs.Common.{◌≡◌, ℕ, zero, suc, ◌+◌, ◌<◌, List, [], ◌∷◌, ◌++◌, length, map, refl, take, arith, sym, ◌∙◌, ap, subst, Some, None, Option}
 use Rattle.std.specs.Prelude.{slice_get}
 use Rattle.std.specs.List.{All}
 use Rattle.std.proofs.lemmas.Option.{same_Some}
@@ -101,11 +101,22 @@ take-one {X = X} (y ∷ ys) (suc n) x is =
     let count : suc (n + 1) ≡ suc n + 1 = omega arith in
     ap (λ (zs : List X). y ∷ zs) (take-one ys n x is) ∙ ap (λ (k : ℕ). take k (y ∷ ys)) count
 
-pub IsInOrder-reached : (h : InHand) (s : Sight) → IsInOrder h → next_wait h ≡ Some s.point → IsInOrder (record h { reached = h.reached ++ s ∷ []; lacked = None })
-IsInOrder-reached h s order is =
+pub points_more : (h : InHand) (s : Sight) → map (λ (x : Sight). x.point) h.reached ≡ take (length h.reached) h.request.waits.items → next_wait h ≡ Some s.point →
+    map (λ (x : Sight). x.point) (h.reached ++ s ∷ []) ≡ take (length (h.reached ++ s ∷ [])) h.request.waits.items
+points_more h s first is =
     let count : length (h.reached ++ s ∷ []) ≡ length h.reached + 1 = omega (arith, length-append h.reached (s ∷ [])) in
-    record {
-      first = map-append (λ (x : Sight). x.point) h.reached (s ∷ []) ∙ ap (λ (ps : List Point). ps ++ s.point ∷ []) order.first
-          ∙ take-one h.request.waits.items (length h.reached) s.point is ∙ ap (λ (n : ℕ). take n h.request.waits.items) (sym count);
-      lacked = tt;
-    }
+    map-append (λ (x : Sight). x.point) h.reached (s ∷ []) ∙ ap (λ (ps : List Point). ps ++ s.point ∷ []) first
+    ∙ take-one h.request.waits.items (length h.reached) s.point is ∙ ap (λ (n : ℕ). take n h.request.waits.items) (sym count)
+
+pub IsInOrder-reached : (h : InHand) (s : Sight) → IsInOrder h → next_wait h ≡ Some s.point → IsInOrder (record h { reached = h.reached ++ s ∷ []; lacked = None })
+IsInOrder-reached h s order is = record { first = points_more h s order.first is; lacked = tt }
+
+-- where no wait is left, they are all of them
+all_taken : {X : Type 0} (xs : List X) (n : ℕ) → slice_get xs n ≡ None → take n xs ≡ xs
+all_taken [] zero none = refl
+all_taken [] (suc n) none = refl
+all_taken (x ∷ xs) zero none = cc
+all_taken {X = X} (x ∷ xs) (suc n) none = ap (λ (ys : List X). x ∷ ys) (all_taken xs n none)
+
+pub all_reached : (h : InHand) → map (λ (x : Sight). x.point) h.reached ≡ take (length h.reached) h.request.waits.items → next_wait h ≡ None → map (λ (x : Sight). x.point) h.reached ≡ h.request.waits.items
+all_reached h first none = first ∙ all_taken h.request.waits.items (length h.reached) none

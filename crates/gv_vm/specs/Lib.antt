@@ -17,3 +17,5 @@ pub mod Run
 pub mod Headline
 pub mod Renamed
 pub mod Alike
+pub mod Past
+pub mod Laws

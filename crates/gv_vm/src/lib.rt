@@ -6,6 +6,7 @@ mod carry;
 mod event;
 mod holding;
 mod jobs;
+pub mod laws;
 mod outcome;
 mod places;
 mod queue;

@@ -4,4 +4,5 @@ mod events;
 mod fixtures;
 mod jobs;
 mod limits;
+mod refusals;
 mod turns;

@@ -2,7 +2,7 @@
 use super::fixtures::{empty, map_run, read, request, timed, write, zero};
 use crate::{Event, Outcome, Place, Reply, Stopped, Target, World};
 use gv_types::{Bounds, BufferId, Fault, Flags, Limits, Op, Point};
-use std::alloc::Global;
+use std::alloc::{AllocError, Global};
 use std::process::Abort;
 use std::test::Fail;
 
@@ -58,6 +58,12 @@ fn queue_takes_its_turns(rt: HostRuntime) -> Result<(), Fail> {
 
 fn turns(rt: &impl Abort, alloc: Global, world: &mut World) -> Result<(), Fail> {
     let events = turn_events(alloc)?;
+    let replies = turn_replies(alloc)?;
+    play(rt, alloc, world, events, &replies)
+}
+
+/// What these events answer.
+pub fn turn_replies(alloc: Global) -> Result<Vec<Reply>, AllocError> {
     let full = Reply::NotPut {
         fault: Fault::QueueFull,
         request: request(alloc, &[])?,
@@ -90,10 +96,11 @@ fn turns(rt: &impl Abort, alloc: Global, world: &mut World) -> Result<(), Fail> 
         },
         Reply::Found { place: None },
     ]?;
-    play(rt, alloc, world, events, &replies)
+    Ok(replies)
 }
 
-fn turn_events(alloc: Global) -> Result<Vec<Event>, Fail> {
+/// A queue's turns, whole.
+pub fn turn_events(alloc: Global) -> Result<Vec<Event>, AllocError> {
     let queue = 0;
     let waiting = timed(alloc, &[zero(0)], &[at(0, 2)], &[at(0, 3)])?;
     let second = request(alloc, &[])?;

@@ -1,0 +1,55 @@
+-- Laws of runs from a new world.
+use Rattle.std.specs.Prelude.{◌≡◌, ◌≢◌, ℕ, ◌<◌, ◌≤◌, List, slice_get, slice_index, Some}
+use Rattle.std.specs.List.{All}
+use Rattle.gv_types.specs.Bounds.{Area}
+use Rattle.gv_types.specs.Limits.{Caps}
+use Rattle.gv_sync.specs.Raises.{IsAfter}
+use Rattle.gv_vm.specs.Jobs.{places_in}
+use Rattle.gv_vm.specs.Outcomes.{queues as most_queues}
+use Rattle.gv_vm.specs.World.{World, InHand, queue_at, next_number, new_world}
+use Rattle.gv_vm.specs.Step.{CanBind}
+use Rattle.gv_vm.specs.Run.{run}
+use Rattle.gv_vm.specs.Past.{no_past, past_from, raised_by, HasReachedAll, IsAfterPast}
+use Rattle.gv_vm.specs.declared.event.Event.{Event}
+use Rattle.gv_vm.specs.declared.event.Event.TheVariants.{JobEnd}
+use Rattle.gv_vm.specs.declared.event.Reply.{Reply}
+
+-- Of the requests that were put on a queue the first ones are told, each once, in order, and the others are the one in hand and
+-- those that wait. What is paid and owed are the signals of the accepted ones, each once, in order. The one in hand had those
+-- waits reached that were looked at. Each item holds the request that was put with its number.
+abbrev pub RequestsStayInOrder : Type 0
+RequestsStayInOrder =
+    (area : Area) (limits : Caps) (queues depth timelines queue : ℕ) (events : List Event) (replies : List Reply) (w : World)
+    → queues ≤ most_queues → run (new_world area limits queues depth timelines) events replies w → IsAfterPast queue (past_from queue no_past events replies) w
+
+-- so what is told next is of the request that was put with that number
+abbrev pub WhatIsToldWasPut : Type 0
+WhatIsToldWasPut =
+    (area : Area) (limits : Caps) (queues depth timelines queue : ℕ) (events : List Event) (replies : List Reply) (w : World) (hand : InHand)
+    → queues ≤ most_queues → run (new_world area limits queues depth timelines) events replies w → (queue_at w queue).hand ≡ Some hand
+    → slice_get (past_from queue no_past events replies).puts (next_number w queue) ≡ Some hand.request
+
+-- a request is carried out only where looks at all its waits reached them, since it was taken
+abbrev pub WaitsAreReachedFirst : Type 0
+WaitsAreReachedFirst =
+    (area : Area) (limits : Caps) (queues depth timelines queue : ℕ) (events : List Event) (replies : List Reply) (w : World) (can : CanBind w queue)
+    → queues ≤ most_queues → run (new_world area limits queues depth timelines) events replies w
+    → HasReachedAll (past_from queue no_past events replies) can.has.hand.request
+
+-- no timeline falls, whatever is taken back
+abbrev pub NoTimelineFalls : Type 0
+NoTimelineFalls =
+    (old new : World) (events : List Event) (replies : List Reply) (timeline : ℕ)
+    → run old events replies new → slice_index old.numbers timeline ≤ slice_index new.numbers timeline
+
+-- and each is the greatest of its raises
+abbrev pub TimelinesFollowRaises : Type 0
+TimelinesFollowRaises =
+    (area : Area) (limits : Caps) (queues depth timelines : ℕ) (events : List Event) (replies : List Reply) (w : World)
+    → run (new_world area limits queues depth timelines) events replies w → IsAfter (raised_by replies) w.numbers
+
+-- a job keeps its places until it ends, whatever is unmapped or taken back meanwhile, and no other job gets its number
+abbrev pub JobsKeepTheirPlaces : Type 0
+JobsKeepTheirPlaces =
+    (old new : World) (events : List Event) (replies : List Reply) (number : ℕ) → run old events replies new → number < old.machine.running.begun
+    → All (λ event. event ≢ JobEnd number) events → places_in new.machine.running.jobs number ≡ places_in old.machine.running.jobs number
