@@ -19,6 +19,7 @@ use Rattle.gv_vm.specs.declared.event.Event.{Event}
 use Rattle.gv_vm.specs.declared.event.Event.TheVariants.{Put, Take, Look, Bind, GiveUp, Pay, Raise, Create, Destroy, Rewind, Withdraw, Settle, JobBegin, JobEnd, Translate}
 use Rattle.gv_vm.specs.declared.event.Reply.{Reply}
 use Rattle.gv_vm.specs.declared.event.Reply.TheVariants.{Idle, Put as IsPut, NotPut, Taken, Reached, Lacking, Told, Raised, Created, Destroyed, Rewound, Withdrawn, Settled, Begun, Ended, Found, Refused}
+use Rattle.gv_vm.specs.declared.outcome.Outcome.{Outcome}
 use Rattle.gv_vm.specs.declared.outcome.Outcome.TheVariants.{Refused as RefusedAt}
 
 -- a request as it is told
@@ -82,3 +83,8 @@ pub record IsWorldOf (ids : List BufferId) (w : World) : Type 0 where
 abbrev pub ids_after : List BufferId → Reply → List BufferId
 ids_after ids (Created id) = ids ++ id ∷ []
 ids_after ids _ = ids
+
+-- want of memory is another matter: an outcome that isn't it
+abbrev pub IsAmple : Outcome → Type 0
+IsAmple (RefusedAt op fault) = fault ≢ OutOfMemory
+IsAmple _ = Unit {0}
