@@ -127,3 +127,10 @@ AreAlikeEvents ids ids' event event' = ⊥
 -- a step leads to a machine as it has to be, and the headline says of it what it says of every step
 abbrev pub IsSoundStep : World → Event → Reply → World → Type 0
 IsSoundStep old event reply new = IsMachine new.machine × SaysOfReply event reply old.machine new.machine
+
+-- A step in each of two worlds gave replies that tell the same and led to worlds that do.
+pub record StaysAlike (ids ids' : List BufferId) (reply reply' : Reply) (w w' : World) : Type 0 where
+  pub replies : AreAlikeReplies reply reply'
+  pub worlds : AreAlikeWorlds (ids_after ids reply) (ids_after ids' reply') w w'
+  pub of : IsWorldOf (ids_after ids reply) w
+  pub other_of : IsWorldOf (ids_after ids' reply') w'
