@@ -35,7 +35,7 @@ moved ids ids' r r' a a' x x' is is' stays =
     subst (λ y. StaysAlike ids ids' y r' x x') (sym is) (subst (λ y. StaysAlike ids ids' a y x x') (sym is') stays)
 
 module _ (ids ids' : List BufferId) (w w' : World) (alike : AreAlikeWorlds ids ids' w w') (of : IsWorldOf ids w) (of' : IsWorldOf ids' w') where
-  unchanged : (x x' : World) → x ≡ w → x' ≡ w' → StaysAlike ids ids' Idle Idle x x'
+  pub unchanged : (x x' : World) → x ≡ w → x' ≡ w' → StaysAlike ids ids' Idle Idle x x'
   unchanged x x' is is' = record {
     replies = refl;
     worlds = subst (λ z. AreAlikeWorlds ids ids' z x') (sym is) (subst (AreAlikeWorlds ids ids' w) (sym is') alike);
@@ -44,7 +44,7 @@ module _ (ids ids' : List BufferId) (w w' : World) (alike : AreAlikeWorlds ids i
   }
 
   -- the event is enabled in both worlds or in none
-  pair : {D D' : Type 0} (e e' : Event) (r r' : Reply) (x x' : World) → (IsIdle w e r x) ⊎ D → (IsIdle w' e' r' x') ⊎ D' → (D → IsEnabled w e) → (D' → IsEnabled w' e') →
+  pub pair : {D D' : Type 0} (e e' : Event) (r r' : Reply) (x x' : World) → (IsIdle w e r x) ⊎ D → (IsIdle w' e' r' x') ⊎ D' → (D → IsEnabled w e) → (D' → IsEnabled w' e') →
       (IsEnabled w e → IsEnabled w' e') → (IsEnabled w' e' → IsEnabled w e) → (D → D' → StaysAlike ids ids' r r' x x') → StaysAlike ids ids' r r' x x'
   pair e e' r r' x x' (inl idle) (inl idle') enabled enabled' there back both = moved ids ids' r r' Idle Idle x x' idle.is idle'.is (unchanged x x' idle.same idle'.same)
   pair e e' r r' x x' (inl idle) (inr done') enabled enabled' there back both = absurd (idle.disabled (back (enabled' done')))
