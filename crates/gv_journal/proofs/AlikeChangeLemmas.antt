@@ -1,39 +1,32 @@
 -- For callers: address spaces with their journals that tell the same go on to tell the same after a withdrawal, after a
 -- rewind, after items are settled, and where only buffers change.
-use Rattle.std.proofs.Common.{◌≡◌, ℕ, zero, suc, ◌+◌, ◌-◌, ◌<◌, ◌≤◌, List, [], ◌∷◌, ◌++◌, map, take, drop, reverse, length, Bool, true, false, cond, Option, Some, None, slice_get, nat_lt, arith, refl, sym, ap, ◌∙◌, subst}
+use Rattle.std.proofs.Common.{◌≡◌, ℕ, zero, suc, ◌+◌, ◌-◌, List, [], ◌∷◌, ◌++◌, map, drop, reverse, true, false, cond, None, slice_get, nat_lt, refl, sym, ap, ◌∙◌, subst}
 use Rattle.std.specs.List.{All}
-use Rattle.std.proofs.lemmas.List.{map-append, length-append, take-map, append-nil}
-use Rattle.std.proofs.lemmas.List.Elements.{All-head, All-tail, All-nil, All-cons, All-take, All-drop}
-use Rattle.gv_types.specs.Mapping.{buffer_id}
-use Rattle.gv_types.specs.Bounds.{Area}
-use Rattle.gv_types.specs.Limits.{Caps}
-use Rattle.gv_types.specs.Renamed.{renamed_mapping, renamed_op, IsOf, IsBackedOf, AreOf, IsOperationOf}
+use Rattle.std.proofs.lemmas.List.Elements.{All-head, All-tail, All-nil, All-cons}
+use Rattle.gv_types.specs.Renamed.{renamed_mapping, renamed_op, IsBackedOf, AreOf, IsOperationOf}
 use Rattle.gv_types.specs.declared.mapping.BufferId.{BufferId}
 use Rattle.gv_types.specs.declared.mapping.Mapping.{Mapping}
 use Rattle.gv_types.specs.declared.operation.PageOp.{PageOp}
 use Rattle.gv_ranges.specs.Edit.{undone}
-use Rattle.gv_buffers.specs.Table.{Buffer, Table}
 use Rattle.gv_space.specs.Counts.{count_of, by_count, counted, less_kept}
-use Rattle.gv_space.specs.State.{AddressSpace, IsSpace, AreKept}
-use Rattle.gv_space.specs.Undo.{UndoValue, released, reverted}
-use Rattle.gv_space.proofs.CountLemmas.{count_of-append}
+use Rattle.gv_space.specs.State.{AddressSpace, AreKept}
+use Rattle.gv_space.specs.Undo.{UndoValue, reverted}
 use Rattle.gv_space.proofs.TableLemmas.{each, each-each}
 use Rattle.gv_journal.specs.Undoing.{taken_by, undone_by, reverted_by}
 use Rattle.gv_journal.specs.Items.{Journaled, next, done_by}
 use Rattle.gv_journal.specs.History.{undos_of, kept_by, back}
 use Rattle.gv_journal.specs.Binding.{IsRewound}
-use Rattle.gv_journal.specs.Settling.{later, earlier, IsSettled}
 use Rattle.gv_journal.specs.Withdrawing.{item_at, done_of, list_before, ops_at, after_withdrawal, IsWithdrawn}
-use Rattle.gv_journal.specs.Renamed.{said_by, renamed_said, TookOf, AreDoneOf}
-use Rattle.gv_journal.specs.RenamedSpace.{renamed_table, seen_space}
-use Rattle.gv_journal.specs.Alike.{SeenItem, seen_item, count_at, CountAlike, AreAlike, AreIdsOf, IsKeptSpace}
+use Rattle.gv_journal.specs.Renamed.{TookOf, AreDoneOf}
+use Rattle.gv_journal.specs.RenamedSpace.{seen_space}
+use Rattle.gv_journal.specs.Alike.{seen_item, CountAlike, AreAlike, AreIdsOf, IsKeptSpace}
 use Rattle.gv_journal.specs.declared.item.Item.{Item}
 use Rattle.gv_journal.proofs.Undoings.{reverted_by-mappings}
 use Rattle.gv_journal.proofs.RenamedListLemmas.{All-reverse}
 use Rattle.gv_journal.proofs.RenamedHistoryLemmas.{AreOf-undone_by}
 use Rattle.gv_journal.proofs.RenamedSpaceLemmas.{after_withdrawal-seen}
-use Rattle.gv_journal.proofs.Recounts.{AreOf-placed, kept_alike, uncounted}
-use Rattle.gv_journal.proofs.AlikeLemmas.{list_alike, next_alike, ops_at_alike, list_before_alike}
+use Rattle.gv_journal.proofs.Recounts.{AreOf-placed, uncounted}
+use Rattle.gv_journal.proofs.AlikeLemmas.{ops_at_alike, list_before_alike}
 use Rattle.gv_journal.proofs.AlikeStateLemmas.{seen_kind, recounted_alike, entered, tail_same}
 
 -- Whose the lists before the items are.

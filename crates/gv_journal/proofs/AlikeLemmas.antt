@@ -1,36 +1,29 @@
 -- For callers: address spaces with their journals that tell the same by the new names answer the same faults.
-use Rattle.std.proofs.Common.{◌≡◌, ℕ, zero, suc, ◌+◌, ◌-◌, List, [], ◌∷◌, map, reverse, length, Bool, Option, Some, None, refl, sym, ap, ◌∙◌, subst}
-use Rattle.std.specs.List.{All}
+use Rattle.std.proofs.Common.{◌≡◌, ℕ, ◌-◌, List, [], ◌∷◌, map, refl, sym, ap, ◌∙◌, subst}
 use Rattle.gv_types.specs.Operation.{in_pages}
 use Rattle.gv_types.specs.Renamed.{renamed, renamed_mapping, renamed_op, renamed_bytes, AreOf, IsOperationOf}
-use Rattle.gv_types.specs.declared.fault.Fault.{Fault}
 use Rattle.gv_types.specs.declared.mapping.BufferId.{BufferId}
-use Rattle.gv_types.specs.declared.mapping.Mapping.{Mapping}
 use Rattle.gv_types.specs.declared.operation.Op.{Op}
-use Rattle.gv_types.specs.declared.operation.PageOp.{PageOp}
-use Rattle.gv_buffers.specs.Table.{Table}
-use Rattle.gv_space.specs.State.{AddressSpace, IsSpace}
+use Rattle.gv_space.specs.State.{AddressSpace}
 use Rattle.gv_space.specs.Refusal.{operation_fault}
 use Rattle.gv_space.proofs.RenamingLemmas.{IsRenamed, operation_fault-renamed}
 use Rattle.gv_journal.specs.Items.{Journaled, entries, next, is_withdrawn}
-use Rattle.gv_journal.specs.History.{undos_of, back}
-use Rattle.gv_journal.specs.Verdict.{full_fault, verdict, IsRefused}
+use Rattle.gv_journal.specs.History.{back}
+use Rattle.gv_journal.specs.Verdict.{full_fault, verdict}
 use Rattle.gv_journal.specs.Withdrawing.{entry_fault, withdraw_fault, list_before, ops_at}
 use Rattle.gv_journal.specs.Settling.{settle_fault}
-use Rattle.gv_journal.specs.Renamed.{Said, said_by, renamed_said, all_said, renamed_undo, renamed_kind, renamed_item, renamed_journal, all_undos, HaveRenamedUndos, IsRenamedJournal}
+use Rattle.gv_journal.specs.Renamed.{said_by, renamed_said, all_said, renamed_undo, renamed_kind, renamed_item, renamed_journal, HaveRenamedUndos, IsRenamedJournal}
 use Rattle.gv_journal.specs.RenamedSpace.{renamed_table, seen_space, AreNumbered}
-use Rattle.gv_journal.specs.Alike.{SeenItem, seen_item, AreAlike, AreIdsOf}
+use Rattle.gv_journal.specs.Alike.{SeenItem, seen_item, AreAlike}
 use Rattle.gv_journal.specs.declared.item.Item.{Item}
 use Rattle.gv_journal.specs.declared.item.ItemKind.{ItemKind}
 use Rattle.gv_journal.specs.declared.item.ItemKind.TheVariants.{Bind, Withdrawal}
-use Rattle.gv_journal.specs.declared.refusal.Refusal.{Refusal}
 use Rattle.gv_journal.specs.Renamed.{AreRequested}
 use Rattle.gv_journal.proofs.RenamedListLemmas.{reverse-map}
 use Rattle.gv_journal.proofs.RenamedItemLemmas.{next-renamed, full_fault-renamed, is_withdrawn-renamed, entry_fault-renamed, settle_fault-renamed, ops_at-renamed}
 use Rattle.gv_journal.proofs.RenamedHistoryLemmas.{back-renamed}
 use Rattle.gv_journal.proofs.RenamedSpaceLemmas.{IsRenamed-seen}
 use Rattle.gv_journal.proofs.RenamingLemmas.{verdict-renamed, withdraw_fault-renamed}
-use Rattle.gv_journal.proofs.Recounts.{AreOf-placed}
 
 cons_same : {X : Type 0} {x y : X} {xs ys : List X} → x ≡ y → xs ≡ ys → x ∷ xs ≡ y ∷ ys
 cons_same first rest = cc

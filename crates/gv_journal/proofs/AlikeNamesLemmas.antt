@@ -4,25 +4,22 @@ use Rattle.std.specs.List.{All}
 use Rattle.std.proofs.lemmas.List.{length-append}
 use Rattle.std.proofs.lemmas.Option.{none-some, same_Some}
 use Rattle.std.proofs.lemmas.List.Elements.{All-head, All-tail, All-nil, All-cons, All-map, All-take, All-weaker, All-append, All-drop, All-filter}
-use Rattle.std.specs.List.{insert}
-use Rattle.gv_types.specs.Renamed.{IsOf, AreOf, IsOperationOf}
+use Rattle.gv_types.specs.Renamed.{IsOf, IsOperationOf}
 use Rattle.gv_types.specs.declared.mapping.BufferId.{BufferId}
 use Rattle.gv_types.specs.declared.mapping.Mapping.{Mapping}
 use Rattle.gv_types.specs.declared.operation.PageOp.{PageOp}
 use Rattle.gv_types.specs.declared.request.Request.{Request}
 use Rattle.gv_types.proofs.IdLemmas.{IsOf-more, IsOf-last, operations_of-more}
 use Rattle.gv_ranges.specs.Edit.{edited, edited_by_all, restored}
-use Rattle.gv_buffers.specs.Table.{Buffer, Table, fresh, has_id, without, IsCreated}
+use Rattle.gv_buffers.specs.Table.{Buffer, Table, fresh, without, IsCreated}
 use Rattle.gv_space.specs.Counts.{count_of, by_count, counted, more_kept, less_kept}
 use Rattle.gv_space.specs.Change.{changed_to}
 use Rattle.gv_space.specs.State.{AddressSpace}
-use Rattle.gv_space.specs.Undo.{released}
 use Rattle.gv_types.specs.Operation.{range_of}
 use Rattle.gv_space.proofs.TableLemmas.{each, each-each}
-use Rattle.gv_journal.specs.Undoing.{reverted_by}
 use Rattle.gv_journal.specs.Items.{Journaled, next, done_by}
 use Rattle.gv_journal.specs.History.{undos_of, kept_by}
-use Rattle.gv_journal.specs.Applying.{met, all_do, after_op, after_all}
+use Rattle.gv_journal.specs.Applying.{met, all_do, after_all}
 use Rattle.gv_journal.specs.Binding.{IsBound, IsApplied, IsRewound}
 use Rattle.gv_journal.specs.Settling.{later, earlier, IsSettled}
 use Rattle.gv_journal.specs.Withdrawing.{list_before, ops_at, after_restore, after_withdrawal, IsWithdrawn}

@@ -1,24 +1,22 @@
 -- For callers: address spaces with their journals that tell the same go on to tell the same after items are settled, and
 -- where only the buffers or the room change.
-use Rattle.std.proofs.Common.{◌≡◌, ℕ, zero, suc, ◌+◌, ◌-◌, ◌<◌, ◌≤◌, List, [], ◌∷◌, ◌++◌, map, take, drop, length, arith, refl, sym, ap, ◌∙◌, subst, ⊎_elim}
-use Rattle.std.specs.List.{All}
+use Rattle.std.proofs.Common.{◌≡◌, ℕ, zero, suc, ◌+◌, ◌-◌, ◌≤◌, List, [], ◌∷◌, ◌++◌, map, take, drop, length, arith, refl, sym, ap, ◌∙◌, subst, ⊎_elim}
 use Rattle.std.proofs.lemmas.Bool.{cases_lt}
 use Rattle.std.proofs.lemmas.List.{map-append, length-append, take-map, length-map}
 use Rattle.gv_types.specs.Mapping.{buffer_id}
 use Rattle.gv_types.specs.Renamed.{renamed_mapping}
 use Rattle.gv_types.specs.declared.mapping.BufferId.{BufferId}
 use Rattle.gv_types.specs.declared.mapping.Mapping.{Mapping}
-use Rattle.gv_buffers.specs.Table.{Buffer, Table}
-use Rattle.gv_space.specs.Counts.{count_of, by_count, less_kept}
-use Rattle.gv_space.specs.State.{AddressSpace, IsSpace, AreKept, IsUnchanged}
-use Rattle.gv_space.specs.Undo.{released}
+use Rattle.gv_buffers.specs.Table.{Table}
+use Rattle.gv_space.specs.Counts.{count_of, less_kept}
+use Rattle.gv_space.specs.State.{AddressSpace, IsUnchanged}
 use Rattle.gv_space.proofs.CountLemmas.{count_of-append}
 use Rattle.gv_space.proofs.TableLemmas.{each, each-each}
 use Rattle.gv_journal.specs.Undoing.{taken_by, undone_by}
 use Rattle.gv_journal.specs.Items.{Journaled, next}
 use Rattle.gv_journal.specs.History.{undos_of, kept_by, back}
 use Rattle.gv_journal.specs.Settling.{later, earlier, IsSettled}
-use Rattle.gv_journal.specs.RenamedSpace.{renamed_table, seen_space}
+use Rattle.gv_journal.specs.RenamedSpace.{renamed_table}
 use Rattle.gv_journal.specs.Alike.{SeenItem, seen_item, count_at, CountAlike, AreAlike, AreIdsOf, IsKeptSpace}
 use Rattle.gv_journal.specs.declared.item.Item.{Item}
 use Rattle.gv_journal.proofs.Recounts.{uncounted}

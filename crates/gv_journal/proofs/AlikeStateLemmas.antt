@@ -1,45 +1,31 @@
 -- For callers: address spaces with their journals that tell the same go on to tell the same after the same change.
-use Rattle.std.proofs.Common.{◌≡◌, ℕ, zero, suc, ◌+◌, ◌-◌, ◌<◌, ◌≤◌, List, [], ◌∷◌, ◌++◌, map, take, drop, reverse, length, Bool, Option, Some, None, Vec, Global, arith, refl, sym, ap, ◌∙◌, subst, ⊎_elim, inl, inr}
-use Rattle.std.specs.List.{All}
-use Rattle.std.proofs.lemmas.List.{map-append, length-append, length-map}
-use Rattle.std.proofs.lemmas.List.Elements.{All-weaker}
-use Rattle.gv_types.specs.Mapping.{buffer_id}
+use Rattle.std.proofs.Common.{◌≡◌, ℕ, zero, suc, ◌+◌, ◌-◌, List, ◌∷◌, map, drop, reverse, Some, None, Vec, Global, arith, sym, ap, ◌∙◌, subst}
 use Rattle.gv_types.specs.Bounds.{Area}
 use Rattle.gv_types.specs.Limits.{Caps}
-use Rattle.gv_types.specs.Renamed.{renamed_mapping, renamed_op, renamed_bytes, IsOf, AreOf, IsOperationOf}
+use Rattle.gv_types.specs.Renamed.{renamed_mapping, renamed_op, renamed_bytes, AreOf}
 use Rattle.gv_types.specs.declared.mapping.BufferId.{BufferId}
 use Rattle.gv_types.specs.declared.mapping.Mapping.{Mapping}
 use Rattle.gv_types.specs.declared.operation.Op.{Op}
 use Rattle.gv_types.specs.declared.operation.PageOp.{PageOp}
 use Rattle.gv_types.specs.declared.request.Request.{Request}
-use Rattle.gv_buffers.specs.Table.{Buffer, Table}
-use Rattle.gv_space.specs.Counts.{count_of, by_count, counted, more_kept, less_kept}
-use Rattle.gv_space.specs.State.{AddressSpace, IsSpace, AreKept, IsUnchanged}
-use Rattle.gv_space.specs.Undo.{UndoValue, released, reverted}
-use Rattle.gv_space.proofs.CountLemmas.{count_of-append}
-use Rattle.gv_space.proofs.TableLemmas.{each, each-each}
-use Rattle.gv_space.proofs.ByCountLemmas.{All-by_count}
-use Rattle.gv_journal.specs.Undoing.{undone_by, reverted_by}
-use Rattle.gv_journal.specs.Items.{Journaled, next}
-use Rattle.gv_journal.specs.History.{undos_of, kept_by, back}
-use Rattle.gv_journal.specs.Applying.{all_do, after_op, after_all}
-use Rattle.gv_journal.specs.Binding.{IsBound, IsApplied, IsRewound}
-use Rattle.gv_journal.specs.Settling.{later, earlier, IsSettled}
-use Rattle.gv_journal.specs.Withdrawing.{list_before, ops_at, after_restore, after_withdrawal, IsWithdrawn}
-use Rattle.gv_journal.specs.Renamed.{Said, said_by, renamed_said}
+use Rattle.gv_buffers.specs.Table.{Table}
+use Rattle.gv_space.specs.State.{AddressSpace, IsSpace, AreKept}
+use Rattle.gv_space.proofs.TableLemmas.{each}
+use Rattle.gv_journal.specs.Items.{Journaled}
+use Rattle.gv_journal.specs.History.{kept_by, back}
+use Rattle.gv_journal.specs.Applying.{all_do, after_all}
+use Rattle.gv_journal.specs.Binding.{IsBound, IsApplied}
+use Rattle.gv_journal.specs.Renamed.{said_by, renamed_said}
 use Rattle.gv_journal.specs.RenamedSpace.{renamed_table, seen_space, AreNumbered}
-use Rattle.gv_journal.specs.Alike.{SeenItem, bind_of, seen_item, count_at, CountAlike, AreAlike, AreIdsOf, IsKeptSpace}
+use Rattle.gv_journal.specs.Alike.{SeenItem, bind_of, seen_item, CountAlike, AreAlike, AreIdsOf}
 use Rattle.gv_journal.specs.declared.item.Item.{Item}
 use Rattle.gv_journal.specs.declared.item.ItemKind.{ItemKind}
-use Rattle.gv_journal.specs.declared.item.ItemKind.TheVariants.{Bind, Withdrawal}
-use Rattle.gv_journal.proofs.Undoings.{reverted_by-mappings}
 use Rattle.gv_journal.specs.Renamed.{AreRequested}
 use Rattle.gv_journal.proofs.RenamedListLemmas.{all_do-renamed}
-use Rattle.gv_journal.proofs.RenamedTableLemmas.{IsNameless}
 use Rattle.gv_journal.proofs.RenamedLiveLemmas.{renamed_table-each}
-use Rattle.gv_journal.proofs.RenamedSpaceLemmas.{applied-seen, after_withdrawal-seen}
-use Rattle.gv_journal.proofs.Recounts.{AreOf-placed, kept_alike, uncounted, uncounted_nameless, tables_alike}
-use Rattle.gv_journal.proofs.AlikeLemmas.{list_alike, table_alike, next_alike, ops_at_alike, list_before_alike}
+use Rattle.gv_journal.proofs.RenamedSpaceLemmas.{applied-seen}
+use Rattle.gv_journal.proofs.Recounts.{kept_alike, uncounted, uncounted_nameless, tables_alike}
+use Rattle.gv_journal.proofs.AlikeLemmas.{list_alike, table_alike}
 
 -- Parts of what is told.
 

@@ -1,11 +1,11 @@
 -- What can be told of the buffers of a space follows from the list, from what is kept, and from the buffers without counts.
-use Rattle.std.proofs.Common.{◌≡◌, ◌≢◌, ℕ, zero, suc, ◌+◌, ◌<◌, ◌≤◌, List, [], ◌∷◌, map, length, get_or, Bool, true, false, cond, ◌&&◌, eqb, Option, Some, None, is_some, option_map, slice_get, arith, refl, sym, ap, ◌∙◌, subst}
+use Rattle.std.proofs.Common.{◌≡◌, ◌≢◌, ℕ, ◌+◌, ◌≤◌, List, [], ◌∷◌, map, get_or, true, false, ◌&&◌, eqb, Option, Some, None, is_some, option_map, slice_get, arith, refl, sym, ap, ◌∙◌, subst}
 use Rattle.std.specs.List.{All, find, cons_option}
-use Rattle.std.proofs.lemmas.Bool.{eqb-true, and_parts, false≢true}
+use Rattle.std.proofs.lemmas.Bool.{eqb-true, false≢true}
 use Rattle.std.proofs.lemmas.Option.{none-some, slice_get-get_or}
 use Rattle.std.proofs.lemmas.List.Elements.{All-head, All-tail, All-map, All-nil, All-cons}
 use Rattle.gv_types.specs.Mapping.{buffer_id, is_same_id, is_of}
-use Rattle.gv_types.specs.Renamed.{renamed, renamed_backing, renamed_mapping, IsOf, IsBackedOf, AreOf}
+use Rattle.gv_types.specs.Renamed.{renamed_backing, renamed_mapping, IsOf, IsBackedOf, AreOf}
 use Rattle.gv_types.specs.declared.mapping.Backing.{Backing}
 use Rattle.gv_types.specs.declared.mapping.Backing.TheVariants.{Buffer as BufferPages, Zero}
 use Rattle.gv_types.specs.declared.mapping.BufferId.{BufferId}
@@ -18,10 +18,8 @@ use Rattle.gv_space.specs.State.{AddressSpace, LieInside, IsPlaced, IsSpace, Are
 use Rattle.gv_space.proofs.CountLemmas.{count_of-none, same_from_is_same_id}
 use Rattle.gv_space.proofs.RenamingLemmas.{count_of-renamed}
 use Rattle.gv_space.proofs.TableLemmas.{each, each-each, each-same, each-itself}
-use Rattle.gv_journal.specs.Items.{Journaled}
-use Rattle.gv_journal.specs.History.{kept_by}
 use Rattle.gv_journal.specs.RenamedSpace.{renamed_buffer, renamed_live, renamed_table, AreNumbered}
-use Rattle.gv_journal.specs.Alike.{count_at, CountAlike, AreIdsOf, IsKeptSpace}
+use Rattle.gv_journal.specs.Alike.{count_at, CountAlike, AreIdsOf}
 use Rattle.gv_journal.proofs.RenamedTableLemmas.{IsNameless, counted_nameless, more_kept_nameless}
 use Rattle.gv_journal.proofs.RenamedLiveLemmas.{renamed_table-by_count, TellsBuffers-renamed_table, skipped, renamed_table-each}
 

@@ -1,12 +1,12 @@
 -- For callers: as many buffers are alive under their new names, so as many can be made.
-use Rattle.std.proofs.Common.{◌≡◌, ◌≢◌, ℕ, zero, suc, ◌+◌, ◌≤◌, ◌<◌, List, [], ◌∷◌, length, get_or, Bool, true, false, cond, Option, Some, None, option_map, slice_get, arith, refl, sym, ap, ◌∙◌, subst}
+use Rattle.std.proofs.Common.{◌≡◌, ◌≢◌, ℕ, zero, suc, ◌+◌, ◌<◌, List, [], ◌∷◌, length, get_or, true, false, Option, Some, None, option_map, slice_get, arith, refl, sym, ap, ◌∙◌}
 use Rattle.std.specs.List.{All, AllPairs, find, cons_option}
 use Rattle.std.proofs.lemmas.Option.{none-some, same_Some, slice_get-get_or}
 use Rattle.std.proofs.lemmas.List.Elements.{All-head, All-tail}
 use Rattle.gv_types.specs.Mapping.{is_same_id}
 use Rattle.gv_types.specs.Renamed.{IsOf}
 use Rattle.gv_types.specs.declared.mapping.BufferId.{BufferId}
-use Rattle.gv_buffers.specs.Table.{Buffer, Table, buffer, has_id, create_fault, IsTable}
+use Rattle.gv_buffers.specs.Table.{Buffer, Table, has_id, create_fault, IsTable}
 use Rattle.gv_buffers.proofs.FoundLemmas.{is_same_id-itself, is_same_id-other}
 use Rattle.gv_journal.specs.RenamedSpace.{renamed_buffer, renamed_live, renamed_table, AreNumbered}
 use Rattle.gv_journal.specs.Alike.{AreIdsOf}

@@ -1,5 +1,5 @@
 -- For callers: the lists before each item, what undo values keep and what the live items say, with the buffers renamed.
-use Rattle.std.proofs.Common.{◌≡◌, ℕ, zero, suc, ◌+◌, ◌-◌, ◌==◌, ◌||◌, List, [], ◌∷◌, ◌++◌, map, take, drop, reverse, length, Bool, true, false, cond, Option, Some, None, option_map, refl, sym, ap, ◌∙◌, subst}
+use Rattle.std.proofs.Common.{◌≡◌, ℕ, zero, suc, ◌+◌, ◌-◌, ◌==◌, ◌||◌, List, [], ◌∷◌, ◌++◌, map, take, drop, reverse, length, Bool, true, false, cond, Option, option_map, refl, sym, ap, ◌∙◌}
 use Rattle.std.specs.List.{All}
 use Rattle.std.proofs.lemmas.List.{map-append, length-map}
 use Rattle.std.proofs.lemmas.List.Elements.{All-head, All-tail}
@@ -16,13 +16,12 @@ use Rattle.gv_ranges.specs.Edit.{undone, Undo}
 use Rattle.gv_ranges.proofs.RenamingLemmas.{at-renamed}
 use Rattle.gv_space.specs.Undo.{UndoValue}
 use Rattle.gv_journal.specs.Undoing.{taken_by, undone_by}
-use Rattle.gv_journal.specs.Items.{Journaled, Numbered, numbered, entries, next, is_withdrawn, done_by, ops_without, live_ops, view, view_without}
+use Rattle.gv_journal.specs.Items.{Journaled, numbered, entries, next, is_withdrawn, done_by, ops_without, live_ops, view, view_without}
 use Rattle.gv_journal.specs.History.{undos_of, kept_by, back, base}
-use Rattle.gv_journal.specs.Withdrawing.{list_before}
 use Rattle.gv_journal.specs.Renamed.{Said, said_by, renamed_said, all_said, renamed_undo, all_undos, HaveRenamedUndos, IsRenamedJournal, TookOf}
 use Rattle.gv_journal.specs.declared.item.Item.{Item}
-use Rattle.gv_journal.proofs.RenamedListLemmas.{reverse-map, All-reverse, undone_by-renamed, taken_by-renamed}
-use Rattle.gv_journal.proofs.RenamedItemLemmas.{done_said, next-renamed, count-renamed, is_withdrawn-renamed}
+use Rattle.gv_journal.proofs.RenamedListLemmas.{reverse-map, undone_by-renamed, taken_by-renamed}
+use Rattle.gv_journal.proofs.RenamedItemLemmas.{done_said, next-renamed, is_withdrawn-renamed}
 
 -- the list once the newest undo values are spent
 abbrev back_by : List Mapping → List (List UndoValue) → ℕ → List Mapping

@@ -1,10 +1,10 @@
 -- For callers: a journal that is another with its buffers renamed has the same numbers, the same items live, and answers the
 -- same faults.
-use Rattle.std.proofs.Common.{◌≡◌, ℕ, zero, suc, ◌+◌, ◌-◌, ◌==◌, ◌&&◌, ◌||◌, List, [], ◌∷◌, map, take, drop, reverse, length, Bool, true, false, cond, not, Option, Some, None, option_map, slice_get, position, nat_lt, refl, sym, ap, ◌∙◌}
+use Rattle.std.proofs.Common.{◌≡◌, ℕ, ◌+◌, ◌-◌, ◌==◌, ◌&&◌, ◌||◌, List, [], ◌∷◌, map, take, drop, reverse, length, Bool, true, false, cond, not, Option, Some, None, option_map, slice_get, position, nat_lt, refl, sym, ap, ◌∙◌}
 use Rattle.std.specs.List.{list_any, prefix_len}
 use Rattle.std.proofs.lemmas.List.{take-map, drop-map, length-map}
 use Rattle.std.proofs.lemmas.Option.{slice_get-map}
-use Rattle.gv_types.specs.Span.{Span, meets}
+use Rattle.gv_types.specs.Span.{meets}
 use Rattle.gv_types.specs.Operation.{range_of}
 use Rattle.gv_types.specs.Renamed.{renamed_op}
 use Rattle.gv_types.specs.declared.fault.Fault.{Fault}
@@ -12,7 +12,7 @@ use Rattle.gv_types.specs.declared.fault.Fault.TheVariants.{NoEntry, NotABind, W
 use Rattle.gv_types.specs.declared.operation.PageOp.{PageOp}
 use Rattle.gv_types.proofs.RenamingLemmas.{range_of-renamed}
 use Rattle.gv_space.specs.Refusal.{first_of}
-use Rattle.gv_journal.specs.Items.{Journaled, Numbered, numbered, entries, next, names, is_withdrawn, IsLive, done_by}
+use Rattle.gv_journal.specs.Items.{Journaled, numbered, entries, next, names, is_withdrawn, IsLive, done_by}
 use Rattle.gv_journal.specs.Verdict.{full_fault}
 use Rattle.gv_journal.specs.Withdrawing.{item_at, touch, touched_from, touched_by, touched_fault, kind_fault, found_fault, entry_fault, done_of, ops_at}
 use Rattle.gv_journal.specs.Settling.{later, crosses, crossing, settle_fault}

@@ -1,21 +1,19 @@
 -- For callers: the table that has the live buffers under their new names, in the order of their generations: what changes of
 -- the buffers make of it.
-use Rattle.std.proofs.Common.{◌≡◌, ◌≢◌, ℕ, zero, suc, ◌+◌, ◌≤◌, ◌<◌, List, [], ◌∷◌, ◌++◌, map, filter, take, drop, length, Bool, true, false, cond, not, ◌&&◌, eqb, Option, Some, None, option_map, slice_get, arith, refl, sym, ap, ◌∙◌, subst, append-nil, length-append}
-use Rattle.std.specs.List.{All, find, cons_option, insert}
-use Rattle.std.proofs.lemmas.Bool.{eq-eqb, ne_eqb, false≢true, and_right}
+use Rattle.std.proofs.Common.{◌≡◌, ◌≢◌, ℕ, zero, suc, ◌+◌, ◌<◌, List, [], ◌∷◌, map, true, false, eqb, Option, Some, None, option_map, slice_get, arith, refl, sym, ap, ◌∙◌, subst}
+use Rattle.std.specs.List.{All, find, cons_option}
+use Rattle.std.proofs.lemmas.Bool.{eq-eqb, ne_eqb}
 use Rattle.std.proofs.lemmas.Option.{none-some, same_Some}
 use Rattle.std.proofs.lemmas.List.Elements.{All-head, All-tail, All-cons}
-use Rattle.gv_types.specs.Mapping.{is_same_id}
 use Rattle.gv_types.specs.Renamed.{renamed, renamed_mapping, IsOf, AreOf}
 use Rattle.gv_types.specs.declared.mapping.BufferId.{BufferId}
 use Rattle.gv_types.specs.declared.mapping.Mapping.{Mapping}
-use Rattle.gv_types.proofs.IdLemmas.{IsOf-last}
-use Rattle.gv_buffers.specs.Table.{Buffer, Table, buffer, has_id, fresh, only, changed, without, left_by, left_everywhere, IsCreated}
-use Rattle.gv_buffers.proofs.FoundLemmas.{found_id, changed_is_found, left_is_found, destroyed_is_dead, others_stay_destroyed, made_is_found, others_stay_made}
+use Rattle.gv_buffers.specs.Table.{Buffer, Table, buffer, has_id, only, changed, left_by, left_everywhere}
+use Rattle.gv_buffers.proofs.FoundLemmas.{found_id, changed_is_found, left_is_found}
 use Rattle.gv_space.specs.Counts.{count_of, by_count}
 use Rattle.gv_space.proofs.TableLemmas.{each, buffer-each}
 use Rattle.gv_journal.specs.RenamedSpace.{renamed_buffer, renamed_live, renamed_table, TellsBuffers, AreNumbered}
-use Rattle.gv_journal.proofs.RenamedTableLemmas.{IsNameless, CountsNameless, each_found, only-renamed, by_count_same, has_id-renamed, other_name}
+use Rattle.gv_journal.proofs.RenamedTableLemmas.{IsNameless, CountsNameless, each_found, only-renamed, by_count_same}
 
 -- each of numbered ids is the one of its generation
 numbered_of : (ids rest : List BufferId) (from : ℕ) → AreNumbered ids → ((k : ℕ) → slice_get rest k ≡ slice_get ids (from + k)) → All (IsOf ids) rest

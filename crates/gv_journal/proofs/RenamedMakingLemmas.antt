@@ -1,15 +1,13 @@
 -- For callers: the table that has the live buffers under their new names, where one is made or destroyed, and how many they are.
-use Rattle.std.proofs.Common.{◌≡◌, ◌≢◌, ℕ, zero, suc, ◌+◌, ◌≤◌, ◌<◌, List, [], ◌∷◌, ◌++◌, map, filter, take, drop, length, get_or, Bool, true, false, cond, not, ◌&&◌, Option, Some, None, option_map, slice_get, arith, refl, sym, ap, ◌∙◌, subst, append-nil}
-use Rattle.std.specs.List.{All, AllPairs, find, cons_option, insert}
-use Rattle.std.proofs.lemmas.Bool.{false≢true}
+use Rattle.std.proofs.Common.{◌≡◌, ◌≢◌, ℕ, ◌+◌, List, [], ◌∷◌, ◌++◌, filter, length, get_or, Bool, true, false, not, Option, Some, None, option_map, arith, refl, sym, ap, ◌∙◌, subst}
+use Rattle.std.specs.List.{All, cons_option}
 use Rattle.std.proofs.lemmas.Option.{none-some, same_Some, slice_get-get_or}
 use Rattle.std.proofs.lemmas.List.Elements.{All-head, All-tail}
 use Rattle.gv_types.specs.Mapping.{is_same_id}
 use Rattle.gv_types.specs.Renamed.{renamed, IsOf}
 use Rattle.gv_types.specs.declared.mapping.BufferId.{BufferId}
-use Rattle.gv_types.proofs.IdLemmas.{IsOf-last, same_generation}
-use Rattle.gv_buffers.specs.Table.{Buffer, Table, buffer, has_id, fresh, without, create_fault, IsCreated, IsTable}
-use Rattle.gv_buffers.proofs.FoundLemmas.{found_id, destroyed_is_dead, others_stay_destroyed, made_is_found, others_stay_made, is_same_id-itself, is_same_id-other}
+use Rattle.gv_buffers.specs.Table.{Buffer, Table, buffer, has_id, fresh, without, IsCreated}
+use Rattle.gv_buffers.proofs.FoundLemmas.{found_id, destroyed_is_dead, others_stay_destroyed, made_is_found, others_stay_made, is_same_id-itself}
 use Rattle.gv_journal.specs.RenamedSpace.{renamed_buffer, renamed_live, renamed_table, AreNumbered}
 use Rattle.gv_journal.specs.Alike.{AreIdsOf}
 use Rattle.gv_journal.proofs.RenamedTableLemmas.{same_from_test, other_from_test, has_id-renamed}

@@ -1,5 +1,5 @@
 -- For callers: what can be told of an address space by the new names, after changes of it.
-use Rattle.std.proofs.Common.{◌≡◌, ℕ, ◌+◌, ◌-◌, List, [], ◌∷◌, map, reverse, length, refl, sym, ap, ◌∙◌}
+use Rattle.std.proofs.Common.{◌≡◌, ◌+◌, ◌-◌, List, [], ◌∷◌, map, reverse, length, refl, sym, ap, ◌∙◌}
 use Rattle.std.specs.List.{All}
 use Rattle.std.proofs.lemmas.List.Elements.{All-head, All-tail}
 use Rattle.gv_types.specs.Span.{Span}
@@ -7,11 +7,10 @@ use Rattle.gv_types.specs.Operation.{range_of}
 use Rattle.gv_types.specs.Renamed.{renamed_mapping, renamed_op, renamed_bytes, AreOf, IsOperationOf}
 use Rattle.gv_types.specs.declared.mapping.BufferId.{BufferId}
 use Rattle.gv_types.specs.declared.mapping.Mapping.{Mapping}
-use Rattle.gv_types.specs.declared.operation.Op.{Op}
 use Rattle.gv_types.specs.declared.operation.PageOp.{PageOp}
 use Rattle.gv_types.specs.declared.request.Request.{Request}
 use Rattle.gv_types.proofs.RenamingLemmas.{range_of-renamed, met-renamed, length-renamed}
-use Rattle.gv_types.proofs.IdLemmas.{AreOf-filter, AreOf-append}
+use Rattle.gv_types.proofs.IdLemmas.{AreOf-filter}
 use Rattle.gv_ranges.specs.Edit.{edited, edited_by_all, restored, undone}
 use Rattle.gv_ranges.proofs.RenamingLemmas.{edited-renamed, restored-renamed, AreOf-edited, AreOf-replaced, AreOf-clipped}
 use Rattle.gv_buffers.specs.Table.{Table}

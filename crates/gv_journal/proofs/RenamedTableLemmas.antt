@@ -1,22 +1,19 @@
 -- For callers: what tables of buffers tell by their new names, where equal generations mean equal buffers.
-use Rattle.std.proofs.Common.{◌≡◌, ◌≢◌, ℕ, zero, suc, ◌+◌, ◌≤◌, ◌<◌, List, [], ◌∷◌, ◌++◌, map, filter, length, Bool, true, false, cond, not, ◌&&◌, eqb, Option, Some, None, option_map, slice_get, arith, refl, sym, ap, ◌∙◌, subst}
-use Rattle.std.specs.List.{All, find, cons_option, insert}
+use Rattle.std.proofs.Common.{◌≡◌, ◌≢◌, ℕ, zero, suc, ◌+◌, List, [], ◌∷◌, ◌++◌, map, length, true, false, cond, eqb, Option, Some, None, option_map, slice_get, refl, sym, ap, ◌∙◌, subst}
 use Rattle.std.proofs.lemmas.Bool.{eqb-true, and_parts, false≢true}
 use Rattle.std.proofs.lemmas.Option.{none-some, same_Some}
-use Rattle.std.proofs.lemmas.List.Elements.{All-head, All-tail}
 use Rattle.gv_types.specs.Mapping.{buffer_id, is_same_id}
 use Rattle.gv_types.specs.Renamed.{renamed, renamed_mapping, IsOf, AreOf}
 use Rattle.gv_types.specs.declared.mapping.BufferId.{BufferId}
 use Rattle.gv_types.specs.declared.mapping.Mapping.{Mapping}
 use Rattle.gv_types.proofs.IdLemmas.{same_id-renamed, same_generation, IsOf-last}
 use Rattle.gv_buffers.specs.declared.usage.Usage.{Usage}
-use Rattle.gv_buffers.specs.Table.{Buffer, Table, buffer, pages, uses, kept, has_id, fresh, only, changed, without, joined_by, left_by, left_everywhere, destroy_fault, destroy_fault_of, join_fault, join_fault_of, IsCreated}
-use Rattle.gv_buffers.proofs.FoundLemmas.{found_id, changed_is_found, left_is_found, destroyed_is_dead, others_stay_destroyed, made_is_found, others_stay_made, is_same_id-itself, is_same_id-other}
+use Rattle.gv_buffers.specs.Table.{Buffer, Table, buffer, pages, uses, kept, only, changed, without, joined_by, left_by, left_everywhere, destroy_fault, destroy_fault_of, join_fault, join_fault_of, IsCreated}
+use Rattle.gv_buffers.proofs.FoundLemmas.{found_id, changed_is_found, left_is_found, destroyed_is_dead, others_stay_destroyed, made_is_found, others_stay_made, is_same_id-itself}
 use Rattle.gv_space.specs.Counts.{count_of, by_count, counted, more_kept, less_kept}
 use Rattle.gv_space.proofs.RenamingLemmas.{TellsSizes, count_of-renamed}
-use Rattle.gv_space.proofs.TableLemmas.{each, buffer-each}
-use Rattle.gv_space.proofs.ByCountLemmas.{IsOfCounts, counted_of_counts, more_kept_of_counts, less_kept_of_counts}
-use Rattle.gv_journal.specs.RenamedSpace.{renamed_buffer, renamed_live, renamed_table, TellsBuffers, AreNumbered}
+use Rattle.gv_space.proofs.TableLemmas.{buffer-each}
+use Rattle.gv_journal.specs.RenamedSpace.{renamed_buffer, TellsBuffers}
 
 field_of : {A : Type 0} (f : Buffer → A) (o : Option Buffer) → ((b : Buffer) → f (renamed_buffer b) ≡ f b) → option_map f (option_map renamed_buffer o) ≡ option_map f o
 field_of f None same = refl

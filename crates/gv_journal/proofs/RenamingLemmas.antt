@@ -1,37 +1,36 @@
 -- For callers: with the buffers renamed a request meets the same verdict, and a withdrawal the same fault, where equal
 -- generations mean equal buffers.
-use Rattle.std.proofs.Common.{◌≡◌, ℕ, zero, suc, ◌+◌, List, [], ◌∷◌, map, filter, reverse, length, Option, Some, None, option_map, ◌<◌, slice_get, inl, inr, refl, sym, ap, ◌∙◌, subst}
+use Rattle.std.proofs.Common.{◌≡◌, ℕ, ◌+◌, List, [], ◌∷◌, map, reverse, length, Option, Some, None, option_map, ◌<◌, inl, inr, refl, sym, ap, ◌∙◌, subst}
 use Rattle.std.specs.Prelude.{◌⊎◌}
 use Rattle.std.proofs.lemmas.List.{length-map}
 use Rattle.std.proofs.lemmas.Option.{slice_get-map}
-use Rattle.gv_types.specs.Span.{Span, meets}
+use Rattle.gv_types.specs.Span.{Span}
 use Rattle.gv_types.specs.Operation.{range_of, in_pages}
 use Rattle.gv_types.specs.Renamed.{renamed, renamed_mapping, renamed_op, renamed_bytes, AreOf, IsOperationOf}
 use Rattle.gv_types.specs.declared.fault.Fault.{Fault}
 use Rattle.gv_types.specs.declared.mapping.BufferId.{BufferId}
 use Rattle.gv_types.specs.declared.mapping.Mapping.{Mapping}
 use Rattle.gv_types.specs.declared.operation.Op.{Op}
-use Rattle.gv_types.specs.declared.operation.Op.TheVariants.{Map as MapBytes, MapZero, Unmap as UnmapBytes, UnmapBuffer as UnmapBufferBytes}
 use Rattle.gv_types.specs.declared.operation.PageOp.{PageOp}
 use Rattle.gv_types.proofs.RenamingLemmas.{range_of-renamed, met-renamed, length-renamed}
 use Rattle.gv_ranges.specs.Edit.{edited, edited_by_all, restored}
 use Rattle.gv_ranges.proofs.RenamingLemmas.{edited-renamed, restored-renamed}
-use Rattle.gv_buffers.specs.Table.{Table, pages}
+use Rattle.gv_buffers.specs.Table.{Table}
 use Rattle.gv_space.specs.Counts.{by_count, counted, more_kept}
 use Rattle.gv_space.specs.State.{AddressSpace}
 use Rattle.gv_space.specs.Change.{changed_to}
 use Rattle.gv_space.specs.Refusal.{first_of, operation_fault, limit_fault}
 use Rattle.gv_space.proofs.ByCountLemmas.{pages-by_count, counted_of_counts, more_kept_of_counts}
 use Rattle.gv_space.proofs.RenamingLemmas.{TellsSizes, IsRenamed, operation_fault-renamed, limit_fault-renamed}
-use Rattle.gv_journal.specs.Items.{Journaled, next}
+use Rattle.gv_journal.specs.Items.{Journaled}
 use Rattle.gv_journal.specs.Applying.{met, after_op, after_all, does}
-use Rattle.gv_journal.specs.Verdict.{full_fault, limits_fault, turn_fault, refused_or, verdict_from, request_fault, verdict, IsUnmapAllAt, ComesBefore, IsWantOfMemory, IsRefused}
+use Rattle.gv_journal.specs.Verdict.{limits_fault, turn_fault, refused_or, verdict_from, request_fault, verdict, IsUnmapAllAt, ComesBefore, IsRefused}
 use Rattle.gv_journal.specs.Withdrawing.{after_restore, withdrawal_limits, withdraw_fault, list_before, ops_at, entry_fault, IsWithdrawRefused}
 use Rattle.gv_journal.specs.Renamed.{IsRenamedJournal}
 use Rattle.gv_journal.specs.declared.refusal.Refusal.{Refusal}
 use Rattle.gv_journal.proofs.Changing.{after_all-mappings}
 use Rattle.gv_journal.specs.Renamed.{AreRequested}
-use Rattle.gv_journal.proofs.RenamedListLemmas.{reverse-map, does-renamed, done-renamed, edited_by_all-renamed, AreOf-done, requested_head, requested_tail}
+use Rattle.gv_journal.proofs.RenamedListLemmas.{reverse-map, does-renamed, edited_by_all-renamed, AreOf-done, requested_head, requested_tail}
 use Rattle.gv_journal.proofs.RenamedItemLemmas.{full_fault-renamed, entry_fault-renamed, ops_at-renamed}
 
 -- a change of the list leaves the sizes

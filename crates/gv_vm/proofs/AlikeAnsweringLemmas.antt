@@ -1,5 +1,5 @@
 -- For callers: the same call in worlds that tell the same.
-use Rattle.std.proofs.Common.{◌≡◌, ◌≢◌, ℕ, ◌+◌, List, [], ◌∷◌, ◌++◌, map, Option, Some, None, Vec, Global, inl, inr, refl, sym, ap, ◌∙◌, subst, option_map}
+use Rattle.std.proofs.Common.{◌≡◌, ℕ, ◌+◌, List, [], ◌∷◌, ◌++◌, Option, Some, None, inl, inr, refl, sym, ap, ◌∙◌, subst, option_map}
 use Rattle.std.specs.Prelude.{◌⊎◌}
 use Rattle.std.specs.List.{All}
 use Rattle.std.proofs.lemmas.Option.{none-some, same_Some}
@@ -12,34 +12,26 @@ use Rattle.gv_types.specs.declared.mapping.BufferId.{BufferId}
 use Rattle.gv_types.specs.declared.operation.Op.{Op}
 use Rattle.gv_types.specs.declared.request.Request.{Request}
 use Rattle.gv_types.proofs.IdLemmas.{IsOperationOf-more}
-use Rattle.gv_buffers.specs.Table.{Table, create_fault, destroy_fault, without, left_by}
-use Rattle.gv_space.specs.State.{AddressSpace, IsUnchanged}
-use Rattle.gv_journal.specs.Items.{Journaled, next}
-use Rattle.gv_journal.specs.History.{back}
-use Rattle.gv_journal.specs.Settling.{settle_fault}
-use Rattle.gv_journal.specs.Withdrawing.{withdraw_fault}
+use Rattle.gv_buffers.specs.Table.{Table}
+use Rattle.gv_journal.specs.Items.{Journaled}
 use Rattle.gv_journal.specs.Renamed.{AreRequested, AreDoneOf}
 use Rattle.gv_journal.specs.Alike.{AreAlike, AreIdsOf}
-use Rattle.gv_journal.proofs.AlikeLemmas.{next_alike}
 use Rattle.gv_journal.proofs.AlikeSettledLemmas.{room_alike}
-use Rattle.gv_journal.proofs.AlikeNamesLemmas.{AreIdsOf-made, AreIdsOf-without, AreIdsOf-each, AreIdsOf-withdrawn, AreIdsOf-rewound, AreIdsOf-settled, AreDoneOf-withdrawn, AreDoneOf-rewound, AreDoneOf-settled, AreDoneOf-more}
+use Rattle.gv_journal.proofs.AlikeNamesLemmas.{AreIdsOf-made, AreIdsOf-without, AreDoneOf-more}
 use Rattle.gv_vm.specs.Places.{place_at}
-use Rattle.gv_vm.specs.Jobs.{begin_fault, end_fault, all_held}
 use Rattle.gv_vm.specs.State.{Machine, IsMachine}
 use Rattle.gv_vm.specs.World.{World, Queue, InHand}
-use Rattle.gv_vm.specs.Step.{IsEnabled, event_fault, rewind_fault, IsAsBefore, IsCreatedNow, IsDestroyedNow, IsRewoundNow, IsWithdrawnNow, IsSettledNow, IsBegunNow, IsEndedNow, HasOtherEntries, step}
-use Rattle.gv_vm.specs.Alike.{AreAlikeMachines, AreAlikeWorlds, IsHandOf, IsQueueOf, IsWorldOf, IsSoundStep, StaysAlike}
+use Rattle.gv_vm.specs.Step.{event_fault, IsAsBefore, IsCreatedNow, IsDestroyedNow, HasOtherEntries, step}
+use Rattle.gv_vm.specs.Alike.{AreAlikeWorlds, IsHandOf, IsQueueOf, IsWorldOf, StaysAlike}
 use Rattle.gv_vm.specs.Renamed.{renamed_place, renamed_running}
 use Rattle.gv_vm.specs.declared.event.Event.{Event}
-use Rattle.gv_vm.specs.declared.event.Event.TheVariants.{Create, Destroy, Rewind, Withdraw, Settle, JobBegin, JobEnd, Translate}
+use Rattle.gv_vm.specs.declared.event.Event.TheVariants.{Create, Destroy, Translate}
 use Rattle.gv_vm.specs.declared.event.Reply.{Reply}
-use Rattle.gv_vm.specs.declared.event.Reply.TheVariants.{Idle, Created, Destroyed, Rewound, Withdrawn, Settled, Begun, Ended, Found, Refused}
-use Rattle.gv_vm.specs.declared.jobs.Access.{Access}
-use Rattle.gv_vm.specs.declared.jobs.Job.{Job}
+use Rattle.gv_vm.specs.declared.event.Reply.TheVariants.{Idle, Created, Destroyed, Found, Refused}
 use Rattle.gv_vm.specs.declared.places.Place.{Place}
-use Rattle.gv_vm.proofs.AlikeMachineLemmas.{told_table, place_at_alike, create_fault_alike, destroy_fault_alike, rewind_fault_alike, begin_fault_alike, end_fault_alike, withdraw_fault_same, settle_fault_same}
-use Rattle.gv_vm.proofs.AlikeCallLemmas.{created_alike, destroyed_alike, begun_alike, ended_alike, places_alike, job_number_alike}
-use Rattle.gv_vm.proofs.AlikeEntryLemmas.{AreIdsOf-unchanged, machine_rewound_alike, machine_withdrawn_alike, machine_settled_alike}
+use Rattle.gv_vm.proofs.AlikeMachineLemmas.{told_table, place_at_alike, create_fault_alike, destroy_fault_alike}
+use Rattle.gv_vm.proofs.AlikeCallLemmas.{created_alike, destroyed_alike}
+use Rattle.gv_vm.proofs.AlikeEntryLemmas.{AreIdsOf-unchanged}
 use Rattle.gv_vm.proofs.AlikeTurnLemmas.{machines_alike, machine_of}
 use Rattle.gv_vm.proofs.AlikeTakingLemmas.{moved}
 

@@ -1,28 +1,18 @@
 -- For callers: machines that tell the same go on to tell the same after the same call.
-use Rattle.std.proofs.Common.{◌≡◌, ◌≢◌, ℕ, suc, ◌+◌, List, [], ◌∷◌, ◌++◌, map, length, reverse, Option, Some, None, option_map, refl, sym, ap, ◌∙◌, subst}
-use Rattle.std.specs.List.{All}
+use Rattle.std.proofs.Common.{◌≡◌, ℕ, ◌+◌, List, [], ◌∷◌, ◌++◌, map, Option, Some, option_map, refl, sym, ap, ◌∙◌, subst}
 use Rattle.std.proofs.lemmas.List.{map-append}
 use Rattle.gv_types.specs.Mapping.{buffer_id}
-use Rattle.gv_types.specs.Renamed.{renamed, renamed_mapping, renamed_bytes, IsOf, AreOf}
-use Rattle.gv_types.specs.declared.fault.Fault.{Fault}
-use Rattle.gv_types.specs.declared.fault.Fault.TheVariants.{OutOfMemory}
+use Rattle.gv_types.specs.Renamed.{renamed, renamed_mapping, IsOf}
 use Rattle.gv_types.specs.declared.mapping.BufferId.{BufferId}
 use Rattle.gv_types.specs.declared.mapping.Mapping.{Mapping}
-use Rattle.gv_types.specs.declared.request.Request.{Request}
-use Rattle.gv_buffers.specs.Table.{Buffer, Table, fresh, without, left_everywhere, IsCreated}
-use Rattle.gv_space.specs.State.{AddressSpace, IsUnchanged}
-use Rattle.gv_journal.specs.Items.{Journaled, next}
-use Rattle.gv_journal.specs.History.{back, kept_by}
-use Rattle.gv_journal.specs.Binding.{IsRewound}
-use Rattle.gv_journal.specs.Settling.{IsSettled}
-use Rattle.gv_journal.specs.Withdrawing.{IsWithdrawn}
-use Rattle.gv_journal.specs.Renamed.{AreRequested, AreDoneOf}
+use Rattle.gv_buffers.specs.Table.{Table, fresh, without, left_everywhere, IsCreated}
+use Rattle.gv_space.specs.State.{AddressSpace}
+use Rattle.gv_journal.specs.Items.{Journaled}
 use Rattle.gv_journal.specs.RenamedSpace.{renamed_table, renamed_live}
 use Rattle.gv_journal.specs.Alike.{AreAlike, AreIdsOf}
 use Rattle.gv_journal.proofs.RenamedLiveLemmas.{renamed_table-left}
 use Rattle.gv_journal.proofs.RenamedMakingLemmas.{renamed_table-made, renamed_table-without}
-use Rattle.gv_journal.proofs.AlikeSettledLemmas.{buffers_alike, settled_alike, room_alike}
-use Rattle.gv_journal.proofs.AlikeChangeLemmas.{rewound_alike, withdrawn_alike}
+use Rattle.gv_journal.proofs.AlikeSettledLemmas.{buffers_alike}
 use Rattle.gv_vm.specs.Places.{place_at}
 use Rattle.gv_vm.specs.Jobs.{Running, RunningJob, without_job, all_held, running_job, IsBegun, IsEnded}
 use Rattle.gv_vm.specs.State.{Machine, IsMachine, HasOtherBuffers, HasOtherJobs}
@@ -33,7 +23,7 @@ use Rattle.gv_vm.specs.declared.jobs.Job.{Job}
 use Rattle.gv_vm.specs.declared.places.Place.{Place}
 use Rattle.gv_vm.proofs.RenamingLemmas.{place_at-renamed, without_job-renamed}
 use Rattle.gv_vm.proofs.RenamedHoldingLemmas.{all_held-seen}
-use Rattle.gv_vm.proofs.AlikeMachineLemmas.{is_kept, AreOf-list, told_list, told_table, place_at_alike}
+use Rattle.gv_vm.proofs.AlikeMachineLemmas.{AreOf-list, told_list, told_table}
 
 some_same : {A : Type 0} (xs ys : List A) → map Some xs ≡ map Some ys → xs ≡ ys
 some_same [] [] same = refl

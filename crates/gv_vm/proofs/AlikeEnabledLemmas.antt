@@ -1,19 +1,16 @@
 -- For callers: in worlds that tell the same the same events are enabled.
-use Rattle.std.proofs.Common.{◌≡◌, ℕ, ◌<◌, List, [], ◌∷◌, map, length, Option, Some, None, option_map, slice_get, arith, refl, sym, ap, ◌∙◌, subst}
+use Rattle.std.proofs.Common.{◌≡◌, ℕ, ◌<◌, List, length, Option, Some, None, option_map, slice_get, refl, sym, ap, ◌∙◌, subst}
 use Rattle.std.specs.List.{All}
 use Rattle.std.proofs.lemmas.Option.{none-some, same_Some}
 use Rattle.std.proofs.lemmas.List.{length-map}
-use Rattle.gv_types.specs.Request.{Fits}
 use Rattle.gv_types.specs.declared.mapping.BufferId.{BufferId}
 use Rattle.gv_types.specs.declared.request.Point.{Point}
 use Rattle.gv_types.specs.declared.request.Request.{Request}
-use Rattle.gv_journal.specs.Alike.{AreAlike, CountAlike}
-use Rattle.gv_journal.specs.History.{kept_by}
 use Rattle.gv_vm.specs.World.{World, InHand, queue_at, next_wait}
 use Rattle.gv_vm.specs.Step.{IsQueue, Has, CanTake, CanLook, CanBind, CanGiveUp, CanPay, IsEnabled}
 use Rattle.gv_vm.specs.Alike.{SeenRequest, seen_request, SeenHand, seen_hand, SeenQueue, AreAlikeMachines, AreAlikeWorlds}
 use Rattle.gv_vm.specs.declared.event.Event.TheVariants.{Put}
-use Rattle.gv_vm.proofs.AlikeQueueLemmas.{queue_alike, waiting_alike, hand_alike, owed_alike}
+use Rattle.gv_vm.proofs.AlikeQueueLemmas.{waiting_alike, hand_alike, owed_alike}
 
 -- To tell the same goes both ways.
 pub AreAlikeMachines-sym : (ids ids' : List BufferId) (w w' : World) → AreAlikeMachines ids ids' w.machine w'.machine → AreAlikeMachines ids' ids w'.machine w.machine

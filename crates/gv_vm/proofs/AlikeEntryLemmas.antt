@@ -1,15 +1,14 @@
 -- For callers: machines that tell the same go on to tell the same after the same request, where neither is refused for want of
 -- memory, and after the same item is taken back, withdrawn or settled.
-use Rattle.std.proofs.Common.{◌≡◌, ◌≢◌, ℕ, ◌+◌, List, [], ◌∷◌, Option, Some, None, inl, inr, refl, sym, ap, ◌∙◌, subst}
+use Rattle.std.proofs.Common.{◌≡◌, ℕ, ◌+◌, List, Some, inl, inr, sym, ap, ◌∙◌, subst}
 use Rattle.std.proofs.lemmas.Option.{none-some, same_Some}
-use Rattle.gv_types.specs.Renamed.{renamed_bytes}
 use Rattle.gv_types.specs.declared.fault.Fault.{Fault}
 use Rattle.gv_types.specs.declared.mapping.BufferId.{BufferId}
 use Rattle.gv_types.specs.declared.operation.Op.{Op}
 use Rattle.gv_types.specs.declared.request.Request.{Request}
 use Rattle.gv_buffers.specs.Table.{Table}
 use Rattle.gv_space.specs.State.{AddressSpace, IsUnchanged}
-use Rattle.gv_journal.specs.Items.{Journaled, next}
+use Rattle.gv_journal.specs.Items.{Journaled}
 use Rattle.gv_journal.specs.History.{back}
 use Rattle.gv_journal.specs.Binding.{IsRewound}
 use Rattle.gv_journal.specs.Settling.{IsSettled}
@@ -19,13 +18,13 @@ use Rattle.gv_journal.specs.Renamed.{AreRequested, AreDoneOf}
 use Rattle.gv_journal.specs.Alike.{AreAlike, AreIdsOf}
 use Rattle.gv_journal.specs.declared.refusal.Refusal.{Refusal}
 use Rattle.gv_journal.proofs.AlikeLemmas.{next_alike, verdict_alike}
-use Rattle.gv_journal.proofs.AlikeStateLemmas.{IsEntered, entered_alike}
+use Rattle.gv_journal.proofs.AlikeStateLemmas.{entered_alike}
 use Rattle.gv_journal.proofs.AlikeSettledLemmas.{settled_alike, room_alike}
 use Rattle.gv_journal.proofs.AlikeChangeLemmas.{rewound_alike, withdrawn_alike}
 use Rattle.gv_journal.proofs.AlikeNamesLemmas.{AreIdsOf-applied, AreIdsOf-withdrawn, AreIdsOf-rewound, AreIdsOf-settled, AreDoneOf-bound}
 use Rattle.gv_vm.specs.State.{Machine, IsMachine}
 use Rattle.gv_vm.specs.Outcomes.{with_outcome}
-use Rattle.gv_vm.specs.Told.{IsAccepted, IsRefusedWhole, CameTo, IsCarriedOut}
+use Rattle.gv_vm.specs.Told.{CameTo, IsCarriedOut}
 use Rattle.gv_vm.specs.Renamed.{renamed_running}
 use Rattle.gv_vm.specs.Alike.{seen_request, AreAlikeMachines, IsAmple}
 use Rattle.gv_vm.specs.declared.outcome.Outcome.{Outcome}

@@ -1,7 +1,5 @@
 -- For callers: machines that tell the same answer the same faults, and lead the same way.
-use Rattle.std.proofs.Common.{◌≡◌, ◌≢◌, ℕ, suc, ◌+◌, List, [], ◌∷◌, map, length, Option, Some, None, option_map, refl, sym, ap, ◌∙◌, subst}
-use Rattle.std.specs.List.{All}
-use Rattle.gv_types.specs.Mapping.{buffer_id}
+use Rattle.std.proofs.Common.{◌≡◌, ℕ, List, [], ◌∷◌, map, Option, Some, None, option_map, refl, sym, ap, ◌∙◌, subst}
 use Rattle.gv_types.specs.Renamed.{renamed, renamed_mapping, IsOf, AreOf}
 use Rattle.gv_types.specs.declared.fault.Fault.{Fault}
 use Rattle.gv_types.specs.declared.fault.Fault.TheVariants.{NoEntry}
@@ -10,24 +8,23 @@ use Rattle.gv_types.specs.declared.mapping.Mapping.{Mapping}
 use Rattle.gv_buffers.specs.Table.{Table, uses, kept, create_fault, destroy_fault}
 use Rattle.gv_space.specs.State.{AddressSpace}
 use Rattle.gv_journal.specs.RenamedSpace.{renamed_table, seen_space}
-use Rattle.gv_journal.specs.Alike.{SeenItem, seen_item, AreAlike, AreIdsOf, IsKeptSpace}
+use Rattle.gv_journal.specs.Alike.{SeenItem, seen_item, AreIdsOf, IsKeptSpace}
 use Rattle.gv_journal.specs.Settling.{settle_fault}
-use Rattle.gv_journal.specs.Withdrawing.{entry_fault, withdraw_fault}
+use Rattle.gv_journal.specs.Withdrawing.{withdraw_fault}
 use Rattle.gv_journal.specs.declared.item.Item.{Item}
 use Rattle.gv_journal.proofs.RenamedTableLemmas.{tells_uses, tells_kept, tells_destroy_fault}
 use Rattle.gv_journal.proofs.RenamedLiveLemmas.{TellsBuffers-renamed_table}
 use Rattle.gv_journal.proofs.RenamedCountLemmas.{create_fault-seen}
 use Rattle.gv_journal.proofs.Recounts.{AreOf-placed}
-use Rattle.gv_journal.proofs.AlikeLemmas.{list_alike, table_alike, withdraw_fault_alike, settle_fault_alike, entry_fault_alike}
+use Rattle.gv_journal.proofs.AlikeLemmas.{list_alike, table_alike, withdraw_fault_alike, settle_fault_alike}
 use Rattle.gv_vm.specs.Places.{place_at}
-use Rattle.gv_vm.specs.Jobs.{Running, RunningJob, begin_fault, end_fault, places_in}
+use Rattle.gv_vm.specs.Jobs.{Running, begin_fault, end_fault}
 use Rattle.gv_vm.specs.State.{Machine, IsMachine}
 use Rattle.gv_vm.specs.Step.{rewind_fault}
 use Rattle.gv_vm.specs.Renamed.{renamed_place, renamed_running}
 use Rattle.gv_vm.specs.Alike.{AreAlikeMachines}
 use Rattle.gv_vm.specs.declared.jobs.Access.{Access}
-use Rattle.gv_vm.specs.declared.places.Place.{Place}
-use Rattle.gv_vm.proofs.RenamingLemmas.{IsRenamedRunning, IsRenamedForJobs, place_at-renamed, begin_fault-renamed, end_fault-renamed, places_in-renamed}
+use Rattle.gv_vm.proofs.RenamingLemmas.{IsRenamedRunning, IsRenamedForJobs, place_at-renamed, begin_fault-renamed, end_fault-renamed}
 
 pub is_kept : (v : Machine) → IsMachine v → IsKeptSpace v.space v.journal
 is_kept v sound = record { space = sound.buffers_counted.used; kept = sound.buffers_counted.kept }

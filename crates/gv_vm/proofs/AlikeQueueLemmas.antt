@@ -1,26 +1,21 @@
 -- For callers: queues that tell the same go on to tell the same when a request is put, taken, looked at or given up, and when
 -- its signals are paid.
-use Rattle.std.proofs.Common.{◌≡◌, ◌≢◌, ℕ, zero, suc, ◌+◌, ◌<◌, ◌≤◌, List, [], ◌∷◌, ◌++◌, map, length, get_or, Option, Some, None, option_map, slice_get, slice_set, slice_index, max, arith, refl, sym, ap, ◌∙◌, subst}
+use Rattle.std.proofs.Common.{◌≡◌, ℕ, zero, suc, ◌+◌, ◌<◌, ◌≤◌, List, [], ◌∷◌, ◌++◌, map, length, get_or, Some, None, option_map, slice_get, slice_set, slice_index, arith, refl, sym, ap, ◌∙◌, subst}
 use Rattle.std.specs.List.{All}
 use Rattle.std.proofs.Math.ListN.{get_or-map}
-use Rattle.std.proofs.lemmas.Option.{none-some, same_Some}
+use Rattle.std.proofs.lemmas.Option.{same_Some}
 use Rattle.std.proofs.lemmas.List.{map-set, map-append, length-map}
-use Rattle.std.proofs.lemmas.List.Elements.{All-head, All-tail, All-nil, All-cons, All-append}
-use Rattle.gv_types.specs.declared.fault.Fault.{Fault}
+use Rattle.std.proofs.lemmas.List.Elements.{All-head, All-tail, All-nil, All-cons}
 use Rattle.gv_types.specs.declared.mapping.BufferId.{BufferId}
 use Rattle.gv_types.specs.declared.request.Point.{Point}
 use Rattle.gv_types.specs.declared.request.Request.{Request}
-use Rattle.gv_sync.specs.Raises.{IsReached, with_raise}
 use Rattle.gv_sync.specs.Sights.{Sight, sight}
 use Rattle.gv_journal.specs.Renamed.{AreRequested}
 use Rattle.gv_space.specs.State.{AddressSpace}
-use Rattle.gv_vm.specs.State.{Machine, IsMachine}
-use Rattle.gv_vm.specs.Outcomes.{told_to, with_outcome}
-use Rattle.gv_vm.specs.World.{World, Queue, InHand, new_queue, put_fault_of, queue_at, with_queue, taken, next_number, next_wait, seen_at}
-use Rattle.gv_vm.specs.Step.{put_fault, IsPutAs, IsNotPut, IsTaken, CanLook, IsReachedNow, IsLackingNow, IsGivenUp, IsPaid, IsRaised}
-use Rattle.gv_vm.specs.Alike.{SeenRequest, seen_request, SeenHand, seen_hand, SeenQueue, seen_queue, AreAlikeMachines, AreAlikeWorlds, IsHandOf, IsQueueOf, IsWorldOf}
-use Rattle.gv_vm.specs.declared.outcome.Outcome.{Outcome}
-use Rattle.gv_vm.specs.declared.outcome.Outcome.TheVariants.{NotReady}
+use Rattle.gv_vm.specs.Outcomes.{told_to}
+use Rattle.gv_vm.specs.World.{World, Queue, InHand, new_queue, put_fault_of, queue_at, with_queue, taken, next_number, seen_at}
+use Rattle.gv_vm.specs.Step.{put_fault, IsPutAs, IsTaken, CanLook, IsReachedNow, IsLackingNow}
+use Rattle.gv_vm.specs.Alike.{SeenRequest, seen_request, SeenHand, seen_hand, SeenQueue, seen_queue, AreAlikeMachines, AreAlikeWorlds, IsQueueOf, IsWorldOf}
 
 all_at : (ids : List BufferId) (qs : List Queue) (n : ℕ) → All (IsQueueOf ids) qs → IsQueueOf ids (get_or qs n new_queue)
 all_at ids [] n all = record { waiting = All-nil (λ r. AreRequested ids r.ops.items); hand = tt }

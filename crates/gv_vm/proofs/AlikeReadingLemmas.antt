@@ -1,11 +1,10 @@
 -- For callers: what is read of worlds that tell the same.
-use Rattle.std.proofs.Common.{◌≡◌, ℕ, List, [], ◌∷◌, map, Option, refl, sym, ap, ◌∙◌}
+use Rattle.std.proofs.Common.{◌≡◌, List, map, sym, ap, ◌∙◌}
 use Rattle.gv_types.specs.Operation.{in_pages}
 use Rattle.gv_types.specs.Renamed.{renamed_mapping, renamed_op, renamed_bytes, IsOperationOf}
 use Rattle.gv_types.specs.declared.mapping.BufferId.{BufferId}
 use Rattle.gv_types.specs.declared.mapping.Mapping.{Mapping}
 use Rattle.gv_types.specs.declared.operation.Op.{Op}
-use Rattle.gv_types.specs.declared.operation.PageOp.{PageOp}
 use Rattle.gv_types.proofs.RenamingLemmas.{in_pages-renamed}
 use Rattle.gv_split.specs.Renamed.{renamed_step}
 use Rattle.gv_split.specs.Steps.{steps}
@@ -15,9 +14,7 @@ use Rattle.gv_table.proofs.RenamingLemmas.{tables_of-renamed}
 use Rattle.gv_space.specs.Refusal.{operation_fault}
 use Rattle.gv_journal.specs.Alike.{AreIdsOf}
 use Rattle.gv_journal.proofs.AlikeLemmas.{operation_fault_alike}
-use Rattle.gv_vm.specs.Jobs.{Running, places_in}
 use Rattle.gv_vm.specs.State.{Machine, IsMachine}
-use Rattle.gv_vm.specs.Renamed.{renamed_place}
 use Rattle.gv_vm.specs.Alike.{AreAlikeMachines}
 use Rattle.gv_vm.proofs.AlikeMachineLemmas.{AreOf-list, told_list}
 

@@ -1,40 +1,19 @@
 -- For callers: the same item taken back, withdrawn or settled, and the same job, in worlds that tell the same.
-use Rattle.std.proofs.Common.{◌≡◌, ◌≢◌, ℕ, ◌+◌, List, [], ◌∷◌, map, Option, Some, None, Vec, Global, inl, inr, arith, refl, sym, ap, ◌∙◌, subst}
+use Rattle.std.proofs.Common.{◌≡◌, ℕ, ◌+◌, List, None, inl, inr, arith, refl, sym, ap, ◌∙◌, subst}
 use Rattle.std.specs.Prelude.{◌⊎◌}
-use Rattle.std.specs.List.{All}
-use Rattle.std.proofs.lemmas.Option.{none-some, same_Some}
-use Rattle.gv_types.specs.Mapping.{buffer_id}
-use Rattle.gv_types.specs.Renamed.{IsOf}
-use Rattle.gv_types.specs.declared.fault.Fault.{Fault}
 use Rattle.gv_types.specs.declared.mapping.BufferId.{BufferId}
-use Rattle.gv_types.specs.declared.mapping.Mapping.{Mapping}
-use Rattle.gv_buffers.specs.Table.{Buffer, Table, changed, joined_by, left_by, left_everywhere}
-use Rattle.gv_buffers.specs.declared.usage.Usage.{Usage}
-use Rattle.gv_space.specs.State.{AddressSpace}
-use Rattle.gv_journal.specs.Items.{Journaled, next}
-use Rattle.gv_journal.specs.Renamed.{AreDoneOf}
-use Rattle.gv_journal.specs.Alike.{AreIdsOf}
-use Rattle.gv_journal.specs.declared.item.Item.{Item}
+use Rattle.gv_journal.specs.Items.{Journaled}
 use Rattle.gv_journal.proofs.AlikeLemmas.{next_alike}
-use Rattle.gv_journal.proofs.AlikeNamesLemmas.{AreIdsOf-each, AreIdsOf-withdrawn, AreIdsOf-rewound, AreIdsOf-settled, AreDoneOf-withdrawn, AreDoneOf-rewound, AreDoneOf-settled}
-use Rattle.gv_vm.specs.Places.{place_at}
-use Rattle.gv_vm.specs.Jobs.{target_held, place_held, access_held, all_held}
-use Rattle.gv_vm.specs.State.{Machine, IsMachine}
+use Rattle.gv_journal.proofs.AlikeNamesLemmas.{AreIdsOf-withdrawn, AreIdsOf-rewound, AreIdsOf-settled, AreDoneOf-withdrawn, AreDoneOf-rewound, AreDoneOf-settled}
+use Rattle.gv_vm.specs.State.{IsMachine}
 use Rattle.gv_vm.specs.World.{World}
-use Rattle.gv_vm.specs.Step.{event_fault, rewind_fault, IsRewoundNow, IsWithdrawnNow, IsSettledNow, IsBegunNow, IsEndedNow, step}
+use Rattle.gv_vm.specs.Step.{rewind_fault, IsRewoundNow, IsWithdrawnNow, IsSettledNow, step}
 use Rattle.gv_vm.specs.Headline.{RemembersBefore}
 use Rattle.gv_vm.specs.Alike.{AreAlikeWorlds, IsWorldOf, IsSoundStep, StaysAlike}
-use Rattle.gv_vm.specs.declared.event.Event.{Event}
-use Rattle.gv_vm.specs.declared.event.Event.TheVariants.{Rewind, Withdraw, Settle, JobBegin, JobEnd}
+use Rattle.gv_vm.specs.declared.event.Event.TheVariants.{Rewind, Withdraw, Settle}
 use Rattle.gv_vm.specs.declared.event.Reply.{Reply}
-use Rattle.gv_vm.specs.declared.event.Reply.TheVariants.{Idle, Rewound, Withdrawn, Settled, Begun, Ended, Refused}
-use Rattle.gv_vm.specs.declared.jobs.Access.{Access}
-use Rattle.gv_vm.specs.declared.jobs.Job.{Job}
-use Rattle.gv_vm.specs.declared.places.Place.{Place}
-use Rattle.gv_vm.specs.declared.places.Target.{Target}
-use Rattle.gv_vm.specs.declared.places.Target.TheVariants.{Buffer as BufferByte, Zero}
-use Rattle.gv_vm.proofs.AlikeMachineLemmas.{rewind_fault_alike, begin_fault_alike, end_fault_alike, withdraw_fault_same, settle_fault_same}
-use Rattle.gv_vm.proofs.AlikeCallLemmas.{begun_alike, ended_alike, places_alike, job_number_alike}
+use Rattle.gv_vm.specs.declared.event.Reply.TheVariants.{Idle, Rewound, Withdrawn, Settled, Refused}
+use Rattle.gv_vm.proofs.AlikeMachineLemmas.{rewind_fault_alike, withdraw_fault_same, settle_fault_same}
 use Rattle.gv_vm.proofs.AlikeEntryLemmas.{machine_rewound_alike, machine_withdrawn_alike, machine_settled_alike}
 use Rattle.gv_vm.proofs.AlikeTurnLemmas.{machines_alike, machine_of}
 use Rattle.gv_vm.proofs.AlikeTakingLemmas.{moved}

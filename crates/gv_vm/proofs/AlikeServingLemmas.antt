@@ -1,17 +1,14 @@
 -- For callers: the same look, the same request carried out or given up, the same signal paid and the same raise, in worlds that tell the same.
-use Rattle.std.proofs.Common.{◌≡◌, ◌≢◌, ℕ, List, [], ◌∷◌, Option, Some, None, inl, inr, refl, sym, ap, ◌∙◌, subst}
+use Rattle.std.proofs.Common.{◌≡◌, ℕ, List, inl, inr, refl, sym, ap, ◌∙◌, subst}
 use Rattle.std.specs.Prelude.{◌⊎◌}
-use Rattle.std.proofs.lemmas.Option.{none-some, same_Some}
-use Rattle.gv_types.specs.declared.fault.Fault.{Fault}
+use Rattle.std.proofs.lemmas.Option.{none-some}
 use Rattle.gv_types.specs.declared.mapping.BufferId.{BufferId}
 use Rattle.gv_types.specs.declared.request.Point.{Point}
-use Rattle.gv_journal.specs.Renamed.{AreRequested}
 use Rattle.gv_vm.specs.State.{Machine, IsMachine}
 use Rattle.gv_vm.specs.Outcomes.{with_outcome}
-use Rattle.gv_vm.specs.World.{World, Queue, queue_at}
+use Rattle.gv_vm.specs.World.{World}
 use Rattle.gv_vm.specs.Step.{IsEnabled, IsReachedNow, IsLackingNow, IsBoundNow, IsGivenUp, IsPaid, IsRaised, step}
-use Rattle.gv_vm.specs.Alike.{AreAlikeWorlds, IsQueueOf, IsWorldOf, IsAmple, IsAmpleReply, StaysAlike}
-use Rattle.gv_vm.specs.declared.event.Event.{Event}
+use Rattle.gv_vm.specs.Alike.{AreAlikeWorlds, IsWorldOf, IsAmple, IsAmpleReply, StaysAlike}
 use Rattle.gv_vm.specs.declared.event.Event.TheVariants.{Look, Bind, GiveUp, Pay, Raise}
 use Rattle.gv_vm.specs.declared.event.Reply.{Reply}
 use Rattle.gv_vm.specs.declared.event.Reply.TheVariants.{Idle, Reached, Lacking, Told, Raised, Refused}

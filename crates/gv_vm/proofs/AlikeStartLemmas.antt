@@ -1,6 +1,6 @@
 -- For callers: a new world is as it has to be, names no buffer, and tells the same as itself.
-use Rattle.std.proofs.Common.{◌≡◌, ℕ, ◌≤◌, ◌<◌, ◌^◌, IsTrue, List, [], length, arith, refl, ap}
-use Rattle.std.specs.List.{All, AllPairs}
+use Rattle.std.proofs.Common.{◌≡◌, ℕ, IsTrue, List, [], arith, refl}
+use Rattle.std.specs.List.{All}
 use Rattle.std.proofs.lemmas.Option.{none-some}
 use Rattle.std.proofs.lemmas.List.{length-replicate}
 use Rattle.std.proofs.lemmas.List.Elements.{All-nil, All-replicate}
@@ -8,19 +8,18 @@ use Rattle.gv_types.specs.Bounds.{Area}
 use Rattle.gv_types.specs.Limits.{Caps, IsWithin}
 use Rattle.gv_types.specs.Renamed.{IsOf, IsOperationOf}
 use Rattle.gv_types.specs.declared.mapping.BufferId.{BufferId}
-use Rattle.gv_types.specs.declared.mapping.Mapping.{Mapping}
 use Rattle.gv_buffers.specs.Table.{Buffer, no_buffers, IsBuffer, IsTable}
 use Rattle.gv_space.specs.Counts.{count_of}
-use Rattle.gv_space.specs.State.{AddressSpace, IsPlaced, IsSpace, AreKept, new_space}
+use Rattle.gv_space.specs.State.{IsPlaced, IsSpace, AreKept, new_space}
 use Rattle.gv_journal.specs.Items.{Numbered, done_by}
 use Rattle.gv_journal.specs.Renamed.{AreRequested}
 use Rattle.gv_journal.specs.declared.item.Item.{Item}
 use Rattle.gv_journal.proofs.JournalLemmas.{fits_new}
 use Rattle.gv_vm.specs.Jobs.{RunningJob, IsHeld, runs}
 use Rattle.gv_vm.specs.Outcomes.{queues}
-use Rattle.gv_vm.specs.State.{Machine, IsMachine, WasTold, SawItsWaits, new_machine}
+use Rattle.gv_vm.specs.State.{IsMachine, WasTold, SawItsWaits, new_machine}
 use Rattle.gv_vm.specs.World.{World, new_queue, new_world}
-use Rattle.gv_vm.specs.Alike.{AreAlikeMachines, AreAlikeWorlds, IsQueueOf, IsWorldOf}
+use Rattle.gv_vm.specs.Alike.{AreAlikeWorlds, IsQueueOf, IsWorldOf}
 use Rattle.gv_vm.specs.declared.outcome.Outcome.{Outcome}
 use Rattle.gv_vm.proofs.Machines.{IsMachine-of}
 

@@ -1,13 +1,9 @@
 -- For callers: the same event in worlds that tell the same, where no reply is want of memory: the replies tell the same, and the
 -- worlds go on to do so.
-use Rattle.std.proofs.Common.{◌≡◌, ◌≢◌, ℕ, ◌+◌, List, [], ◌∷◌, map, cond, true, false, Option, Some, None, Vec, Global, inl, inr, refl, sym, ap, ◌∙◌, subst}
+use Rattle.std.proofs.Common.{◌≡◌, ℕ, List, [], ◌∷◌, cond, true, false, Option, Some, None, Vec, Global, inl, inr, refl, sym, ap, ◌∙◌, subst}
 use Rattle.std.specs.Prelude.{◌⊎◌}
-use Rattle.std.specs.List.{All}
-use Rattle.std.proofs.lemmas.Option.{none-some, same_Some}
-use Rattle.gv_types.specs.declared.fault.Fault.{Fault}
 use Rattle.gv_types.specs.declared.mapping.BufferId.{BufferId}
 use Rattle.gv_types.specs.declared.mapping.Mapping.{Mapping}
-use Rattle.gv_types.specs.declared.request.Point.{Point}
 use Rattle.gv_buffers.specs.Table.{Buffer, Table, has_id, only, joined_by, left_by}
 use Rattle.gv_buffers.specs.declared.usage.Usage.{Usage}
 use Rattle.gv_space.specs.State.{AddressSpace}
@@ -20,7 +16,6 @@ use Rattle.gv_vm.specs.Jobs.{target_held, place_held, access_held, all_held, beg
 use Rattle.gv_vm.specs.State.{Machine, IsMachine}
 use Rattle.gv_vm.specs.World.{World}
 use Rattle.gv_vm.specs.Step.{IsBegunNow, IsEndedNow, step}
-use Rattle.gv_vm.specs.Renamed.{renamed_place}
 use Rattle.gv_vm.specs.Alike.{AreAlikeEvents, AreAlikeWorlds, IsAmpleReply, IsWorldOf, IsSoundStep, StaysAlike}
 use Rattle.gv_vm.specs.declared.event.Event.{Event}
 use Rattle.gv_vm.specs.declared.event.Event.TheVariants.{Put, Take, Look, Bind, GiveUp, Pay, Raise, Create, Destroy, Rewind, Withdraw, Settle, JobBegin, JobEnd, Translate}

@@ -1,27 +1,22 @@
 -- For callers: the same step of a queue in worlds that tell the same.
-use Rattle.std.proofs.Common.{◌≡◌, ◌≢◌, ℕ, ◌+◌, ◌<◌, List, [], ◌∷◌, ◌++◌, Option, Some, None, inl, inr, refl, sym, ap, ◌∙◌, subst}
+use Rattle.std.proofs.Common.{◌≡◌, ℕ, List, [], ◌∷◌, inl, inr, refl, sym, ap, ◌∙◌, subst}
 use Rattle.std.specs.Prelude.{◌⊎◌}
 use Rattle.std.specs.List.{All}
 use Rattle.std.proofs.lemmas.Option.{none-some, same_Some}
 use Rattle.std.proofs.lemmas.List.Elements.{All-tail, All-nil, All-cons, All-append, All-head}
 use Rattle.gv_types.specs.declared.fault.Fault.{Fault}
 use Rattle.gv_types.specs.declared.mapping.BufferId.{BufferId}
-use Rattle.gv_types.specs.declared.request.Point.{Point}
 use Rattle.gv_types.specs.declared.request.Request.{Request}
 use Rattle.gv_journal.specs.Renamed.{AreRequested}
-use Rattle.gv_vm.specs.State.{Machine, IsMachine}
-use Rattle.gv_vm.specs.Outcomes.{with_outcome}
-use Rattle.gv_vm.specs.World.{World, Queue, queue_at}
-use Rattle.gv_vm.specs.Step.{put_fault, IsEnabled, IsPutAs, IsNotPut, IsTaken, IsReachedNow, IsLackingNow, IsBoundNow, IsGivenUp, IsPaid, IsRaised, step}
-use Rattle.gv_vm.specs.Alike.{seen_request, AreAlikeWorlds, AreAlikeReplies, IsQueueOf, IsWorldOf, IsAmple, IsAmpleReply, StaysAlike}
+use Rattle.gv_vm.specs.World.{World, queue_at}
+use Rattle.gv_vm.specs.Step.{IsEnabled, IsPutAs, IsNotPut, IsTaken, step}
+use Rattle.gv_vm.specs.Alike.{seen_request, AreAlikeWorlds, IsWorldOf, StaysAlike}
 use Rattle.gv_vm.specs.declared.event.Event.{Event}
-use Rattle.gv_vm.specs.declared.event.Event.TheVariants.{Put, Take, Look, Bind, GiveUp, Pay, Raise}
+use Rattle.gv_vm.specs.declared.event.Event.TheVariants.{Put, Take}
 use Rattle.gv_vm.specs.declared.event.Reply.{Reply}
-use Rattle.gv_vm.specs.declared.event.Reply.TheVariants.{Idle, Put as IsPut, NotPut, Taken, Reached, Lacking, Told, Raised, Refused}
-use Rattle.gv_vm.specs.declared.outcome.Outcome.{Outcome}
-use Rattle.gv_vm.proofs.AlikeQueueLemmas.{queue_of, with_queue_of, put_fault_alike, put_alike, taken_alike, reached_alike, lacking_alike, reached_or_lacking}
-use Rattle.gv_vm.proofs.AlikeTurnLemmas.{raised_alike, paid_alike, given_up_alike, bound_alike, bound_of}
-use Rattle.gv_vm.proofs.AlikeEnabledLemmas.{AreAlikeWorlds-sym, put_enabled, take_enabled, look_enabled, bind_enabled, give_up_enabled, pay_enabled, raise_enabled}
+use Rattle.gv_vm.specs.declared.event.Reply.TheVariants.{Idle, Put as IsPut, NotPut, Taken, Refused}
+use Rattle.gv_vm.proofs.AlikeQueueLemmas.{queue_of, with_queue_of, put_fault_alike, put_alike, taken_alike}
+use Rattle.gv_vm.proofs.AlikeEnabledLemmas.{AreAlikeWorlds-sym, put_enabled, take_enabled}
 
 -- the event isn't enabled
 pub record IsIdle (w : World) (event : Event) (reply : Reply) (x : World) : Type 0 where

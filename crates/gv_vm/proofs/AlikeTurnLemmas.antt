@@ -1,22 +1,20 @@
 -- For callers: worlds that tell the same go on to tell the same when a request is carried out or given up, when a signal is
 -- raised, and after a call.
-use Rattle.std.proofs.Common.{◌≡◌, ◌≢◌, ℕ, ◌+◌, List, [], ◌∷◌, ◌++◌, map, length, Option, Some, None, option_map, slice_index, refl, sym, ap, ◌∙◌, subst}
-use Rattle.std.specs.List.{All}
-use Rattle.std.proofs.lemmas.Option.{none-some, same_Some}
-use Rattle.gv_types.specs.declared.fault.Fault.{Fault}
+use Rattle.std.proofs.Common.{◌≡◌, ℕ, List, ◌∷◌, Option, Some, None, slice_index, refl, sym, ap, ◌∙◌, subst}
+use Rattle.std.proofs.lemmas.Option.{same_Some}
 use Rattle.gv_types.specs.declared.mapping.BufferId.{BufferId}
 use Rattle.gv_types.specs.declared.request.Point.{Point}
 use Rattle.gv_types.specs.declared.request.Request.{Request}
 use Rattle.gv_sync.specs.Raises.{with_raise}
-use Rattle.gv_sync.specs.Sights.{Sight, sight}
+use Rattle.gv_sync.specs.Sights.{Sight}
 use Rattle.gv_journal.specs.Renamed.{AreRequested, AreDoneOf}
 use Rattle.gv_journal.specs.Alike.{AreIdsOf}
 use Rattle.gv_vm.specs.State.{Machine, IsMachine}
 use Rattle.gv_vm.specs.Outcomes.{with_outcome}
 use Rattle.gv_vm.specs.Told.{IsCarriedOut, seen_by}
-use Rattle.gv_vm.specs.World.{World, Queue, InHand, queue_at, with_queue}
-use Rattle.gv_vm.specs.Step.{CanBind, CanGiveUp, CanPay, owed_for, IsBoundNow, IsGivenUp, IsPaid, IsRaised}
-use Rattle.gv_vm.specs.Alike.{SeenRequest, seen_request, SeenHand, seen_hand, SeenQueue, seen_queue, AreAlikeMachines, AreAlikeWorlds, IsHandOf, IsQueueOf, IsWorldOf, IsAmple}
+use Rattle.gv_vm.specs.World.{World, InHand, queue_at}
+use Rattle.gv_vm.specs.Step.{owed_for, IsBoundNow, IsGivenUp, IsPaid, IsRaised}
+use Rattle.gv_vm.specs.Alike.{SeenRequest, seen_request, SeenHand, seen_hand, SeenQueue, seen_queue, AreAlikeMachines, AreAlikeWorlds, IsHandOf, IsWorldOf, IsAmple}
 use Rattle.gv_vm.specs.declared.outcome.Outcome.{Outcome}
 use Rattle.gv_vm.specs.declared.outcome.Outcome.TheVariants.{Accepted, NotReady, Refused as RefusedAt}
 use Rattle.gv_vm.proofs.AlikeEntryLemmas.{AreIdsOf-came, AreDoneOf-came, outcome_alike, carried_alike}

@@ -1,16 +1,15 @@
 -- For callers: with the buffers renamed an address leads to the same place, and a job meets the same faults, where equal
 -- generations mean equal buffers.
-use Rattle.std.proofs.Common.{◌≡◌, ℕ, zero, suc, ◌+◌, ◌/◌, ◌%◌, ◌&&◌, ◌||◌, List, [], ◌∷◌, ◌++◌, map, take, length, Bool, true, false, cond, nat_lt, nat_le, Option, Some, None, option_map, inl, inr, refl, sym, ap, ◌∙◌, subst}
-use Rattle.std.specs.List.{All, find, list_any}
-use Rattle.std.proofs.lemmas.Option.{none-some, same_Some}
+use Rattle.std.proofs.Common.{◌≡◌, ℕ, ◌+◌, ◌/◌, ◌%◌, ◌&&◌, ◌||◌, List, [], ◌∷◌, map, take, length, Bool, true, false, cond, Option, Some, None, option_map, inl, inr, refl, sym, ap, ◌∙◌, subst}
+use Rattle.std.specs.List.{find}
 use Rattle.std.proofs.lemmas.List.{length-map}
 use Rattle.std.proofs.lemmas.List.Elements.{All-head, All-tail}
 use Rattle.gv_types.specs.Page.{bytes_per_page}
 use Rattle.gv_types.specs.Span.{covers}
 use Rattle.gv_types.specs.Mapping.{part}
-use Rattle.gv_types.specs.Renamed.{renamed, renamed_backing, renamed_entry, renamed_mapping, IsOf, IsBackedOf, AreOf}
+use Rattle.gv_types.specs.Renamed.{renamed_backing, renamed_entry, renamed_mapping, IsBackedOf, AreOf}
 use Rattle.gv_types.specs.declared.fault.Fault.{Fault}
-use Rattle.gv_types.specs.declared.fault.Fault.TheVariants.{Unmapped, WriteToReadOnly, NoJob}
+use Rattle.gv_types.specs.declared.fault.Fault.TheVariants.{WriteToReadOnly, NoJob}
 use Rattle.gv_types.specs.declared.mapping.Backing.{Backing}
 use Rattle.gv_types.specs.declared.mapping.Backing.TheVariants.{Buffer as BufferPages, Zero as ZeroPages}
 use Rattle.gv_types.specs.declared.mapping.BufferId.{BufferId}
@@ -27,8 +26,8 @@ use Rattle.gv_space.specs.State.{AddressSpace}
 use Rattle.gv_journal.specs.RenamedSpace.{TellsBuffers}
 use Rattle.gv_journal.proofs.RenamedTableLemmas.{tells_join_fault, joined_nameless, TellsBuffers-changed}
 use Rattle.gv_vm.specs.Places.{target_of, place_of, place_at}
-use Rattle.gv_vm.specs.Jobs.{RunningJob, Running, has_number, runs, places_in, without_job, target_fault, place_fault, access_fault, target_held, place_held, access_held, accesses_fault, all_held, many_fault, begin_fault, AreRefused, IsBeginRefused, end_fault}
-use Rattle.gv_vm.specs.Renamed.{renamed_target, renamed_place, renamed_job, renamed_running, IsTargetOf}
+use Rattle.gv_vm.specs.Jobs.{RunningJob, Running, has_number, runs, places_in, without_job, target_fault, place_fault, access_fault, target_held, place_held, access_held, accesses_fault, all_held, many_fault, begin_fault, IsBeginRefused, end_fault}
+use Rattle.gv_vm.specs.Renamed.{renamed_target, renamed_place, renamed_job, IsTargetOf}
 use Rattle.gv_vm.specs.declared.jobs.Access.{Access}
 use Rattle.gv_vm.specs.declared.places.Place.{Place}
 use Rattle.gv_vm.specs.declared.places.Target.{Target}

@@ -1,5 +1,5 @@
 -- Places and running jobs with the buffers renamed.
-use Rattle.std.specs.Prelude.{◌≡◌, ℕ, List, map, Option, Some, None, IsSomeAnd}
+use Rattle.std.specs.Prelude.{List, map}
 use Rattle.std.specs.List.{All}
 use Rattle.gv_types.specs.Renamed.{renamed, IsOf}
 use Rattle.gv_types.specs.declared.mapping.BufferId.{BufferId}
