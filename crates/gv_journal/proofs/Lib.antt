@@ -29,3 +29,4 @@ pub mod NotesSettled
 pub mod Entries
 pub mod Withdrawn
 pub mod JournalLemmas
+pub mod WithoutLemmas
