@@ -44,3 +44,4 @@ pub mod AlikeSettledLemmas
 pub mod RenamedMakingLemmas
 pub mod RenamedCountLemmas
 pub mod AlikeNamesLemmas
+pub mod WithoutLemmas

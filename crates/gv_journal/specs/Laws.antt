@@ -1,10 +1,11 @@
 -- What holds of every journal.
-use Rattle.std.specs.Prelude.{◌≡◌, ℕ, List, []}
+use Rattle.std.specs.Prelude.{◌≡◌, ℕ, true, false, not, ◌==◌, filter, List, [], ◌∷◌, Option}
 use Rattle.gv_types.specs.Bounds.{Area}
 use Rattle.gv_types.specs.Limits.{Caps}
+use Rattle.gv_types.specs.declared.mapping.Entry.{Entry}
 use Rattle.gv_types.specs.declared.mapping.Mapping.{Mapping}
 use Rattle.gv_space.specs.State.{AddressSpace, AreKept, IsUnchanged, new_space}
-use Rattle.gv_journal.specs.Items.{Journaled}
+use Rattle.gv_journal.specs.Items.{Journaled, Numbered, names, view, view_without}
 use Rattle.gv_journal.specs.State.{FitsSpace}
 
 -- a new journal fits a new space
@@ -24,3 +25,17 @@ FitsWithOtherBuffers =
 -- and one that only has more room
 abbrev pub FitsWithRoom : Type 0
 FitsWithRoom = (s t : AddressSpace) (j : Journaled) → IsUnchanged s t → FitsSpace s j → FitsSpace t j
+
+-- the items but that with this number
+abbrev pub others : ℕ → List Numbered → List Numbered
+others n xs = filter (λ x. not (n == x.number)) xs
+
+-- what has this number names no item: it is a Bind
+abbrev pub NamesNone : ℕ → List Numbered → Type 0
+NamesNone n [] = Unit {0}
+NamesNone n (x ∷ xs) = ((n == x.number) ≡ true → (m : ℕ) → names x.item.kind m ≡ false) × NamesNone n xs
+
+-- what the items say without a Bind is what the list without it says, the others with their numbers
+abbrev pub ViewOfOthers : Type 0
+ViewOfOthers =
+    (n : ℕ) (xs : List Numbered) (base : ℕ → Option Entry) (page : ℕ) → NamesNone n xs → view_without n xs base page ≡ view (others n xs) base page

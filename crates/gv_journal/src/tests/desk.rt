@@ -1,9 +1,10 @@
 //! Steps played on a space and its journal.
 ghost use Rattle.gv_journal.specs.State.{FitsSpace};
 
+use super::sight::{List, see};
 use crate::Journal;
 use gv_space::Space;
-use gv_types::{Bounds, BufferId, Fault, Flags, Limits, Mapping, Op, PAGE_BYTES, Request};
+use gv_types::{Bounds, BufferId, Fault, Flags, Limits, Op, PAGE_BYTES, Request};
 use std::alloc::Global;
 use std::test::Fail;
 
@@ -45,6 +46,10 @@ pub enum Step {
     Settle {
         to: u64,
     },
+    See,
+    Count {
+        buffer: usize,
+    },
 }
 
 /// What a step answers.
@@ -55,6 +60,8 @@ pub enum Reply {
     RefusedAt { op: u64, fault: Fault },
     Number { number: u64 },
     Refused { fault: Fault },
+    Seen { list: List },
+    Counted { uses: u64, kept: u64 },
 }
 
 /// The buffers made so far, and the operations of the next request.
@@ -194,6 +201,14 @@ fn destroy(space: &mut Space, journal: &Journal, desk: &Desk, buffer: usize) -> 
     }
 }
 
+/// How many mappings of a buffer are in the list, and in undo values.
+fn count(space: &Space, desk: &Desk, buffer: usize) -> Result<Reply, Fail> {
+    let id = &desk.id(buffer)?;
+    let uses = space.uses(*id).ok_or("no uses")?;
+    let kept = space.kept(*id).ok_or("none kept")?;
+    Ok(Reply::Counted { uses, kept })
+}
+
 /// Plays a step. An operation that is only gathered answers nothing.
 pub fn play(
     alloc: Global,
@@ -212,6 +227,10 @@ pub fn play(
     let reply = match step {
         Step::Create { pages } => create(alloc, space, journal, desk, pages)?,
         Step::Destroy { buffer } => destroy(space, journal, desk, buffer)?,
+        Step::See => Reply::Seen {
+            list: see(space, desk.buffers.as_slice()),
+        },
+        Step::Count { buffer } => count(space, desk, buffer)?,
         _ => play_journal(alloc, space, journal, desk, step),
     };
     Ok(Some(reply))
@@ -243,26 +262,11 @@ pub fn play_all(
     Ok(replies)
 }
 
-/// What stands in the end: the replies, the first page and the count of each mapping, and how many items are held.
-#[derive(Drop)]
-pub struct Outcome {
-    pub replies: Vec<Reply>,
-    pub mappings: Vec<Mapping>,
-    pub items: usize,
-}
-
 /// Plays a row on a space of all pages under these limits, and closes the journal.
-pub fn run(alloc: Global, limits: Limits, steps: &[Step]) -> Result<Outcome, Fail> {
+pub fn run(alloc: Global, limits: Limits, steps: &[Step]) -> Result<Vec<Reply>, Fail> {
     let mut space = Space::new(alloc, Bounds::whole(), limits)?;
     let mut journal = Journal::new(alloc, limits.items());
     let played = play_all(alloc, &mut space, &mut journal, steps);
-    let items = journal.items().len();
     journal.close(&mut space);
-    let replies = played?;
-    let mappings = Vec::from_slice(alloc, space.mappings())?;
-    Ok(Outcome {
-        replies,
-        mappings,
-        items,
-    })
+    played
 }

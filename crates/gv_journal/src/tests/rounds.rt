@@ -1,7 +1,8 @@
 //! Many requests, rewinds, withdrawals and settles in a row, against the plain definitions: what each page holds is looked up
-//! in the history, page by page, and a rewind gives the very list that was before.
+//! in the history, page by page, a rewind gives the very list that was before, and mappings are counted.
 ghost use Rattle.gv_journal.specs.State.{FitsSpace};
 
+use super::counts::{Counts, counts_of, kept_is_counted, uses_are_counted, without_kept};
 use super::desk::{Desk, Reply, Step, play};
 use crate::{Item, ItemKind, Journal};
 use gv_space::Space;
@@ -70,11 +71,12 @@ fn view(items: &[Item], first: u64, page: u64, below: Option<Entry>) -> Option<E
     held
 }
 
-/// What lies below the oldest item, page by page, and the list before each item.
+/// What lies below the oldest item, page by page, and before each item the list and the counts.
 #[derive(Drop)]
 struct Past {
     base: Vec<Option<Entry>>,
     lists: Vec<Vec<Mapping>>,
+    counts: Vec<Counts>,
 }
 
 /// What lay below a page.
@@ -142,7 +144,38 @@ fn step_of(number: u64, journal: &Journal) -> Step {
     }
 }
 
-/// Plays a step, and looks at what it made of the list.
+/// Forgets so many of the oldest items. The counts that are left of these.
+fn forget(
+    alloc: Global,
+    past: &mut Past,
+    base: Vec<Option<Entry>>,
+    gone: usize,
+    counts: &Counts,
+) -> Result<Counts, Fail> {
+    let under = past.counts.get(gone).copied().unwrap_or(*counts);
+    past.base = base;
+    let lists = std::mem::replace(&mut past.lists, Vec::new(alloc));
+    for (place, list) in lists.into_iter().enumerate() {
+        if place >= gone {
+            past.lists.push(list)?;
+        }
+    }
+    let kept = std::mem::replace(&mut past.counts, Vec::new(alloc));
+    for before in kept.iter().skip(gone) {
+        past.counts.push(without_kept(before, &under))?;
+    }
+    Ok(without_kept(counts, &under))
+}
+
+/// Whether the newest item is taken back: list and counts are those before it.
+fn is_taken_back(space: &Space, past: &mut Past, counts: &Counts) -> bool {
+    match (past.lists.pop(), past.counts.pop()) {
+        (Some(list), Some(before)) => list.as_slice() == space.mappings() && before == *counts,
+        _ => false,
+    }
+}
+
+/// Plays a step, and looks at what it made of list and counts.
 fn turn(
     alloc: Global,
     space: &mut Space,
@@ -156,39 +189,39 @@ fn turn(
 {
     let held = journal.items().len();
     let list = Vec::from_slice(alloc, space.mappings())?;
+    let before = counts_of(space, desk.buffers.as_slice());
     let gone = match step {
         Step::Settle { to } => to.saturating_sub(journal.first()) as usize,
         _ => 0,
     };
     let base = settled(alloc, journal, past, gone)?;
     let reply = play(alloc, space, journal, desk, step)?;
-    let now = journal.items().len();
-    let mut same = true;
-    match (step, reply) {
+    let buffers = desk.buffers.as_slice();
+    let counts = counts_of(space, buffers);
+    let same = match (step, reply) {
         (Step::Settle { .. }, Some(Reply::Number { .. })) => {
-            past.base = base;
-            let lists = std::mem::replace(&mut past.lists, Vec::new(alloc));
-            for (place, list) in lists.into_iter().enumerate() {
-                if place >= gone {
-                    past.lists.push(list)?;
-                }
-            }
+            forget(alloc, past, base, gone, &before)? == counts
         }
-        (Step::Rewind, Some(Reply::Number { .. })) => {
-            same = match past.lists.pop() {
-                Some(list) => list.as_slice() == space.mappings(),
-                None => false,
-            };
-        }
+        (Step::Rewind, Some(Reply::Number { .. })) => is_taken_back(space, past, &counts),
         _ => {
-            if now > held {
+            if journal.items().len() > held {
+                let counted = match journal.items().last() {
+                    Some(item) => kept_is_counted(item, list.as_slice(), buffers, &before, &counts),
+                    None => false,
+                };
                 past.lists.push(list)?;
+                past.counts.push(before)?;
+                counted
             } else {
-                same = list.as_slice() == space.mappings();
+                list.as_slice() == space.mappings() && before == counts
             }
         }
-    }
-    Ok(same && past.lists.len() == now && agrees(space, journal, past))
+    };
+    Ok(
+        same && uses_are_counted(space, buffers, &counts)
+            && past.lists.len() == journal.items().len()
+            && agrees(space, journal, past),
+    )
 }
 
 /// So many steps by chance.
@@ -210,6 +243,7 @@ fn round(
     let mut past = Past {
         base: Vec::new(alloc),
         lists: Vec::new(alloc),
+        counts: Vec::new(alloc),
     };
     let make = Step::Create { pages: 6 };
     let _first = play(alloc, space, journal, &mut desk, make)?;

@@ -1,298 +1,201 @@
-//! Worked rows.
-use super::desk::{Outcome, Reply, Step, run};
-use gv_types::{Fault, Limits, Mapping};
+//! Worked rows: steps, and what they answer.
+use super::desk::{Reply, Step, run};
+use super::sight::{of_buffer, of_zero};
+use super::steps::{
+    accepted, count, counted, create, destroy, map, number, refused, refused_at, seen, settle,
+    unmap, withdraw, zero,
+};
+use gv_types::{Fault, Limits};
+use std::alloc::Global;
+use std::process::Abort;
 use std::test::Fail;
 
-/// The first page, the page past the end, and whether a buffer stands behind it.
-fn spans(mappings: &[Mapping], wanted: &[(u64, u64)]) -> bool {
-    mappings.len() == wanted.len()
-        && mappings
-            .iter()
-            .zip(wanted)
-            .all(|(m, w)| m.range.first() == w.0 && m.range.end() == w.1)
+/// Asserts that steps answer this, where the limits are so many buffers, mappings and items.
+pub fn expect(
+    rt: &impl Abort,
+    alloc: Global,
+    limits: (u64, u64, u64),
+    steps: &[Step],
+    wanted: &[Reply],
+) -> Result<(), Fail> {
+    let limits = Limits::new(limits.0, limits.1, limits.2, 1).ok_or("limits")?;
+    let replies = run(alloc, limits, steps)?;
+    assert_eq!(rt; replies.len(), wanted.len());
+    for (reply, wanted) in replies.iter().zip(wanted) {
+        assert_eq!(rt; *reply, *wanted);
+    }
+    Ok(())
 }
 
-fn has_replies(outcome: &Outcome, wanted: &[Reply]) -> bool {
-    outcome.replies.len() == wanted.len()
-        && outcome.replies.iter().zip(wanted).all(|(r, w)| *r == *w)
-}
+pub const MANY: (u64, u64, u64) = (8, 64, 64);
+
+pub const DONE: Reply = Reply::Done;
 
 #[test]
-fn request_is_taken_back(rt: HostRuntime) -> Result<(), Fail> {
+fn requests_are_whole_or_not(rt: HostRuntime) -> Result<(), Fail> {
     let steps = [
-        Step::Create { pages: 4 },
-        Step::Map {
-            first: 0,
-            count: 4,
-            buffer: 0,
-            page: 0,
-        },
+        create(4),
+        map(0, 4, 0, 0),
         Step::Bind,
-        Step::Unmap { first: 0, count: 1 },
+        unmap(1, 1),
+        map(8, 2, 0, 3),
+        Step::Bind,
+        Step::See,
+        count(0),
+        unmap(1, 1),
+        Step::Bind,
+        Step::Rewind,
+        Step::See,
+        count(0),
+    ];
+    let wanted = [
+        DONE,
+        accepted(0),
+        refused_at(1, Fault::OutOfBuffer),
+        seen(&[of_buffer(0, 4, 0, 0)]),
+        counted(1, 0),
+        accepted(1),
+        number(1),
+        seen(&[of_buffer(0, 4, 0, 0)]),
+        counted(1, 0),
+    ];
+    expect(&rt, rt.alloc(), MANY, &steps, &wanted)?;
+    let steps = [
+        create(4),
+        map(0, 4, 0, 0),
+        Step::Bind,
+        unmap(0, 1),
         Step::Fixed { first: 1, count: 2 },
-        Step::Unmap { first: 2, count: 2 },
+        unmap(2, 2),
         Step::Bind,
+        Step::See,
+        count(0),
         Step::Rewind,
+        Step::See,
+        count(0),
         Step::Bind,
     ];
-    let outcome = run(rt.alloc(), Limits::full(), &steps)?;
     let wanted = [
-        Reply::Done,
-        Reply::Accepted { entry: 0 },
-        Reply::Accepted { entry: 1 },
-        Reply::Number { number: 1 },
-        Reply::Accepted { entry: 1 },
+        DONE,
+        accepted(0),
+        accepted(1),
+        seen(&[of_zero(1, 2, true)]),
+        counted(0, 3),
+        number(1),
+        seen(&[of_buffer(0, 4, 0, 0)]),
+        counted(1, 0),
+        accepted(1),
     ];
-    assert!(rt; has_replies(&outcome, &wanted));
-    assert!(rt; spans(&outcome.mappings, &[(0, 4)]));
-    assert_eq!(rt; outcome.items, 2);
-    Ok(())
+    expect(&rt, rt.alloc(), MANY, &steps, &wanted)
 }
 
 #[test]
-fn refused_request_leaves_all(rt: HostRuntime) -> Result<(), Fail> {
+fn limits_and_buffers_are_kept_to(rt: HostRuntime) -> Result<(), Fail> {
     let steps = [
-        Step::Create { pages: 4 },
-        Step::Map {
-            first: 0,
-            count: 2,
-            buffer: 0,
-            page: 0,
-        },
+        create(4),
+        create(4),
+        map(0, 3, 0, 0),
         Step::Bind,
-        Step::Unmap { first: 0, count: 1 },
-        Step::Zero { first: 8, count: 1 },
-        Step::Map {
-            first: 4,
-            count: 1,
-            buffer: 0,
-            page: 4,
-        },
+        unmap(1, 1),
+        Step::Bind,
+        zero(9, 1),
         Step::Bind,
         Step::Rewind,
         Step::Rewind,
-    ];
-    let outcome = run(rt.alloc(), Limits::full(), &steps)?;
-    let wanted = [
-        Reply::Done,
-        Reply::Accepted { entry: 0 },
-        Reply::RefusedAt {
-            op: 2,
-            fault: Fault::OutOfBuffer,
-        },
-        Reply::Number { number: 0 },
-        Reply::Refused {
-            fault: Fault::NoEntry,
-        },
-    ];
-    assert!(rt; has_replies(&outcome, &wanted));
-    assert!(rt; spans(&outcome.mappings, &[]));
-    Ok(())
-}
-
-#[test]
-fn withdrawal_puts_pieces_back(rt: HostRuntime) -> Result<(), Fail> {
-    let start = [
-        Step::Create { pages: 4 },
-        Step::Map {
-            first: 0,
-            count: 4,
-            buffer: 0,
-            page: 0,
-        },
+        Step::Rewind,
+        map(0, 3, 0, 0),
         Step::Bind,
-        Step::Unmap { first: 0, count: 4 },
-        Step::Zero { first: 1, count: 2 },
+        zero(1, 1),
         Step::Bind,
-        Step::Withdraw { entry: 1 },
     ];
-    let outcome = run(rt.alloc(), Limits::full(), &start)?;
     let wanted = [
-        Reply::Done,
-        Reply::Accepted { entry: 0 },
-        Reply::Accepted { entry: 1 },
-        Reply::Number { number: 2 },
+        DONE,
+        refused(Fault::TooManyBuffers),
+        accepted(0),
+        accepted(1),
+        refused_at(0, Fault::JournalFull),
+        number(1),
+        number(0),
+        refused(Fault::NoEntry),
+        accepted(0),
+        refused_at(0, Fault::TooManyMappings),
     ];
-    assert!(rt; has_replies(&outcome, &wanted));
-    assert!(rt; spans(&outcome.mappings, &[(0, 4)]));
-    assert_eq!(rt; outcome.items, 3);
-    Ok(())
-}
-
-#[test]
-fn withdrawal_is_refused_by_its_faults(rt: HostRuntime) -> Result<(), Fail> {
+    expect(&rt, rt.alloc(), (1, 2, 2), &steps, &wanted)?;
     let steps = [
-        Step::Zero { first: 0, count: 4 },
+        create(1),
+        map(0, 1, 0, 0),
         Step::Bind,
-        Step::Zero { first: 8, count: 1 },
+        unmap(0, 1),
         Step::Bind,
-        Step::Unmap { first: 3, count: 1 },
-        Step::Bind,
-        Step::Withdraw { entry: 3 },
-        Step::Withdraw { entry: 0 },
-        Step::Withdraw { entry: 2 },
-        Step::Withdraw { entry: 3 },
-        Step::Withdraw { entry: 2 },
-        Step::Withdraw { entry: 0 },
+        destroy(0),
         Step::Rewind,
+        destroy(0),
         Step::Rewind,
-        Step::Withdraw { entry: 0 },
+        destroy(0),
+        create(1),
+        map(0, 1, 0, 0),
+        Step::Bind,
+        map(0, 1, 1, 0),
+        Step::Bind,
     ];
-    let outcome = run(rt.alloc(), Limits::full(), &steps)?;
     let wanted = [
-        Reply::Accepted { entry: 0 },
-        Reply::Accepted { entry: 1 },
-        Reply::Accepted { entry: 2 },
-        Reply::Refused {
-            fault: Fault::NoEntry,
-        },
-        Reply::Refused {
-            fault: Fault::Touched { by: 2 },
-        },
-        Reply::Number { number: 3 },
-        Reply::Refused {
-            fault: Fault::NotABind,
-        },
-        Reply::Refused {
-            fault: Fault::Withdrawn,
-        },
-        Reply::Number { number: 4 },
-        Reply::Number { number: 4 },
-        Reply::Number { number: 3 },
-        Reply::Refused {
-            fault: Fault::Touched { by: 2 },
-        },
+        DONE,
+        accepted(0),
+        accepted(1),
+        refused(Fault::Kept { count: 1 }),
+        number(1),
+        refused(Fault::Mapped { count: 1 }),
+        number(0),
+        DONE,
+        DONE,
+        refused_at(0, Fault::NoBuffer),
+        accepted(0),
     ];
-    assert!(rt; has_replies(&outcome, &wanted));
-    assert!(rt; spans(&outcome.mappings, &[(0, 3), (8, 9)]));
-    Ok(())
+    expect(&rt, rt.alloc(), MANY, &steps, &wanted)?;
+    let steps = [
+        create(2),
+        map(0, 1, 0, 0),
+        map(1, 1, 0, 1),
+        Step::Bind,
+        zero(0, 2),
+        Step::Bind,
+        zero(4, 1),
+        zero(6, 1),
+        Step::Bind,
+        withdraw(1),
+        Step::See,
+    ];
+    let list = [
+        of_zero(0, 2, false),
+        of_zero(4, 5, false),
+        of_zero(6, 7, false),
+    ];
+    let wanted = [
+        DONE,
+        accepted(0),
+        accepted(1),
+        accepted(2),
+        refused(Fault::TooManyMappings),
+        seen(&list),
+    ];
+    expect(&rt, rt.alloc(), (1, 3, 8), &steps, &wanted)
+}
+
+/// Steps that bind a request of so many operations.
+fn long_request(alloc: Global, operations: u32) -> Result<Vec<Step>, Fail> {
+    let mut steps = Vec::new(alloc);
+    for _ in 0..operations {
+        steps.push(zero(0, 1))?;
+    }
+    steps.push(Step::Bind)?;
+    Ok(steps)
 }
 
 #[test]
-fn withdrawal_meets_the_limit(rt: HostRuntime) -> Result<(), Fail> {
-    let steps = [
-        Step::Create { pages: 2 },
-        Step::Map {
-            first: 0,
-            count: 1,
-            buffer: 0,
-            page: 0,
-        },
-        Step::Map {
-            first: 1,
-            count: 1,
-            buffer: 0,
-            page: 1,
-        },
-        Step::Bind,
-        Step::Zero { first: 0, count: 2 },
-        Step::Bind,
-        Step::Zero { first: 4, count: 1 },
-        Step::Zero { first: 6, count: 1 },
-        Step::Bind,
-        Step::Withdraw { entry: 1 },
-    ];
-    let limits = Limits::new(1, 3, 8, 1).ok_or("limits")?;
-    let outcome = run(rt.alloc(), limits, &steps)?;
-    let wanted = [
-        Reply::Done,
-        Reply::Accepted { entry: 0 },
-        Reply::Accepted { entry: 1 },
-        Reply::Accepted { entry: 2 },
-        Reply::Refused {
-            fault: Fault::TooManyMappings,
-        },
-    ];
-    assert!(rt; has_replies(&outcome, &wanted));
-    assert!(rt; spans(&outcome.mappings, &[(0, 2), (4, 5), (6, 7)]));
-    Ok(())
-}
-
-#[test]
-fn settled_items_stay(rt: HostRuntime) -> Result<(), Fail> {
-    let steps = [
-        Step::Create { pages: 4 },
-        Step::Map {
-            first: 0,
-            count: 1,
-            buffer: 0,
-            page: 0,
-        },
-        Step::Bind,
-        Step::Map {
-            first: 1,
-            count: 1,
-            buffer: 0,
-            page: 1,
-        },
-        Step::Bind,
-        Step::UnmapAll { buffer: 0 },
-        Step::Bind,
-        Step::Settle { to: 2 },
-        Step::Withdraw { entry: 0 },
-        Step::Withdraw { entry: 2 },
-        Step::Rewind,
-        Step::Rewind,
-        Step::Rewind,
-        Step::Destroy { buffer: 0 },
-    ];
-    let outcome = run(rt.alloc(), Limits::full(), &steps)?;
-    let wanted = [
-        Reply::Done,
-        Reply::Accepted { entry: 0 },
-        Reply::Accepted { entry: 1 },
-        Reply::Accepted { entry: 2 },
-        Reply::Number { number: 2 },
-        Reply::Refused {
-            fault: Fault::NoEntry,
-        },
-        Reply::Number { number: 3 },
-        Reply::Number { number: 3 },
-        Reply::Number { number: 2 },
-        Reply::Refused {
-            fault: Fault::NoEntry,
-        },
-        Reply::Refused {
-            fault: Fault::Mapped { count: 2 },
-        },
-    ];
-    assert!(rt; has_replies(&outcome, &wanted));
-    assert!(rt; spans(&outcome.mappings, &[(0, 1), (1, 2)]));
-    Ok(())
-}
-
-#[test]
-fn crossed_items_stay(rt: HostRuntime) -> Result<(), Fail> {
-    let steps = [
-        Step::Zero { first: 0, count: 1 },
-        Step::Bind,
-        Step::Withdraw { entry: 0 },
-        Step::Settle { to: 1 },
-        Step::Settle { to: 3 },
-        Step::Settle { to: 2 },
-        Step::Settle { to: 2 },
-        Step::Settle { to: 1 },
-        Step::Zero { first: 0, count: 1 },
-        Step::Bind,
-    ];
-    let outcome = run(rt.alloc(), Limits::full(), &steps)?;
-    let wanted = [
-        Reply::Accepted { entry: 0 },
-        Reply::Number { number: 1 },
-        Reply::Refused {
-            fault: Fault::Crossed { by: 1 },
-        },
-        Reply::Refused {
-            fault: Fault::NoEntry,
-        },
-        Reply::Number { number: 2 },
-        Reply::Number { number: 0 },
-        Reply::Refused {
-            fault: Fault::NoEntry,
-        },
-        Reply::Accepted { entry: 2 },
-    ];
-    assert!(rt; has_replies(&outcome, &wanted));
-    assert_eq!(rt; outcome.items, 1);
-    Ok(())
+fn requests_have_so_many_operations(rt: HostRuntime) -> Result<(), Fail> {
+    let steps = long_request(rt.alloc(), 256)?;
+    expect(&rt, rt.alloc(), MANY, steps.as_slice(), &[accepted(0)])?;
+    let steps = long_request(rt.alloc(), 257)?;
+    let wanted = [refused_at(0, Fault::TooManyOps)];
+    expect(&rt, rt.alloc(), MANY, steps.as_slice(), &wanted)
 }
