@@ -1,0 +1,13 @@
+//! Running queues over one address space: each has one submitter and one worker on a thread of its own. The address space
+//! is under a lock, and the timelines stand outside of it.
+#![tactic(auto)]
+
+mod channel;
+mod gate;
+mod log;
+mod put_end;
+mod submitter;
+
+pub use gate::{Gate, Turn};
+pub use put_end::PutEnd;
+pub use submitter::{PutFault, Submitter};
