@@ -17,7 +17,7 @@ use Rattle.gv_journal.specs.Undoing.{undone_by}
 use Rattle.gv_journal.specs.Items.{Journaled, next, Numbered, numbered, entries, names, is_withdrawn, done_by, ops_without, view}
 use Rattle.gv_journal.specs.History.{undos_of, kept_by, back, base, Translates, SavesBelow, EachSaves, UndoSavesTheView, Rewinds}
 use Rattle.gv_journal.specs.Settling.{crosses, later, earlier, settle_fault, IsSettled}
-use Rattle.gv_journal.specs.declared.settling.SettleFault.TheVariants.{Crossed}
+use Rattle.gv_types.specs.declared.fault.Fault.TheVariants.{Crossed}
 use Rattle.gv_journal.specs.State.{FitsOver, FitsSpace}
 use Rattle.gv_journal.specs.Inside.{NameOlder}
 use Rattle.gv_journal.specs.declared.item.Item.{Item}

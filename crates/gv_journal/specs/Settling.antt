@@ -2,12 +2,12 @@
 use Rattle.std.specs.Prelude.{◌≡◌, ℕ, ◌+◌, ◌-◌, ◌≤◌, Bool, false, ◌||◌, nat_lt, if◌then◌else◌, List, reverse, take, drop, length, position, Option, Some}
 use Rattle.std.specs.Option.{option_map}
 use Rattle.gv_types.specs.Page.{IsPage}
+use Rattle.gv_types.specs.declared.fault.Fault.{Fault}
+use Rattle.gv_types.specs.declared.fault.Fault.TheVariants.{NoEntry, Crossed}
 use Rattle.gv_space.specs.State.{AddressSpace}
 use Rattle.gv_space.specs.Undo.{released}
 use Rattle.gv_journal.specs.Items.{Journaled, numbered, next, view}
 use Rattle.gv_journal.specs.History.{kept_by, back, base}
-use Rattle.gv_journal.specs.declared.settling.SettleFault.{SettleFault}
-use Rattle.gv_journal.specs.declared.settling.SettleFault.TheVariants.{NoEntry, Crossed}
 use Rattle.gv_journal.specs.declared.item.Item.{Item}
 use Rattle.gv_journal.specs.declared.item.ItemKind.{ItemKind}
 use Rattle.gv_journal.specs.declared.item.ItemKind.TheVariants.{Bind, Withdrawal}
@@ -30,7 +30,7 @@ abbrev pub crossing : Journaled → ℕ → Option ℕ
 crossing j to = option_map (λ place. to + place) (position (λ item. crosses to item.kind) (reverse (later j to)))
 
 -- why the items below a number can't be settled
-abbrev pub settle_fault : Journaled → ℕ → Option SettleFault
+abbrev pub settle_fault : Journaled → ℕ → Option Fault
 settle_fault j to =
     if nat_lt to j.first || nat_lt (next j) to then Some NoEntry
     else option_map (λ by. Crossed by) (crossing j to)

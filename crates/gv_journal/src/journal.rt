@@ -7,7 +7,7 @@ use crate::applying::{Work, apply_all};
 use crate::item::{Item, ItemKind};
 use crate::refusal::Refusal;
 use crate::restoring::restore_all;
-use crate::settling::{SettleFault, first_crossing, release_items};
+use crate::settling::{first_crossing, release_items};
 use crate::touching::{first_touched, is_withdrawn};
 use crate::undoing::{release_all, revert_all};
 use gv_space::Space;
@@ -235,7 +235,7 @@ impl Journal {
     /// Settles the items below a number: what their undo values keep is given up and they go, so they can't be taken back or
     /// withdrawn any more. It answers how many. `NoEntry` where the number is below that of the oldest item held or above the
     /// next one, then `Crossed` with the least later item that withdraws one of them. It takes no memory.
-    pub fn settle(&mut self, space: &mut Space, to: u64) -> Result<u64, SettleFault>
+    pub fn settle(&mut self, space: &mut Space, to: u64) -> Result<u64, Fault>
         requires { FitsSpace space.old self.old }
         ensures accepted { OnOk result (settle_fault self.old to ≡ None) }
         ensures refused { IfErr result (λ fault. settle_fault self.old to ≡ Some fault) }
@@ -257,7 +257,7 @@ impl Journal {
     }
 
     /// How many items are below a number, where they can be settled.
-    fn count_below(&self, to: u64) -> Result<u64, SettleFault>
+    fn count_below(&self, to: u64) -> Result<u64, Fault>
         ensures accepted { OnOk result (settle_fault self.now to ≡ None) }
         ensures refused { IfErr result (λ fault. settle_fault self.now to ≡ Some fault) }
         ensures number { IfOk result (λ count. self.now.first + count ≡ to) }
@@ -265,12 +265,12 @@ impl Journal {
         ensures none { OnOk result (position (λ item. crosses to item.kind) (reverse (later self.now to)) ≡ None) }
     {
         if to < self.first || self.next() < to {
-            return Err(SettleFault::NoEntry);
+            return Err(Fault::NoEntry);
         }
         let count = to - self.first;
         let later = &self.items()[count as usize..];
         match first_crossing(later, to) {
-            Some(place) => Err(SettleFault::Crossed {
+            Some(place) => Err(Fault::Crossed {
                 by: to + place as u64,
             }),
             None => Ok(count),

@@ -15,7 +15,6 @@ mod undoing;
 pub use item::{Item, ItemKind};
 pub use journal::{Journal, MAX_OPS};
 pub use refusal::Refusal;
-pub use settling::SettleFault;
 
 #[cfg(test)]
 mod tests;

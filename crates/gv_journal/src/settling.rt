@@ -12,15 +12,6 @@ ghost use Rattle.gv_journal.specs.Inside.{IsSpent};
 use crate::item::{Item, ItemKind};
 use gv_space::{OpUndo, Space};
 
-/// Why items can't be settled.
-#[derive(Clone, Copy, Debug, PartialEq, Eq)]
-pub enum SettleFault {
-    /// The number is below that of the oldest item held, or above the next one.
-    NoEntry,
-    /// The least later item that withdraws one of them.
-    Crossed { by: u64 },
-}
-
 /// Whether it is a withdrawal of an item below a number.
 fn crosses(kind: &ItemKind, to: u64) -> bool
     ensures { result ≡ crosses to kind.now }

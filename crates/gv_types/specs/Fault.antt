@@ -1,7 +1,7 @@
 -- What a fault is called, and the number that it carries.
 use Rattle.std.specs.Prelude.{ℕ, List, ◌++◌, Option, Some, None, codes, decimal}
 use Rattle.gv_types.specs.declared.fault.Fault.{Fault}
-use Rattle.gv_types.specs.declared.fault.Fault.TheVariants.{Unaligned, Empty, OutOfSpace, Reserved, NoBuffer, OutOfBuffer, BadSize, TooManyBuffers, Mapped, Kept, InUse, Conflict, TooManyMappings, TooManyOps, JournalFull, NoEntry, NotABind, Withdrawn, Touched, OutOfTurn, QueueSpent, Unmapped, WriteToReadOnly, QueueFull, TooManyJobs, TooManyAccesses, NoJob, QueueGone, OutOfMemory}
+use Rattle.gv_types.specs.declared.fault.Fault.TheVariants.{Unaligned, Empty, OutOfSpace, Reserved, NoBuffer, OutOfBuffer, BadSize, TooManyBuffers, Mapped, Kept, InUse, Conflict, TooManyMappings, TooManyOps, JournalFull, NoEntry, NotABind, Withdrawn, Touched, Crossed, OutOfTurn, QueueSpent, Unmapped, WriteToReadOnly, QueueFull, TooManyJobs, TooManyAccesses, NoJob, QueueGone, OutOfMemory}
 
 -- its printed name
 abbrev pub name_of : Fault → List ℕ
@@ -24,6 +24,7 @@ name_of NoEntry = codes "NoEntry"
 name_of NotABind = codes "NotABind"
 name_of Withdrawn = codes "Withdrawn"
 name_of (Touched by) = codes "Touched"
+name_of (Crossed by) = codes "Crossed"
 name_of (OutOfTurn next) = codes "OutOfTurn"
 name_of QueueSpent = codes "QueueSpent"
 name_of (Unmapped access) = codes "Unmapped"
@@ -56,6 +57,7 @@ number_of NoEntry = 17
 number_of NotABind = 18
 number_of Withdrawn = 19
 number_of (Touched by) = 20
+number_of (Crossed by) = 21
 number_of (OutOfTurn next) = 22
 number_of QueueSpent = 23
 number_of (Unmapped access) = 24
@@ -88,6 +90,7 @@ carried_by NoEntry = None
 carried_by NotABind = None
 carried_by Withdrawn = None
 carried_by (Touched by) = Some by
+carried_by (Crossed by) = Some by
 carried_by (OutOfTurn next) = Some next
 carried_by QueueSpent = None
 carried_by (Unmapped access) = Some access

@@ -47,6 +47,8 @@ pub enum Fault {
     Withdrawn,
     /// A live later item covers one of its pages.
     Touched { by: u64 },
+    /// An item that is to stay withdraws one that is to be settled.
+    Crossed { by: u64 },
     /// The number is not the next one of its queue.
     OutOfTurn { next: u64 },
     /// The limit of outcomes of a queue is reached.
@@ -94,6 +96,7 @@ impl Fault {
             Fault::NotABind => "NotABind",
             Fault::Withdrawn => "Withdrawn",
             Fault::Touched { .. } => "Touched",
+            Fault::Crossed { .. } => "Crossed",
             Fault::OutOfTurn { .. } => "OutOfTurn",
             Fault::QueueSpent => "QueueSpent",
             Fault::Unmapped { .. } => "Unmapped",
@@ -131,6 +134,7 @@ impl Fault {
             Fault::NotABind => 18,
             Fault::Withdrawn => 19,
             Fault::Touched { .. } => 20,
+            Fault::Crossed { .. } => 21,
             Fault::OutOfTurn { .. } => 22,
             Fault::QueueSpent => 23,
             Fault::Unmapped { .. } => 24,
@@ -154,6 +158,7 @@ impl Fault {
             Fault::InUse { jobs } => Some(jobs),
             Fault::Conflict { job } => Some(job),
             Fault::Touched { by } => Some(by),
+            Fault::Crossed { by } => Some(by),
             Fault::OutOfTurn { next } => Some(next),
             Fault::Unmapped { access } => Some(access),
             Fault::WriteToReadOnly { access } => Some(access),

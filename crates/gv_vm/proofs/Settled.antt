@@ -11,7 +11,7 @@ use Rattle.gv_journal.specs.History.{kept_by}
 use Rattle.gv_journal.specs.State.{FitsSpace}
 use Rattle.gv_journal.specs.Settling.{earlier, later, settle_fault, IsSettled}
 use Rattle.gv_journal.specs.declared.item.Item.{Item}
-use Rattle.gv_journal.specs.declared.settling.SettleFault.{SettleFault}
+use Rattle.gv_types.specs.declared.fault.Fault.{Fault}
 use Rattle.gv_space.proofs.ByCountLemmas.{less_kept_of_counts}
 use Rattle.gv_vm.specs.Jobs.{AreHeld}
 use Rattle.gv_vm.specs.State.{Machine, IsMachine, WasTold, SawItsWaits}
@@ -58,7 +58,7 @@ IsMachine-settled v t j to holds none settled fits space =
     (All-left (λ x. WasTold x.item.kind x.number v.told) v.journal j to settled.items low high holds.told_matches_journal)
     (All-left (λ x. SawItsWaits x.item.kind) v.journal j to settled.items low high holds.waits_were_reached) holds.queues
 
-pub IsMachine-settle : (v : Machine) (t : AddressSpace) (j : Journaled) (to : ℕ) (r : Result ℕ SettleFault) → IsMachine v → OnOk r (settle_fault v.journal to ≡ None) →
+pub IsMachine-settle : (v : Machine) (t : AddressSpace) (j : Journaled) (to : ℕ) (r : Result ℕ Fault) → IsMachine v → OnOk r (settle_fault v.journal to ≡ None) →
     OnOk r (IsSettled v.space t v.journal j to) → OnErr r (t ≡ v.space) → OnErr r (j ≡ v.journal) → FitsSpace t j → IsSpace t →
     IsMachine (record { space = t; journal = j; running = v.running; told = v.told })
 IsMachine-settle v t j to (Ok count) holds why settled space_same same fits space = IsMachine-settled v t j to holds why settled fits space

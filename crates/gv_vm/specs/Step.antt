@@ -25,7 +25,7 @@ use Rattle.gv_vm.specs.World.{World, InHand, put_fault_of, queue_at, with_queue,
 use Rattle.gv_vm.specs.declared.event.Event.{Event}
 use Rattle.gv_vm.specs.declared.event.Event.TheVariants.{Put, Take, Look, Bind, GiveUp, Pay, Raise, Create, Destroy, Rewind, Withdraw, Settle, JobBegin, JobEnd, Translate}
 use Rattle.gv_vm.specs.declared.event.Reply.{Reply}
-use Rattle.gv_vm.specs.declared.event.Reply.TheVariants.{Idle, Put as IsPut, NotPut, Taken, Reached, Lacking, Told, Raised, Created, Destroyed, Rewound, Withdrawn, Settled, NotSettled, Begun, Ended, Found, Refused}
+use Rattle.gv_vm.specs.declared.event.Reply.TheVariants.{Idle, Put as IsPut, NotPut, Taken, Reached, Lacking, Told, Raised, Created, Destroyed, Rewound, Withdrawn, Settled, Begun, Ended, Found, Refused}
 use Rattle.gv_vm.specs.declared.jobs.Access.{Access}
 use Rattle.gv_vm.specs.declared.jobs.Job.{Job}
 use Rattle.gv_vm.specs.declared.outcome.Outcome.{Outcome}
@@ -232,6 +232,7 @@ event_fault v (Create pages) = create_fault v.space.buffers pages
 event_fault v (Destroy id) = destroy_fault v.space.buffers id
 event_fault v Rewind = rewind_fault v.journal.items
 event_fault v (Withdraw entry) = withdraw_fault v.space v.journal entry
+event_fault v (Settle to) = settle_fault v.journal to
 event_fault v (JobBegin accesses) = begin_fault v.space v.running accesses.items
 event_fault v (JobEnd job) = end_fault v.running job
 event_fault v _ = None
@@ -259,7 +260,6 @@ step old (Destroy id) Destroyed new = IsDestroyedNow old id new
 step old Rewind (Rewound item) new = IsRewoundNow old item new
 step old (Withdraw entry) (Withdrawn item) new = IsWithdrawnNow old entry item new
 step old (Settle to) (Settled count) new = IsSettledNow old to count new
-step old (Settle to) (NotSettled fault) new = (settle_fault old.machine.journal to ≡ Some fault) × (new ≡ old)
 step old (JobBegin accesses) (Begun number places) new = IsBegunNow old accesses.items (record { number = number; places = places }) new
 step old (JobEnd asked) (Ended job) new = IsEndedNow old asked job new
 step old (Translate addr) (Found place) new = (place ≡ place_at old.machine.space.mappings addr) × (new ≡ old)

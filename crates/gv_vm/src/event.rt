@@ -2,7 +2,6 @@
 use crate::jobs::Access;
 use crate::outcome::Outcome;
 use crate::places::Place;
-use gv_journal::SettleFault;
 use gv_types::{BufferId, Fault, Point, Request};
 
 /// One event: a request put on a queue, taken from it, looked at, bound or given up, a signal paid, or a call.
@@ -48,7 +47,6 @@ pub enum Reply {
     Rewound { item: u64 },
     Withdrawn { item: u64 },
     Settled { count: u64 },
-    NotSettled { fault: SettleFault },
     Begun { job: u64, places: Vec<Place> },
     Ended { job: u64 },
     Found { place: Option<Place> },

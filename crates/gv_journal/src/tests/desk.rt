@@ -1,7 +1,7 @@
 //! Steps played on a space and its journal.
 ghost use Rattle.gv_journal.specs.State.{FitsSpace};
 
-use crate::{Journal, SettleFault};
+use crate::Journal;
 use gv_space::Space;
 use gv_types::{Bounds, BufferId, Fault, Flags, Limits, Mapping, Op, PAGE_BYTES, Request};
 use std::alloc::Global;
@@ -55,7 +55,6 @@ pub enum Reply {
     RefusedAt { op: u64, fault: Fault },
     Number { number: u64 },
     Refused { fault: Fault },
-    Crossed { by: u64 },
 }
 
 /// The buffers made so far, and the operations of the next request.
@@ -158,13 +157,7 @@ fn play_journal(
     match step {
         Step::Rewind => reply_of(journal.rewind(space)),
         Step::Withdraw { entry } => reply_of(journal.withdraw(alloc, space, entry)),
-        Step::Settle { to } => match journal.settle(space, to) {
-            Ok(number) => Reply::Number { number },
-            Err(SettleFault::NoEntry) => Reply::Refused {
-                fault: Fault::NoEntry,
-            },
-            Err(SettleFault::Crossed { by }) => Reply::Crossed { by },
-        },
+        Step::Settle { to } => reply_of(journal.settle(space, to)),
         _ => bind(alloc, space, journal, desk),
     }
 }

@@ -279,7 +279,9 @@ fn crossed_items_stay(rt: HostRuntime) -> Result<(), Fail> {
     let wanted = [
         Reply::Accepted { entry: 0 },
         Reply::Number { number: 1 },
-        Reply::Crossed { by: 1 },
+        Reply::Refused {
+            fault: Fault::Crossed { by: 1 },
+        },
         Reply::Refused {
             fault: Fault::NoEntry,
         },

@@ -1,7 +1,6 @@
 //! Entries taken back, withdrawn and settled.
 use super::fixtures::{bind, map_run, whole, zero};
 use crate::{Outcome, Place, Target, Vm};
-use gv_journal::SettleFault;
 use gv_types::{BufferId, Fault, Flags};
 use std::alloc::Global;
 use std::process::Abort;
@@ -60,11 +59,11 @@ fn settlings(rt: &impl Abort, alloc: Global, vm: &mut Vm) -> Result<(), Fail> {
         Outcome::Accepted { entry: 0 }
     );
     assert_eq!(rt; vm.withdraw(alloc, 0), Ok(1));
-    assert_eq!(rt; vm.settle(1), Err(SettleFault::Crossed { by: 1 }));
-    assert_eq!(rt; vm.settle(3), Err(SettleFault::NoEntry));
+    assert_eq!(rt; vm.settle(1), Err(Fault::Crossed { by: 1 }));
+    assert_eq!(rt; vm.settle(3), Err(Fault::NoEntry));
     assert_eq!(rt; vm.settle(2), Ok(2));
     assert_eq!(rt; vm.settle(2), Ok(0));
-    assert_eq!(rt; vm.settle(1), Err(SettleFault::NoEntry));
+    assert_eq!(rt; vm.settle(1), Err(Fault::NoEntry));
     assert_eq!(rt; vm.items().len(), 0);
     assert_eq!(rt;
         bind(alloc, vm, 1, &[zero(0)])?,

@@ -8,7 +8,6 @@ ghost use Rattle.gv_journal.specs.Withdrawing.{withdraw_fault, IsWithdrawRefused
 ghost use Rattle.gv_space.specs.State.{IsUnchanged};
 
 use super::Vm;
-use gv_journal::SettleFault;
 use gv_types::Fault;
 use std::alloc::Global;
 
@@ -60,7 +59,7 @@ impl Vm {
     /// Settles the entries below a number: they can't be taken back or withdrawn any more, and what their undo values kept is
     /// given up. It answers how many. `NoEntry` where the number is below that of the oldest entry held or above the next
     /// one, then `Crossed` with the least later entry that withdraws one of them. It takes no memory.
-    pub fn settle(&mut self, to: u64) -> Result<u64, SettleFault>
+    pub fn settle(&mut self, to: u64) -> Result<u64, Fault>
         ensures accepted { OnOk result (settle_fault self.old.journal to ≡ None) }
         ensures refused { IfErr result (λ fault. settle_fault self.old.journal to ≡ Some fault) }
         ensures count { IfOk result (λ count. self.old.journal.first + count ≡ to) }
