@@ -26,7 +26,7 @@ Each F views = (pass : ℕ) (v : Log) → get_elem? views pass ≡ some v → F 
 each_set : (F : ℕ → Log → Type 0) (views : List Log) (pass : ℕ) (w : Log) → F pass w → ((j : ℕ) (u : Log) → j ≢ pass → get_elem? views j ≡ some u → F j u) → Each F (set views pass w)
 each_set F views pass w mine others j u e =
     ⊎_elim (λ (x : (j ≡ pass) × (w ≡ u)). subst (λ (y : ℕ × Log). F y.0 y.1) (λ i. (sym x.0 i, x.1 i)) mine)
-        (λ (x : (j ≢ pass) × (get_elem? views j ≡ some u)). others j u x.0 x.1) (at_set views pass j w u e)
+    (λ (x : (j ≢ pass) × (get_elem? views j ≡ some u)). others j u x.0 x.1) (at_set views pass j w u e)
 
 abbrev Knows : ℕ → ℕ → ℕ → List Request → List Request → ℕ → Log → Type 0
 Knows submitter worker timelines put taken pass v = KnowsPut submitter timelines put pass v × KnowsTaken worker timelines taken pass v
@@ -60,7 +60,7 @@ forks pass timelines v opening items views h at =
     let vs : List Log = set views pass l in
     let Old : ℕ → Log → Type 0 = λ j u. KnowsPut h.submitter timelines h.put j u × (u.takes ≢ true) in
     let old : Each Old vs = each_set Old views pass l ((λ _. (put.0, sym none_put, λ _. refl)), λ p. true≢false (sym p))
-        (λ j u other e. ((λ p. absurd (other (((h.knows j u e).0 p).0 ∙ sym put.0))), λ p. other (((h.knows j u e).1 p).0 ∙ sym taken.0))) in record {
+    (λ j u other e. ((λ p. absurd (other (((h.knows j u e).0 p).0 ∙ sym put.0))), λ p. other (((h.knows j u e).1 p).0 ∙ sym taken.0))) in record {
       submitter = h.submitter;
       worker = length vs;
       timelines = timelines;

@@ -1,2 +1,4 @@
 pub mod Handover
 pub mod Submitting
+pub mod Taking
+pub mod Paying

@@ -6,8 +6,14 @@ mod channel;
 mod gate;
 mod log;
 mod put_end;
+mod serving;
 mod submitter;
+mod taking;
+mod vm_lock;
 
 pub use gate::{Gate, Turn};
 pub use put_end::PutEnd;
+pub use serving::{decline, serve};
 pub use submitter::{PutFault, Submitter};
+pub use taking::Taken;
+pub use vm_lock::VmLock;
