@@ -2,3 +2,4 @@ pub mod Handover
 pub mod Submitting
 pub mod Taking
 pub mod Paying
+pub mod Working

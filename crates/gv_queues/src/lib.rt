@@ -10,6 +10,7 @@ mod serving;
 mod submitter;
 mod taking;
 mod vm_lock;
+mod waiting;
 
 pub use gate::{Gate, Turn};
 pub use put_end::PutEnd;
