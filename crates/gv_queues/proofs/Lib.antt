@@ -1,1 +1,5 @@
 pub mod Handovers
+pub mod Owed
+pub mod Ends
+pub mod Same
+pub mod Outcomes

@@ -3,3 +3,4 @@ pub mod Submitting
 pub mod Taking
 pub mod Paying
 pub mod Working
+pub mod Ending

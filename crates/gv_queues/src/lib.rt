@@ -3,6 +3,7 @@
 #![tactic(auto)]
 
 mod channel;
+mod finishing;
 mod gate;
 mod log;
 mod put_end;
@@ -11,10 +12,14 @@ mod submitter;
 mod taking;
 mod vm_lock;
 mod waiting;
+mod worker;
+mod worker_end;
 
+pub use finishing::{QueueEnd, QueuesFault, finish};
 pub use gate::{Gate, Turn};
 pub use put_end::PutEnd;
 pub use serving::{decline, serve};
 pub use submitter::{PutFault, Submitter};
 pub use taking::Taken;
 pub use vm_lock::VmLock;
+pub use worker_end::WorkerEnd;

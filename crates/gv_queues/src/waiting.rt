@@ -12,6 +12,7 @@ use std::sync::Wait;
 use std::thread;
 
 /// What a gate is asked for one request: so many of its looks have lacked, over all its waits.
+#[derive(Drop)]
 pub struct Asking<'a, G> {
     gate: &'a G,
     queue: u64,
