@@ -3,3 +3,4 @@ pub mod Owed
 pub mod Ends
 pub mod Same
 pub mod Outcomes
+pub mod Sends

@@ -1,5 +1,5 @@
 -- A derived `==` of outcomes holds just where they are one.
-use Rattle.std.proofs.Common.{rules, ◌≡◌, ℕ, Bool, true, false, true≢false, ◌&&◌, eqb, Decides, refl, sym, ap, subst}
+use Rattle.std.proofs.Common.{◌≡◌, ℕ, Bool, true, false, true≢false, ◌&&◌, eqb, Decides, refl, sym, ap}
 use Rattle.std.proofs.lemmas.Bool.Decides.{Decides-eqb}
 use Rattle.gv_queues.proofs.Same.{AllDecide, same_decides}
 use Rattle.gv_types.specs.declared.fault.Fault.{Fault}
@@ -27,19 +27,17 @@ both false t e = (e, absurd (true≢false (sym e)))
 
 two : {A B : Type 0} {E : A → A → Bool} {F : B → B → Bool} → ((a b : A) → Decides (E a b) (a ≡ b)) → ((a b : B) → Decides (F a b) (a ≡ b))
     → (x y : A × (B × Unit {0})) → Decides (E x.0 y.0 && F x.1.0 y.1.0) (x ≡ y)
-two {E = E} {F = F} first second x y =
-    (
-      (λ e.
-          let h = both (E x.0 y.0) (F x.1.0 y.1.0) e in let f = (first x.0 y.0).0 h.0 in let g = (second x.1.0 y.1.0).0 h.1 in λ i. (f i, (g i, tt))),
-      (λ e. let f = (first x.0 y.0).1 (ap (λ z. z.0) e) in let g = (second x.1.0 y.1.0).1 (ap (λ z. z.1.0) e) in λ i. f i && g i),
-    )
+two {E = E} {F = F} first second x y = (
+  (λ e.
+      let h = both (E x.0 y.0) (F x.1.0 y.1.0) e in let f = (first x.0 y.0).0 h.0 in let g = (second x.1.0 y.1.0).0 h.1 in λ i. (f i, (g i, tt))),
+  (λ e. let f = (first x.0 y.0).1 (ap (λ z. z.0) e) in let g = (second x.1.0 y.1.0).1 (ap (λ z. z.1.0) e) in λ i. f i && g i),
+)
 
 point_decides : (a b : Point) → Decides (point-eq.it a b) (a ≡ b)
-point_decides a b =
-    (
-      (λ e. let h = both (eqb a.timeline b.timeline) (eqb a.value b.value) e in let f = (nat a.timeline b.timeline).0 h.0 in let g = (nat a.value b.value).0 h.1 in λ i. record { timeline = f i; value = g i }),
-      (λ e. let f = (nat a.timeline b.timeline).1 (ap (λ (z : Point). z.timeline) e) in let g = (nat a.value b.value).1 (ap (λ (z : Point). z.value) e) in λ i. f i && g i),
-    )
+point_decides a b = (
+  (λ e. let h = both (eqb a.timeline b.timeline) (eqb a.value b.value) e in let f = (nat a.timeline b.timeline).0 h.0 in let g = (nat a.value b.value).0 h.1 in λ i. record { timeline = f i; value = g i }),
+  (λ e. let f = (nat a.timeline b.timeline).1 (ap (λ (z : Point). z.timeline) e) in let g = (nat a.value b.value).1 (ap (λ (z : Point). z.value) e) in λ i. f i && g i),
+)
 
 fault_decides : (a b : Fault) → Decides (fault-eq.it a b) (a ≡ b)
 fault_decides a b =

@@ -1,11 +1,11 @@
 -- What a worker's seat raised: the signals that the requests it served were owed.
-use Rattle.std.proofs.Common.{◌≡◌, ℕ, suc, ◌≤◌, List, [], ◌∷◌, ◌++◌, length, filter, map, max, nat_eq, sym, refl, ap, ◌∙◌, arith, append_assoc}
+use Rattle.std.proofs.Common.{◌≡◌, ℕ, ◌≤◌, List, [], ◌∷◌, ◌++◌, length, map, max, nat_eq, sym, refl, ap, ◌∙◌, arith, append_assoc}
 use Rattle.std.proofs.lemmas.List.{append-nil, map-append, length-append, drop-append-le}
 use Rattle.std.proofs.lemmas.List.Elements.{filter-append}
 use Rattle.gv_types.specs.declared.request.Point.{Point}
 use Rattle.gv_types.specs.declared.request.Request.{Request}
 use Rattle.gv_sync.specs.Raises.{raised, values_on}
-use Rattle.gv_sync.specs.Seats.{SeatState, mark_of}
+use Rattle.gv_sync.specs.Seats.{SeatState}
 use Rattle.gv_vm.specs.declared.outcome.Outcome.{Outcome}
 use Rattle.gv_queues.specs.Paying.{RaisedJust, all_owed, owed}
 use Rattle.gv_queues.specs.Working.{AreLeft, RaisedJustOwed}

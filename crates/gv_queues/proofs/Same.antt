@@ -1,5 +1,5 @@
 -- A derived `==` at an enum holds just where the two values are one, where that is so of their fields.
-use Rattle.std.proofs.Common.{◌≡◌, ℕ, Bool, true, false, true≢false, Decides, List, [], ◌∷◌, refl, sym, ap, ◌∙◌, subst, eqb}
+use Rattle.std.proofs.Common.{◌≡◌, Bool, false, true≢false, Decides, List, [], ◌∷◌, sym, ap, subst}
 use mathlib.Core.Logic.{◌⊎◌, inl, inr}
 use denote.Struct.Field.{Field}
 use denote.Struct.Values.{Values}

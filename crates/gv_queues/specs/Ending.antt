@@ -1,5 +1,5 @@
 -- The ends of queues.
-use Rattle.std.specs.Prelude.{◌≡◌, ℕ, ◌+◌, ◌<◌, List, [], length, vec_len, slice_index_or}
+use Rattle.std.specs.Prelude.{◌≡◌, ℕ, ◌+◌, ◌<◌, List, [], length, slice_index_or}
 use Rattle.gv_vm.specs.State.{Machine}
 use Rattle.gv_vm.specs.Outcomes.{told_to}
 use Rattle.gv_queues.specs.Submitting.{PutEndState}
@@ -39,11 +39,13 @@ pub record IsFirstOther (vm : Machine) (puts : List PutEndState) (workers : List
   pub disagrees : ¬ AgreesAt vm puts workers queue
   pub before : (other : ℕ) → other < queue → AgreesAt vm puts workers other
 
--- what a queue comes to: how many its submitter put, how many outcomes the address space tells, and what its worker left
+-- what a queue comes to: how many its submitter put, how many outcomes the address space tells, and what its worker left.
+-- Each request that was put was told, or is left
 pub record IsEndOf (vm : Machine) (submitted : PutEndState) (worker : WorkerEndState) (end : QueueEnd) : Type 0 where
   pub put : end.put ≡ length submitted.put
   pub told : end.told ≡ length (told_to vm.told worker.queue)
   pub left : end.left.items ≡ worker.left
+  pub each : end.put ≡ end.told + length end.left.items
 
 -- each queue's end
 abbrev pub AreEndsOf : Machine → List PutEndState → List WorkerEndState → List QueueEnd → Type 0
@@ -54,7 +56,7 @@ AreEndsOf vm puts workers ends =
 -- Of each queue, what was put was told or is left. So many requests did the driver put, and so many outcomes the address
 -- space tells.
 pub record IsCounted (vm : Machine) (count : ℕ → ℕ) (queue : ℕ) (end : QueueEnd) : Type 0 where
-  pub each : end.put ≡ end.told + vec_len end.left
+  pub each : end.put ≡ end.told + length end.left.items
   pub driven : end.put ≡ count queue
   pub told : end.told ≡ length (told_to vm.told queue)
 

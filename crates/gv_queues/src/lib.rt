@@ -3,10 +3,14 @@
 #![tactic(auto)]
 
 mod channel;
+mod driver;
 mod finishing;
 mod gate;
 mod log;
+mod opening;
 mod put_end;
+mod queues;
+mod running;
 mod serving;
 mod submitter;
 mod taking;
@@ -15,9 +19,11 @@ mod waiting;
 mod worker;
 mod worker_end;
 
+pub use driver::Driver;
 pub use finishing::{QueueEnd, QueuesFault, finish};
 pub use gate::{Gate, Turn};
 pub use put_end::PutEnd;
+pub use queues::run_queues;
 pub use serving::{decline, serve};
 pub use submitter::{PutFault, Submitter};
 pub use taking::Taken;

@@ -22,3 +22,15 @@ impl VmLock {
         vm.into_inner()
     }
 }
+
+/// What leads to an address space under a lock. Threads that are generic over it ask that it may be shared; that `VmLock` may
+/// be is then shown once, where they are called.
+pub trait Locked {
+    fn vm_lock(&self) -> &VmLock;
+}
+
+impl Locked for VmLock {
+    fn vm_lock(&self) -> &VmLock {
+        self
+    }
+}

@@ -34,8 +34,7 @@ impl<'a, G: Gate> Asking<'a, G> {
     /// Asks after one more look that lacked.
     fn turn(&mut self, lacking: &Lacking) -> Turn {
         self.turns = self.turns.saturating_add(1);
-        self.gate
-            .turn(self.queue, self.number, lacking, self.turns)
+        self.gate.turn(self.queue, self.number, lacking, self.turns)
     }
 }
 

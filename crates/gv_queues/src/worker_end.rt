@@ -37,12 +37,7 @@ impl Model for WorkerEnd {
 }
 
 impl WorkerEnd {
-    pub(crate) fn new(
-        taker: Taker,
-        seat: Seat,
-        gave: Vec<Outcome>,
-        left: Vec<Request>,
-    ) -> WorkerEnd
+    pub(crate) fn new(taker: Taker, seat: Seat, gave: Vec<Outcome>, left: Vec<Request>) -> WorkerEnd
         requires left { AreLeft taker.taken gave.items left.items }
         requires raised { RaisedJustOwed gave.items taker.taken seat }
         ensures { result ≡ record {

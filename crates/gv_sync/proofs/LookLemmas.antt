@@ -1,11 +1,12 @@
 -- What looks and raises make of a seat, for callers that make them one by one.
-use Rattle.std.proofs.Common.{◌≡◌, ◌≢◌, ℕ, ◌+◌, ◌<◌, ◌≤◌, List, true, false, nat_eq, length, get_or, set, sym, refl, ap, ◌∙◌, subst, ⊎_elim, le_refl, le_trans}
-use Rattle.std.proofs.lemmas.List.{get_or-set_same, get_or-set_other}
+use Rattle.std.proofs.Common.{◌≡◌, ◌≢◌, ℕ, ◌+◌, ◌<◌, ◌≤◌, List, map, true, false, nat_eq, length, get_or, set, sym, refl, ap, ◌∙◌, subst, ⊎_elim, le_refl, le_trans, arith}
+use Rattle.std.proofs.lemmas.List.{get_or-set_same, get_or-set_other, get_or-map, get_or_past, length-map}
 use Rattle.std.proofs.lemmas.Bool.Decides.{eqb_tells}
 use Rattle.std.proofs.Math.ListN.{length-set}
 use Rattle.gv_sync.specs.declared.marks.Mark.{Mark}
 use Rattle.gv_sync.specs.Marks.{IsNoLess, fresh_mark, mark, mark_at}
-use Rattle.gv_sync.specs.Seats.{SeatState, after_load, mark_of}
+use Rattle.gv_sync.specs.Seats.{SeatState, after_load, mark_of, split_from}
+use native.Mathlib.Decide.{dec_lt}
 use Rattle.gv_sync.specs.Turns.{HasLooked}
 
 pub no_looks : (seat : SeatState) → HasLooked seat seat
@@ -64,3 +65,15 @@ one_look timeline number old named no_less = record {
   raised = λ t. (at_one timeline number old named no_less t).raised;
   seen = λ t. (at_one timeline number old named no_less t).seen;
 }
+
+abbrev unraised : Mark → Mark
+unraised m = mark m.seen 0 0
+
+-- a seat that was split off raised nothing
+pub split_raised : (seat : SeatState) (timeline : ℕ) → (mark_of (split_from seat) timeline).raised ≡ 0
+split_raised seat timeline = elim (dec_lt timeline (length seat.marks)) [
+    yes low ↦ ap (λ (k : Mark). k.raised) (get_or-map unraised seat.marks timeline fresh_mark fresh_mark low)
+    | no high ↦ (
+      let past : length (map unraised seat.marks) ≤ timeline = omega (arith, length-map seat.marks unraised, high) in
+      ap (λ (k : Mark). k.raised) (get_or_past (map unraised seat.marks) timeline fresh_mark past))
+  ]

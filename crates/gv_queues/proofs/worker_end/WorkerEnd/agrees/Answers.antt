@@ -11,7 +11,7 @@ returns-then-put c =
     let gave : c.as_slice.result.now ≡ c.args.self.now.gave = c.as_slice.ensures.value ∙ ap (λ (w : WorkerEndState). w.gave) c.self.view_is in
     let queue : c.queue.result ≡ c.args.self.now.queue = c.queue.ensures.value ∙ ap (λ (w : WorkerEndState). w.queue) c.self.view_is in
     let told : c.told.result.now ≡ told_to c.args.vm.now.told c.args.self.now.queue =
-        c.told.ensures ∙ ap (λ (q : ℕ). told_to c.args.vm.now.told q) queue in (
+    c.told.ensures ∙ ap (λ (q : ℕ). told_to c.args.vm.now.told q) queue in (
       (λ is. record { took_all = search rules; told = sym gave ∙ (test.0 is ∙ told) }),
       (λ a. test.1 (gave ∙ (a.told ∙ sym told))),
     )

@@ -1,4 +1,4 @@
-use Rattle.std.proofs.Common.{rules, ◌≡◌, ◌∙◌, ℕ, ◌+◌, ◌-◌, ◌≤◌, List, [], ◌∷◌, ◌++◌, length, vec_len, vec_capacity, sym, ap, subst, arith}
+use Rattle.std.proofs.Common.{rules, ◌≡◌, ◌∙◌, ℕ, ◌+◌, ◌-◌, ◌≤◌, List, [], ◌∷◌, ◌++◌, length, vec_len, sym, ap, subst, arith}
 use Rattle.std.proofs.lemmas.List.{length-append}
 use Rattle.gv_types.specs.declared.request.Request.{Request}
 use Rattle.gv_queues.specs.Taking.{TakerState}
@@ -14,7 +14,7 @@ loop-place-preserved g c =
     let taken : List Request = c.loop-place.taker.taken in let gave = c.self.inside.gave.items in
     let longer : c.take.new.self.taken ≡ taken ++ request ∷ [] = ap (λ (t : TakerState). t.taken) took.taken in
     let grown : c.push_reserved.new.self.items ≡ c.loop-place.left.items ++ request ∷ [] =
-        c.push_reserved.ensures.items ∙ ap (λ (r : Request). c.loop-place.left.items ++ r ∷ []) c.into_request.ensures in
+    c.push_reserved.ensures.items ∙ ap (λ (r : Request). c.loop-place.left.items ++ r ∷ []) c.into_request.ensures in
     let taken_len : length c.take.new.self.taken ≡ length taken + 1 = ap (λ (l : List Request). length l) longer ∙ length-append taken (request ∷ []) in
     let count = was.4 in let room = was.3 in let len = c.push_reserved.ensures.len in let capacity = c.push_reserved.ensures.capacity in
     let below = c.loop-place-test.true in (
