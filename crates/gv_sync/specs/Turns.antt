@@ -27,3 +27,11 @@ OneMoreRaise =
     → HasRaised points old seat → point.timeline < length seat.marks
     → IsNoLess (mark_of seat point.timeline) number
     → HasRaised (points ++ point ∷ []) old (after_raise seat point number)
+
+-- the seat after any number of loads, each by one step, and no other steps: it raised nothing, and no seat was split off it
+pub record HasLooked (old new : SeatState) : Type 0 where
+  pub of : new.of ≡ old.of
+  pub halvings : new.halvings ≡ old.halvings
+  pub counted : length new.marks ≡ length old.marks
+  pub raised : (timeline : ℕ) → (mark_of new timeline).raised ≡ (mark_of old timeline).raised
+  pub seen : (timeline : ℕ) → (mark_of old timeline).seen ≤ (mark_of new timeline).seen

@@ -1,0 +1,6 @@
+pub mod Handovers
+pub mod Owed
+pub mod Ends
+pub mod Same
+pub mod Outcomes
+pub mod Sends

@@ -1,0 +1,89 @@
+-- What may go to another thread.
+use denote.Param.Send.{IsSend, IsSync, sendable, array_send, view_send}
+use denote.Param.SendFields.{VariantsHave, variants_send, declared_send, declared_sync, as_row_send}
+use denote.Hole.Fix.{holes}
+use denote.Hole.FixSend.{fix_send, Sends}
+use Rattle.std.proofs.Crossing.{crosses, Box-send, Vec-send}
+use denote.Struct.Field.{row_field, u64-field, usize-field}
+use denote.Hole.{as_row}
+use denote.Enum.Declared.{Declared}
+use denote.Hole.Layer.{enum_layer}
+use Rattle.gv_table.specs.contracts.slot.Slot.{the_row as slot, enum as slot_enum, the_layer}
+use Rattle.gv_table.specs.contracts.spares.Spares.TheInside.{the_row as spares_inside, the_type as spares_type}
+use Rattle.gv_table.specs.contracts.spares.Spares.{the_row as spares}
+use Rattle.gv_space.specs.contracts.undo.OpUndo.TheInside.{the_row as undo_inside, the_type as undo_type}
+use Rattle.gv_space.specs.contracts.undo.OpUndo.{the_row as undo}
+use Rattle.gv_journal.specs.contracts.item.Item.{the_row as item, the_type as item_type}
+use Rattle.gv_ranges.proofs.range_list.RangeList.TheSendSync.{the_send as range_list_send}
+use Rattle.gv_types.proofs.bounds.Bounds.TheSendSync.{the_send as bounds_send}
+use Rattle.gv_types.proofs.limits.Limits.TheSendSync.{the_send as limits_send}
+use Rattle.gv_types.proofs.page_range.PageRange.TheSendSync.{the_send as range_send}
+use Rattle.gv_buffers.proofs.buffers.Buffers.TheSendSync.{the_send as buffers_send}
+use Rattle.gv_journal.proofs.item.ItemKind.TheSendSync.{the_send as kind_send}
+use Rattle.gv_vm.proofs.jobs.Jobs.TheSendSync.{the_send as jobs_send}
+use Rattle.gv_vm.proofs.outcome.Outcome.TheSendSync.{the_send as outcome_send}
+use Rattle.gv_types.proofs.mapping.Mapping.TheSendSync.{the_send as mapping_send}
+use Rattle.smallvec.proofs.small_vec.SmallVec.TheSendSync.{the_send as small_vec_send}
+use Rattle.gv_space.specs.contracts.painted.ListWithTable.TheInside.{the_row as list_with_table_inside, the_type as list_with_table_type}
+use Rattle.gv_space.specs.contracts.space.Space.TheInside.{the_row as space_inside, the_type as space_type}
+use Rattle.gv_journal.specs.contracts.journal.Journal.TheInside.{the_row as journal_inside, the_type as journal_type}
+use Rattle.gv_vm.specs.contracts.vm.Vm.TheInside.{the_row as vm_inside, the_type as vm_type}
+use Rattle.gv_space.specs.contracts.painted.ListWithTable.{the_row as list_with_table}
+use Rattle.gv_space.specs.contracts.space.Space.{the_row as space}
+use Rattle.gv_journal.specs.contracts.journal.Journal.{the_row as journal}
+use Rattle.gv_vm.specs.contracts.vm.Vm.{the_row as vm}
+use Rattle.gv_queues.specs.contracts.vm_lock.VmLock.{the_row as vm_lock, the_type as vm_lock_type}
+use Rattle.gv_table.specs.contracts.slot.Slot.TheKnot.{ring}
+use Rattle.gv_table.specs.declared.slot.Slot.TheBlock.{the_members, member-Slot}
+use Rattle.gv_table.specs.contracts.page_table.PageTable.{the_row as page_table, the_type as page_table_type}
+
+slot_steps : (i : the_members) → Sends ring i
+slot_steps member-Slot = record {
+  send = λ h s.
+      let at : IsSend (h member-Slot) = s member-Slot in let L : Declared = the_layer h in
+      let parts : VariantsHave IsSend L.parts =
+      (tt, ((search (sendable, crosses) depth 12), ((search (sendable, crosses) depth 12), ((as_row_send (row_field _) (Box-send _ (array_send _ _ at)), tt), tt)))) in
+      variants_send (enum_layer L.name L.args L.types L.parts) parts;
+}
+
+pub slot_hole_send : (i : the_members) → IsSend (holes ring i)
+slot_hole_send i = fix_send ring slot_steps i
+
+pub slot_send : IsSend slot
+slot_send =
+    let at : IsSend (holes ring member-Slot) = slot_hole_send member-Slot in
+    variants_send slot_enum (tt, ((search (sendable, crosses) depth 12), ((search (sendable, crosses) depth 12), ((as_row_send (row_field _) (Box-send _ (array_send _ _ at)), tt), tt))))
+
+pub page_table_send : IsSend page_table
+page_table_send = declared_send page_table_type (slot_send, ((search (sendable, crosses) depth 12), tt))
+
+number : IsSend (as_row usize-field)
+number = search (sendable, crosses) depth 5
+
+wide : IsSend (as_row u64-field)
+wide = search (sendable, crosses) depth 5
+
+pub list_with_table_send : IsSend list_with_table
+list_with_table_send = view_send list_with_table_inside _ _ _ _ (declared_send list_with_table_type (range_list_send, (page_table_send, tt)))
+
+pub space_send : IsSend space
+space_send = view_send space_inside _ _ _ _ (declared_send space_type (bounds_send, (limits_send, (list_with_table_send, (buffers_send, (wide, tt))))))
+
+pub spares_send : IsSend spares
+spares_send = view_send spares_inside _ _ _ _ (declared_send spares_type (slot_send, tt))
+
+pub undo_send : IsSend undo
+undo_send = view_send undo_inside _ _ _ _ (declared_send undo_type (number, (number, (range_send, (search (sendable, crosses, small_vec_send, mapping_send) depth 8, (spares_send, tt))))))
+
+pub item_send : IsSend item
+item_send = declared_send item_type (kind_send, (Vec-send _ undo_send, tt))
+
+pub journal_send : IsSend journal
+journal_send = view_send journal_inside _ _ _ _ (declared_send journal_type (Vec-send _ item_send, (number, (wide, (wide, tt)))))
+
+pub vm_send : IsSend vm
+vm_send = view_send vm_inside _ _ _ _ (declared_send vm_type (space_send, (journal_send, (as_row_send (row_field _) jobs_send, (search (sendable, crosses, outcome_send) depth 8, tt)))))
+
+-- the lock may be shared, since what it holds may go to another thread
+pub lock_sync : IsSync vm_lock
+lock_sync = declared_sync vm_lock_type (search (sendable, crosses, vm_send) depth 8, tt)

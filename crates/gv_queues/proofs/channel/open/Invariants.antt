@@ -1,0 +1,4 @@
+use Rattle.gv_queues.proofs.channel.open.Given as goal
+
+abbrev pub ghosts-open_branded : goal.ghosts-open_branded
+ghosts-open_branded a = record { bound = a.timelines }

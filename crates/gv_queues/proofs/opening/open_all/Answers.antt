@@ -1,0 +1,38 @@
+use Rattle.std.proofs.Common.{rules, ◌≡◌, ◌∙◌, ℕ, length, vec_len, sym, ap}
+use Rattle.gv_sync.specs.Seats.{SeatState, count_of, mark_of}
+use Rattle.gv_sync.proofs.LookLemmas.{split_raised}
+use Rattle.gv_queues.specs.Submitting.{IsOpened, SubmitterState}
+use Rattle.gv_queues.specs.Taking.{TakerState}
+use Rattle.gv_queues.specs.Working.{WorkerState}
+use Rattle.gv_queues.proofs.Ends.{each_more, opened_more, in_order_more}
+use Rattle.gv_queues.proofs.opening.open_all.Goals as goal
+
+pub new-requires-in-loop-queue-2-clause-raised : goal.new-requires-in-loop-queue-2-clause-raised
+new-requires-in-loop-queue-2-clause-raised c t =
+    ap (λ (s : SeatState). (mark_of s t).raised) c.in_ok-own.ensures.given ∙ split_raised c.loop-queue.seat t
+
+pub loop-queue-preserved : goal.loop-queue-preserved
+loop-queue-preserved c =
+    let was = c.loop-queue.invariant in
+    let long : vec_len c.loop-queue.submitters ≡ length c.loop-queue.submitters.items = search rules in
+    let wide : vec_len c.loop-queue.workers ≡ length c.loop-queue.workers.items = search rules in
+    let opened : IsOpened (length c.loop-queue.submitters.items) c.args.limit c.args.depth (count_of c.args.timelines.now) c.new.result = record {
+      queue = ap (λ (s : SubmitterState). s.queue) c.new.ensures ∙ (sym was.2 ∙ long);
+      limit = ap (λ (s : SubmitterState). s.limit) c.new.ensures;
+      depth = ap (λ (s : SubmitterState). s.depth) c.new.ensures ∙ search rules;
+      timelines = ap (λ (s : SubmitterState). s.timelines) c.new.ensures ∙ c.count-named.ensures.count;
+      none = ap (λ (s : SubmitterState). s.put) c.new.ensures;
+    } in
+    let queue : c.new-in-loop-queue-2.result.queue ≡ length c.loop-queue.workers.items =
+    ap (λ (w : WorkerState). w.queue) c.new-in-loop-queue-2.ensures ∙ (ap (λ (t : TakerState). t.queue) c.new-in-loop-queue.ensures ∙ (sym was.3 ∙ wide)) in (
+      search rules,
+      search rules,
+      search rules,
+      search rules,
+      opened_more c.args.limit c.args.depth (count_of c.args.timelines.now) c.loop-queue.submitters.items c.push_reserved.new.self.items c.new.result c.push_reserved.ensures.items opened was.4,
+      in_order_more (λ (w : WorkerState). w.queue) c.loop-queue.workers.items c.push_reserved-in-loop-queue.new.self.items c.new-in-loop-queue-2.result was.5 queue c.push_reserved-in-loop-queue.ensures.items,
+      each_more (λ (k : ℕ) (w : WorkerState). w.of ≡ c.args.timelines.now) c.loop-queue.workers.items c.push_reserved-in-loop-queue.new.self.items c.new-in-loop-queue-2.result
+          c.push_reserved-in-loop-queue.ensures.items (ap (λ (w : WorkerState). w.of) c.new-in-loop-queue-2.ensures ∙ c.in_ok-own.ensures.own_given) was.6,
+      search rules,
+      search rules,
+    )

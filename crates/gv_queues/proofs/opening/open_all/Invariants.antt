@@ -1,0 +1,18 @@
+use Rattle.std.proofs.Common.{◌≡◌, ◌≤◌, All, vec_len, vec_capacity}
+use Rattle.gv_sync.specs.Seats.{IsSeatOf, count_of}
+use Rattle.gv_queues.specs.Ending.{AreInOrder}
+use Rattle.gv_queues.specs.Submitting.{AreOpened}
+use Rattle.gv_queues.specs.Working.{WorkerState}
+use Rattle.gv_queues.proofs.opening.open_all.Given as goal
+
+abbrev pub invariant-loop-queue : goal.invariant-loop-queue
+invariant-loop-queue l =
+    IsSeatOf l.timelines l.seat
+    × (l.seat.marks ≡ l.fn.seat.marks)
+    × (vec_len l.submitters ≡ l.queue)
+    × (vec_len l.workers ≡ l.queue)
+    × AreOpened l.fn.limit l.fn.depth (count_of l.timelines) l.submitters.items
+    × AreInOrder (λ (w : WorkerState). w.queue) l.workers.items
+    × All (λ (w : WorkerState). w.of ≡ l.timelines) l.workers.items
+    × (l.fn.count ≤ vec_capacity l.submitters)
+    × (l.fn.count ≤ vec_capacity l.workers)

@@ -1,0 +1,23 @@
+use Rattle.std.proofs.Common.{◌≡◌, ◌<◌, ◌∙◌, ◌++◌, ◌∷◌, [], List, take, get_or, sym, ap, subst, length}
+use Rattle.std.proofs.lemmas.List.{take_more}
+use Rattle.gv_types.specs.declared.request.Point.{Point}
+use Rattle.gv_sync.specs.Seats.{SeatState, after_raise}
+use Rattle.gv_sync.specs.Turns.{HasRaised}
+use Rattle.gv_queues.proofs.serving.pay.Goals as goal
+
+pub loop-signal-preserved : goal.loop-signal-preserved
+loop-signal-preserved c =
+    let was = c.loop-signal.invariant in
+    let signals : List Point = c.args.signals.now in let seat : SeatState = c.loop-signal.seat in
+    let no_point : Point = record { timeline = 0; value = 0 } in
+    let point : Point = get_or signals c.loop-signal.signal-index no_point in
+    let below : c.loop-signal.signal-index < length signals = c.loop-signal-test.true in
+    let marks : length seat.marks ≡ seat.of.words =
+    was.1.counted ∙ (c.has_each_mark.ensures ∙ ap (λ of. of.words) (c.requires.own ∙ sym was.0)) in
+    let named : point.timeline < length seat.marks = subst (λ n. point.timeline < n) (ap (λ of. of.words) (sym was.0) ∙ sym marks) (c.requires.named c.loop-signal.signal-index no_point below) in
+    let more : HasRaised _ c.args.seat.now (after_raise seat point c.raise.result) =
+    c.turns.ensures.one_more (take c.loop-signal.signal-index signals) point c.raise.result c.args.seat.now seat was.1 named c.raise.ensures.no_less in (
+      c.raise.ensures.own,
+      subst (λ (l : List Point). HasRaised l c.args.seat.now c.raise.new.seat) (sym (take_more signals c.loop-signal.signal-index no_point below))
+          (subst (λ (s : SeatState). HasRaised (take c.loop-signal.signal-index signals ++ point ∷ []) c.args.seat.now s) (sym c.raise.ensures.step) more),
+    )

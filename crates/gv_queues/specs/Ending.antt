@@ -1,0 +1,86 @@
+-- The ends of queues.
+use Rattle.std.specs.Prelude.{◌≡◌, ℕ, ◌+◌, ◌<◌, List, [], length, slice_index_or}
+use Rattle.gv_vm.specs.State.{Machine}
+use Rattle.gv_vm.specs.Outcomes.{told_to}
+use Rattle.gv_queues.specs.Submitting.{PutEndState}
+use Rattle.gv_queues.specs.Working.{WorkerEndState}
+use Rattle.gv_queues.specs.declared.finishing.QueueEnd.{QueueEnd}
+use Rattle.gv_queues.specs.declared.finishing.QueuesFault.{QueuesFault}
+use Rattle.gv_queues.specs.declared.finishing.QueuesFault.TheVariants.{NotMade, NotStarted, Disagree}
+
+-- these stand in the order of their queues, from 0
+abbrev pub AreInOrder : {X : Type 0} → (X → ℕ) → List X → Type 0
+AreInOrder {X} queue xs = (k : ℕ) (d : X) → k < length xs → queue (slice_index_or xs k d) ≡ k
+
+-- the worker of a queue took as many requests as were put, and gave the outcomes that the address space tells
+pub record Agrees (vm : Machine) (put : PutEndState) (worker : WorkerEndState) : Type 0 where
+  pub took_all : length worker.taken ≡ length put.put
+  pub told : worker.gave ≡ told_to vm.told worker.queue
+
+abbrev pub no_put : PutEndState
+no_put = record { queue = 0; put = [] }
+
+abbrev pub put_at : List PutEndState → ℕ → PutEndState
+put_at puts queue = slice_index_or puts queue no_put
+
+abbrev pub no_worker : WorkerEndState
+no_worker = record { queue = 0; taken = []; gave = []; left = [] }
+
+abbrev pub worker_at : List WorkerEndState → ℕ → WorkerEndState
+worker_at workers queue = slice_index_or workers queue no_worker
+
+-- the ends of this queue agree
+abbrev pub AgreesAt : Machine → List PutEndState → List WorkerEndState → ℕ → Type 0
+AgreesAt vm puts workers queue = Agrees vm (put_at puts queue) (worker_at workers queue)
+
+-- the queue at which the ends don't agree, and at each before they do
+pub record IsFirstOther (vm : Machine) (puts : List PutEndState) (workers : List WorkerEndState) (queue : ℕ) : Type 0 where
+  pub exists : queue < length puts
+  pub disagrees : ¬ AgreesAt vm puts workers queue
+  pub before : (other : ℕ) → other < queue → AgreesAt vm puts workers other
+
+-- what a queue comes to: how many its submitter put, how many outcomes the address space tells, and what its worker left.
+-- Each request that was put was told, or is left
+pub record IsEndOf (vm : Machine) (submitted : PutEndState) (worker : WorkerEndState) (end : QueueEnd) : Type 0 where
+  pub put : end.put ≡ length submitted.put
+  pub told : end.told ≡ length (told_to vm.told worker.queue)
+  pub left : end.left.items ≡ worker.left
+  pub each : end.put ≡ end.told + length end.left.items
+
+-- each queue's end
+abbrev pub AreEndsOf : Machine → List PutEndState → List WorkerEndState → List QueueEnd → Type 0
+AreEndsOf vm puts workers ends =
+    (queue : ℕ) (d : QueueEnd) → queue < length ends
+    → IsEndOf vm (put_at puts queue) (worker_at workers queue) (slice_index_or ends queue d)
+
+-- Of each queue, what was put was told or is left. So many requests did the driver put, and so many outcomes the address
+-- space tells.
+pub record IsCounted (vm : Machine) (count : ℕ → ℕ) (queue : ℕ) (end : QueueEnd) : Type 0 where
+  pub each : end.put ≡ end.told + length end.left.items
+  pub driven : end.put ≡ count queue
+  pub told : end.told ≡ length (told_to vm.told queue)
+
+abbrev pub AreCountedEnds : Machine → (ℕ → ℕ) → List QueueEnd → Type 0
+AreCountedEnds vm count ends =
+    (queue : ℕ) (d : QueueEnd) → queue < length ends → IsCounted vm count queue (slice_index_or ends queue d)
+
+-- the closed submitters stand in the order of their queues, and put as many requests as the driver counted
+pub record ArePuts (count : ℕ → ℕ) (puts : List PutEndState) : Type 0 where
+  pub order : AreInOrder (λ (p : PutEndState). p.queue) puts
+  pub counted : (queue : ℕ) → queue < length puts → count queue ≡ length (put_at puts queue).put
+
+-- no queue was told an outcome yet
+abbrev pub IsUntold : Machine → Type 0
+IsUntold vm = (queue : ℕ) → told_to vm.told queue ≡ []
+
+-- the queue that a fault names is one of so many
+abbrev pub IsOfQueueBelow : ℕ → QueuesFault → Type 0
+IsOfQueueBelow count NotMade = Unit {0}
+IsOfQueueBelow count (NotStarted queue) = queue < count
+IsOfQueueBelow count (Disagree queue) = queue < count
+
+-- the fault came before the driver ran, so nothing was put
+abbrev pub HasNotRun : QueuesFault → Type 0
+HasNotRun NotMade = Unit {0}
+HasNotRun (NotStarted queue) = Unit {0}
+HasNotRun (Disagree queue) = ⊥

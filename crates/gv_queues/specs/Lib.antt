@@ -1,0 +1,6 @@
+pub mod Handover
+pub mod Submitting
+pub mod Taking
+pub mod Paying
+pub mod Working
+pub mod Ending

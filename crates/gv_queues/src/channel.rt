@@ -1,0 +1,120 @@
+//! The bounded channel of one queue, under the rule of the queue.
+ghost use Rattle.std.specs.Prelude.{◌≡◌, ◌<◌, ℕ, [], IfOk};
+ghost use Rattle.crossbeam_channel.specs.Claims.{view, IsSeatAt};
+ghost use Rattle.crossbeam_channel.specs.Ends.{sends_on, receives_on, ruled_capacity};
+ghost use Rattle.gv_queues.specs.Handover.{submitter_log, worker_log};
+
+use crate::log::Log;
+use crossbeam_channel::protocol::{Lesson, Outcome, Protocol, Split};
+use crossbeam_channel::{Pass, RuledReceiver, RuledSender, bounded_with};
+use gv_types::Request;
+use std::alloc::{AllocError, Global};
+use std::marker::Brand;
+
+/// What was taken, and then what the channel holds, is what was put.
+pub struct InOrder;
+
+impl Protocol<Request, Log> for InOrder {
+    ghost use Rattle.gv_queues.specs.Handover.{TakenThenHeld, opening_log};
+
+    ghost holds = { TakenThenHeld };
+
+    ghost first = { opening_log };
+}
+
+/// For how many timelines a queue is. The call that opens the queue picks it.
+pub trait Bound {
+    ghost bound: { ℕ };
+}
+
+impl Bound for Brand {
+    ghost bound = { 0 };
+}
+
+/// The first pass of a channel is cut into the submitter's and the worker's.
+struct Roles<B> {
+    of: std::marker::PhantomData<B>,
+}
+
+impl<B: Bound> Split<Log> for Roles<B> {
+    ghost use Rattle.std.specs.Prelude.{[]};
+    ghost use Rattle.gv_queues.specs.Handover.{submitter_log, worker_log};
+
+    ghost left = { λ v. submitter_log B.bound [] };
+
+    ghost right = { λ v. worker_log B.bound [] };
+}
+
+/// What a put tells.
+pub struct Puts;
+
+impl Outcome<Request, Log> for Puts {
+    ghost use Rattle.gv_queues.specs.Handover.{Put};
+
+    ghost then = { Put };
+}
+
+impl Lesson<Request, Log> for Puts {
+    ghost use Rattle.gv_queues.specs.Handover.{HoldsLast};
+
+    ghost fact = { HoldsLast };
+}
+
+/// What a take tells.
+pub struct Takes;
+
+impl Outcome<Request, Log> for Takes {
+    ghost use Rattle.gv_queues.specs.Handover.{Took};
+
+    ghost then = { Took };
+}
+
+impl Lesson<Request, Log> for Takes {
+    ghost fact = { λ v items. Unit {0} };
+}
+
+pub type Sends = RuledSender<Request, Log, InOrder>;
+
+pub type Receives = RuledReceiver<Request, Log, InOrder>;
+
+pub type QueuePass = Pass<Request, Log>;
+
+/// Both ends of a new channel, each with its pass.
+#[derive(Drop)]
+pub struct Ends {
+    pub sends: Sends,
+    pub puts: QueuePass,
+    pub receives: Receives,
+    pub takes: QueuePass,
+}
+
+fn open_branded<B: Bound>(alloc: Global, depth: usize, timelines: u64) -> Result<Ends, AllocError>
+    requires depth { 0 < depth }
+    requires bound { timelines ≡ B.bound }
+    ensures depth { IfOk result (λ e. ruled_capacity (sends_on e.sends) ≡ depth) }
+    ensures puts { IfOk result (λ e. IsSeatAt (sends_on e.sends) e.puts
+        × (view e.puts ≡ submitter_log timelines [])) }
+    ensures takes { IfOk result (λ e. IsSeatAt (receives_on e.receives) e.takes
+        × (view e.takes ≡ worker_log timelines [])) }
+{
+    let (sends, receives, mut puts) = bounded_with(alloc, depth)?;
+    let takes = sends.another::<Roles<B>>(&mut puts);
+    Ok(Ends {
+        sends,
+        puts,
+        receives,
+        takes,
+    })
+}
+
+/// A channel of so many places for requests that fit so many timelines. Nothing was put or taken.
+pub fn open(alloc: Global, depth: usize, timelines: u64) -> Result<Ends, AllocError>
+    requires { 0 < depth }
+    ensures depth { IfOk result (λ e. ruled_capacity (sends_on e.sends) ≡ depth) }
+    ensures puts { IfOk result (λ e. IsSeatAt (sends_on e.sends) e.puts
+        × (view e.puts ≡ submitter_log timelines [])) }
+    ensures takes { IfOk result (λ e. IsSeatAt (receives_on e.receives) e.takes
+        × (view e.takes ≡ worker_log timelines [])) }
+{
+    open_branded::<Brand>(alloc, depth, timelines)
+}

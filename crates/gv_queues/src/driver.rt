@@ -1,0 +1,36 @@
+//! What puts requests while the workers run.
+ghost use Rattle.std.specs.Prelude.{◌≡◌, ◌≤◌, ℕ};
+ghost use Rattle.gv_sync.specs.Seats.{IsSeatOf, count_of};
+ghost use Rattle.gv_queues.specs.Submitting.{AreCounted, AreOpened, AreSameSubmitters};
+
+use crate::submitter::Submitter;
+use crate::vm_lock::VmLock;
+use gv_sync::{Seat, Timelines};
+use std::sync::Wait;
+
+/// Puts requests, and does whatever else is to be done while the workers run. It stores how many requests were put on each
+/// queue.
+pub trait Driver {
+    ghost put_on: { Self → ℕ → ℕ };
+
+    /// Each place has the submitter of its queue, which put nothing yet; all have one limit and one depth. Afterwards the
+    /// same submitters stand there, on the same channels.
+    fn drive<R: Wait>(
+        &mut self,
+        rt: &R,
+        lock: &VmLock,
+        submitters: &mut [Submitter],
+        timelines: &Timelines,
+        seat: &mut Seat,
+    )
+        requires own { IsSeatOf timelines.now seat.old }
+        requires opened { (limit : ℕ) × (depth : ℕ)
+            × AreOpened limit depth (count_of timelines.now) submitters.old }
+        ensures own { IsSeatOf timelines.now seat.new }
+        ensures same { AreSameSubmitters submitters.old submitters.new }
+        ensures counts { AreCounted (put_on self.new) submitters.new };
+
+    /// How many requests were put on a queue.
+    fn count(&self, queue: u64) -> u64
+        ensures { result ≡ put_on self.now queue };
+}

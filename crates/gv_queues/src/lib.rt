@@ -1,0 +1,31 @@
+//! Running queues over one address space: each has one submitter and one worker on a thread of its own. The address space
+//! is under a lock, and the timelines stand outside of it.
+#![tactic(auto)]
+
+mod channel;
+mod driver;
+mod finishing;
+mod gate;
+mod log;
+mod opening;
+mod put_end;
+mod queues;
+mod running;
+mod serving;
+mod submitter;
+mod taking;
+mod vm_lock;
+mod waiting;
+mod worker;
+mod worker_end;
+
+pub use driver::Driver;
+pub use finishing::{QueueEnd, QueuesFault, finish};
+pub use gate::{Gate, Turn};
+pub use put_end::PutEnd;
+pub use queues::run_queues;
+pub use serving::{decline, serve};
+pub use submitter::{PutFault, Submitter};
+pub use taking::Taken;
+pub use vm_lock::VmLock;
+pub use worker_end::WorkerEnd;

@@ -1,0 +1,101 @@
+//! All that running queues takes, asked for before any of them starts.
+ghost use Rattle.std.specs.Prelude.{◌≡◌, ◌<◌, ◌≤◌, ℕ, [], IfOk, IfErr, vec_len, vec_capacity};
+ghost use Rattle.std.specs.List.{All};
+ghost use Rattle.gv_sync.specs.Seats.{IsSeatOf, count_of};
+ghost use Rattle.gv_types.specs.Limits.{IsFromOneTo};
+ghost use Rattle.gv_vm.specs.Outcomes.{queues};
+ghost use Rattle.gv_queues.specs.Ending.{AreInOrder};
+ghost use Rattle.gv_queues.specs.Submitting.{AreOpened, most_places};
+
+use crate::channel::{Ends, open};
+use crate::finishing::QueuesFault;
+use crate::put_end::PutEnd;
+use crate::running::OfQueue;
+use crate::submitter::Submitter;
+use crate::taking::Taker;
+use crate::worker::Worker;
+use crate::worker_end::WorkerEnd;
+use gv_sync::{Seat, Timelines};
+use std::alloc::Global;
+use std::thread::PromisedHandle;
+
+/// The room for what the workers leave. Each list is empty.
+#[derive(Drop)]
+pub struct Rooms {
+    pub handles: Vec<PromisedHandle<WorkerEnd, OfQueue>>,
+    pub puts: Vec<PutEnd>,
+    pub workers: Vec<WorkerEnd>,
+}
+
+/// Queues of which nothing was put or taken, and a seat for the driver.
+#[derive(Drop)]
+pub struct Opened {
+    pub submitters: Vec<Submitter>,
+    pub workers: Vec<Worker>,
+    pub seat: Seat,
+}
+
+/// Room for so many queues.
+pub fn make_rooms(alloc: Global, count: u64) -> Result<Rooms, QueuesFault>
+    requires { count ≤ queues }
+    ensures none { IfOk result (λ r. (r.handles.items ≡ []) × (r.puts.items ≡ []) × (r.workers.items ≡ [])) }
+    ensures room { IfOk result (λ r. (count ≤ vec_capacity r.handles) × (count ≤ vec_capacity r.puts)
+        × (count ≤ vec_capacity r.workers)) }
+    ensures fault { IfErr result (λ fault. fault ≡ QueuesFault.NotMade) }
+{
+    let places = count as usize;
+    let handles = Vec::with_capacity(alloc, places)?;
+    let puts = Vec::with_capacity(alloc, places)?;
+    let workers = Vec::with_capacity(alloc, places)?;
+    Ok(Rooms {
+        handles,
+        puts,
+        workers,
+    })
+}
+
+/// Opens so many queues of so many places each, on which so many requests may be put, with a seat for each worker and one
+/// for the driver split off the seat that is lent.
+pub fn open_all(
+    alloc: Global,
+    timelines: &Timelines,
+    seat: &mut Seat,
+    count: u64,
+    depth: usize,
+    limit: u64,
+) -> Result<Opened, QueuesFault>
+    requires own { IsSeatOf timelines.now seat.old }
+    requires count { count ≤ queues }
+    requires depth { IsFromOneTo most_places depth }
+    ensures own { IsSeatOf timelines.now seat.new }
+    ensures marks { seat.new.marks ≡ seat.old.marks }
+    ensures seats { IfOk result (λ o. IsSeatOf timelines.now o.seat
+        × All (λ w. w.of ≡ timelines.now) o.workers.items) }
+    ensures opened { IfOk result (λ o. AreOpened limit depth (count_of timelines.now) o.submitters.items) }
+    ensures order { IfOk result (λ o. AreInOrder (λ w. w.queue) o.workers.items) }
+    ensures even { IfOk result (λ o. (vec_len o.workers ≡ count) × (vec_len o.submitters ≡ count)) }
+    ensures fault { IfErr result (λ fault. fault ≡ QueuesFault.NotMade) }
+{
+    let places = count as usize;
+    let mut submitters = Vec::with_capacity(alloc, places)?;
+    let mut workers = Vec::with_capacity(alloc, places)?;
+    let named = timelines.count();
+    for queue in 0..count {
+        let left = Vec::with_capacity(alloc, depth + 1)?;
+        let Ends {
+            sends,
+            puts,
+            receives,
+            takes,
+        } = open(alloc, depth, named)?;
+        let own = timelines.split(seat)?;
+        submitters.push_reserved(Submitter::new(sends, puts, queue, limit, named));
+        workers.push_reserved(Worker::new(Taker::new(receives, takes, queue), own, left));
+    }
+    let own = timelines.split(seat)?;
+    Ok(Opened {
+        submitters,
+        workers,
+        seat: own,
+    })
+}

@@ -1,0 +1,54 @@
+//! What is left of a submitter when its queue is closed.
+ghost use Rattle.std.specs.Prelude.{◌≡◌, length};
+ghost use Rattle.crossbeam_channel.specs.Claims.{view};
+ghost use Rattle.gv_queues.specs.Handover.{submitter_log};
+
+use crate::channel::QueuePass;
+use std::marker::Model;
+
+/// A queue that takes no more requests. It keeps its submitter's pass, which knows what was put.
+#[derive(Drop)]
+pub struct PutEnd {
+    pass: QueuePass,
+    queue: u64,
+    put: u64,
+}
+
+impl Model for PutEnd {
+    ghost use Rattle.std.specs.Prelude.{◌≡◌, length};
+    ghost use Rattle.crossbeam_channel.specs.Claims.{view as log_of};
+    ghost use Rattle.gv_queues.specs.Handover.{submitter_log};
+    ghost use Rattle.gv_queues.specs.Submitting.{PutEndState};
+
+    ghost Value = { PutEndState };
+
+    ghost view = { λ e. record { queue = e.queue; put = (log_of e.pass).put } };
+
+    ghost invariant = { λ e.
+        (log_of e.pass ≡ submitter_log (log_of e.pass).timelines (log_of e.pass).put)
+        × (e.put ≡ length (log_of e.pass).put) };
+}
+
+impl PutEnd {
+    pub(crate) fn new(pass: QueuePass, queue: u64, put: u64) -> PutEnd
+        requires pass { view pass ≡ submitter_log (view pass).timelines (view pass).put }
+        requires put { put ≡ length (view pass).put }
+        ensures { result ≡ record { queue = queue; put = (view pass).put } }
+    {
+        PutEnd { pass, queue, put }
+    }
+
+    /// Its queue.
+    pub fn queue(&self) -> u64
+        ensures { result ≡ self.now.queue }
+    {
+        self.queue
+    }
+
+    /// How many requests were put.
+    pub fn put(&self) -> u64
+        ensures { result ≡ length self.now.put }
+    {
+        self.put
+    }
+}

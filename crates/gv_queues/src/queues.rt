@@ -1,0 +1,72 @@
+//! Queues that are opened, run and finished.
+ghost use Rattle.std.specs.Prelude.{◌≡◌, ◌<◌, ◌≤◌, ℕ, [], Err, IfOk, IfErr, vec_len};
+ghost use Rattle.gv_sync.specs.Seats.{IsSeatOf};
+ghost use Rattle.gv_types.specs.Limits.{IsFromOneTo};
+ghost use Rattle.gv_vm.specs.Outcomes.{queues};
+ghost use Rattle.gv_vm.specs.State.{IsMachine};
+ghost use Rattle.gv_queues.specs.Ending.{AreCountedEnds, HasNotRun, IsOfQueueBelow, IsUntold};
+ghost use Rattle.gv_queues.specs.Submitting.{most_places};
+
+use crate::driver::Driver;
+use crate::finishing::{QueueEnd, QueuesFault, finish};
+use crate::gate::Gate;
+use crate::opening::{make_rooms, open_all};
+use crate::running::{Ran, run_workers};
+use gv_sync::{Seat, Timelines};
+use gv_vm::Vm;
+use std::alloc::Global;
+use std::sync::Wait;
+use std::thread::Threads;
+
+/// Runs so many queues of so many places each, with a worker on a thread of its own for each, until the driver is done.
+/// `NotMade` where the system refuses the memory that they start with, `NotStarted` where it refuses a thread: no request
+/// was put. `Disagree` with the first queue on which what was put, taken and told don't agree. The address space comes back
+/// on every path.
+pub fn run_queues<G: Gate + Sync, D: Driver, R: Threads + Wait + Sync>(
+    rt: &R,
+    alloc: Global,
+    vm: Vm,
+    timelines: &Timelines,
+    seat: &mut Seat,
+    count: u64,
+    depth: usize,
+    gate: &G,
+    driver: &mut D,
+) -> (Vm, Result<Vec<QueueEnd>, QueuesFault>)
+    requires own { IsSeatOf timelines.now seat.old }
+    requires count { IsFromOneTo queues count }
+    requires depth { IsFromOneTo most_places depth }
+    requires untold { IsUntold vm }
+    ensures own { IsSeatOf timelines.now seat.new }
+    ensures marks { seat.new.marks ≡ seat.old.marks }
+    ensures sound { IsMachine result.0 }
+    ensures not_made { result.1 ≡ Err QueuesFault.NotMade → result.0 ≡ vm }
+    ensures not_run { IfErr result.1 (λ fault. HasNotRun fault → driver.new ≡ driver.old) }
+    ensures len { IfOk result.1 (λ ends. vec_len ends ≡ count) }
+    ensures counted { IfOk result.1 (λ ends. AreCountedEnds result.0 (D.put_on driver.new) ends.items) }
+    ensures queue { IfErr result.1 (λ fault. IsOfQueueBelow count fault) }
+{
+    let _space = vm.space();
+    let Ok(rooms) = make_rooms(alloc, count) else {
+        return (vm, Err(QueuesFault::NotMade));
+    };
+    let Ok(ends) = Vec::with_capacity(alloc, count as usize) else {
+        return (vm, Err(QueuesFault::NotMade));
+    };
+    let limit = vm.limits().told();
+    let Ok(opened) = open_all(alloc, timelines, seat, count, depth, limit) else {
+        return (vm, Err(QueuesFault::NotMade));
+    };
+    let (vm, ran) = run_workers(rt, alloc, vm, timelines, gate, driver, opened, rooms);
+    let _space = vm.space();
+    let Ran {
+        puts,
+        workers,
+        refused,
+    } = ran;
+    if let Some(queue) = refused {
+        return (vm, Err(QueuesFault::NotStarted { queue }));
+    }
+    let ended = finish(&vm, puts.as_slice(), workers, ends);
+    (vm, ended)
+}

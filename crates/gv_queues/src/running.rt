@@ -1,0 +1,230 @@
+//! Workers that run while a driver puts requests.
+ghost use Rattle.std.specs.Prelude.{◌≡◌, ◌<◌, ◌≤◌, ℕ, [], IfNone, IfSome, map, vec_len, vec_capacity};
+ghost use Rattle.std.specs.List.{All};
+ghost use Rattle.gv_sync.specs.Seats.{IsSeatOf, count_of};
+ghost use Rattle.gv_queues.specs.Ending.{AreInOrder, ArePuts};
+ghost use Rattle.gv_queues.specs.Submitting.{AreOpened, put_end_of};
+
+use crate::driver::Driver;
+use crate::gate::Gate;
+use crate::opening::{Opened, Rooms};
+use crate::put_end::PutEnd;
+use crate::submitter::Submitter;
+use crate::vm_lock::{Locked, VmLock};
+use crate::worker::{Shared, work};
+use crate::worker_end::WorkerEnd;
+use gv_sync::{Seat, Timelines};
+use gv_vm::Vm;
+use std::alloc::Global;
+use std::sync::Wait;
+use std::thread;
+use std::thread::{Promise, PromisedHandle, Threads};
+
+/// The end is that of the worker of this queue.
+#[derive(Clone, Copy)]
+pub struct OfQueue(u64);
+
+impl Promise<WorkerEnd> for OfQueue {
+    ghost use Rattle.std.specs.Prelude.{◌≡◌};
+
+    ghost kept_by = { λ p end. end.queue ≡ p.0 };
+}
+
+/// What the queues left, and the first queue whose worker was not started, if any.
+#[derive(Drop)]
+pub struct Ran {
+    pub puts: Vec<PutEnd>,
+    pub workers: Vec<WorkerEnd>,
+    pub refused: Option<u64>,
+}
+
+fn close_all(submitters: Vec<Submitter>, mut puts: Vec<PutEnd>) -> Vec<PutEnd>
+    requires none { puts.items ≡ [] }
+    requires room { vec_len submitters ≤ vec_capacity puts }
+    ensures { result.items ≡ map put_end_of submitters.items }
+{
+    for submitter in submitters {
+        puts.push_reserved(submitter.close());
+    }
+    puts
+}
+
+/// Lets the driver run, and closes the queues.
+fn drive_all<D: Driver, R: Wait>(
+    rt: &R,
+    driver: &mut D,
+    lock: &VmLock,
+    mut submitters: Vec<Submitter>,
+    timelines: &Timelines,
+    mut seat: Seat,
+    puts: Vec<PutEnd>,
+) -> Vec<PutEnd>
+    requires own { IsSeatOf timelines.now seat }
+    requires opened { (limit : ℕ) × (depth : ℕ) × AreOpened limit depth (count_of timelines.now) submitters.items }
+    requires none { puts.items ≡ [] }
+    requires room { vec_len submitters ≤ vec_capacity puts }
+    ensures puts { ArePuts (D.put_on driver.new) result.items }
+    ensures len { vec_len result ≡ vec_len submitters }
+{
+    driver.drive(rt, lock, submitters.as_mut_slice(), timelines, &mut seat);
+    close_all(submitters, puts)
+}
+
+/// Waits for the workers, and takes what still stands in a channel. The queues are closed.
+fn join_all<R: Threads + Wait>(
+    rt: &R,
+    handles: Vec<PromisedHandle<WorkerEnd, OfQueue>>,
+    mut workers: Vec<WorkerEnd>,
+) -> Vec<WorkerEnd>
+    requires order { AreInOrder (λ h. h.promise.0) handles.items }
+    requires none { workers.items ≡ [] }
+    requires room { vec_len handles ≤ vec_capacity workers }
+    ensures order { AreInOrder (λ w. w.queue) result.items }
+    ensures len { vec_len result ≡ vec_len handles }
+{
+    for handle in handles {
+        workers.push_reserved(handle.join(rt).drained(rt));
+    }
+    workers
+}
+
+/// Starts all workers, lets the driver run, closes the queues and joins the workers. Where a worker isn't started, the
+/// driver doesn't run.
+fn run_on<L: Locked + Sync, G: Gate + Sync, D: Driver, R: Threads + Wait + Sync>(
+    rt: &R,
+    alloc: Global,
+    lock: &L,
+    timelines: &Timelines,
+    gate: &G,
+    driver: &mut D,
+    opened: Opened,
+    rooms: Rooms,
+) -> Ran
+    requires own { IsSeatOf timelines.now opened.seat × All (λ w. w.of ≡ timelines.now) opened.workers.items }
+    requires opened { (limit : ℕ) × (depth : ℕ)
+        × AreOpened limit depth (count_of timelines.now) opened.submitters.items }
+    requires order { AreInOrder (λ w. w.queue) opened.workers.items }
+    requires even { vec_len opened.workers ≡ vec_len opened.submitters }
+    requires none { (rooms.handles.items ≡ []) × (rooms.puts.items ≡ []) × (rooms.workers.items ≡ []) }
+    requires room { (vec_len opened.workers ≤ vec_capacity rooms.handles)
+        × (vec_len opened.workers ≤ vec_capacity rooms.puts)
+        × (vec_len opened.workers ≤ vec_capacity rooms.workers) }
+    ensures order { AreInOrder (λ w. w.queue) result.workers.items }
+    ensures puts { IfNone result.refused (ArePuts (D.put_on driver.new) result.puts.items) }
+    ensures even { IfNone result.refused ((vec_len result.puts ≡ vec_len opened.submitters)
+        × (vec_len result.workers ≡ vec_len opened.submitters)) }
+    ensures refused { IfSome result.refused (λ queue. (queue < vec_len opened.submitters)
+        × (driver.new ≡ driver.old)) }
+{
+    let Opened {
+        submitters,
+        workers,
+        seat,
+    } = opened;
+    let Rooms {
+        mut handles,
+        puts,
+        workers: worker_ends,
+    } = rooms;
+    let (again, ran) = thread::scope(
+        thread::scope_env(),
+        rt,
+        move |scope| -> (&mut D, Ran)
+            requires own { IsSeatOf timelines.now seat × All (λ w. w.of ≡ timelines.now) workers.items }
+            requires opened { (limit : ℕ) × (depth : ℕ)
+                × AreOpened limit depth (count_of timelines.now) submitters.items }
+            requires order { AreInOrder (λ w. w.queue) workers.items }
+            requires even { vec_len workers ≡ vec_len submitters }
+            requires none { (handles.items ≡ []) × (puts.items ≡ []) × (worker_ends.items ≡ []) }
+            requires room { (vec_len workers ≤ vec_capacity handles) × (vec_len workers ≤ vec_capacity puts)
+                × (vec_len workers ≤ vec_capacity worker_ends) }
+            ensures order { AreInOrder (λ w. w.queue) result.1.workers.items }
+            ensures puts { IfNone result.1.refused (ArePuts (D.put_on result.0.now) result.1.puts.items) }
+            ensures even { IfNone result.1.refused ((vec_len result.1.puts ≡ vec_len submitters)
+                × (vec_len result.1.workers ≡ vec_len submitters)) }
+            ensures refused { IfSome result.1.refused (λ queue. (queue < vec_len submitters)
+                × (result.0.now ≡ driver.entry.now)) }
+            ensures same { result.0.ghost_name ≡ driver.entry.ghost_name }
+        {
+            let mut refused = None;
+            for worker in workers {
+                let queue = worker.queue();
+                let started = scope.spawn_with(
+                    OfQueue(queue),
+                    move || -> WorkerEnd
+                        requires { worker.of ≡ timelines.now }
+                        ensures { result.queue ≡ worker.queue }
+                    {
+                        let all = Shared {
+                            lock: lock.vm_lock(),
+                            timelines,
+                            gate,
+                        };
+                        work(rt, alloc, all, worker)
+                    },
+                );
+                match started {
+                    Ok(handle) => handles.push_reserved(handle),
+                    Err(_) => {
+                        refused = Some(queue);
+                        break;
+                    }
+                }
+            }
+            let puts = if refused.is_none() {
+                drive_all(
+                    rt,
+                    driver,
+                    lock.vm_lock(),
+                    submitters,
+                    timelines,
+                    seat,
+                    puts,
+                )
+            } else {
+                close_all(submitters, puts)
+            };
+            let workers = join_all(rt, handles, worker_ends);
+            let ran = Ran {
+                puts,
+                workers,
+                refused,
+            };
+            (driver, ran)
+        },
+    );
+    let _ = &*again;
+    ran
+}
+
+/// Puts the address space under a lock, and takes it out of it when the workers have run.
+pub fn run_workers<G: Gate + Sync, D: Driver, R: Threads + Wait + Sync>(
+    rt: &R,
+    alloc: Global,
+    vm: Vm,
+    timelines: &Timelines,
+    gate: &G,
+    driver: &mut D,
+    opened: Opened,
+    rooms: Rooms,
+) -> (Vm, Ran)
+    requires own { IsSeatOf timelines.now opened.seat × All (λ w. w.of ≡ timelines.now) opened.workers.items }
+    requires opened { (limit : ℕ) × (depth : ℕ)
+        × AreOpened limit depth (count_of timelines.now) opened.submitters.items }
+    requires order { AreInOrder (λ w. w.queue) opened.workers.items }
+    requires even { vec_len opened.workers ≡ vec_len opened.submitters }
+    requires none { (rooms.handles.items ≡ []) × (rooms.puts.items ≡ []) × (rooms.workers.items ≡ []) }
+    requires room { (vec_len opened.workers ≤ vec_capacity rooms.handles)
+        × (vec_len opened.workers ≤ vec_capacity rooms.puts)
+        × (vec_len opened.workers ≤ vec_capacity rooms.workers) }
+    ensures order { AreInOrder (λ w. w.queue) result.1.workers.items }
+    ensures puts { IfNone result.1.refused (ArePuts (D.put_on driver.new) result.1.puts.items) }
+    ensures even { IfNone result.1.refused ((vec_len result.1.puts ≡ vec_len opened.submitters)
+        × (vec_len result.1.workers ≡ vec_len opened.submitters)) }
+    ensures refused { IfSome result.1.refused (λ queue. (queue < vec_len opened.submitters)
+        × (driver.new ≡ driver.old)) }
+{
+    let lock = VmLock::new(vm);
+    let ran = run_on(rt, alloc, &lock, timelines, gate, driver, opened, rooms);
+    (lock.into_inner(), ran)
+}
