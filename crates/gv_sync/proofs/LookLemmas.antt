@@ -72,8 +72,8 @@ unraised m = mark m.seen 0 0
 -- a seat that was split off raised nothing
 pub split_raised : (seat : SeatState) (timeline : ℕ) → (mark_of (split_from seat) timeline).raised ≡ 0
 split_raised seat timeline = elim (dec_lt timeline (length seat.marks)) [
-    yes low ↦ ap (λ (k : Mark). k.raised) (get_or-map unraised seat.marks timeline fresh_mark fresh_mark low)
-    | no high ↦ (
+  | yes low ↦ ap (λ (k : Mark). k.raised) (get_or-map unraised seat.marks timeline fresh_mark fresh_mark low)
+  | no high ↦ (
       let past : length (map unraised seat.marks) ≤ timeline = omega (arith, length-map seat.marks unraised, high) in
       ap (λ (k : Mark). k.raised) (get_or_past (map unraised seat.marks) timeline fresh_mark past))
-  ]
+]
