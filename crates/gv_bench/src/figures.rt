@@ -54,6 +54,35 @@ impl SpaceTimes {
     }
 }
 
+/// Times of requests: of their operations applied alone, of binding them, and of taking them back.
+#[derive(Clone, Copy)]
+pub struct JournalTimes {
+    pub apply: Least,
+    pub bind: Least,
+    pub rewind: Least,
+}
+
+impl JournalTimes {
+    /// Of no run yet. Each is to have so many operations.
+    pub fn new(operations: u64) -> JournalTimes {
+        JournalTimes {
+            apply: Least::new(operations),
+            bind: Least::new(operations),
+            rewind: Least::new(operations),
+        }
+    }
+}
+
+impl fmt::Display for JournalTimes {
+    fn fmt<W: fmt::Write>(&self, f: &mut fmt::Formatter<W>) -> fmt::Result {
+        let (apply, bind, rewind) = (self.apply, self.bind, self.rewind);
+        write!(f, "apply {}, bind {}", apply.each(), bind.each())?;
+        write!(f, " ({}%)", bind.percent_of(apply))?;
+        write!(f, ", rewind {}", rewind.each())?;
+        write!(f, " ({}% of the bind)", rewind.percent_of(bind))
+    }
+}
+
 /// Times of look-ups by the space's list, by its page table and in the plain list.
 #[derive(Clone, Copy)]
 pub struct LookUpTimes {

@@ -1,4 +1,5 @@
-//! Times edits of an address space, their undoing and look-ups in it, beside those of a plain list in a `BTreeMap`.
+//! Times edits of an address space, their undoing and look-ups in it, beside those of a plain list in a `BTreeMap`, and what a
+//! journal takes.
 //! Figures go to standard error, and sums of the mappings that both end with to standard output.
 #![tactic(auto)]
 
@@ -7,6 +8,8 @@ mod edit;
 mod edits;
 mod failure;
 mod figures;
+mod journal_rows;
+mod journals;
 mod measure;
 mod plain_list;
 mod random;
@@ -15,6 +18,7 @@ mod workload;
 
 use failure::Failure;
 use figures::HEADER;
+use journal_rows::measure_journals;
 use measure::measure;
 use std::process::ExitCode;
 use std::time::CpuClock;
@@ -46,5 +50,5 @@ fn measure_all<R: CpuClock + Print + Eprint + AllocGlobal>(rt: &R) -> Result<(),
             println!(rt; "{name} {size}: {sum:016x}")?;
         }
     }
-    Ok(())
+    measure_journals(rt)
 }

@@ -1,0 +1,5 @@
+use Rattle.gv_journal.specs.State.{FitsSpace}
+use Rattle.gv_bench.proofs.journal_rows.time_withdrawals.Given as goal
+
+abbrev pub invariant-loop : goal.invariant-loop
+invariant-loop g l = FitsSpace l.space l.journal
