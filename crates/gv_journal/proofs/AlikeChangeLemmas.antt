@@ -25,7 +25,7 @@ use Rattle.gv_journal.proofs.Undoings.{reverted_by-mappings}
 use Rattle.gv_journal.proofs.RenamedListLemmas.{All-reverse}
 use Rattle.gv_journal.proofs.RenamedHistoryLemmas.{AreOf-undone_by}
 use Rattle.gv_journal.proofs.RenamedSpaceLemmas.{after_withdrawal-seen}
-use Rattle.gv_journal.proofs.Recounts.{AreOf-placed, uncounted}
+use Rattle.gv_journal.proofs.RecountLemmas.{AreOf-placed, uncounted}
 use Rattle.gv_journal.proofs.AlikeLemmas.{ops_at_alike, list_before_alike}
 use Rattle.gv_journal.proofs.AlikeStateLemmas.{seen_kind, recounted_alike, entered, tail_same}
 

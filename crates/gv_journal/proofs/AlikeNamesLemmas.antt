@@ -29,7 +29,7 @@ use Rattle.gv_journal.specs.Alike.{AreIdsOf}
 use Rattle.gv_journal.specs.declared.item.Item.{Item}
 use Rattle.gv_journal.specs.declared.item.ItemKind.{ItemKind}
 use Rattle.gv_journal.proofs.RenamedListLemmas.{operations_of-all_do}
-use Rattle.gv_journal.proofs.Recounts.{uncounted}
+use Rattle.gv_journal.proofs.RecountLemmas.{uncounted}
 use Rattle.gv_journal.proofs.AlikeChangeLemmas.{reverted_bare}
 
 from_map : (P : Buffer → Type 0) (f : Buffer → Buffer) (bs : List Buffer) → All P (map f bs) → All (λ b. P (f b)) bs

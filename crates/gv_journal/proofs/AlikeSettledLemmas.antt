@@ -19,7 +19,7 @@ use Rattle.gv_journal.specs.Settling.{later, earlier, IsSettled}
 use Rattle.gv_journal.specs.RenamedSpace.{renamed_table}
 use Rattle.gv_journal.specs.Alike.{SeenItem, seen_item, count_at, CountAlike, AreAlike, AreIdsOf, IsKeptSpace}
 use Rattle.gv_journal.specs.declared.item.Item.{Item}
-use Rattle.gv_journal.proofs.Recounts.{uncounted}
+use Rattle.gv_journal.proofs.RecountLemmas.{uncounted}
 use Rattle.gv_journal.proofs.AlikeLemmas.{next_alike}
 use Rattle.gv_journal.proofs.AlikeStateLemmas.{seen_from, recounted_alike}
 

@@ -24,7 +24,7 @@ use Rattle.gv_journal.specs.Renamed.{AreRequested}
 use Rattle.gv_journal.proofs.RenamedListLemmas.{all_do-renamed}
 use Rattle.gv_journal.proofs.RenamedLiveLemmas.{renamed_table-each}
 use Rattle.gv_journal.proofs.RenamedSpaceLemmas.{applied-seen}
-use Rattle.gv_journal.proofs.Recounts.{kept_alike, uncounted, uncounted_nameless, tables_alike}
+use Rattle.gv_journal.proofs.RecountLemmas.{kept_alike, uncounted, uncounted_nameless, tables_alike}
 use Rattle.gv_journal.proofs.AlikeLemmas.{list_alike, table_alike}
 
 -- Parts of what is told.

@@ -36,7 +36,7 @@ pub mod RenamedHistoryLemmas
 pub mod RenamedTableLemmas
 pub mod RenamedLiveLemmas
 pub mod RenamedSpaceLemmas
-pub mod Recounts
+pub mod RecountLemmas
 pub mod AlikeLemmas
 pub mod AlikeStateLemmas
 pub mod AlikeChangeLemmas

@@ -113,6 +113,7 @@ fn unmap_all(
         ≡ record (after_all (reverse (does space.old.mappings (UnmapBuffer id))) space.old) { room = space.new.room }) }
     ensures room { OnOk result (HasRoom left work.new) }
 {
+    // For the prover: what always holds of the space.
     let _mappings = space.mappings();
     let ranges = match space.buffer_ranges(alloc, id) {
         Ok(ranges) => ranges,

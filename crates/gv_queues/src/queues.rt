@@ -46,6 +46,7 @@ pub fn run_queues<G: Gate + Sync, D: Driver, R: Threads + Wait + Sync>(
     ensures counted { IfOk result.1 (λ ends. AreCountedEnds result.0 (D.put_on driver.new) ends.items) }
     ensures queue { IfErr result.1 (λ fault. IsOfQueueBelow count fault) }
 {
+    // For the prover: what always holds of the machine.
     let _space = vm.space();
     let Ok(rooms) = make_rooms(alloc, count) else {
         return (vm, Err(QueuesFault::NotMade));
@@ -58,6 +59,7 @@ pub fn run_queues<G: Gate + Sync, D: Driver, R: Threads + Wait + Sync>(
         return (vm, Err(QueuesFault::NotMade));
     };
     let (vm, ran) = run_workers(rt, alloc, vm, timelines, gate, driver, opened, rooms);
+    // For the prover: what always holds of the machine.
     let _space = vm.space();
     let Ran {
         puts,

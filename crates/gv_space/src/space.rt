@@ -212,6 +212,7 @@ impl Space {
         } = undo;
         let pieces = &self.mapped.list().mappings()[place..place + put_in];
         counts::move_counts_back(&mut self.buffers, pieces, taken.as_slice());
+        // The tables that the change put in the tree are dropped.
         let _lost = self
             .mapped
             .replace(range, place, put_in, taken.as_slice(), tables);

@@ -115,6 +115,7 @@ impl Seat {
     pub fn has_each_mark(&self)
         ensures { length self.now.marks ≡ count_of self.now.of }
     {
+        // For the prover: what the pass tells.
         let _pass = &self.pass;
     }
 }

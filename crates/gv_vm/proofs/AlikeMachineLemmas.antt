@@ -15,7 +15,7 @@ use Rattle.gv_journal.specs.declared.item.Item.{Item}
 use Rattle.gv_journal.proofs.RenamedTableLemmas.{tells_uses, tells_kept, tells_destroy_fault}
 use Rattle.gv_journal.proofs.RenamedLiveLemmas.{TellsBuffers-renamed_table}
 use Rattle.gv_journal.proofs.RenamedCountLemmas.{create_fault-seen}
-use Rattle.gv_journal.proofs.Recounts.{AreOf-placed}
+use Rattle.gv_journal.proofs.RecountLemmas.{AreOf-placed}
 use Rattle.gv_journal.proofs.AlikeLemmas.{list_alike, table_alike, withdraw_fault_alike, settle_fault_alike}
 use Rattle.gv_vm.specs.Places.{place_at}
 use Rattle.gv_vm.specs.Jobs.{Running, begin_fault, end_fault}

@@ -203,6 +203,7 @@ impl Jobs {
         ensures jobs { self.new ≡ record self.old { jobs = without_job number self.old.jobs } }
         ensures gone { All (λ j. j.number ≢ number) self.new.jobs }
     {
+        // For the prover: how many jobs run.
         let _running = self.running.len();
         self.running.remove(&number).is_some()
     }

@@ -56,6 +56,7 @@ impl Place {
 pub fn translate(space: &Space, addr: u64) -> Option<Place>
     ensures { result ≡ place_at space.now.mappings addr }
 {
+    // For the prover: what always holds of the space.
     let _mappings = space.mappings();
     let entry = space.walk(addr / PAGE_BYTES)?;
     Some(Place::of(entry, addr % PAGE_BYTES))

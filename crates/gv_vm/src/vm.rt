@@ -60,6 +60,7 @@ impl Vm {
             Ok(space) => space,
             Err(_) => return Err(OutOfMemory),
         };
+        // For the prover: what always holds of the space.
         let _mappings = space.mappings();
         Ok(Vm {
             space,
@@ -113,6 +114,7 @@ impl Vm {
             (IsOkUnless result Fault.OutOfMemory) (λ fault. result ≡ Err fault) }
         ensures steps { IfOk result (λ list. list.items ≡ steps self.now.space.mappings (in_pages op.now)) }
     {
+        // The borrow checker proves the call only where the function names the types inside the steps.
         let _backing = Backing::Zero;
         self.space.plan(alloc, op)
     }
@@ -128,6 +130,7 @@ impl Vm {
     {
         laws::lookups();
         let created = self.space.create(alloc, pages);
+        // For the prover: what always holds of the space.
         let _mappings = self.space.mappings();
         created
     }
@@ -143,6 +146,7 @@ impl Vm {
     {
         laws::lookups();
         let destroyed = self.space.destroy(id);
+        // For the prover: what always holds of the space.
         let _mappings = self.space.mappings();
         destroyed
     }
@@ -159,6 +163,7 @@ impl Vm {
         ensures err { OnErr result (self.new ≡ self.old) }
     {
         let begun = self.jobs.begin(alloc, &mut self.space, accesses);
+        // For the prover: what always holds of the space.
         let _mappings = self.space.mappings();
         begun
     }
@@ -173,6 +178,7 @@ impl Vm {
         ensures err { OnErr result (self.new ≡ self.old) }
     {
         let ended = self.jobs.end(&mut self.space, number);
+        // For the prover: what always holds of the space.
         let _mappings = self.space.mappings();
         ended
     }
@@ -220,6 +226,7 @@ impl Vm {
             request,
             seen,
         );
+        // For the prover: what always holds of the space.
         let _mappings = self.space.mappings();
         tell(&mut self.told, queue, outcome);
         Ok(outcome)

@@ -97,8 +97,10 @@ impl World {
         ensures step { IsStep self.old event result self.new }
         ensures says { IfOk result (λ reply. Says self.old event reply self.new) }
     {
+        // For the prover: what always holds of the machine.
         let _before = self.vm.space();
         let reply = self.carry(alloc, event);
+        // For the prover: what always holds of the machine.
         let _after = self.vm.space();
         reply
     }

@@ -28,6 +28,7 @@ impl Vm {
         ensures err { OnErr result (self.new ≡ self.old) }
     {
         let rewound = self.journal.rewind(&mut self.space);
+        // For the prover: what always holds of the space.
         let _mappings = self.space.mappings();
         rewound
     }
@@ -52,6 +53,7 @@ impl Vm {
         ensures journal_unchanged { OnErr result (self.new.journal ≡ self.old.journal) }
     {
         let withdrawn = self.journal.withdraw(alloc, &mut self.space, entry);
+        // For the prover: what always holds of the space.
         let _mappings = self.space.mappings();
         withdrawn
     }
@@ -70,6 +72,7 @@ impl Vm {
         ensures err { OnErr result (self.new ≡ self.old) }
     {
         let settled = self.journal.settle(&mut self.space, to);
+        // For the prover: what always holds of the space.
         let _mappings = self.space.mappings();
         settled
     }
