@@ -16,15 +16,23 @@ The lines of a script:
   space START LEN RSTART RLEN
       The bytes of the address space, and of its reserved region: the start and the length of each,
       multiples of 4096. First line only.
+  limits BUFFERS MAPPINGS ITEMS
+      How many live buffers, mappings and journal items there may be. Before all lines but 'space'.
   buffer NAME PAGES
       Makes a buffer of PAGES pages of 4096 bytes.
   destroy NAME
-      Destroys a buffer that no mapping in the list or in an undo value names. Its name stays taken.
+      Destroys a buffer that no mapping in the list or in an undo value names and no job uses. Its
+      name stays taken.
   uses NAME
       Prints how many mappings of a buffer are in the list and are kept in undo values.
-  bind OPERATION
-      Changes the mappings. Answers 'accepted N', N counting from 0, or 'refused 0 FAULT' and changes
-      nothing: the 0 is the operation that is refused, counted from 0, and a bind has one.
+  timeline NAME
+      Declares the next timeline, of 64, which is 0.
+  raise NAME NUM, value NAME
+      Raises a timeline where it is lower; both print its number.
+  bind, or bind CLAUSE ; CLAUSE ..
+      One request, applied whole or not at all. Answers 'accepted N', the entry; 'refused K FAULT',
+      K the operation that is refused, counted from 0, and nothing changes; 'notready NAME N have N'
+      where a wait is not reached; or 'refused FAULT' where its queue takes no more.
   plan OPERATION
       Prints the unmap, remap and map steps of the operation, and changes nothing.
   map
@@ -33,8 +41,23 @@ The lines of a script:
       Prints what an address reaches, by the page table.
   tables
       Prints how many tables the page table has at its levels 4, 3, 2, 1 and 0.
+  rewind
+      Takes the newest journal item back.
+  withdraw ENTRY
+      Withdraws an older request that no live later one touches; that is an item too.
+  settle TO
+      Lets the items below TO go: they stay done, and what they kept is given up.
+  journal
+      Prints the items: their numbers, queues and requests' numbers, and which are withdrawn.
+  told QUEUE
+      Prints what a queue, 0 to 15, was told.
+  job ACCESS ; ACCESS ..
+      Begins a job, which holds the buffers behind its accesses; prints the place of each.
+  end JOB
+      Ends a job.
 
-An OPERATION is one of:
+A CLAUSE is an OPERATION, 'unmapall NAME', 'wait NAME NUM', 'signal NAME NUM', or once 'queue Q'.
+An ACCESS is 'read ADDR' or 'write ADDR'. An OPERATION is one of:
   map ADDR LEN NAME OFFSET [ro]
       Maps LEN bytes at ADDR to the buffer NAME from its byte OFFSET on.
   zero ADDR LEN [ro]
@@ -42,6 +65,18 @@ An OPERATION is one of:
   unmap ADDR LEN
       Takes away what is mapped in LEN bytes at ADDR.
 With 'ro' the mapping is read-only.
+
+A FAULT is one of:
+  Unaligned, Empty, OutOfSpace, Reserved, NoBuffer, OutOfBuffer, TooManyMappings
+      of an operation, in this order
+  TooManyOps, JournalFull, QueueSpent
+      of a request; OutOfMemory of either
+  BadSize, TooManyBuffers, Mapped N, Kept N, InUse N
+      of 'buffer' and 'destroy': N mappings in the list or in undo values, or N jobs
+  NoEntry, NotABind, Withdrawn, Touched N, Crossed N
+      of 'rewind', 'withdraw' and 'settle': N the later entry, or the later withdrawal
+  TooManyAccesses, TooManyJobs, Unmapped N, WriteToReadOnly N, Conflict N, NoJob
+      of 'job' and 'end': N the access, counted from 0, or the other job
 
 Numbers are decimal, or hexadecimal after 0x. '#' begins a comment. Words are separated by exactly
 one space, and every line ends with a line end. The first bad line ends the run.
@@ -63,4 +98,20 @@ Its replies:
   accepted 0
   accepted 1
   0000000000000000 0000000000001000 b 0000000000000000 rw
-  0000000000002000 0000000000004000 b 0000000000002000 rw";
+  0000000000002000 0000000000004000 b 0000000000002000 rw
+
+Another one:
+  bind zero 0x0 0x2000
+  bind zero 0x4000 0x1000 ro
+  withdraw 0
+  map
+  rewind
+  map
+Its replies:
+  accepted 0
+  accepted 1
+  withdrawn 0 as 2
+  0000000000004000 0000000000005000 zero ro
+  rewound 2
+  0000000000000000 0000000000002000 zero rw
+  0000000000004000 0000000000005000 zero ro";

@@ -14,7 +14,19 @@ use std::process::ExitCode;
 use std::rt::Files;
 use std::{fs, io};
 
-const EXAMPLES: [&str; 6] = ["first", "replace", "keep", "bounds", "tables", "buffers"];
+const EXAMPLES: [&str; 11] = [
+    "first",
+    "replace",
+    "keep",
+    "bounds",
+    "tables",
+    "buffers",
+    "rewind",
+    "withdraw",
+    "jobs",
+    "timelines",
+    "settle",
+];
 
 /// The examples that the page of pictures draws, in its order.
 const PICTURES: [&str; 3] = ["first", "replace", "keep"];

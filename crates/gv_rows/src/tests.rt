@@ -1,7 +1,8 @@
 //! Scripts from their bytes to their replies.
+mod many;
 
 use crate::devices::{FailingSink, FailingSource, StuckWriter};
-use crate::rows::{BAD_LINES, ROWS};
+use crate::rows::{BAD_LINES, EDITS, REQUESTS};
 use gv_text::{MemorySink, MemorySource, SCRIPT_LIMIT, ScriptFault, WriteSink, run_script};
 use std::alloc::Global;
 use std::process::Abort;
@@ -34,7 +35,7 @@ fn ends(bad_line: Option<u64>) -> Result<(), ScriptFault> {
 
 #[test]
 fn rows_come_to_their_replies(rt: HostRuntime) {
-    for row in &ROWS {
+    for row in EDITS.iter().chain(&REQUESTS) {
         expect(
             &rt,
             rt.alloc(),
@@ -157,46 +158,4 @@ fn writer_that_takes_nothing_has_failed(rt: HostRuntime) {
     let mut sink = WriteSink::new(StuckWriter);
     let outcome = run_script(rt.alloc(), &mut MemorySource::new(HOLE), &mut sink);
     assert!(rt; outcome == Err(ScriptFault::WriteFault));
-}
-
-#[test]
-fn as_many_buffers_as_may_live(rt: HostRuntime) -> Result<(), Fail> {
-    let mut script = String::new(rt.alloc());
-    for first in b'a'..=b'z' {
-        for second in b'a'..=b'z' {
-            push_names(&mut script, char::from(first), char::from(second))?;
-        }
-    }
-    script.push_str("destroy aa0\nbuffer z 1\nuses z\nbuffer y 1\n")?;
-    let mut source = MemorySource::new(script.as_bytes());
-    let mut sink = MemorySink::new(rt.alloc());
-    run_script(rt.alloc(), &mut source, &mut sink)?;
-    let refused = b"refused TooManyBuffers\n";
-    let last = b"ok\nok\nuses 0 kept 0\nrefused TooManyBuffers\n";
-    let granted = 65_536 * b"ok\n".len();
-    let lines = 26 * 26 * 98;
-    assert_eq!(rt;
-        sink.bytes().len(),
-        granted + (lines - 65_536) * refused.len() + last.len()
-    );
-    assert!(rt; sink.bytes().ends_with(last));
-    Ok(())
-}
-
-/// Lines for 98 names that begin with these letters.
-fn push_names(script: &mut String, first: char, second: char) -> Result<(), Fail> {
-    for number in 0..98u32 {
-        script.push_str("buffer ")?;
-        script.push(first)?;
-        script.push(second)?;
-        write_number(script, number)?;
-        script.push_str(" 1\n")?;
-    }
-    Ok(())
-}
-
-fn write_number(script: &mut String, number: u32) -> Result<(), Fail> {
-    use std::fmt::Write;
-    write!(script, "{number}")?;
-    Ok(())
 }

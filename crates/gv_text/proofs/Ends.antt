@@ -5,17 +5,17 @@ use Rattle.std.specs.Io.KnownBytes.{Appends}
 use Rattle.std.proofs.KnownBytes.{Appends-trans}
 use Rattle.gv_text.specs.Reading.{script_limit, TellsWrites}
 use Rattle.gv_text.specs.State.{State}
-use Rattle.gv_text.specs.Answer.{ran}
-use Rattle.gv_text.specs.Script.{IsFront, IsBadBefore, IsGoodBefore, StopsAt, Ends, LineEnds}
+use Rattle.gv_text.specs.Line.{IsGoodText}
+use Rattle.gv_text.specs.Script.{IsFront, IsBadBefore, IsGoodBefore, StopsBefore, StopsAt, Ends, LineEnds}
 use Rattle.gv_text.specs.declared.fault.ScriptFault.{ScriptFault}
 use Rattle.gv_text.specs.declared.fault.ScriptFault.TheVariants.{BadLine, ScriptTooLong, ReadFault, WriteFault, OutOfMemory}
-use Rattle.gv_text.proofs.Outcomes.{outcome_of_stop}
+use Rattle.gv_text.proofs.Alike.{only_stop}
 
-bad_before : (now : State) (line : List ℕ) (more : List (List ℕ)) → (more ≡ [] → ⊥) → ran false now line ≡ None → IsBadBefore now line more
+bad_before : (now : State) (line : List ℕ) (more : List (List ℕ)) → (more ≡ [] → ⊥) → ¬ IsGoodText line now → IsBadBefore now line more
 bad_before now line [] some bad = absurd (some refl)
 bad_before now line (next ∷ more) some bad = bad
 
-good_before : (now : State) (line : List ℕ) (more : List (List ℕ)) → (more ≡ [] → ⊥) → IsSome (ran false now line) → IsGoodBefore now line more
+good_before : (now : State) (line : List ℕ) (more : List (List ℕ)) → (more ≡ [] → ⊥) → IsGoodText line now → IsGoodBefore now line more
 good_before now line [] some good = absurd (some refl)
 good_before now line (next ∷ more) some good = good
 
@@ -24,18 +24,9 @@ Appends-end a b c text first second = rw append-nil at (Appends-trans a b c text
 
 pub stops_at : (script text line : List ℕ) (more : List (List ℕ)) (count refusals number : ℕ) (now : State) → length script ≤ script_limit →
     IsFront script text (line ∷ more) count refusals now → IsBadBefore now line more → number ≡ count + 1 → StopsAt script text number
-stops_at script text line more count refusals number now short front bad is = record {
-  short = short;
-  line = line;
-  more = more;
-  count = count;
-  refusals = refusals;
-  now = now;
-  front = front;
-  bad = bad;
-  counted = is;
-  ample = outcome_of_stop script text line more count refusals number now front bad is;
-}
+stops_at script text line more count refusals number now short front bad is =
+    let stops : StopsBefore script text refusals number = record { line = line; more = more; count = count; now = now; front = front; bad = bad; counted = is } in
+    record { short = short; refusals = refusals; stops = stops; ample = only_stop script text refusals number stops }
 
 pub line_ends : (T U : Type 0) (script text line : List ℕ) (more : List (List ℕ)) (count refusals : ℕ) (now new : State)
     (held mid holds : Option (List ℕ)) (fault : ScriptFault) → length script ≤ script_limit →

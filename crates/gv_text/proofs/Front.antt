@@ -6,46 +6,44 @@ use Rattle.gv_lines.specs.Words.{parts}
 use Rattle.gv_lines.proofs.PartsLemmas.{parts_some}
 use Rattle.gv_text.specs.Reading.{script_limit, AreShort}
 use Rattle.gv_text.specs.State.{State, start}
-use Rattle.gv_text.specs.Answer.{ran}
+use Rattle.gv_text.specs.Line.{Written, RunsText}
 use Rattle.gv_text.specs.Script.{Replies, IsFront, IsStart, one_if}
 
-Replies-more : (old mid new : State) (lines : List (List ℕ)) (line text reply : List ℕ) (refusals : ℕ) (lacks : Bool) →
-    Replies old lines text mid refusals → ran lacks mid line ≡ Some (reply, new) →
-    Replies old (lines ++ line ∷ []) (text ++ reply) new (refusals + one_if lacks)
-Replies-more old mid new [] line text reply refusals lacks before here = (
-  lacks,
-  reply,
+Replies-more : (old mid new : State) (lines : List (List ℕ)) (line text : List ℕ) (here : Written) (refusals : ℕ) →
+    Replies old lines text mid refusals → RunsText line mid here new →
+    Replies old (lines ++ line ∷ []) (text ++ here.text) new (refusals + one_if here.lacking)
+Replies-more old mid new [] line text here refusals before ran = (
+  here,
   new,
   [],
   0,
-  rw before.1 at here,
+  rw before.1 at ran,
   (refl, refl, refl),
   rw (before.0, append-nil) refl,
   omega (arith, before.2),
 )
-Replies-more old mid new (first ∷ lines) line text reply refusals lacks before here = (
+Replies-more old mid new (first ∷ lines) line text here refusals before ran = (
   before.0,
   before.1,
-  before.2,
-  before.3 ++ reply,
-  before.4 + one_if lacks,
-  before.5,
-  Replies-more before.2 mid new lines line before.3 reply before.4 lacks before.6 here,
-  rw before.7 (append_assoc before.1 before.3 reply),
-  omega (arith, before.8),
+  before.2 ++ here.text,
+  before.3 + one_if here.lacking,
+  before.4,
+  Replies-more before.1 mid new lines line before.2 here before.3 before.5 ran,
+  rw before.6 (append_assoc before.0.text before.2 here.text),
+  omega (arith, before.7),
 )
 
 -- before the first line
 pub front_start : (script : List ℕ) → IsFront script [] (parts 10 script) 0 0 start
 front_start script = record { lines = []; cut = refl; run = (refl, refl, refl); counted = refl }
 
-pub front_more : (script text reply line : List ℕ) (rest : List (List ℕ)) (count refusals : ℕ) (lacks : Bool) (now new : State) →
-    IsFront script text (line ∷ rest) count refusals now → ran lacks now line ≡ Some (reply, new) →
-    IsFront script (text ++ reply) rest (count + 1) (refusals + one_if lacks) new
-front_more script text reply line rest count refusals lacks now new front here = record {
+pub front_more : (script text line : List ℕ) (here : Written) (rest : List (List ℕ)) (count refusals : ℕ) (now new : State) →
+    IsFront script text (line ∷ rest) count refusals now → RunsText line now here new →
+    IsFront script (text ++ here.text) rest (count + 1) (refusals + one_if here.lacking) new
+front_more script text line here rest count refusals now new front ran = record {
   lines = front.lines ++ line ∷ [];
   cut = front.cut ∙ sym (append_assoc front.lines (line ∷ []) rest);
-  run = Replies-more start now new front.lines line text reply refusals lacks front.run here;
+  run = Replies-more start now new front.lines line text here refusals front.run ran;
   counted = simp length-append (omega (arith, front.counted));
 }
 

@@ -1,5 +1,5 @@
--- What lies inside a buffer: pieces of a mapping, an edited list, split steps, and what an address reaches.
-use Rattle.std.proofs.Common.{◌≡◌, ℕ, ◌+◌, ◌-◌, ◌≤◌, ◌<◌, max, min, List, [], ◌∷◌, true, false, cond, Some, None, arith, refl, map}
+-- What lies inside a buffer: pieces of a mapping, an edited list, and split steps.
+use Rattle.std.proofs.Common.{◌≡◌, ℕ, ◌+◌, ◌-◌, ◌≤◌, ◌<◌, max, min, List, [], ◌∷◌, true, false, cond, Some, None, arith, refl, map, Option, option_map, ap, sym, subst}
 use Rattle.std.specs.List.{All, filter}
 use Rattle.std.proofs.lemmas.List.Elements.{All-head, All-tail, All-append, All-map, All-filter}
 use Rattle.std.proofs.lemmas.Bool.Decides.{nat_tests}
@@ -18,66 +18,80 @@ use Rattle.gv_ranges.proofs.KeptLemmas.{clip_is_piece, HoldsOfPieces, All-edited
 use Rattle.gv_ranges.proofs.ReplacedLemmas.{all_mappings}
 use Rattle.gv_split.specs.Steps.{gives_way, step_in, step_of, steps, continues_mapping}
 use Rattle.gv_split.specs.declared.step.Step.TheVariants.{Unmap, Remap, Map}
+use Rattle.gv_split.specs.declared.step.Step.{Step}
+use Rattle.gv_buffers.specs.Table.{Table, Buffer as LiveBuffer, IsBuffer, pages}
+use Rattle.gv_buffers.proofs.FoundLemmas.{counted_lives, found_live}
+use Rattle.gv_space.specs.State.{AddressSpace, IsSpace, IsPlaced, LieInside as LieInBuffer}
 use Rattle.gv_text.specs.State.{LieInside, IsHeld}
-use Rattle.gv_text.specs.Reply.{IsHeldRest, IsHeldStep, IsHeldEntry}
+use Rattle.gv_text.specs.Reply.{IsHeldRest, IsHeldStep}
 
 -- fewer pages, further on, lie inside too
-pub lie_inside-advanced : (names : List (List ℕ)) (b : Backing) (on count whole : ℕ) → on + count ≤ whole →
-    LieInside names b whole → LieInside names (advanced b on) count
-lie_inside-advanced names (Buffer id page) on count whole fits inside = (inside.0, omega (arith, inside.1))
-lie_inside-advanced names Zero on count whole fits inside = tt
+pub lie_inside-advanced : (b : Backing) (on count whole : ℕ) → on + count ≤ whole →
+    LieInside b whole → LieInside (advanced b on) count
+lie_inside-advanced (Buffer id page) on count whole fits inside = omega (arith, inside)
+lie_inside-advanced Zero on count whole fits inside = tt
 
-pub held_pieces : (names : List (List ℕ)) → HoldsOfPieces (IsHeld names)
-held_pieces names low high m n is held clipped =
+pub held_pieces : HoldsOfPieces IsHeld
+held_pieces low high m n is held clipped =
     let piece = clip_is_piece low high m n clipped in
     let some : max low m.range.first < min high (end_of m.range) = piece.0 in
-    rw piece.1 (lie_inside-advanced names m.backing (max low m.range.first - m.range.first) (min high (end_of m.range) - max low m.range.first) m.range.count (omega arith) held)
+    rw piece.1 (lie_inside-advanced m.backing (max low m.range.first - m.range.first) (min high (end_of m.range) - max low m.range.first) m.range.count (omega arith) held)
 
-pub held_edited : (names : List (List ℕ)) (ms : List Mapping) (op : PageOp) → IsLaidOut ms →
-    All (IsHeld names) ms → All (IsHeld names) (own_mapping op) → All (IsHeld names) (edited ms op)
-held_edited names ms op laid held own =
-    All-edited (IsHeld names) ms op (held_pieces names) (all_mappings ms 0 laid) held own
+pub held_edited : (ms : List Mapping) (op : PageOp) → IsLaidOut ms →
+    All IsHeld ms → All IsHeld (own_mapping op) → All IsHeld (edited ms op)
+held_edited ms op laid held own =
+    All-edited IsHeld ms op held_pieces (all_mappings ms 0 laid) held own
 
--- what an address reaches
-pub held_entry : (names : List (List ℕ)) (ms : List Mapping) (page : ℕ) → All (IsHeld names) ms → IsHeldEntry names (at ms page)
-held_entry names [] page held = tt
-held_entry names (m ∷ ms) page held =
-    let rest : IsHeldEntry names (at ms page) = held_entry names ms page (All-tail (IsHeld names) m ms held) in
-    let here : IsHeld names m = All-head (IsHeld names) m ms held in
-    (elim (covers m.range page) as (λ b. covers m.range page ≡ b → IsHeldEntry names (cond b (Some (part m page)) (at ms page))) [
-      | true ↦ λ is.
-          let within : page - m.range.first + 1 ≤ m.range.count = grind (arith, nat_tests) in
-          lie_inside-advanced names m.backing (page - m.range.first) 1 m.range.count within here
-      | false ↦ λ is. rest
-    ]) refl
+held_rest : (low high : ℕ) (m : Mapping) → IsMapping m → IsHeld m → IsHeldRest (clip low high m)
+held_rest low high m is held =
+    (elim (clip low high m) as (λ o. clip low high m ≡ o → IsHeldRest o)
+    [ Some n ↦ λ clipped. held_pieces low high m n is held clipped | None ↦ λ clipped. tt ]) refl
 
-held_rest : (names : List (List ℕ)) (low high : ℕ) (m : Mapping) → IsMapping m → IsHeld names m → IsHeldRest names (clip low high m)
-held_rest names low high m is held =
-    (elim (clip low high m) as (λ o. clip low high m ≡ o → IsHeldRest names o)
-    [ Some n ↦ λ clipped. held_pieces names low high m n is held clipped | None ↦ λ clipped. tt ]) refl
-
-held_in : (names : List (List ℕ)) (op : PageOp) (m : Mapping) → IsMapping m → IsHeld names m → IsHeldStep names (step_in op m)
-held_in names op m is held =
-    (elim (lies_in m.range (range_of op)) as (λ b. IsHeldStep names (cond b (Unmap m (continues_mapping op m)) (Remap m (clip 0 (range_of op).first m) (clip (end_of (range_of op)) PAGES m) (continues_mapping op m)))) [
+held_in : (op : PageOp) (m : Mapping) → IsMapping m → IsHeld m → IsHeldStep (step_in op m)
+held_in op m is held =
+    (elim (lies_in m.range (range_of op)) as (λ b. IsHeldStep (cond b (Unmap m (continues_mapping op m)) (Remap m (clip 0 (range_of op).first m) (clip (end_of (range_of op)) PAGES m) (continues_mapping op m)))) [
       | true ↦ held
-      | false ↦ (held, held_rest names 0 (range_of op).first m is held, held_rest names (end_of (range_of op)) PAGES m is held)
+      | false ↦ (held, held_rest 0 (range_of op).first m is held, held_rest (end_of (range_of op)) PAGES m is held)
     ])
 
-held_step : (names : List (List ℕ)) (op : PageOp) (m : Mapping) → IsMapping m → IsHeld names m → IsHeldStep names (step_of op m)
-held_step names (MapOp range backing flags) m is held = held_in names (MapOp range backing flags) m is held
-held_step names (UnmapOp range) m is held = held_in names (UnmapOp range) m is held
-held_step names (UnmapBuffer buffer) m is held = held
+held_step : (op : PageOp) (m : Mapping) → IsMapping m → IsHeld m → IsHeldStep (step_of op m)
+held_step (MapOp range backing flags) m is held = held_in (MapOp range backing flags) m is held
+held_step (UnmapOp range) m is held = held_in (UnmapOp range) m is held
+held_step (UnmapBuffer buffer) m is held = held
 
-own_step : (names : List (List ℕ)) (op : PageOp) → All (IsHeld names) (own_mapping op) → All (IsHeldStep names) (map Map (own_mapping op))
-own_step names op own = All-map (IsHeldStep names) Map (own_mapping op) own
+own_step : (op : PageOp) → All IsHeld (own_mapping op) → All IsHeldStep (map Map (own_mapping op))
+own_step op own = All-map IsHeldStep Map (own_mapping op) own
 
 -- the mappings of an operation's steps
-pub held_steps : (names : List (List ℕ)) (ms : List Mapping) (op : PageOp) → IsLaidOut ms →
-    All (IsHeld names) ms → All (IsHeld names) (own_mapping op) → All (IsHeldStep names) (steps ms op)
-held_steps names ms op laid held own =
-    let each : All (λ (m : Mapping). IsHeldStep names (step_of op m)) ms =
-    λ k d below. held_step names op _ (all_mappings ms 0 laid k d below) (held k d below) in
-    let met : All (λ (m : Mapping). IsHeldStep names (step_of op m)) (filter (gives_way op) ms) =
-    All-filter (gives_way op) (λ (m : Mapping). IsHeldStep names (step_of op m)) ms each in
-    All-append (IsHeldStep names) (map (step_of op) (filter (gives_way op) ms)) (map Map (own_mapping op))
-    (All-map (IsHeldStep names) (step_of op) (filter (gives_way op) ms) met) (own_step names op own)
+pub held_steps : (ms : List Mapping) (op : PageOp) → IsLaidOut ms →
+    All IsHeld ms → All IsHeld (own_mapping op) → All IsHeldStep (steps ms op)
+held_steps ms op laid held own =
+    let each : All (λ (m : Mapping). IsHeldStep (step_of op m)) ms =
+    λ k d below. held_step op _ (all_mappings ms 0 laid k d below) (held k d below) in
+    let met : All (λ (m : Mapping). IsHeldStep (step_of op m)) (filter (gives_way op) ms) =
+    All-filter (gives_way op) (λ (m : Mapping). IsHeldStep (step_of op m)) ms each in
+    All-append IsHeldStep (map (step_of op) (filter (gives_way op) ms)) (map Map (own_mapping op))
+    (All-map IsHeldStep (step_of op) (filter (gives_way op) ms) met) (own_step op own)
+
+-- pages inside a live buffer are no further in it than a buffer goes
+lie_inside : (t : Table) (b : Backing) (count : ℕ) → All (IsBuffer t.made) t.live → LieInBuffer t b count → LieInside b count
+lie_inside t (Buffer id page) count buffers inside =
+    let found = found_live (IsBuffer t.made) t id buffers (counted_lives t id (λ b. b.pages) (λ size. page + count ≤ size) inside) in
+    let size : pages t id ≡ Some found.0.pages = ap (option_map (λ (b : LiveBuffer). b.pages)) found.1 in
+    let within : page + count ≤ found.0.pages = rw size at inside in
+    omega (arith, within, found.2.few_pages)
+lie_inside t Zero count buffers inside = tt
+
+-- placed mappings lie inside their buffers
+pub held_placed : (s : AddressSpace) (ms : List Mapping) → IsSpace s → All (IsPlaced s.area s.buffers) ms → All IsHeld ms
+held_placed s ms space placed k d within = lie_inside s.buffers _ _ space.buffers.buffers (placed k d within).inside
+
+-- as do those of the list
+pub held_list : (s : AddressSpace) → IsSpace s → All IsHeld s.mappings
+held_list s space = held_placed s s.mappings space space.placed
+
+-- and those of the steps of a plan
+pub held_plan : (s : AddressSpace) (op : PageOp) (list : List Step) → IsSpace s → All (IsPlaced s.area s.buffers) (own_mapping op) → list ≡ steps s.mappings op →
+    All IsHeldStep list
+held_plan s op list space placed is =
+    subst (All IsHeldStep) (sym is) (held_steps s.mappings op space.laid_out (held_list s space) (held_placed s (own_mapping op) space placed))

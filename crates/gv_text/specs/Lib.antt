@@ -1,10 +1,10 @@
 pub mod State
-pub mod Space
+pub mod Asking
+pub mod Events
 pub mod Reply
-pub mod Served
-pub mod Answer
-pub mod Calls
-pub mod Work
-pub mod Desk
+pub mod Said
+pub mod Line
+pub mod Inside
+pub mod Serving
 pub mod Reading
 pub mod Script

@@ -1,5 +1,5 @@
--- What is written in reply to a line.
-use Rattle.std.specs.Prelude.{ℕ, ◌+◌, ◌*◌, Bool, true, false, List, [], ◌∷◌, ◌++◌, Option, Some, None, codes, decimal, slice_get, unwrap_or}
+-- What is written: the texts of what a line shows.
+use Rattle.std.specs.Prelude.{ℕ, ◌+◌, ◌*◌, Bool, true, false, List, [], ◌∷◌, ◌++◌, Option, Some, None, codes, decimal, slice_get, unwrap_or, reverse}
 use Rattle.std.specs.List.{flat_map}
 use Rattle.gv_types.specs.Page.{bytes_per_page}
 use Rattle.gv_types.specs.Span.{end_of}
@@ -8,12 +8,21 @@ use Rattle.gv_types.specs.declared.fault.Fault.{Fault}
 use Rattle.gv_types.specs.declared.mapping.Backing.{Backing}
 use Rattle.gv_types.specs.declared.mapping.Backing.TheVariants.{Buffer, Zero}
 use Rattle.gv_types.specs.declared.mapping.BufferId.{BufferId}
-use Rattle.gv_types.specs.declared.mapping.Entry.{Entry}
 use Rattle.gv_types.specs.declared.mapping.Flags.{Flags}
 use Rattle.gv_types.specs.declared.mapping.Mapping.{Mapping}
+use Rattle.gv_types.specs.declared.request.Point.{Point}
 use Rattle.gv_split.specs.declared.step.Step.{Step}
 use Rattle.gv_split.specs.declared.step.Step.TheVariants.{Unmap, Remap, Map}
 use Rattle.gv_lines.specs.Hex.{hex}
+use Rattle.gv_journal.specs.Items.{Journaled, Numbered, entries, is_withdrawn}
+use Rattle.gv_journal.specs.declared.item.ItemKind.{ItemKind}
+use Rattle.gv_journal.specs.declared.item.ItemKind.TheVariants.{Bind, Withdrawal}
+use Rattle.gv_vm.specs.declared.outcome.Outcome.{Outcome}
+use Rattle.gv_vm.specs.declared.outcome.Outcome.TheVariants.{Accepted, Refused, NotReady}
+use Rattle.gv_vm.specs.Places.{target_of}
+use Rattle.gv_vm.specs.declared.places.Place.{Place}
+use Rattle.gv_vm.specs.declared.places.Target.{Target}
+use Rattle.gv_vm.specs.declared.places.Target.TheVariants.{Buffer as BufferByte, Zero as ZeroByte}
 use Rattle.gv_text.specs.State.{IsHeld, LieInside}
 
 -- these parts, one after another
@@ -38,17 +47,16 @@ access_text false = codes "rw"
 abbrev pub flags_text : Flags → List ℕ
 flags_text flags = access_text flags.read_only
 
--- what an address reaches: the buffer and the byte in it, `rest` bytes into the page, or zeros
-abbrev pub target_text : List (List ℕ) → Backing → ℕ → List ℕ
-target_text names (Buffer id page) rest =
-    joined (name_of names id ∷ codes " " ∷ hex (page * bytes_per_page + rest) ∷ [])
-target_text names Zero rest = codes "zero"
+-- what stands behind an address: the buffer and the byte in it, or zeros
+abbrev pub target_text : List (List ℕ) → Target → List ℕ
+target_text names (BufferByte id byte) = joined (name_of names id ∷ codes " " ∷ hex byte ∷ [])
+target_text names ZeroByte = codes "zero"
 
 -- the first byte, the byte past the end, what stands behind the first byte, and the flags
 abbrev pub mapping_text : List (List ℕ) → Mapping → List ℕ
 mapping_text names m = joined (
     hex (m.range.first * bytes_per_page) ∷ codes " " ∷ hex (end_of m.range * bytes_per_page) ∷ codes " "
-    ∷ target_text names m.backing 0 ∷ codes " " ∷ flags_text m.flags ∷ [])
+    ∷ target_text names (target_of m.backing 0) ∷ codes " " ∷ flags_text m.flags ∷ [])
 
 abbrev pub rest_text : List (List ℕ) → Option Mapping → List ℕ
 rest_text names None = codes "none"
@@ -73,14 +81,6 @@ lines_reply text (x ∷ xs) = flat_map (λ y. reply (text y ∷ [])) (x ∷ xs)
 abbrev pub ok_reply : List ℕ
 ok_reply = reply (codes "ok" ∷ [])
 
--- a request is accepted as the entry of this number
-abbrev pub accepted_reply : ℕ → List ℕ
-accepted_reply number = reply (codes "accepted " ∷ decimal number ∷ [])
-
--- a request is refused at its operation 0
-abbrev pub refused_request : Fault → List ℕ
-refused_request fault = reply (codes "refused 0 " ∷ fault_text fault ∷ [])
-
 abbrev pub refused_reply : Fault → List ℕ
 refused_reply fault = reply (codes "refused " ∷ fault_text fault ∷ [])
 
@@ -98,24 +98,78 @@ spaced (n ∷ (m ∷ ns)) = decimal n ++ codes " " ++ spaced (m ∷ ns)
 abbrev pub tables_reply : List ℕ → List ℕ
 tables_reply counts = reply (spaced counts ∷ [])
 
--- what an address reaches, this many bytes into its page
-abbrev pub place_reply : List (List ℕ) → ℕ → Option Entry → List ℕ
-place_reply names rest None = reply (codes "none" ∷ [])
-place_reply names rest (Some entry) =
-    reply (target_text names entry.backing rest ∷ codes " " ∷ flags_text entry.flags ∷ [])
+-- where an address leads, and how that may be accessed
+abbrev pub place_text : List (List ℕ) → Place → List ℕ
+place_text names place = joined (target_text names place.target ∷ codes " " ∷ flags_text place.flags ∷ [])
+
+abbrev pub place_reply : List (List ℕ) → Option Place → List ℕ
+place_reply names None = reply (codes "none" ∷ [])
+place_reply names (Some place) = reply (place_text names place ∷ [])
+
+-- the name of a declared timeline
+abbrev pub timeline_text : List (List ℕ) → ℕ → List ℕ
+timeline_text timelines place = unwrap_or (slice_get timelines place) []
+
+-- the number of a timeline
+abbrev pub number_reply : List (List ℕ) → ℕ → ℕ → List ℕ
+number_reply timelines place number = reply (timeline_text timelines place ∷ codes " " ∷ decimal number ∷ [])
+
+-- a request is accepted as this entry, or refused at this operation, or a point of its waits lacks
+abbrev pub outcome_text : List (List ℕ) → Outcome → List ℕ
+outcome_text timelines (Accepted entry) = joined (codes "accepted " ∷ decimal entry ∷ [])
+outcome_text timelines (Refused op fault) = joined (codes "refused " ∷ decimal op ∷ codes " " ∷ fault_text fault ∷ [])
+outcome_text timelines (NotReady point have) = joined (
+    codes "notready " ∷ timeline_text timelines point.timeline ∷ codes " " ∷ decimal point.value
+    ∷ codes " have " ∷ decimal have ∷ [])
+
+-- outcomes on lines of their own, the first of which has this number
+abbrev pub outcome_lines : List (List ℕ) → ℕ → List Outcome → List ℕ
+outcome_lines timelines number [] = []
+outcome_lines timelines number (outcome ∷ outcomes) =
+    reply (decimal number ∷ codes " " ∷ outcome_text timelines outcome ∷ []) ++ outcome_lines timelines (number + 1) outcomes
+
+-- what a queue was told, or the word empty
+abbrev pub told_reply : List (List ℕ) → List Outcome → List ℕ
+told_reply timelines [] = reply (codes "empty" ∷ [])
+told_reply timelines (outcome ∷ outcomes) = outcome_lines timelines 0 (outcome ∷ outcomes)
+
+abbrev pub liveness_text : Bool → List ℕ
+liveness_text true = codes "withdrawn"
+liveness_text false = codes "live"
+
+-- an item of the journal: its number, what it is, and of a bind whether it is withdrawn
+abbrev pub kind_text : ℕ → ItemKind → Bool → List ℕ
+kind_text entry (Bind queue number request seen done) gone = joined (
+    decimal entry ∷ codes " bind " ∷ decimal queue ∷ codes " " ∷ decimal number ∷ codes " " ∷ liveness_text gone ∷ [])
+kind_text entry (Withdrawal of) gone = joined (decimal entry ∷ codes " withdrawal of " ∷ decimal of ∷ [])
+
+abbrev pub item_text : (ℕ → Bool) → Numbered → List ℕ
+item_text gone x = kind_text x.number x.item.kind (gone x.number)
+
+-- the items of the journal, the oldest one first
+abbrev pub journal_reply : Journaled → List ℕ
+journal_reply j = lines_reply (item_text (is_withdrawn (entries j))) (reverse (entries j))
+
+-- a job began: its number, and the place of each access
+abbrev pub begun_reply : List (List ℕ) → ℕ → List Place → List ℕ
+begun_reply names job places =
+    reply (codes "job " ∷ decimal job ∷ []) ++ flat_map (λ place. reply (place_text names place ∷ [])) places
+
+-- a word with a space, and a number
+abbrev pub counted_reply : List ℕ → ℕ → List ℕ
+counted_reply word number = reply (word ∷ decimal number ∷ [])
+
+-- an entry is withdrawn by a new item
+abbrev pub withdrawn_reply : ℕ → ℕ → List ℕ
+withdrawn_reply entry item = reply (codes "withdrawn " ∷ decimal entry ∷ codes " as " ∷ decimal item ∷ [])
 
 -- a rest of a mapping, if there is one, lies inside its buffer
-abbrev pub IsHeldRest : List (List ℕ) → Option Mapping → Type 0
-IsHeldRest names None = Unit {0}
-IsHeldRest names (Some m) = IsHeld names m
+abbrev pub IsHeldRest : Option Mapping → Type 0
+IsHeldRest None = Unit {0}
+IsHeldRest (Some m) = IsHeld m
 
--- the mappings of a step lie inside their names
-abbrev pub IsHeldStep : List (List ℕ) → Step → Type 0
-IsHeldStep names (Unmap m keep) = IsHeld names m
-IsHeldStep names (Remap m prev next keep) = IsHeld names m × IsHeldRest names prev × IsHeldRest names next
-IsHeldStep names (Map m) = IsHeld names m
-
--- what an address reaches lies inside its buffer
-abbrev pub IsHeldEntry : List (List ℕ) → Option Entry → Type 0
-IsHeldEntry names None = Unit {0}
-IsHeldEntry names (Some entry) = LieInside names entry.backing 1
+-- the mappings of a step lie inside their buffers
+abbrev pub IsHeldStep : Step → Type 0
+IsHeldStep (Unmap m keep) = IsHeld m
+IsHeldStep (Remap m prev next keep) = IsHeld m × IsHeldRest prev × IsHeldRest next
+IsHeldStep (Map m) = IsHeld m

@@ -1,6 +1,7 @@
 //! Why a script ends early.
 ghost use Rattle.std.specs.Prelude.{◌≡◌};
 ghost use Rattle.gv_text.specs.declared.fault.ScriptFault.TheVariants as fault;
+ghost use Rattle.gv_text.specs.declared.fault.LineFault.TheVariants as line_fault;
 
 use crate::device::{ReadFault, WriteFault};
 use gv_types::OutOfMemory;
@@ -47,5 +48,29 @@ impl From<OutOfMemory> for ScriptFault {
 
     fn from(_error: OutOfMemory) -> ScriptFault {
         ScriptFault::OutOfMemory
+    }
+}
+
+/// Why a line was not run.
+#[derive(Clone, Copy, Debug, PartialEq, Eq)]
+pub enum LineFault {
+    /// The line is not of the language, or not at this place, or names what is not declared, or declares what is.
+    Bad,
+    OutOfMemory,
+}
+
+impl From<AllocError> for LineFault {
+    ghost from_gives = { λ _ e. e ≡ line_fault.OutOfMemory };
+
+    fn from(_error: AllocError) -> LineFault {
+        LineFault::OutOfMemory
+    }
+}
+
+impl From<OutOfMemory> for LineFault {
+    ghost from_gives = { λ _ e. e ≡ line_fault.OutOfMemory };
+
+    fn from(_error: OutOfMemory) -> LineFault {
+        LineFault::OutOfMemory
     }
 }

@@ -1,19 +1,22 @@
 //! Scripts of an address space: read whole, run line by line, each line's reply written.
 #![tactic(auto)]
 
-mod bindings;
-mod desk;
 mod device;
 mod fault;
-mod history;
+mod journal;
 mod memory;
 mod names;
 mod output;
 mod reply;
+mod request;
 mod run;
+mod said;
 mod script;
-mod served;
+mod serve;
+mod session;
+mod stage;
 mod standard;
+mod timeline_names;
 mod transfer;
 
 pub use device::{ReadFault, Sink, Source, WriteFault};

@@ -1,16 +1,16 @@
-//! The texts of replies.
+//! The texts of mappings, steps and places.
 ghost use Rattle.std.specs.Prelude.{◌≡◌, ◌+◌, ◌*◌, ◌≤◌, ◌<◌, ◌++◌, ◌∷◌, [], OnOk, codes, decimal, string_bytes};
 ghost use Rattle.std.specs.List.{All};
-ghost use Rattle.gv_types.specs.Page.{bytes_per_page};
-ghost use Rattle.gv_types.specs.Fault.{fault_text};
+ghost use Rattle.gv_vm.specs.Places.{target_of};
 ghost use Rattle.gv_text.specs.State.{texts, LieInside, IsHeld};
-ghost use Rattle.gv_text.specs.Reply.{target_text, mapping_text, rest_text, step_text, flags_text, keep_text};
-ghost use Rattle.gv_text.specs.Reply.{refused_reply, refused_request, lines_reply, place_reply, tables_reply, IsHeldRest, IsHeldStep, IsHeldEntry};
+ghost use Rattle.gv_text.specs.Reply.{target_text, mapping_text, rest_text, step_text, flags_text, keep_text, name_of};
+ghost use Rattle.gv_text.specs.Reply.{lines_reply, place_text, place_reply, tables_reply, IsHeldRest, IsHeldStep};
 
 use crate::names::Names;
 use gv_lines::write_hex;
 use gv_split::Step;
-use gv_types::{Backing, Entry, Fault, Flags, Mapping, PAGE_BYTES};
+use gv_types::{Backing, BufferId, Flags, Mapping, PAGE_BYTES};
+use gv_vm::{Place, Target};
 use std::alloc::AllocError;
 use std::fmt::Write;
 
@@ -26,47 +26,65 @@ fn keep_word(keep: bool) -> &'static str
     if keep { " keep" } else { "" }
 }
 
-/// Writes what an address reaches, `rest` bytes into its page.
-fn write_target(
-    out: &mut String,
-    names: &Names,
-    backing: Backing,
-    rest: u64,
-) -> Result<(), AllocError>
-    requires inside { LieInside (texts names.now.entries) backing 1 }
-    requires in_page { rest < bytes_per_page }
-    ensures { OnOk result (string_bytes out.new ≡ string_bytes out.old ++ target_text (texts names.now.entries) backing rest) }
+/// Writes the name of a buffer.
+fn write_name(out: &mut String, names: &Names, id: BufferId) -> Result<(), AllocError>
+    ensures { OnOk result (string_bytes out.new ≡ string_bytes out.old ++ name_of (texts names.now.entries) id) }
+{
+    match names.name_of(id) {
+        Some(name) => out.push_str(name.as_str()),
+        None => Ok(()),
+    }
+}
+
+/// Writes a buffer and a byte of it.
+fn write_byte(out: &mut String, names: &Names, id: BufferId, byte: u64) -> Result<(), AllocError>
+    ensures { OnOk result (string_bytes out.new
+        ≡ string_bytes out.old ++ target_text (texts names.now.entries) (Target.Buffer id byte)) }
+{
+    write_name(out, names, id)?;
+    out.push_str(" ")?;
+    write_hex(out, byte)
+}
+
+/// Writes what stands behind an address.
+fn write_target(out: &mut String, names: &Names, target: Target) -> Result<(), AllocError>
+    ensures { OnOk result (string_bytes out.new ≡ string_bytes out.old ++ target_text (texts names.now.entries) target) }
+{
+    match target {
+        Target::Buffer { id, byte } => write_byte(out, names, id, byte),
+        Target::Zero => out.push_str("zero"),
+    }
+}
+
+/// Writes what stands behind the first byte of some pages.
+fn write_backing(out: &mut String, names: &Names, backing: Backing) -> Result<(), AllocError>
+    requires { LieInside backing 1 }
+    ensures { OnOk result (string_bytes out.new
+        ≡ string_bytes out.old ++ target_text (texts names.now.entries) (target_of backing 0)) }
 {
     match backing {
-        Backing::Buffer { id, page } => {
-            let Some(name) = names.name_of(id) else {
-                unreachable!()
-            };
-            out.push_str(name.as_str())?;
-            out.push_str(" ")?;
-            write_hex(out, page * PAGE_BYTES + rest)
-        }
+        Backing::Buffer { id, page } => write_byte(out, names, id, page * PAGE_BYTES),
         Backing::Zero => out.push_str("zero"),
     }
 }
 
 /// Writes a mapping: its first byte, the byte past its end, what stands behind it, and its flags.
 fn write_mapping(out: &mut String, names: &Names, mapping: &Mapping) -> Result<(), AllocError>
-    requires { IsHeld (texts names.now.entries) mapping.now }
+    requires { IsHeld mapping.now }
     ensures { OnOk result (string_bytes out.new ≡ string_bytes out.old ++ mapping_text (texts names.now.entries) mapping.now) }
 {
     write_hex(out, mapping.range.first() * PAGE_BYTES)?;
     out.push_str(" ")?;
     write_hex(out, mapping.range.end() * PAGE_BYTES)?;
     out.push_str(" ")?;
-    write_target(out, names, mapping.backing, 0)?;
+    write_backing(out, names, mapping.backing)?;
     out.push_str(" ")?;
     out.push_str(flags_word(mapping.flags))
 }
 
 /// Writes what is left of a mapping, or that nothing is.
 fn write_rest(out: &mut String, names: &Names, rest: &Option<Mapping>) -> Result<(), AllocError>
-    requires { IsHeldRest (texts names.now.entries) rest.now }
+    requires { IsHeldRest rest.now }
     ensures { OnOk result (string_bytes out.new ≡ string_bytes out.old ++ rest_text (texts names.now.entries) rest.now) }
 {
     match rest {
@@ -77,7 +95,7 @@ fn write_rest(out: &mut String, names: &Names, rest: &Option<Mapping>) -> Result
 
 /// Writes a split step.
 fn write_step(out: &mut String, names: &Names, step: &Step) -> Result<(), AllocError>
-    requires { IsHeldStep (texts names.now.entries) step.now }
+    requires { IsHeldStep step.now }
     ensures { OnOk result (string_bytes out.new ≡ string_bytes out.old ++ step_text (texts names.now.entries) step.now) }
 {
     match step {
@@ -113,7 +131,7 @@ pub fn write_mappings(
     names: &Names,
     mappings: &[Mapping],
 ) -> Result<(), AllocError>
-    requires { All (IsHeld (texts names.now.entries)) mappings.now }
+    requires { All IsHeld mappings.now }
     ensures { OnOk result (string_bytes out.new ≡
         string_bytes out.old ++ lines_reply (mapping_text (texts names.now.entries)) mappings.now) }
 {
@@ -129,7 +147,7 @@ pub fn write_mappings(
 
 /// Writes each step on a line of its own.
 pub fn write_steps(out: &mut String, names: &Names, steps: &[Step]) -> Result<(), AllocError>
-    requires { All (IsHeldStep (texts names.now.entries)) steps.now }
+    requires { All IsHeldStep steps.now }
     ensures { OnOk result (string_bytes out.new ≡
         string_bytes out.old ++ lines_reply (step_text (texts names.now.entries)) steps.now) }
 {
@@ -143,53 +161,26 @@ pub fn write_steps(out: &mut String, names: &Names, steps: &[Step]) -> Result<()
     Ok(())
 }
 
-/// Writes what an address reaches, `rest` bytes into its page.
-pub fn write_place(
-    out: &mut String,
-    names: &Names,
-    entry: Option<Entry>,
-    rest: u64,
-) -> Result<(), AllocError>
-    requires held { IsHeldEntry (texts names.now.entries) entry }
-    requires in_page { rest < bytes_per_page }
-    ensures { OnOk result (string_bytes out.new ≡ string_bytes out.old ++ place_reply (texts names.now.entries) rest entry) }
+/// Writes where an address leads, and how that may be accessed.
+pub fn write_place_text(out: &mut String, names: &Names, place: &Place) -> Result<(), AllocError>
+    ensures { OnOk result (string_bytes out.new ≡ string_bytes out.old ++ place_text (texts names.now.entries) place.now) }
 {
-    let Some(entry) = entry else {
-        return out.push_str("none\n");
-    };
-    write_target(out, names, entry.backing, rest)?;
+    write_target(out, names, place.target)?;
     out.push_str(" ")?;
-    out.push_str(flags_word(entry.flags))?;
-    out.push_str("\n")
+    out.push_str(flags_word(place.flags))
 }
 
-/// Writes a fault: its name, and the number that it carries, if any.
-fn write_fault(out: &mut String, fault: &Fault) -> Result<(), AllocError>
-    ensures { OnOk result (string_bytes out.new ≡ string_bytes out.old ++ fault_text fault.now) }
+/// Writes where an address leads, if it leads anywhere.
+pub fn write_place(out: &mut String, names: &Names, place: &Option<Place>) -> Result<(), AllocError>
+    ensures { OnOk result (string_bytes out.new ≡ string_bytes out.old ++ place_reply (texts names.now.entries) place.now) }
 {
-    out.push_str(fault.name())?;
-    match fault.carried() {
-        Some(number) => write!(out, " {number}"),
-        None => Ok(()),
+    match place {
+        Some(place) => {
+            write_place_text(out, names, place)?;
+            out.push_str("\n")
+        }
+        None => out.push_str("none\n"),
     }
-}
-
-/// Writes that something is refused.
-pub fn write_refused(out: &mut String, fault: &Fault) -> Result<(), AllocError>
-    ensures { OnOk result (string_bytes out.new ≡ string_bytes out.old ++ refused_reply fault.now) }
-{
-    out.push_str("refused ")?;
-    write_fault(out, fault)?;
-    out.push_str("\n")
-}
-
-/// Writes that a request is refused at its operation 0.
-pub fn write_refused_request(out: &mut String, fault: &Fault) -> Result<(), AllocError>
-    ensures { OnOk result (string_bytes out.new ≡ string_bytes out.old ++ refused_request fault.now) }
-{
-    out.push_str("refused 0 ")?;
-    write_fault(out, fault)?;
-    out.push_str("\n")
 }
 
 /// Writes a count, and a space behind it.

@@ -1,228 +1,367 @@
 //! What the lines of a script do.
-ghost use Rattle.std.specs.Prelude.{◌≡◌, Bool, false, None, IsSome, OnOk};
-ghost use Rattle.gv_text.specs.Answer.{Told, answer, answer_if, ran, space_told};
-ghost use Rattle.gv_text.specs.declared.run.LineFault.TheVariants as line_fault;
+ghost use Rattle.std.specs.Prelude.{◌≡◌, ◌≢◌, OnOk};
+ghost use Rattle.gv_lines.specs.declared.line.Line.TheVariants as line;
+ghost use Rattle.gv_text.specs.Line.{Runs, RunsText, IsGood, IsGoodText, DoesOnce, SetsBounds, MaySetBounds};
+ghost use Rattle.gv_text.specs.Serving.{Wrote};
 
-use crate::desk::Desk;
-use crate::reply::{
-    write_mappings, write_place, write_refused, write_refused_request, write_steps, write_tables,
-};
-use crate::served::ServedLine;
-use gv_lines::{Name, Operation, parse_line};
-use gv_types::{Bounds, Fault, OutOfMemory, PAGE_BYTES};
-use std::alloc::{AllocError, Global};
+use crate::fault::LineFault;
+use crate::journal::write_journal;
+use crate::reply::{write_mappings, write_place, write_steps, write_tables};
+use crate::request::{accesses_of, are_too_many, op_named, point_named, request_of};
+use crate::said::{write_number, write_refused, write_said, write_told, write_withdrawn};
+use crate::serve::serve;
+use crate::session::{Session, TIMELINES};
+use crate::stage::Stage;
+use gv_lines::{AccessList, ClauseList, Line, Name, NamedPoint, Operation, parse_line};
+use gv_types::{Bounds, Fault, Limits, MAX_TOLD};
+use gv_vm::{Event, QUEUES};
+use std::alloc::Global;
 use std::fmt::Write;
-
-/// Why a line was not run.
-#[derive(Clone, Copy, Debug, PartialEq, Eq)]
-pub enum LineFault {
-    /// The line is not of the language, or not at this place, or names what is not declared, or declares what is.
-    Bad,
-    OutOfMemory,
-}
-
-impl From<AllocError> for LineFault {
-    ghost from_gives = { λ _ e. e ≡ line_fault.OutOfMemory };
-
-    fn from(_error: AllocError) -> LineFault {
-        LineFault::OutOfMemory
-    }
-}
-
-impl From<OutOfMemory> for LineFault {
-    ghost from_gives = { λ _ e. e ≡ line_fault.OutOfMemory };
-
-    fn from(_error: OutOfMemory) -> LineFault {
-        LineFault::OutOfMemory
-    }
-}
 
 /// Runs a line as it stands in a script, and writes its reply.
 pub fn run_text(
     alloc: Global,
-    desk: &mut Desk,
+    session: &mut Session,
     text: &[u8],
     out: &mut String,
 ) -> Result<(), LineFault>
-    ensures done { OnOk result
-        ((lacks : Bool) × Told (ran lacks desk.old text.now) out.old out.new desk.new) }
-    ensures bad { result ≡ Err LineFault.Bad → ran false desk.old text.now ≡ None }
-    ensures memory { result ≡ Err LineFault.OutOfMemory → IsSome (ran false desk.old text.now) }
+    ensures done { OnOk result (Wrote (RunsText text.now) session.old out.old out.new session.new) }
+    ensures bad { result ≡ Err LineFault.Bad → ¬ IsGoodText text.now session.old }
+    ensures memory { result ≡ Err LineFault.OutOfMemory → IsGoodText text.now session.old }
 {
-    match parse_line(text).and_then(ServedLine::from_line) {
-        Some(line) => run(alloc, desk, line, out),
+    match parse_line(text) {
+        Some(line) => run(alloc, session, line, out),
         None => Err(LineFault::Bad),
     }
 }
 
 /// Runs a line, and writes its reply.
-fn run(alloc: Global, desk: &mut Desk, line: ServedLine, out: &mut String) -> Result<(), LineFault>
-    ensures done { OnOk result
-        ((lacks : Bool) × Told (answer_if lacks desk.old line) out.old out.new desk.new) }
-    ensures bad { result ≡ Err LineFault.Bad → answer desk.old line ≡ None }
-    ensures memory { result ≡ Err LineFault.OutOfMemory → IsSome (answer desk.old line) }
+fn run(
+    alloc: Global,
+    session: &mut Session,
+    line: Line<'_>,
+    out: &mut String,
+) -> Result<(), LineFault>
+    ensures done { OnOk result (Wrote (Runs line.entry) session.old out.old out.new session.new) }
+    ensures bad { result ≡ Err LineFault.Bad → ¬ IsGood line.entry session.old }
+    ensures memory { result ≡ Err LineFault.OutOfMemory → IsGood line.entry session.old }
 {
     match line {
-        ServedLine::Silent => Ok(()),
-        ServedLine::Space {
+        Line::Silent => Ok(()),
+        Line::Space {
             start,
             len,
             reserved_start,
             reserved_len,
         } => {
             let bounds = Bounds::from_bytes(start, len, reserved_start, reserved_len);
-            space(alloc, desk, bounds, out)
+            space(alloc, session, bounds, out)
         }
-        ServedLine::Buffer { name, pages } => buffer(alloc, desk, name, pages, out),
-        ServedLine::Destroy { name } => destroy(desk, &name, out),
-        ServedLine::Uses { name } => uses(desk, &name, out),
-        ServedLine::Bind { operation } => bind(alloc, desk, &operation, out),
-        ServedLine::Plan { operation } => plan(alloc, desk, &operation, out),
-        ServedLine::Map => map(desk, out),
-        ServedLine::At { addr } => at(desk, addr, out),
-        ServedLine::Tables => tables(desk, out),
+        Line::Limits {
+            buffers,
+            mappings,
+            items,
+        } => limits(alloc, session, buffers, mappings, items, out),
+        Line::Buffer { name, pages } => buffer(alloc, session, name, pages, out),
+        Line::Destroy { name } => destroy(alloc, session, &name, out),
+        Line::Uses { name } => uses(session, &name, out),
+        Line::Timeline { name } => timeline(session, name, out),
+        Line::Raise { point } => raise(alloc, session, &point, out),
+        Line::Value { name } => value(session, &name, out),
+        Line::Bind { clauses } => bind(alloc, session, &clauses, out),
+        Line::Plan { operation } => plan(alloc, session, &operation, out),
+        Line::Map => map(session, out),
+        Line::At { addr } => at(session, addr, out),
+        Line::Tables => tables(session, out),
+        Line::Rewind => once(alloc, session, Event::Rewind, out),
+        Line::Journal => journal(alloc, session, out),
+        Line::Withdraw { entry } => withdraw(alloc, session, entry, out),
+        Line::Settle { to } => once(alloc, session, Event::Settle { to }, out),
+        Line::Told { queue } => told(session, queue, out),
+        Line::Job { accesses } => job(alloc, session, accesses, out),
+        Line::End { job } => once(alloc, session, Event::JobEnd { job }, out),
     }
 }
 
 /// Sets the bounds, where there are such bounds and no other line has run.
 fn space(
     alloc: Global,
-    desk: &mut Desk,
+    session: &mut Session,
     bounds: Option<Bounds>,
     out: &mut String,
 ) -> Result<(), LineFault>
-    ensures done { OnOk result (Told (space_told desk.old bounds) out.old out.new desk.new) }
-    ensures bad { result ≡ Err LineFault.Bad → space_told desk.old bounds ≡ None }
-    ensures memory { result ≡ Err LineFault.OutOfMemory → IsSome (space_told desk.old bounds) }
+    ensures done { OnOk result (Wrote (SetsBounds bounds) session.old out.old out.new session.new) }
+    ensures bad { result ≡ Err LineFault.Bad → ¬ MaySetBounds bounds session.old }
+    ensures memory { result ≡ Err LineFault.OutOfMemory → MaySetBounds bounds session.old }
 {
-    if desk.has_begun() {
-        return Err(LineFault::Bad);
+    match session.stage() {
+        Stage::Fresh => {}
+        Stage::Bounded | Stage::Begun => return Err(LineFault::Bad),
     }
     let Some(bounds) = bounds else {
         return Err(LineFault::Bad);
     };
-    desk.set_bounds(alloc, bounds)?;
-    desk.begin();
+    session.set_bounds(alloc, bounds)?;
     Ok(out.push_str("ok\n")?)
 }
 
-/// Declares a buffer, unless its name is declared already or its size is refused.
+/// Sets the limits, where there are such limits and no line has run but a setting of bounds.
+fn limits(
+    alloc: Global,
+    session: &mut Session,
+    buffers: u64,
+    mappings: u64,
+    items: u64,
+    out: &mut String,
+) -> Result<(), LineFault>
+    ensures done { OnOk result
+        (Wrote (Runs (line.Limits buffers mappings items)) session.old out.old out.new session.new) }
+    ensures bad { result ≡ Err LineFault.Bad → ¬ IsGood (line.Limits buffers mappings items) session.old }
+    ensures memory { result ≡ Err LineFault.OutOfMemory → IsGood (line.Limits buffers mappings items) session.old }
+{
+    if session.stage() == Stage::Begun {
+        return Err(LineFault::Bad);
+    }
+    let Some(limits) = Limits::new(buffers, mappings, items, MAX_TOLD) else {
+        return Err(LineFault::Bad);
+    };
+    session.set_limits(alloc, limits)?;
+    Ok(out.push_str("ok\n")?)
+}
+
+/// Makes a buffer, unless its name is declared already.
 fn buffer(
     alloc: Global,
-    desk: &mut Desk,
+    session: &mut Session,
     name: Name,
     pages: u64,
     out: &mut String,
 ) -> Result<(), LineFault>
-    ensures done { OnOk result (Told (answer desk.old (ServedLine.Buffer name pages)) out.old out.new desk.new) }
-    ensures bad { result ≡ Err LineFault.Bad → answer desk.old (ServedLine.Buffer name pages) ≡ None }
-    ensures memory { result ≡ Err LineFault.OutOfMemory → IsSome (answer desk.old (ServedLine.Buffer name pages)) }
+    ensures done { OnOk result (Wrote (Runs (line.Buffer name pages)) session.old out.old out.new session.new) }
+    ensures bad { result ≡ Err LineFault.Bad → ¬ IsGood (line.Buffer name pages) session.old }
+    ensures memory { result ≡ Err LineFault.OutOfMemory → IsGood (line.Buffer name pages) session.old }
 {
-    desk.begin();
-    match desk.declare(alloc, name, pages) {
-        None => Err(LineFault::Bad),
-        Some(Ok(())) => Ok(out.push_str("ok\n")?),
-        Some(Err(Fault::OutOfMemory)) => Err(LineFault::OutOfMemory),
-        Some(Err(fault)) => Ok(write_refused(out, &fault)?),
+    if session.buffers().id_of(&name).is_some() {
+        return Err(LineFault::Bad);
     }
+    let reply = session.make_buffer(alloc, name, pages)?;
+    Ok(write_said(out, session.buffers(), session.timelines(), &reply)?)
 }
 
 /// Destroys a buffer that nothing names.
-fn destroy(desk: &mut Desk, name: &Name, out: &mut String) -> Result<(), LineFault>
-    ensures done { OnOk result (Told (answer desk.old (ServedLine.Destroy name.now)) out.old out.new desk.new) }
-    ensures bad { result ≡ Err LineFault.Bad → answer desk.old (ServedLine.Destroy name.now) ≡ None }
-    ensures memory { result ≡ Err LineFault.OutOfMemory → IsSome (answer desk.old (ServedLine.Destroy name.now)) }
+fn destroy(
+    alloc: Global,
+    session: &mut Session,
+    name: &Name,
+    out: &mut String,
+) -> Result<(), LineFault>
+    ensures done { OnOk result (Wrote (Runs (line.Destroy name.now)) session.old out.old out.new session.new) }
+    ensures bad { result ≡ Err LineFault.Bad → ¬ IsGood (line.Destroy name.now) session.old }
+    ensures memory { result ≡ Err LineFault.OutOfMemory → IsGood (line.Destroy name.now) session.old }
 {
-    desk.begin();
-    match desk.destroy(name) {
-        None => Err(LineFault::Bad),
-        Some(Ok(())) => Ok(out.push_str("ok\n")?),
-        Some(Err(fault)) => Ok(write_refused(out, &fault)?),
-    }
+    let Some(id) = session.buffers().id_of(name) else {
+        return Err(LineFault::Bad);
+    };
+    once(alloc, session, Event::Destroy { id }, out)
 }
 
 /// Writes how many mappings of a buffer there are.
-fn uses(desk: &mut Desk, name: &Name, out: &mut String) -> Result<(), LineFault>
-    ensures done { OnOk result (Told (answer desk.old (ServedLine.Uses name.now)) out.old out.new desk.new) }
-    ensures bad { result ≡ Err LineFault.Bad → answer desk.old (ServedLine.Uses name.now) ≡ None }
-    ensures memory { result ≡ Err LineFault.OutOfMemory → IsSome (answer desk.old (ServedLine.Uses name.now)) }
+fn uses(session: &mut Session, name: &Name, out: &mut String) -> Result<(), LineFault>
+    ensures done { OnOk result (Wrote (Runs (line.Uses name.now)) session.old out.old out.new session.new) }
+    ensures bad { result ≡ Err LineFault.Bad → ¬ IsGood (line.Uses name.now) session.old }
+    ensures memory { result ≡ Err LineFault.OutOfMemory → IsGood (line.Uses name.now) session.old }
 {
-    desk.begin();
-    match desk.uses(name) {
-        None => Err(LineFault::Bad),
-        Some(Some((uses, kept))) => Ok(writeln!(out, "uses {uses} kept {kept}")?),
-        Some(None) => Ok(write_refused(out, &Fault::NoBuffer)?),
+    let Some(id) = session.buffers().id_of(name) else {
+        return Err(LineFault::Bad);
+    };
+    session.begin();
+    let space = session.world().vm().space();
+    match space.uses(id).zip(space.kept(id)) {
+        Some((uses, kept)) => Ok(writeln!(out, "uses {uses} kept {kept}")?),
+        None => Ok(write_refused(out, &Fault::NoBuffer)?),
     }
 }
 
-/// Changes the mappings by an operation, or refuses it.
-fn bind(
+/// Declares the next timeline, unless its name is declared already or all are.
+fn timeline(session: &mut Session, name: Name, out: &mut String) -> Result<(), LineFault>
+    ensures done { OnOk result (Wrote (Runs (line.Timeline name)) session.old out.old out.new session.new) }
+    ensures bad { result ≡ Err LineFault.Bad → ¬ IsGood (line.Timeline name) session.old }
+    ensures memory { result ≡ Err LineFault.OutOfMemory → IsGood (line.Timeline name) session.old }
+{
+    let timelines = session.timelines();
+    if timelines.place_of(&name).is_some() || timelines.len() as u64 >= TIMELINES {
+        return Err(LineFault::Bad);
+    }
+    session.declare_timeline(name)?;
+    Ok(out.push_str("ok\n")?)
+}
+
+/// Raises a timeline.
+fn raise(
     alloc: Global,
-    desk: &mut Desk,
-    operation: &Operation,
+    session: &mut Session,
+    point: &NamedPoint,
     out: &mut String,
 ) -> Result<(), LineFault>
-    ensures done { OnOk result ((lacks : Bool) ×
-        Told (answer_if lacks desk.old (ServedLine.Bind operation.now)) out.old out.new desk.new) }
-    ensures bad { result ≡ Err LineFault.Bad → answer desk.old (ServedLine.Bind operation.now) ≡ None }
-    ensures memory { result ≡ Err LineFault.OutOfMemory → IsSome (answer desk.old (ServedLine.Bind operation.now)) }
+    ensures done { OnOk result (Wrote (Runs (line.Raise point.now)) session.old out.old out.new session.new) }
+    ensures bad { result ≡ Err LineFault.Bad → ¬ IsGood (line.Raise point.now) session.old }
+    ensures memory { result ≡ Err LineFault.OutOfMemory → IsGood (line.Raise point.now) session.old }
 {
-    desk.begin();
-    match desk.bind(alloc, operation) {
-        None => Err(LineFault::Bad),
-        Some(Ok(number)) => Ok(writeln!(out, "accepted {number}")?),
-        Some(Err(fault)) => Ok(write_refused_request(out, &fault)?),
-    }
+    let Some(point) = point_named(session.timelines(), point) else {
+        return Err(LineFault::Bad);
+    };
+    once(alloc, session, Event::Raise { point }, out)
+}
+
+/// Writes the number of a timeline.
+fn value(session: &mut Session, name: &Name, out: &mut String) -> Result<(), LineFault>
+    ensures done { OnOk result (Wrote (Runs (line.Value name.now)) session.old out.old out.new session.new) }
+    ensures bad { result ≡ Err LineFault.Bad → ¬ IsGood (line.Value name.now) session.old }
+    ensures memory { result ≡ Err LineFault.OutOfMemory → IsGood (line.Value name.now) session.old }
+{
+    let Some(timeline) = session.timelines().place_of(name) else {
+        return Err(LineFault::Bad);
+    };
+    session.begin();
+    let number = session.world().clock().value(timeline);
+    Ok(write_number(out, session.timelines(), timeline, number)?)
+}
+
+/// Puts a request on its queue, and serves it.
+fn bind(
+    alloc: Global,
+    session: &mut Session,
+    clauses: &ClauseList<'_>,
+    out: &mut String,
+) -> Result<(), LineFault>
+    ensures done { OnOk result (Wrote (Runs (line.Bind clauses.now)) session.old out.old out.new session.new) }
+    ensures bad { result ≡ Err LineFault.Bad → ¬ IsGood (line.Bind clauses.now) session.old }
+    ensures memory { result ≡ Err LineFault.OutOfMemory → IsGood (line.Bind clauses.now) session.old }
+{
+    let request = request_of(alloc, session, clauses)?;
+    serve(alloc, session, clauses.queue(), request, out)
 }
 
 /// Writes the split steps of an operation, or why it would be refused.
 fn plan(
     alloc: Global,
-    desk: &mut Desk,
+    session: &mut Session,
     operation: &Operation,
     out: &mut String,
 ) -> Result<(), LineFault>
-    ensures done { OnOk result (Told (answer desk.old (ServedLine.Plan operation.now)) out.old out.new desk.new) }
-    ensures bad { result ≡ Err LineFault.Bad → answer desk.old (ServedLine.Plan operation.now) ≡ None }
-    ensures memory { result ≡ Err LineFault.OutOfMemory → IsSome (answer desk.old (ServedLine.Plan operation.now)) }
+    ensures done { OnOk result (Wrote (Runs (line.Plan operation.now)) session.old out.old out.new session.new) }
+    ensures bad { result ≡ Err LineFault.Bad → ¬ IsGood (line.Plan operation.now) session.old }
+    ensures memory { result ≡ Err LineFault.OutOfMemory → IsGood (line.Plan operation.now) session.old }
 {
-    desk.begin();
-    match desk.plan(alloc, operation) {
-        None => Err(LineFault::Bad),
-        Some(Ok(steps)) => Ok(write_steps(out, desk.names(), &steps)?),
-        Some(Err(Fault::OutOfMemory)) => Err(LineFault::OutOfMemory),
-        Some(Err(fault)) => Ok(write_refused(out, &fault)?),
+    let Some(op) = op_named(session.buffers(), operation) else {
+        return Err(LineFault::Bad);
+    };
+    session.begin();
+    match session.world().vm().space().plan(alloc, &op) {
+        Ok(steps) => Ok(write_steps(out, session.buffers(), &steps)?),
+        Err(Fault::OutOfMemory) => Err(LineFault::OutOfMemory),
+        Err(fault) => Ok(write_refused(out, &fault)?),
     }
 }
 
 /// Writes the list of mappings.
-fn map(desk: &mut Desk, out: &mut String) -> Result<(), LineFault>
-    ensures done { OnOk result (Told (answer desk.old ServedLine.Map) out.old out.new desk.new) }
-    ensures bad { result ≡ Err LineFault.Bad → answer desk.old ServedLine.Map ≡ None }
-    ensures memory { result ≡ Err LineFault.OutOfMemory → IsSome (answer desk.old ServedLine.Map) }
+fn map(session: &mut Session, out: &mut String) -> Result<(), LineFault>
+    ensures done { OnOk result (Wrote (Runs line.Map) session.old out.old out.new session.new) }
+    ensures memory { result ≢ Err LineFault.Bad }
 {
-    desk.begin();
-    Ok(write_mappings(out, desk.names(), desk.mappings())?)
+    session.begin();
+    let mappings = session.world().vm().space().mappings();
+    Ok(write_mappings(out, session.buffers(), mappings)?)
 }
 
-/// Writes what an address, in bytes, reaches.
-fn at(desk: &mut Desk, addr: u64, out: &mut String) -> Result<(), LineFault>
-    ensures done { OnOk result (Told (answer desk.old (ServedLine.At addr)) out.old out.new desk.new) }
-    ensures bad { result ≡ Err LineFault.Bad → answer desk.old (ServedLine.At addr) ≡ None }
-    ensures memory { result ≡ Err LineFault.OutOfMemory → IsSome (answer desk.old (ServedLine.At addr)) }
+/// Writes where an address, in bytes, leads.
+fn at(session: &mut Session, addr: u64, out: &mut String) -> Result<(), LineFault>
+    ensures done { OnOk result (Wrote (Runs (line.At addr)) session.old out.old out.new session.new) }
+    ensures memory { result ≢ Err LineFault.Bad }
 {
-    desk.begin();
-    let entry = desk.walk(addr / PAGE_BYTES);
-    Ok(write_place(out, desk.names(), entry, addr % PAGE_BYTES)?)
+    session.begin();
+    let place = session.world().vm().translate(addr);
+    Ok(write_place(out, session.buffers(), &place)?)
 }
 
 /// Writes how many tables the page table has, by level from the top.
-fn tables(desk: &mut Desk, out: &mut String) -> Result<(), LineFault>
-    ensures done { OnOk result (Told (answer desk.old ServedLine.Tables) out.old out.new desk.new) }
-    ensures bad { result ≡ Err LineFault.Bad → answer desk.old ServedLine.Tables ≡ None }
-    ensures memory { result ≡ Err LineFault.OutOfMemory → IsSome (answer desk.old ServedLine.Tables) }
+fn tables(session: &mut Session, out: &mut String) -> Result<(), LineFault>
+    ensures done { OnOk result (Wrote (Runs line.Tables) session.old out.old out.new session.new) }
+    ensures memory { result ≢ Err LineFault.Bad }
 {
-    desk.begin();
-    let [four, three, two, one, zero] = desk.tables();
+    session.begin();
+    let [four, three, two, one, zero] = session.world().vm().space().tables();
     Ok(write_tables(out, four, three, two, one, zero)?)
+}
+
+/// Writes the items of the journal.
+fn journal(alloc: Global, session: &mut Session, out: &mut String) -> Result<(), LineFault>
+    ensures done { OnOk result (Wrote (Runs line.Journal) session.old out.old out.new session.new) }
+    ensures memory { result ≢ Err LineFault.Bad }
+{
+    session.begin();
+    let vm = session.world().vm();
+    // For the prover: the next number is one of 64 bits.
+    let _next = vm.next();
+    Ok(write_journal(alloc, out, vm.first(), vm.items())?)
+}
+
+/// Writes what a queue was told.
+fn told(session: &mut Session, queue: u64, out: &mut String) -> Result<(), LineFault>
+    ensures done { OnOk result (Wrote (Runs (line.Told queue)) session.old out.old out.new session.new) }
+    ensures bad { result ≡ Err LineFault.Bad → ¬ IsGood (line.Told queue) session.old }
+    ensures memory { result ≡ Err LineFault.OutOfMemory → IsGood (line.Told queue) session.old }
+{
+    if queue >= QUEUES as u64 {
+        return Err(LineFault::Bad);
+    }
+    session.begin();
+    let outcomes = session.world().vm().told(queue);
+    Ok(write_told(out, session.timelines(), outcomes)?)
+}
+
+/// One call of the world, and what it replies.
+fn once(
+    alloc: Global,
+    session: &mut Session,
+    event: Event,
+    out: &mut String,
+) -> Result<(), LineFault>
+    ensures done { OnOk result (Wrote (DoesOnce event) session.old out.old out.new session.new) }
+    ensures memory { result ≢ Err LineFault.Bad }
+{
+    let reply = session.step(alloc, event)?;
+    Ok(write_said(out, session.buffers(), session.timelines(), &reply)?)
+}
+
+/// Withdraws an entry.
+fn withdraw(
+    alloc: Global,
+    session: &mut Session,
+    entry: u64,
+    out: &mut String,
+) -> Result<(), LineFault>
+    ensures done { OnOk result (Wrote (Runs (line.Withdraw entry)) session.old out.old out.new session.new) }
+    ensures memory { result ≢ Err LineFault.Bad }
+{
+    let reply = session.step(alloc, Event::Withdraw { entry })?;
+    Ok(write_withdrawn(out, entry, &reply)?)
+}
+
+/// Begins a job. Where its accesses are too many for any job, it is refused before there is memory for them.
+fn job(
+    alloc: Global,
+    session: &mut Session,
+    accesses: AccessList<'_>,
+    out: &mut String,
+) -> Result<(), LineFault>
+    ensures done { OnOk result (Wrote (Runs (line.Job accesses.entry)) session.old out.old out.new session.new) }
+    ensures memory { result ≢ Err LineFault.Bad }
+{
+    if are_too_many(&accesses) {
+        session.begin();
+        return Ok(write_refused(out, &Fault::TooManyAccesses)?);
+    }
+    let accesses = accesses_of(alloc, accesses)?;
+    once(alloc, session, Event::JobBegin { accesses }, out)
 }

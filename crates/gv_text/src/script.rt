@@ -5,11 +5,11 @@ ghost use Rattle.gv_text.specs.Reading.{script_limit, TellsLength, TellsReads, T
 ghost use Rattle.gv_text.specs.State.{start};
 ghost use Rattle.gv_text.specs.Script.{IsRun, StopsAt, IsStart, Ends, LineEnds};
 
-use crate::desk::Desk;
 use crate::device::{Sink, Source};
-use crate::fault::ScriptFault;
+use crate::fault::{LineFault, ScriptFault};
 use crate::output::Output;
-use crate::run::{LineFault, run_text};
+use crate::run::run_text;
+use crate::session::Session;
 use crate::transfer::read_script;
 use gv_lines::split_once;
 use std::alloc::Global;
@@ -56,7 +56,7 @@ pub fn run_script<R: Source, W: Sink>(
     outcome
 }
 
-/// Runs the lines of a script on a desk of their own.
+/// Runs the lines of a script in a session of their own.
 fn run_lines<W: Sink>(
     alloc: Global,
     script: &[u8],
@@ -68,22 +68,22 @@ fn run_lines<W: Sink>(
     ensures ends { Ends script.now (W.written writer.old) (append_known (W.written writer.new) output.new) result }
     ensures fault { TellsWrites (W.failed writer.old) (W.failed writer.new) result }
 {
-    let mut desk = Desk::new(alloc)?;
-    let outcome = run_each(alloc, &mut desk, script, output, writer);
-    desk.close();
+    let mut session = Session::new(alloc)?;
+    let outcome = run_each(alloc, &mut session, script, output, writer);
+    session.close();
     outcome
 }
 
 /// Runs the lines of a script one after another.
 fn run_each<W: Sink>(
     alloc: Global,
-    desk: &mut Desk,
+    session: &mut Session,
     script: &[u8],
     output: &mut Output,
     writer: &mut W,
 ) -> Result<(), ScriptFault>
     requires short { length script.now ≤ script_limit }
-    requires start { desk.old ≡ start }
+    requires start { session.old ≡ start }
     requires fresh { output.old ≡ [] }
     ensures ends { Ends script.now (W.written writer.old) (append_known (W.written writer.new) output.new) result }
     ensures fault { TellsWrites (W.failed writer.old) (W.failed writer.new) result }
@@ -92,7 +92,7 @@ fn run_each<W: Sink>(
     let mut rest = script;
     let mut done: u64 = 0;
     while let Some((line, after)) = split_once(rest, b'\n') {
-        run_line(alloc, desk, line, done + 1, &mut reply, output, writer)?;
+        run_line(alloc, session, line, done + 1, &mut reply, output, writer)?;
         rest = after;
         done += 1;
     }
@@ -106,19 +106,19 @@ fn run_each<W: Sink>(
 /// Runs the line of this number, and sends its reply on its way.
 fn run_line<W: Sink>(
     alloc: Global,
-    desk: &mut Desk,
+    session: &mut Session,
     line: &[u8],
     number: u64,
     reply: &mut String,
     output: &mut Output,
     writer: &mut W,
 ) -> Result<(), ScriptFault>
-    ensures ends { LineEnds desk.old line.now number desk.new (append_known (W.written writer.old) output.old)
+    ensures ends { LineEnds session.old line.now number session.new (append_known (W.written writer.old) output.old)
         (append_known (W.written writer.new) output.new) result }
     ensures fault { TellsWrites (W.failed writer.old) (W.failed writer.new) result }
 {
     reply.clear();
-    match run_text(alloc, desk, line, reply) {
+    match run_text(alloc, session, line, reply) {
         Ok(()) => Ok(output.push(writer, reply.as_bytes())?),
         Err(LineFault::Bad) => Err(ScriptFault::BadLine { line: number }),
         Err(LineFault::OutOfMemory) => Err(ScriptFault::OutOfMemory),

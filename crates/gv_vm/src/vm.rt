@@ -92,6 +92,20 @@ impl Vm {
         self.journal.items()
     }
 
+    /// The number of the oldest entry that is held, and of the next one where none is.
+    pub fn first(&self) -> u64
+        ensures { result ≡ self.now.journal.first }
+    {
+        self.journal.first()
+    }
+
+    /// The number of the next entry.
+    pub fn next(&self) -> u64
+        ensures { result ≡ next self.now.journal }
+    {
+        self.journal.next()
+    }
+
     /// What a queue was told, in the order of the requests' numbers.
     pub fn told(&self, queue: u64) -> &[Outcome]
         requires { queue < queues }

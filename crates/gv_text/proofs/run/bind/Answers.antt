@@ -1,7 +1,24 @@
-use Rattle.gv_text.proofs.Tells.{tells_refused_bind}
+use Rattle.std.proofs.Common.{◌≡◌, List, sym, ap, subst, refl, ℕ}
+use Rattle.std.specs.List.{flat_map, list_any}
+use Rattle.gv_text.specs.Events.{serving, IsCarriedOut}
+use Rattle.gv_text.specs.Said.{told, is_lacking}
+use Rattle.gv_text.proofs.Servings.{then_ok}
 use Rattle.gv_text.proofs.run.bind.Goals as goal
 
-pub returns-in_ok-write_refused_request-in-Some-Err-clause-done : goal.returns-in_ok-write_refused_request-in-Some-Err-clause-done
-returns-in_ok-write_refused_request-in-Some-Err-clause-done c =
-    tells_refused_bind c.args.desk.now c.bind.new.self c.args.operation.now c.in-Some-Err.fault c.args.out.now c.write_refused_request.new.out (rw (c.begin.ensures, c.in-Some-Err.field-0-is) at c.in-Some-Err.ensures)
-    c.in_ok-write_refused_request-in-Some-Err.ensures
+pub returns-clause-done : goal.returns-clause-done
+returns-clause-done c =
+    let s = c.args.session.now in
+    then_ok c.serve.result _ _ (λ ran. record {
+      written = record { text = flat_map (told s.timelines) ran.0; lacking = list_any is_lacking ran.0 };
+      text = ran.1.wrote;
+      runs = record {
+        request = c.in_ok-request.request;
+        asked = c.in_ok-request.ensures.request;
+        does = record {
+          replies = ran.0;
+          carried_out = subst (λ (q : ℕ). IsCarriedOut (serving q c.in_ok-request.request) s.world ran.0 c.serve.new.session.world) c.queue.ensures ran.2;
+          written = refl;
+          state = ran.1.state;
+        };
+      };
+    }) c.serve.ensures.goes

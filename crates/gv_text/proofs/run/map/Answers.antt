@@ -1,10 +1,8 @@
-use Rattle.gv_text.specs.State.{texts}
-use Rattle.gv_text.proofs.Tells.{tells_map}
+use Rattle.std.proofs.Common.{◌∙◌, sym, ap, subst}
+use Rattle.gv_text.specs.State.{IsHeld}
+use Rattle.std.specs.List.{All}
+use Rattle.gv_text.proofs.Held.{held_list}
 use Rattle.gv_text.proofs.run.map.Goals as goal
 
-pub returns-clause-done : goal.returns-clause-done
-returns-clause-done c = (
-  tells_map c.args.desk.now (texts c.names.result.now.entries) c.mappings.result.now _ _ (rw c.begin.ensures at c.names.ensures)
-      (rw c.begin.ensures at c.mappings.ensures.value) c.in_ok-write_mappings.ensures,
-  c.begin.ensures,
-)
+pub write_mappings-requires : goal.write_mappings-requires
+write_mappings-requires c = subst (All IsHeld) (sym c.mappings-mappings.ensures.value) (held_list c.space.result.now c.mappings-mappings.ensures.space)

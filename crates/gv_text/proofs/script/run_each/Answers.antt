@@ -4,7 +4,8 @@ use Rattle.gv_lines.proofs.PartsLemmas.{parts_some}
 use Rattle.std.proofs.lemmas.Result.{err_from_is_err_and}
 use Rattle.gv_text.specs.Script.{one_if}
 use Rattle.gv_text.proofs.Front.{front_more}
-use Rattle.gv_text.proofs.Outcomes.{outcome_of_run}
+use Rattle.gv_text.specs.Script.{RunsWhole}
+use Rattle.gv_text.proofs.Alike.{only_whole}
 use Rattle.gv_text.proofs.Ends.{line_ends, tells_from, stops_at, empty_from}
 use Rattle.gv_text.proofs.script.run_each.Goals as goal
 
@@ -13,7 +14,7 @@ returns-in_err-run_line-clause-ends g c =
     let p = err_from_is_err_and c.from_residual.result c.from_residual.ensures.1 in
     let front = rw c.in-Some.ensures.parts at c.loop-line.invariant.front in
     rw (p.1, p.2)
-    (line_ends (Unit {0}) (Unit {0}) _ _ _ _ _ _ _ c.run_line.new.desk _ _ _ _ c.requires.short front (parts_some 10 c.in-Some.after.now) c.loop-line.invariant.wrote c.in_err-run_line.ensures.ends)
+    (line_ends (Unit {0}) (Unit {0}) _ _ _ _ _ _ _ c.run_line.new.session _ _ _ _ c.requires.short front (parts_some 10 c.in-Some.after.now) c.loop-line.invariant.wrote c.in_err-run_line.ensures.ends)
 
 pub returns-in_err-run_line-clause-fault : goal.returns-in_err-run_line-clause-fault
 returns-in_err-run_line-clause-fault g c =
@@ -26,10 +27,10 @@ loop-line-preserved g c =
     let front = rw c.in-Some.ensures.parts at c.loop-line.invariant.front in
     let ran = c.in_ok-run_line.ensures.ends in
     record {
-      text = c.loop-line.invariant.text ++ ran.1;
-      refusals = c.loop-line.invariant.refusals + one_if ran.0;
-      front = front_more _ _ _ _ _ _ _ _ _ _ front ran.2;
-      wrote = Appends-trans _ _ _ _ _ c.loop-line.invariant.wrote ran.3;
+      text = c.loop-line.invariant.text ++ ran.0.text;
+      refusals = c.loop-line.invariant.refusals + one_if ran.0.lacking;
+      front = front_more _ _ _ _ _ _ _ _ _ front ran.1;
+      wrote = Appends-trans _ _ _ _ _ c.loop-line.invariant.wrote ran.2;
       flag = c.in_ok-run_line.ensures.fault ∙ c.loop-line.invariant.flag;
       left = omega (arith, c.in-Some.ensures.shorter);
     }
@@ -37,15 +38,15 @@ loop-line-preserved g c =
 pub returns-then-is_empty-clause-ends : goal.returns-then-is_empty-clause-ends
 returns-then-is_empty-clause-ends g c =
     let none : c.loop-line.rest.now ≡ [] = empty_from c.loop-line.rest.now c.if-is_empty.ensures in
-    let front = rw (c.in_default.ensures.parts, none) at c.loop-line.invariant.front in (
+    let front = rw (c.in_default.ensures.parts, none) at c.loop-line.invariant.front in
+    let whole : RunsWhole c.args.script.now c.loop-line.invariant.text c.loop-line.invariant.refusals =
+    record { count = c.loop-line.done; now = c.loop-line.session; front = front } in (
       c.loop-line.invariant.text,
       record {
         short = c.requires.short;
-        count = c.loop-line.done;
         refusals = c.loop-line.invariant.refusals;
-        now = c.loop-line.desk;
-        front = front;
-        ample = outcome_of_run _ _ _ _ _ front;
+        whole = whole;
+        ample = only_whole _ _ _ whole;
       },
       c.loop-line.invariant.wrote,
     )

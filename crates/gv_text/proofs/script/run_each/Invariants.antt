@@ -8,7 +8,7 @@ abbrev pub invariant-loop-line : goal.invariant-loop-line
 invariant-loop-line g l = record {
   text : List ℕ;
   refusals : ℕ;
-  front : IsFront l.script text (parts 10 l.rest) l.done refusals l.desk;
+  front : IsFront l.script text (parts 10 l.rest) l.done refusals l.session;
   wrote : Appends (g.W.Sink.written l.initial.writer) (append_known (g.W.Sink.written l.writer) l.output) text;
   flag : g.W.Sink.failed l.writer ≡ g.W.Sink.failed l.initial.writer;
   left : l.done + length l.rest ≤ length l.script;

@@ -1,0 +1,87 @@
+-- What single lines do.
+use Rattle.std.proofs.Common.{◌≡◌, ◌≢◌, ℕ, List, [], ◌∷◌, ◌++◌, true, false, Bool, Option, Some, None, IsSome, option_map, is_some, Result, Ok, Err, MatchOption, IsOkUnless, String, string_bytes, refl, sym, ap, ◌∙◌, subst, append-nil, append_assoc, add-zero, ◌+◌, ◌<◌, length, take, get_or, nat_lt, arith, codes, decimal}
+use Rattle.std.proofs.lemmas.Bool.Decides.{nat_tests}
+use Rattle.std.proofs.lemmas.List.{take_more, length-take-le}
+use Rattle.std.specs.List.{flat_map, list_any}
+use Rattle.std.specs.declared.alloc.Global.{Global}
+use Rattle.gv_types.specs.declared.fault.Fault.{Fault}
+use Rattle.gv_types.specs.declared.fault.Fault.TheVariants.{OutOfMemory}
+use Rattle.gv_types.specs.declared.fault.Fault.TheVariants.{TooManyAccesses}
+use Rattle.gv_vm.specs.Jobs.{Running, most_accesses, many_fault}
+use Rattle.gv_vm.specs.declared.outcome.Outcome.{Outcome}
+use Rattle.gv_vm.specs.World.{World}
+use Rattle.gv_vm.specs.declared.event.Event.{Event}
+use Rattle.gv_vm.specs.declared.event.Reply.{Reply}
+use Rattle.gv_text.specs.State.{State, begun}
+use Rattle.gv_text.specs.Events.{once, IsCarriedOut, Steps}
+use Rattle.gv_text.specs.Reply.{reply, outcome_text, outcome_lines}
+use Rattle.gv_text.specs.Said.{is_lacking}
+use Rattle.gv_text.specs.Line.{Written, plain, Does, Answers, Of}
+use Rattle.gv_text.specs.Serving.{nothing, Wrote}
+use Rattle.gv_text.proofs.Servings.{goes_first, carried_out}
+
+-- one event was asked, and no more is
+pub once_done : (event : Event) (reply : Reply) (w v : World) → Steps w event reply v → IsCarriedOut (once event) w (reply ∷ []) v
+once_done event reply w v here = carried_out (once event) nothing w v (reply ∷ []) refl (goes_first (once event) nothing event reply w v refl here (λ later. refl))
+
+-- and its reply was written
+pub wrote_once : (event : Event) (say : Reply → List ℕ) (s t : State) (reply : Reply) (old out : String Global) → Steps s.world event reply t.world →
+    t ≡ record (begun s) { world = t.world } → string_bytes out ≡ string_bytes old ++ say reply → Wrote (Does (once event) (flat_map say)) s old out t
+wrote_once event say s t reply old out here state bytes = record {
+  written = record { text = flat_map say (reply ∷ []); lacking = list_any is_lacking (reply ∷ []) };
+  text = bytes ∙ ap (λ (text : List ℕ). string_bytes old ++ text) (sym (append-nil (say reply)));
+  runs = record { replies = reply ∷ []; carried_out = once_done event reply s.world t.world here; written = refl; state = state };
+}
+
+-- what was written is what a line does
+pub wrote_as : (R Q : State → Written → State → Type 0) (s t : State) (old out : String Global) → ((w : Written) → R s w t → Q s w t) → Wrote R s old out t → Wrote Q s old out t
+wrote_as R Q s t old out so wrote = record { written = wrote.written; text = wrote.text; runs = so wrote.written wrote.runs }
+
+-- a line wrote this, and memory was refused to no request
+pub wrote_plain : (R : State → Written → State → Type 0) (s t : State) (text : List ℕ) (old out : String Global) → string_bytes out ≡ string_bytes old ++ text → R s (plain text) t →
+    Wrote R s old out t
+wrote_plain R s t text old out bytes runs = record { written = plain text; text = bytes; runs = runs }
+
+-- what is there is the one that was found
+pub of_found : {X : Type 0} (o : Option X) (x : X) (P : X → Type 0) → Some x ≡ o → P x → Of o P
+of_found o x P is holds = subst (λ (r : Option _). Of r P) is holds
+
+-- a fault that is not want of memory is the one that stands before
+pub fault_but_memory : (T : Type 0) (o : Option Fault) (why : Fault) → MatchOption o (IsOkUnless {T = T} {E = Fault} (Err why) OutOfMemory) (λ fault. ◌≡◌ {A = Result T Fault} (Err why) (Err fault)) →
+    why ≢ OutOfMemory → o ≡ Some why
+fault_but_memory T None why is apart = absurd (apart is)
+fault_but_memory T (Some fault) why is apart = let same : fault ≡ why = cc in ap (λ (f : Fault). Some f) same
+
+pub none_from_ok : {T : Type 0} (o : Option Fault) (done : T) → MatchOption o (IsOkUnless {T = T} {E = Fault} (Ok done) OutOfMemory) (λ fault. ◌≡◌ {A = Result T Fault} (Ok done) (Err fault)) → o ≡ None
+none_from_ok None done is = refl
+none_from_ok (Some fault) done is = absurd cc
+
+pub none_of : {X : Type 0} (o : Option X) → is_some o ≡ false → o ≡ None
+none_of None none = refl
+none_of (Some x) none = absurd cc
+
+-- a job with more accesses than any job may have
+pub too_many : (r : Running) (count : ℕ) → most_accesses < count → many_fault r count ≡ Some TooManyAccesses
+too_many r count many = let test : nat_lt most_accesses count ≡ true = grind (arith, nat_tests) in rw test refl
+
+-- outcomes on their lines, and some more
+outcome_lines-append : (timelines : List (List ℕ)) (number : ℕ) (xs ys : List Outcome) →
+    outcome_lines timelines number (xs ++ ys) ≡ outcome_lines timelines number xs ++ outcome_lines timelines (number + length xs) ys
+outcome_lines-append timelines number [] ys = ap (λ (n : ℕ). outcome_lines timelines n ys) (sym (add-zero number))
+outcome_lines-append timelines number (x ∷ xs) ys =
+    let here : List ℕ = reply (decimal number ∷ codes " " ∷ outcome_text timelines x ∷ []) in
+    let count : number + 1 + length xs ≡ number + length (x ∷ xs) = omega arith in
+    ap (λ (bytes : List ℕ). here ++ bytes) (outcome_lines-append timelines (number + 1) xs ys)
+    ∙ sym (append_assoc here (outcome_lines timelines (number + 1) xs) (outcome_lines timelines (number + 1 + length xs) ys))
+    ∙ ap (λ (n : ℕ). (here ++ outcome_lines timelines (number + 1) xs) ++ outcome_lines timelines n ys) count
+
+pub outcome_lines-more : (timelines : List (List ℕ)) (k : ℕ) (outcomes : List Outcome) (d : Outcome) → k < length outcomes →
+    outcome_lines timelines 0 (take (k + 1) outcomes)
+    ≡ outcome_lines timelines 0 (take k outcomes) ++ reply (decimal k ∷ codes " " ∷ outcome_text timelines (get_or outcomes k d) ∷ [])
+outcome_lines-more timelines k outcomes d below =
+    let taken : length (take k outcomes) ≡ k = length-take-le k outcomes (omega arith) in
+    let count : 0 + length (take k outcomes) ≡ k = omega (arith, taken) in
+    ap (outcome_lines timelines 0) (take_more outcomes k d below)
+    ∙ outcome_lines-append timelines 0 (take k outcomes) (get_or outcomes k d ∷ [])
+    ∙ ap (λ (n : ℕ). outcome_lines timelines 0 (take k outcomes) ++ outcome_lines timelines n (get_or outcomes k d ∷ [])) count
+    ∙ ap (λ (bytes : List ℕ). outcome_lines timelines 0 (take k outcomes) ++ bytes) (append-nil _)

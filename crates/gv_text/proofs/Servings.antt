@@ -1,0 +1,255 @@
+-- How a line goes on with its events.
+use Rattle.std.proofs.Common.{◌≡◌, ◌≢◌, ℕ, zero, suc, ◌+◌, ◌<◌, List, [], ◌∷◌, ◌++◌, length, drop, Option, Some, None, String, string_bytes, refl, sym, ap, ◌∙◌, subst, append_assoc, append-nil, arith, true, false, Result, Ok, Err, OnOk}
+use Rattle.std.specs.List.{flat_map}
+use Rattle.std.specs.declared.alloc.Global.{Global}
+use Rattle.gv_types.specs.declared.request.Point.{Point}
+use Rattle.gv_types.specs.declared.request.Request.{Request}
+use Rattle.gv_vm.specs.World.{World}
+use Rattle.gv_vm.specs.Run.{RunsWith}
+use Rattle.gv_vm.specs.declared.event.Event.{Event}
+use Rattle.gv_vm.specs.declared.event.Event.TheVariants.{Put, Take, Look, Bind, GiveUp, Pay}
+use Rattle.gv_vm.specs.declared.event.Reply.{Reply}
+use Rattle.gv_vm.specs.declared.event.Reply.TheVariants.{Put as IsPut, Taken, Reached, Lacking, Told, Raised}
+use Rattle.gv_vm.specs.declared.outcome.Outcome.TheVariants.{Accepted, Refused, NotReady}
+use Rattle.gv_text.specs.State.{State, begun}
+use Rattle.gv_text.specs.Events.{Plan, once, serving, taking, looks, carrying_out, payments, AreAsked, IsUnderWay, IsCarriedOut, IsSound, Steps}
+use Rattle.gv_text.specs.Said.{told}
+use Rattle.gv_text.specs.Serving.{nothing, GoesOn, Goes, Tells, is_put, is_taken, is_accepted, is_raised, looked_of, after_looks}
+use Rattle.gv_text.specs.declared.serve.Looked.{Looked}
+use Rattle.gv_text.specs.declared.serve.Looked.TheVariants.{AllReached, Lacked, Other}
+
+-- nothing was asked yet
+pub goes_nil : (plan : Plan) (w : World) → Goes plan w [] w plan
+goes_nil plan w = record {
+  under_way = record { events = []; asked = tt; ran = refl };
+  goes_on = λ later. refl;
+}
+
+-- one event was asked
+pub goes_first : (plan next : Plan) (event : Event) (reply : Reply) (w v : World) → plan [] ≡ Some event → Steps w event reply v →
+    ((later : List Reply) → plan (reply ∷ later) ≡ next later) → Goes plan w (reply ∷ []) v next
+goes_first plan next event reply w v is here on = record {
+  under_way = record { events = event ∷ []; asked = (is, tt); ran = (v, here.0, here.1, refl) };
+  goes_on = on;
+}
+
+same_asked : (p q : Plan) (events : List Event) (replies : List Reply) → ((later : List Reply) → p later ≡ q later) → AreAsked q events replies → AreAsked p events replies
+same_asked p q [] [] same asked = tt
+same_asked p q (event ∷ events) (reply ∷ replies) same asked =
+    (same [] ∙ asked.0, same_asked (λ later. p (reply ∷ later)) (λ later. q (reply ∷ later)) events replies (λ later. same (reply ∷ later)) asked.1)
+same_asked p q [] (reply ∷ replies) same asked = asked
+same_asked p q (event ∷ events) [] same asked = asked
+
+asked-append : (p q : Plan) (events : List Event) (replies : List Reply) (more : List Event) (later : List Reply) →
+    AreAsked p events replies → GoesOn p replies q → AreAsked q more later → AreAsked p (events ++ more) (replies ++ later)
+asked-append p q [] [] more later asked on rest = same_asked p q more later on rest
+asked-append p q (event ∷ events) (reply ∷ replies) more later asked on rest =
+    (asked.0, asked-append (λ ls. p (reply ∷ ls)) q events replies more later asked.1 on rest)
+asked-append p q [] (reply ∷ replies) more later asked on rest = absurd asked
+asked-append p q (event ∷ events) [] more later asked on rest = absurd asked
+
+run-append : (w v u : World) (events : List Event) (replies : List Reply) (more : List Event) (later : List Reply) →
+    RunsWith IsSound w events replies v → RunsWith IsSound v more later u → RunsWith IsSound w (events ++ more) (replies ++ later) u
+run-append w v u [] [] more later first rest = subst (λ (x : World). RunsWith IsSound x more later u) first rest
+run-append w v u (event ∷ events) (reply ∷ replies) more later first rest =
+    (first.0, first.1, first.2, run-append first.0 v u events replies more later first.3 rest)
+run-append w v u [] (reply ∷ replies) more later first rest = absurd first
+run-append w v u (event ∷ events) [] more later first rest = absurd first
+
+pub goes_trans : (p q r : Plan) (w v u : World) (replies later : List Reply) → Goes p w replies v q → Goes q v later u r → Goes p w (replies ++ later) u r
+goes_trans p q r w v u replies later first rest = record {
+  under_way = record {
+    events = first.under_way.events ++ rest.under_way.events;
+    asked = asked-append p q first.under_way.events replies rest.under_way.events later first.under_way.asked first.goes_on rest.under_way.asked;
+    ran = run-append w v u first.under_way.events replies rest.under_way.events later first.under_way.ran rest.under_way.ran;
+  };
+  goes_on = λ more. ap p (append_assoc replies later more) ∙ first.goes_on (later ++ more) ∙ rest.goes_on more;
+}
+
+-- the same, where the plan goes on as one that says the same
+pub goes_as : (p q r : Plan) (w v : World) (replies : List Reply) → ((later : List Reply) → q later ≡ r later) → Goes p w replies v q → Goes p w replies v r
+goes_as p q r w v replies same goes = record { under_way = goes.under_way; goes_on = λ later. goes.goes_on later ∙ same later }
+
+pub carried_out : (p q : Plan) (w v : World) (replies : List Reply) → q [] ≡ None → Goes p w replies v q → IsCarriedOut p w replies v
+carried_out p q w v replies none goes = record {
+  under_way = goes.under_way;
+  done = ap p (sym (append-nil replies)) ∙ goes.goes_on [] ∙ none;
+}
+
+-- what is told
+
+flat_map-append : {X Y : Type 0} (f : X → List Y) (xs ys : List X) → flat_map f (xs ++ ys) ≡ flat_map f xs ++ flat_map f ys
+flat_map-append f [] ys = refl
+flat_map-append f (x ∷ xs) ys = ap (λ (l : List _). f x ++ l) (flat_map-append f xs ys) ∙ sym (append_assoc (f x) (flat_map f xs) (flat_map f ys))
+
+pub tells_nil : (s t : State) (out : String Global) → t ≡ begun s → Tells s t [] out out
+tells_nil s t out is = record {
+  state = rw is refl;
+  wrote = sym (append-nil (string_bytes out));
+}
+
+pub tells_trans : (s t u : State) (replies later : List Reply) (old mid out : String Global) →
+    Tells s t replies old mid → Tells t u later mid out → Tells s u (replies ++ later) old out
+tells_trans s t u replies later old mid out first rest =
+    let names : t.timelines ≡ s.timelines = ap (λ (x : State). x.timelines) first.state in
+    let more : flat_map (told t.timelines) later ≡ flat_map (told s.timelines) later = ap (λ (ns : List (List ℕ)). flat_map (told ns) later) names in
+    record {
+      state = rest.state ∙ ap (λ (x : State). let y : State = record (begun x) { world = u.world } in y) first.state;
+      wrote = rest.wrote ∙ ap (λ (bytes : List ℕ). bytes ++ flat_map (told t.timelines) later) first.wrote
+          ∙ append_assoc (string_bytes old) (flat_map (told s.timelines) replies) (flat_map (told t.timelines) later)
+          ∙ ap (λ (bytes : List ℕ). string_bytes old ++ (flat_map (told s.timelines) replies ++ bytes)) more
+          ∙ ap (λ (bytes : List ℕ). string_bytes old ++ bytes) (sym (flat_map-append (told s.timelines) replies later));
+    }
+
+-- The steps of a request.
+
+put_goes : (queue : ℕ) (request : Request) (reply : Reply) → is_put reply ≡ true → (later : List Reply) → serving queue request (reply ∷ later) ≡ taking queue request later
+put_goes queue request (IsPut number) is later = refl
+put_goes queue request reply is later = cc
+
+not_put : (queue : ℕ) (request : Request) (reply : Reply) → is_put reply ≡ false → (later : List Reply) → serving queue request (reply ∷ later) ≡ None
+not_put queue request (IsPut number) is later = cc
+not_put queue request reply is later = refl
+
+taken_goes : (queue : ℕ) (request : Request) (reply : Reply) → is_taken reply ≡ true → (later : List Reply) →
+    taking queue request (reply ∷ later) ≡ looks queue request.waits.items request.signals.items later
+taken_goes queue request (Taken number) is later = refl
+taken_goes queue request reply is later = cc
+
+not_taken : (queue : ℕ) (request : Request) (reply : Reply) → is_taken reply ≡ false → (later : List Reply) → taking queue request (reply ∷ later) ≡ None
+not_taken queue request (Taken number) is later = cc
+not_taken queue request reply is later = refl
+
+reached_goes : (queue : ℕ) (point : Point) (points signals : List Point) (reply : Reply) → looked_of reply ≡ AllReached → (later : List Reply) →
+    looks queue (point ∷ points) signals (reply ∷ later) ≡ looks queue points signals later
+reached_goes queue point points signals (Reached at seen) is later = refl
+reached_goes queue point points signals (Lacking at have) is later = cc
+reached_goes queue point points signals reply is later = cc
+
+look_ends : (queue : ℕ) (point : Point) (points signals : List Point) (reply : Reply) → looked_of reply ≢ AllReached → (later : List Reply) →
+    looks queue (point ∷ points) signals (reply ∷ later) ≡ after_looks queue signals (looked_of reply) later
+look_ends queue point points signals (Reached at seen) is later = absurd (is refl)
+look_ends queue point points signals (Lacking at have) is later = refl
+look_ends queue point points signals reply is later = refl
+
+raised_goes : (queue : ℕ) (point : Point) (points : List Point) (reply : Reply) → is_raised reply ≡ true → (later : List Reply) →
+    payments queue (point ∷ points) (reply ∷ later) ≡ payments queue points later
+raised_goes queue point points (Raised at now) is later = refl
+raised_goes queue point points reply is later = cc
+
+not_raised : (queue : ℕ) (point : Point) (points : List Point) (reply : Reply) → is_raised reply ≡ false → (later : List Reply) →
+    payments queue (point ∷ points) (reply ∷ later) ≡ None
+not_raised queue point points (Raised at now) is later = cc
+not_raised queue point points reply is later = refl
+
+accepted_goes : (queue : ℕ) (signals : List Point) (reply : Reply) → is_accepted reply ≡ true → (later : List Reply) →
+    carrying_out queue signals (reply ∷ later) ≡ payments queue signals later
+accepted_goes queue signals (Told number (Accepted entry)) is later = refl
+accepted_goes queue signals (Told number (Refused op fault)) is later = cc
+accepted_goes queue signals (Told number (NotReady point have)) is later = cc
+accepted_goes queue signals reply is later = cc
+
+not_accepted : (queue : ℕ) (signals : List Point) (reply : Reply) → is_accepted reply ≡ false → (later : List Reply) →
+    carrying_out queue signals (reply ∷ later) ≡ None
+not_accepted queue signals (Told number (Accepted entry)) is later = cc
+not_accepted queue signals (Told number (Refused op fault)) is later = refl
+not_accepted queue signals (Told number (NotReady point have)) is later = refl
+not_accepted queue signals reply is later = refl
+
+-- the first of the points that are left
+next_point : (k : ℕ) (points : List Point) → k < length points → (p : Point) × (drop k points ≡ p ∷ drop (k + 1) points)
+next_point k [] below = absurd (omega arith)
+next_point zero (p ∷ points) below = (p, refl)
+next_point (suc k) (p ∷ points) below =
+    let q = next_point k points (omega arith) in
+    let e : suc (k + 1) ≡ suc k + 1 = omega arith in
+    (q.0, q.1 ∙ ap (λ (n : ℕ). q.0 ∷ drop n (p ∷ points)) e)
+
+pub put_goes_on : (queue : ℕ) (request : Request) (reply : Reply) (w v : World) → Steps w (Put queue request) reply v → is_put reply ≡ true →
+    Goes (serving queue request) w (reply ∷ []) v (taking queue request)
+put_goes_on queue request reply w v here is = goes_first (serving queue request) (taking queue request) (Put queue request) reply w v refl here (put_goes queue request reply is)
+
+pub put_stops : (queue : ℕ) (request : Request) (reply : Reply) (w v : World) → Steps w (Put queue request) reply v → is_put reply ≡ false →
+    IsCarriedOut (serving queue request) w (reply ∷ []) v
+put_stops queue request reply w v here is =
+    carried_out (serving queue request) nothing w v (reply ∷ []) refl (goes_first (serving queue request) nothing (Put queue request) reply w v refl here (not_put queue request reply is))
+
+pub taken_goes_on : (queue : ℕ) (request : Request) (reply : Reply) (w v : World) → Steps w (Take queue) reply v → is_taken reply ≡ true →
+    Goes (taking queue request) w (reply ∷ []) v (looks queue request.waits.items request.signals.items)
+taken_goes_on queue request reply w v here is =
+    goes_first (taking queue request) (looks queue request.waits.items request.signals.items) (Take queue) reply w v refl here (taken_goes queue request reply is)
+
+pub taken_stops : (queue : ℕ) (request : Request) (reply : Reply) (w v : World) → Steps w (Take queue) reply v → is_taken reply ≡ false →
+    Goes (taking queue request) w (reply ∷ []) v nothing
+taken_stops queue request reply w v here is = goes_first (taking queue request) nothing (Take queue) reply w v refl here (not_taken queue request reply is)
+
+pub gives_up : (queue : ℕ) (reply : Reply) (w v : World) → Steps w (GiveUp queue) reply v → Goes (once (GiveUp queue)) w (reply ∷ []) v nothing
+gives_up queue reply w v here = goes_first (once (GiveUp queue)) nothing (GiveUp queue) reply w v refl here (λ later. refl)
+
+pub bound_goes_on : (queue : ℕ) (signals : List Point) (reply : Reply) (w v : World) → Steps w (Bind queue) reply v → is_accepted reply ≡ true →
+    Goes (carrying_out queue signals) w (reply ∷ []) v (payments queue signals)
+bound_goes_on queue signals reply w v here is =
+    goes_first (carrying_out queue signals) (payments queue signals) (Bind queue) reply w v refl here (accepted_goes queue signals reply is)
+
+pub bound_stops : (queue : ℕ) (signals : List Point) (reply : Reply) (w v : World) → Steps w (Bind queue) reply v → is_accepted reply ≡ false →
+    Goes (carrying_out queue signals) w (reply ∷ []) v nothing
+bound_stops queue signals reply w v here is = goes_first (carrying_out queue signals) nothing (Bind queue) reply w v refl here (not_accepted queue signals reply is)
+
+-- Looks and payments, so many of which are done.
+
+pub look_goes_on : (queue k : ℕ) (points signals : List Point) (reply : Reply) (w v : World) → k < length points → Steps w (Look queue) reply v → looked_of reply ≡ AllReached →
+    Goes (looks queue (drop k points) signals) w (reply ∷ []) v (looks queue (drop (k + 1) points) signals)
+look_goes_on queue k points signals reply w v below here is =
+    let p = next_point k points below in
+    rw p.1
+    (goes_first (looks queue (p.0 ∷ drop (k + 1) points) signals) (looks queue (drop (k + 1) points) signals) (Look queue) reply w v refl here
+    (reached_goes queue p.0 (drop (k + 1) points) signals reply is))
+
+pub look_stops : (queue k : ℕ) (points signals : List Point) (reply : Reply) (came : Looked) (w v : World) → k < length points → Steps w (Look queue) reply v →
+    looked_of reply ≡ came → came ≢ AllReached → Goes (looks queue (drop k points) signals) w (reply ∷ []) v (after_looks queue signals came)
+look_stops queue k points signals reply came w v below here is ends =
+    let p = next_point k points below in
+    rw (p.1, ← is)
+    (goes_first (looks queue (p.0 ∷ drop (k + 1) points) signals) (after_looks queue signals (looked_of reply)) (Look queue) reply w v refl here
+    (look_ends queue p.0 (drop (k + 1) points) signals reply (λ e. ends (sym is ∙ e))))
+
+pub pay_goes_on : (queue k : ℕ) (points : List Point) (reply : Reply) (w v : World) → k < length points → Steps w (Pay queue) reply v → is_raised reply ≡ true →
+    Goes (payments queue (drop k points)) w (reply ∷ []) v (payments queue (drop (k + 1) points))
+pay_goes_on queue k points reply w v below here is =
+    let p = next_point k points below in
+    rw p.1
+    (goes_first (payments queue (p.0 ∷ drop (k + 1) points)) (payments queue (drop (k + 1) points)) (Pay queue) reply w v refl here
+    (raised_goes queue p.0 (drop (k + 1) points) reply is))
+
+pub pay_stops : (queue k : ℕ) (points : List Point) (reply : Reply) (w v : World) → k < length points → Steps w (Pay queue) reply v → is_raised reply ≡ false →
+    Goes (payments queue (drop k points)) w (reply ∷ []) v nothing
+pay_stops queue k points reply w v below here is =
+    let p = next_point k points below in
+    rw p.1
+    (goes_first (payments queue (p.0 ∷ drop (k + 1) points)) nothing (Pay queue) reply w v refl here (not_raised queue p.0 (drop (k + 1) points) reply is))
+
+all_dropped : (points : List Point) → drop (length points) points ≡ []
+all_dropped [] = refl
+all_dropped (p ∷ points) = all_dropped points
+
+pub looks_done : (queue k : ℕ) (points signals : List Point) (later : List Reply) → length points ≡ k → looks queue (drop k points) signals later ≡ carrying_out queue signals later
+looks_done queue k points signals later is = rw (← is, all_dropped points) refl
+
+pub payments_done : (queue k : ℕ) (points : List Point) (later : List Reply) → length points ≡ k → payments queue (drop k points) later ≡ None
+payments_done queue k points later is = rw (← is, all_dropped points) refl
+
+-- what a call came to, said otherwise
+pub then_ok : {T E : Type 0} (r : Result T E) (A B : Type 0) → (A → B) → OnOk r A → OnOk r B
+then_ok (Ok done) A B so is = so is
+then_ok (Err why) A B so is = tt
+
+-- a request was put and taken, and its waits were looked at
+pub looked_goes : (queue : ℕ) (request : Request) (put took : Reply) (replies : List Reply) (came : Looked) (w v u x : World) →
+    Steps w (Put queue request) put v → is_put put ≡ true → Steps v (Take queue) took u → is_taken took ≡ true →
+    Goes (looks queue request.waits.items request.signals.items) u replies x (after_looks queue request.signals.items came) →
+    Goes (serving queue request) w (put ∷ (took ∷ replies)) x (after_looks queue request.signals.items came)
+looked_goes queue request put took replies came w v u x here is next so goes =
+    goes_trans (serving queue request) (taking queue request) (after_looks queue request.signals.items came) w v x (put ∷ []) (took ∷ replies)
+    (put_goes_on queue request put w v here is)
+    (goes_trans (taking queue request) (looks queue request.waits.items request.signals.items) (after_looks queue request.signals.items came) v u x (took ∷ []) replies
+    (taken_goes_on queue request took v u next so) goes)

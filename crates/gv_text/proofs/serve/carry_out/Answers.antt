@@ -1,0 +1,22 @@
+use Rattle.std.proofs.Common.{◌≡◌, ◌++◌, ◌∷◌, [], sym}
+use Rattle.gv_text.proofs.Servings.{goes_trans, tells_trans, then_ok, bound_goes_on, bound_stops}
+use Rattle.gv_text.proofs.serve.carry_out.Goals as goal
+
+pub returns-then-is_accepted-clause-goes : goal.returns-then-is_accepted-clause-goes
+returns-then-is_accepted-clause-goes c =
+    let ran = c.in_ok-reply.ensures in
+    then_ok c.pay_all.result _ _ (λ paid. (
+      c.in_ok-reply.reply ∷ paid.0,
+      tells_trans _ _ _ (c.in_ok-reply.reply ∷ []) paid.0 _ _ _ ran.tells paid.1,
+      λ points is.
+          goes_trans _ _ _ _ _ _ (c.in_ok-reply.reply ∷ []) paid.0
+          (bound_goes_on c.args.queue points c.in_ok-reply.reply _ _ ran.step (sym c.if-is_accepted.ensures)) (paid.2 points is),
+    )) c.pay_all.ensures.goes
+
+pub returns-clause-goes : goal.returns-clause-goes
+returns-clause-goes c =
+    let ran = c.in_ok-reply.ensures in (
+      c.in_ok-reply.reply ∷ [],
+      ran.tells,
+      λ points is. bound_stops c.args.queue points c.in_ok-reply.reply _ _ ran.step (sym c.if-is_accepted.ensures),
+    )

@@ -1,0 +1,42 @@
+use Rattle.std.proofs.Common.{◌≡◌, ◌++◌, ◌∷◌, ◌+◌, [], drop, refl, sym, ap, ◌∙◌, arith, rules, true, false}
+use Rattle.gv_text.specs.Events.{payments}
+use Rattle.gv_text.specs.Serving.{nothing}
+use Rattle.gv_text.proofs.Servings.{goes_nil, goes_trans, goes_as, tells_nil, tells_trans, pay_goes_on, pay_stops, payments_done}
+use Rattle.gv_text.proofs.serve.pay_all.Goals as goal
+
+pub loop-done-init : goal.loop-done-init
+loop-done-init c = record {
+  replies = [];
+  tells = tells_nil _ _ _ c.begin.ensures;
+  goes = λ points is. rw c.begin.ensures (goes_nil (payments c.args.queue points) c.args.session.now.world);
+}
+
+pub loop-done-preserved : goal.loop-done-preserved
+loop-done-preserved c =
+    let ran = c.in_ok-reply.ensures in
+    record {
+      replies = c.loop-done.invariant.replies ++ c.in_ok-reply.reply ∷ [];
+      tells = tells_trans _ _ _ _ _ _ _ _ c.loop-done.invariant.tells ran.tells;
+      goes = λ points is.
+          goes_trans _ _ _ _ _ _ _ _ (c.loop-done.invariant.goes points is)
+          (pay_goes_on c.args.queue c.loop-done.done points c.in_ok-reply.reply _ _ (omega arith) ran.step (let e : c.is_raised.result ≡ true = search rules in sym c.is_raised.ensures ∙ e));
+    }
+
+pub returns-then-not-is_raised-clause-goes : goal.returns-then-not-is_raised-clause-goes
+returns-then-not-is_raised-clause-goes c =
+    let ran = c.in_ok-reply.ensures in (
+      c.loop-done.invariant.replies ++ c.in_ok-reply.reply ∷ [],
+      tells_trans _ _ _ _ _ _ _ _ c.loop-done.invariant.tells ran.tells,
+      λ points is.
+          goes_trans _ _ _ _ _ _ _ _ (c.loop-done.invariant.goes points is)
+          (pay_stops c.args.queue c.loop-done.done points c.in_ok-reply.reply _ _ (omega arith) ran.step (let e : c.is_raised.result ≡ false = search rules in sym c.is_raised.ensures ∙ e)),
+    )
+
+pub returns-clause-goes : goal.returns-clause-goes
+returns-clause-goes c = (
+  c.loop-done.invariant.replies,
+  c.loop-done.invariant.tells,
+  λ points is.
+      goes_as _ _ nothing _ _ _ (λ later. payments_done c.args.queue c.loop-done.done points later (omega arith))
+      (c.loop-done.invariant.goes points is),
+)
