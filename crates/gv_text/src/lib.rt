@@ -7,6 +7,7 @@ mod journal;
 mod memory;
 mod names;
 mod output;
+mod question;
 mod reply;
 mod request;
 mod run;

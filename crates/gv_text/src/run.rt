@@ -1,22 +1,20 @@
-//! What the lines of a script do.
+//! What the lines of a script do: those that set, declare or ask for an event.
 ghost use Rattle.std.specs.Prelude.{◌≡◌, ◌≢◌, OnOk};
 ghost use Rattle.gv_lines.specs.declared.line.Line.TheVariants as line;
 ghost use Rattle.gv_text.specs.Line.{Runs, RunsText, IsGood, IsGoodText, DoesOnce, SetsBounds, MaySetBounds};
 ghost use Rattle.gv_text.specs.Serving.{Wrote};
 
 use crate::fault::LineFault;
-use crate::journal::write_journal;
-use crate::reply::{write_mappings, write_place, write_steps, write_tables};
-use crate::request::{accesses_of, are_too_many, op_named, point_named, request_of};
-use crate::said::{write_number, write_refused, write_said, write_told, write_withdrawn};
+use crate::question::{at, journal, map, plan, tables, told, uses, value};
+use crate::request::{accesses_of, are_too_many, point_named, request_of};
+use crate::said::{write_refused, write_said, write_withdrawn};
 use crate::serve::serve;
 use crate::session::{Session, TIMELINES};
 use crate::stage::Stage;
-use gv_lines::{AccessList, ClauseList, Line, Name, NamedPoint, Operation, parse_line};
+use gv_lines::{AccessList, ClauseList, Line, Name, NamedPoint, parse_line};
 use gv_types::{Bounds, Fault, Limits, MAX_TOLD};
-use gv_vm::{Event, QUEUES};
+use gv_vm::Event;
 use std::alloc::Global;
-use std::fmt::Write;
 
 /// Runs a line as it stands in a script, and writes its reply.
 pub fn run_text(
@@ -165,23 +163,6 @@ fn destroy(
     once(alloc, session, Event::Destroy { id }, out)
 }
 
-/// Writes how many mappings of a buffer there are.
-fn uses(session: &mut Session, name: &Name, out: &mut String) -> Result<(), LineFault>
-    ensures done { OnOk result (Wrote (Runs (line.Uses name.now)) session.old out.old out.new session.new) }
-    ensures bad { result ≡ Err LineFault.Bad → ¬ IsGood (line.Uses name.now) session.old }
-    ensures memory { result ≡ Err LineFault.OutOfMemory → IsGood (line.Uses name.now) session.old }
-{
-    let Some(id) = session.buffers().id_of(name) else {
-        return Err(LineFault::Bad);
-    };
-    session.begin();
-    let space = session.world().vm().space();
-    match space.uses(id).zip(space.kept(id)) {
-        Some((uses, kept)) => Ok(writeln!(out, "uses {uses} kept {kept}")?),
-        None => Ok(write_refused(out, &Fault::NoBuffer)?),
-    }
-}
-
 /// Declares the next timeline, unless its name is declared already or all are.
 fn timeline(session: &mut Session, name: Name, out: &mut String) -> Result<(), LineFault>
     ensures done { OnOk result (Wrote (Runs (line.Timeline name)) session.old out.old out.new session.new) }
@@ -213,20 +194,6 @@ fn raise(
     once(alloc, session, Event::Raise { point }, out)
 }
 
-/// Writes the number of a timeline.
-fn value(session: &mut Session, name: &Name, out: &mut String) -> Result<(), LineFault>
-    ensures done { OnOk result (Wrote (Runs (line.Value name.now)) session.old out.old out.new session.new) }
-    ensures bad { result ≡ Err LineFault.Bad → ¬ IsGood (line.Value name.now) session.old }
-    ensures memory { result ≡ Err LineFault.OutOfMemory → IsGood (line.Value name.now) session.old }
-{
-    let Some(timeline) = session.timelines().place_of(name) else {
-        return Err(LineFault::Bad);
-    };
-    session.begin();
-    let number = session.world().clock().value(timeline);
-    Ok(write_number(out, session.timelines(), timeline, number)?)
-}
-
 /// Puts a request on its queue, and serves it.
 fn bind(
     alloc: Global,
@@ -240,84 +207,6 @@ fn bind(
 {
     let request = request_of(alloc, session, clauses)?;
     serve(alloc, session, clauses.queue(), request, out)
-}
-
-/// Writes the split steps of an operation, or why it would be refused.
-fn plan(
-    alloc: Global,
-    session: &mut Session,
-    operation: &Operation,
-    out: &mut String,
-) -> Result<(), LineFault>
-    ensures done { OnOk result (Wrote (Runs (line.Plan operation.now)) session.old out.old out.new session.new) }
-    ensures bad { result ≡ Err LineFault.Bad → ¬ IsGood (line.Plan operation.now) session.old }
-    ensures memory { result ≡ Err LineFault.OutOfMemory → IsGood (line.Plan operation.now) session.old }
-{
-    let Some(op) = op_named(session.buffers(), operation) else {
-        return Err(LineFault::Bad);
-    };
-    session.begin();
-    match session.world().vm().space().plan(alloc, &op) {
-        Ok(steps) => Ok(write_steps(out, session.buffers(), &steps)?),
-        Err(Fault::OutOfMemory) => Err(LineFault::OutOfMemory),
-        Err(fault) => Ok(write_refused(out, &fault)?),
-    }
-}
-
-/// Writes the list of mappings.
-fn map(session: &mut Session, out: &mut String) -> Result<(), LineFault>
-    ensures done { OnOk result (Wrote (Runs line.Map) session.old out.old out.new session.new) }
-    ensures memory { result ≢ Err LineFault.Bad }
-{
-    session.begin();
-    let mappings = session.world().vm().space().mappings();
-    Ok(write_mappings(out, session.buffers(), mappings)?)
-}
-
-/// Writes where an address, in bytes, leads.
-fn at(session: &mut Session, addr: u64, out: &mut String) -> Result<(), LineFault>
-    ensures done { OnOk result (Wrote (Runs (line.At addr)) session.old out.old out.new session.new) }
-    ensures memory { result ≢ Err LineFault.Bad }
-{
-    session.begin();
-    let place = session.world().vm().translate(addr);
-    Ok(write_place(out, session.buffers(), &place)?)
-}
-
-/// Writes how many tables the page table has, by level from the top.
-fn tables(session: &mut Session, out: &mut String) -> Result<(), LineFault>
-    ensures done { OnOk result (Wrote (Runs line.Tables) session.old out.old out.new session.new) }
-    ensures memory { result ≢ Err LineFault.Bad }
-{
-    session.begin();
-    let [four, three, two, one, zero] = session.world().vm().space().tables();
-    Ok(write_tables(out, four, three, two, one, zero)?)
-}
-
-/// Writes the items of the journal.
-fn journal(alloc: Global, session: &mut Session, out: &mut String) -> Result<(), LineFault>
-    ensures done { OnOk result (Wrote (Runs line.Journal) session.old out.old out.new session.new) }
-    ensures memory { result ≢ Err LineFault.Bad }
-{
-    session.begin();
-    let vm = session.world().vm();
-    // For the prover: the next number is one of 64 bits.
-    let _next = vm.next();
-    Ok(write_journal(alloc, out, vm.first(), vm.items())?)
-}
-
-/// Writes what a queue was told.
-fn told(session: &mut Session, queue: u64, out: &mut String) -> Result<(), LineFault>
-    ensures done { OnOk result (Wrote (Runs (line.Told queue)) session.old out.old out.new session.new) }
-    ensures bad { result ≡ Err LineFault.Bad → ¬ IsGood (line.Told queue) session.old }
-    ensures memory { result ≡ Err LineFault.OutOfMemory → IsGood (line.Told queue) session.old }
-{
-    if queue >= QUEUES as u64 {
-        return Err(LineFault::Bad);
-    }
-    session.begin();
-    let outcomes = session.world().vm().told(queue);
-    Ok(write_told(out, session.timelines(), outcomes)?)
 }
 
 /// One call of the world, and what it replies.

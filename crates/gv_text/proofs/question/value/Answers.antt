@@ -5,7 +5,7 @@ use Rattle.gv_text.specs.State.{State, timeline_named}
 use Rattle.gv_text.specs.Reply.{number_reply}
 use Rattle.gv_text.specs.Line.{plain, Runs}
 use Rattle.gv_text.proofs.Lines.{wrote_plain, of_found}
-use Rattle.gv_text.proofs.run.value.Goals as goal
+use Rattle.gv_text.proofs.question.value.Goals as goal
 
 pub value-number-requires : goal.value-number-requires
 value-number-requires c =

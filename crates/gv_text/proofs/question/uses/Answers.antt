@@ -10,7 +10,7 @@ use Rattle.gv_text.specs.Reply.{uses_reply, refused_reply}
 use Rattle.gv_text.specs.Said.{counts_reply}
 use Rattle.gv_text.specs.Line.{plain, Runs}
 use Rattle.gv_text.proofs.Lines.{wrote_plain, of_found}
-use Rattle.gv_text.proofs.run.uses.Goals as goal
+use Rattle.gv_text.proofs.question.uses.Goals as goal
 
 pub returns-in_ok-writeln-in-Some-zip-clause-done : goal.returns-in_ok-writeln-in-Some-zip-clause-done
 returns-in_ok-writeln-in-Some-zip-clause-done c =

@@ -2,7 +2,7 @@ use Rattle.std.proofs.Common.{◌∙◌, sym, ap, subst}
 use Rattle.gv_text.specs.State.{IsHeld}
 use Rattle.std.specs.List.{All}
 use Rattle.gv_text.proofs.Held.{held_list}
-use Rattle.gv_text.proofs.run.map.Goals as goal
+use Rattle.gv_text.proofs.question.map.Goals as goal
 
 pub write_mappings-requires : goal.write_mappings-requires
 write_mappings-requires c = subst (All IsHeld) (sym c.mappings-mappings.ensures.value) (held_list c.space.result.now c.mappings-mappings.ensures.space)

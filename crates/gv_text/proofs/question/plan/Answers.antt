@@ -15,7 +15,7 @@ use Rattle.gv_text.specs.Said.{plan_reply}
 use Rattle.gv_text.specs.Line.{Written, plain, Runs}
 use Rattle.gv_text.proofs.Held.{held_plan}
 use Rattle.gv_text.proofs.Lines.{wrote_plain, of_found, none_from_ok, fault_but_memory}
-use Rattle.gv_text.proofs.run.plan.Goals as goal
+use Rattle.gv_text.proofs.question.plan.Goals as goal
 
 pub write_steps-requires : goal.write_steps-requires
 write_steps-requires c =
