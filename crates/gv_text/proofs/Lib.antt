@@ -1,4 +1,8 @@
 pub mod Front
+pub mod AlikeTexts
+pub mod AlikeReplies
+pub mod AlikeAnswers
+pub mod AlikeNames
 pub mod Alike
 pub mod Ends
 pub mod Held
@@ -6,3 +10,4 @@ pub mod Servings
 pub mod Lines
 pub mod Numbers
 pub mod Journals
+pub mod AlikePlans

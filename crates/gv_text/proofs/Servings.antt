@@ -4,6 +4,7 @@ use Rattle.std.specs.List.{flat_map}
 use Rattle.std.specs.declared.alloc.Global.{Global}
 use Rattle.gv_types.specs.declared.request.Point.{Point}
 use Rattle.gv_types.specs.declared.request.Request.{Request}
+use Rattle.gv_vm.specs.Alike.{IsSoundStep}
 use Rattle.gv_vm.specs.World.{World}
 use Rattle.gv_vm.specs.Run.{RunsWith}
 use Rattle.gv_vm.specs.declared.event.Event.{Event}
@@ -12,7 +13,7 @@ use Rattle.gv_vm.specs.declared.event.Reply.{Reply}
 use Rattle.gv_vm.specs.declared.event.Reply.TheVariants.{Put as IsPut, Taken, Reached, Lacking, Told, Raised}
 use Rattle.gv_vm.specs.declared.outcome.Outcome.TheVariants.{Accepted, Refused, NotReady}
 use Rattle.gv_text.specs.State.{State, begun}
-use Rattle.gv_text.specs.Events.{Plan, once, serving, taking, looks, carrying_out, payments, AreAsked, IsUnderWay, IsCarriedOut, IsSound, Steps}
+use Rattle.gv_text.specs.Events.{Plan, once, serving, taking, looks, carrying_out, payments, AreAsked, IsUnderWay, IsCarriedOut, Steps}
 use Rattle.gv_text.specs.Said.{told}
 use Rattle.gv_text.specs.Serving.{nothing, GoesOn, Goes, Tells, is_put, is_taken, is_accepted, is_raised, looked_of, after_looks}
 use Rattle.gv_text.specs.declared.serve.Looked.{Looked}
@@ -49,8 +50,8 @@ asked-append p q [] (reply ∷ replies) more later asked on rest = absurd asked
 asked-append p q (event ∷ events) [] more later asked on rest = absurd asked
 
 run-append : (w v u : World) (events : List Event) (replies : List Reply) (more : List Event) (later : List Reply) →
-    RunsWith IsSound w events replies v → RunsWith IsSound v more later u → RunsWith IsSound w (events ++ more) (replies ++ later) u
-run-append w v u [] [] more later first rest = subst (λ (x : World). RunsWith IsSound x more later u) first rest
+    RunsWith IsSoundStep w events replies v → RunsWith IsSoundStep v more later u → RunsWith IsSoundStep w (events ++ more) (replies ++ later) u
+run-append w v u [] [] more later first rest = subst (λ (x : World). RunsWith IsSoundStep x more later u) first rest
 run-append w v u (event ∷ events) (reply ∷ replies) more later first rest =
     (first.0, first.1, first.2, run-append first.0 v u events replies more later first.3 rest)
 run-append w v u [] (reply ∷ replies) more later first rest = absurd first
@@ -103,53 +104,53 @@ tells_trans s t u replies later old mid out first rest =
 
 -- The steps of a request.
 
-put_goes : (queue : ℕ) (request : Request) (reply : Reply) → is_put reply ≡ true → (later : List Reply) → serving queue request (reply ∷ later) ≡ taking queue request later
+pub put_goes : (queue : ℕ) (request : Request) (reply : Reply) → is_put reply ≡ true → (later : List Reply) → serving queue request (reply ∷ later) ≡ taking queue request later
 put_goes queue request (IsPut number) is later = refl
 put_goes queue request reply is later = cc
 
-not_put : (queue : ℕ) (request : Request) (reply : Reply) → is_put reply ≡ false → (later : List Reply) → serving queue request (reply ∷ later) ≡ None
+pub not_put : (queue : ℕ) (request : Request) (reply : Reply) → is_put reply ≡ false → (later : List Reply) → serving queue request (reply ∷ later) ≡ None
 not_put queue request (IsPut number) is later = cc
 not_put queue request reply is later = refl
 
-taken_goes : (queue : ℕ) (request : Request) (reply : Reply) → is_taken reply ≡ true → (later : List Reply) →
+pub taken_goes : (queue : ℕ) (request : Request) (reply : Reply) → is_taken reply ≡ true → (later : List Reply) →
     taking queue request (reply ∷ later) ≡ looks queue request.waits.items request.signals.items later
 taken_goes queue request (Taken number) is later = refl
 taken_goes queue request reply is later = cc
 
-not_taken : (queue : ℕ) (request : Request) (reply : Reply) → is_taken reply ≡ false → (later : List Reply) → taking queue request (reply ∷ later) ≡ None
+pub not_taken : (queue : ℕ) (request : Request) (reply : Reply) → is_taken reply ≡ false → (later : List Reply) → taking queue request (reply ∷ later) ≡ None
 not_taken queue request (Taken number) is later = cc
 not_taken queue request reply is later = refl
 
-reached_goes : (queue : ℕ) (point : Point) (points signals : List Point) (reply : Reply) → looked_of reply ≡ AllReached → (later : List Reply) →
+pub reached_goes : (queue : ℕ) (point : Point) (points signals : List Point) (reply : Reply) → looked_of reply ≡ AllReached → (later : List Reply) →
     looks queue (point ∷ points) signals (reply ∷ later) ≡ looks queue points signals later
 reached_goes queue point points signals (Reached at seen) is later = refl
 reached_goes queue point points signals (Lacking at have) is later = cc
 reached_goes queue point points signals reply is later = cc
 
-look_ends : (queue : ℕ) (point : Point) (points signals : List Point) (reply : Reply) → looked_of reply ≢ AllReached → (later : List Reply) →
+pub look_ends : (queue : ℕ) (point : Point) (points signals : List Point) (reply : Reply) → looked_of reply ≢ AllReached → (later : List Reply) →
     looks queue (point ∷ points) signals (reply ∷ later) ≡ after_looks queue signals (looked_of reply) later
 look_ends queue point points signals (Reached at seen) is later = absurd (is refl)
 look_ends queue point points signals (Lacking at have) is later = refl
 look_ends queue point points signals reply is later = refl
 
-raised_goes : (queue : ℕ) (point : Point) (points : List Point) (reply : Reply) → is_raised reply ≡ true → (later : List Reply) →
+pub raised_goes : (queue : ℕ) (point : Point) (points : List Point) (reply : Reply) → is_raised reply ≡ true → (later : List Reply) →
     payments queue (point ∷ points) (reply ∷ later) ≡ payments queue points later
 raised_goes queue point points (Raised at now) is later = refl
 raised_goes queue point points reply is later = cc
 
-not_raised : (queue : ℕ) (point : Point) (points : List Point) (reply : Reply) → is_raised reply ≡ false → (later : List Reply) →
+pub not_raised : (queue : ℕ) (point : Point) (points : List Point) (reply : Reply) → is_raised reply ≡ false → (later : List Reply) →
     payments queue (point ∷ points) (reply ∷ later) ≡ None
 not_raised queue point points (Raised at now) is later = cc
 not_raised queue point points reply is later = refl
 
-accepted_goes : (queue : ℕ) (signals : List Point) (reply : Reply) → is_accepted reply ≡ true → (later : List Reply) →
+pub accepted_goes : (queue : ℕ) (signals : List Point) (reply : Reply) → is_accepted reply ≡ true → (later : List Reply) →
     carrying_out queue signals (reply ∷ later) ≡ payments queue signals later
 accepted_goes queue signals (Told number (Accepted entry)) is later = refl
 accepted_goes queue signals (Told number (Refused op fault)) is later = cc
 accepted_goes queue signals (Told number (NotReady point have)) is later = cc
 accepted_goes queue signals reply is later = cc
 
-not_accepted : (queue : ℕ) (signals : List Point) (reply : Reply) → is_accepted reply ≡ false → (later : List Reply) →
+pub not_accepted : (queue : ℕ) (signals : List Point) (reply : Reply) → is_accepted reply ≡ false → (later : List Reply) →
     carrying_out queue signals (reply ∷ later) ≡ None
 not_accepted queue signals (Told number (Accepted entry)) is later = cc
 not_accepted queue signals (Told number (Refused op fault)) is later = refl

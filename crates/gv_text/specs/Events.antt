@@ -3,8 +3,7 @@ use Rattle.std.specs.Prelude.{◌≡◌, ℕ, List, [], ◌∷◌, Option, Some,
 use Rattle.gv_types.specs.declared.request.Point.{Point}
 use Rattle.gv_types.specs.declared.request.Request.{Request}
 use Rattle.gv_vm.specs.Run.{RunsWith}
-use Rattle.gv_vm.specs.Headline.{SaysOfReply}
-use Rattle.gv_vm.specs.State.{IsMachine}
+use Rattle.gv_vm.specs.Alike.{IsSoundStep}
 use Rattle.gv_vm.specs.Step.{step}
 use Rattle.gv_vm.specs.World.{World}
 use Rattle.gv_vm.specs.declared.event.Event.{Event}
@@ -63,19 +62,15 @@ AreAsked plan (event ∷ events) (reply ∷ replies) =
 AreAsked plan [] (reply ∷ replies) = ⊥
 AreAsked plan (event ∷ events) [] = ⊥
 
--- a step leads to a machine as it has to be, and the headline says of it what it says of every step
-abbrev pub IsSound : World → Event → Reply → World → Type 0
-IsSound old event reply new = IsMachine new.machine × SaysOfReply event reply old.machine new.machine
-
--- such a step
+-- a step that leads to a machine as it has to be, of which the headline says what it says of every step
 abbrev pub Steps : World → Event → Reply → World → Type 0
-Steps old event reply new = step old event reply new × IsSound old event reply new
+Steps old event reply new = step old event reply new × IsSoundStep old event reply new
 
 -- so far a plan was carried out: the world gave these replies, and so came from the one to the other
 pub record IsUnderWay (plan : Plan) (old : World) (replies : List Reply) (new : World) : Type 0 where
   pub events : List Event
   pub asked : AreAsked plan events replies
-  pub ran : RunsWith IsSound old events replies new
+  pub ran : RunsWith IsSoundStep old events replies new
 
 -- a plan was carried out to its end
 pub record IsCarriedOut (plan : Plan) (old : World) (replies : List Reply) (new : World) : Type 0 where

@@ -8,3 +8,4 @@ pub mod Inside
 pub mod Serving
 pub mod Reading
 pub mod Script
+pub mod AlikePlans
