@@ -1,11 +1,10 @@
 -- Plans that ask the same of worlds that tell the same: where no reply is want of memory, the replies tell the same.
 use Rattle.std.proofs.Common.{◌≡◌, ◌≢◌, ℕ, List, [], ◌∷◌, Option, Some, None, Bool, true, false, refl, sym, ap, ◌∙◌, subst}
-use Rattle.std.specs.List.{All}
 use Rattle.gv_types.specs.declared.mapping.BufferId.{BufferId}
 use Rattle.gv_types.specs.declared.request.Point.{Point}
 use Rattle.gv_types.specs.declared.request.Request.{Request}
 use Rattle.gv_journal.specs.Renamed.{AreRequested}
-use Rattle.gv_vm.specs.Alike.{AreAlikeWorlds, AreAlikeEvents, AreAlikeReplies, IsWorldOf, IsSoundStep, IsAmpleReply, SeenRequest, seen_request, ids_after}
+use Rattle.gv_vm.specs.Alike.{AreAlikeWorlds, AreAlikeEvents, AreAlikeReplies, IsWorldOf, IsSoundStep, SeenRequest, seen_request, ids_after}
 use Rattle.gv_vm.specs.Run.{RunsWith}
 use Rattle.gv_vm.specs.World.{World}
 use Rattle.gv_vm.specs.declared.event.Event.{Event}
@@ -13,7 +12,7 @@ use Rattle.gv_vm.specs.declared.event.Event.TheVariants.{GiveUp}
 use Rattle.gv_vm.specs.declared.event.Reply.{Reply}
 use Rattle.gv_vm.specs.declared.event.Reply.TheVariants.{NotPut, Created, Begun, Found}
 use Rattle.gv_vm.proofs.AlikeStepLemmas.{step_alike}
-use Rattle.gv_text.specs.AlikePlans.{ids_after_all, AreAllAlike, AreAskedAlike, AskAlike, StayAlike}
+use Rattle.gv_text.specs.AlikePlans.{ids_after_all, AreAllAlike, AreAskedAlike, AskAlike, AreAmple, StayAlike}
 use Rattle.gv_text.specs.Events.{Plan, once, serving, taking, looks, carrying_out, payments, AreAsked, IsCarriedOut}
 use Rattle.gv_text.specs.Serving.{is_put, is_taken, is_accepted, is_raised, looked_of, after_looks}
 use Rattle.gv_text.specs.declared.serve.Looked.{Looked}
@@ -115,8 +114,8 @@ looks_alike ids ids' queue (wait ∷ waits) signals (r ∷ rs) (r' ∷ rs') all 
       AllReached ↦ λ is. asked_as here here' (plan (r ∷ rs)) (plan (r' ∷ rs')) (looks queue waits signals rs) (looks queue waits signals rs')
           (reached_goes queue wait waits signals r is rs) (reached_goes queue wait waits signals r' (sym same ∙ is) rs')
           (looks_alike (ids_after ids r) (ids_after ids' r') queue waits signals rs rs' all.1)
-    | Lacked ↦ λ is. stops Lacked is cc
-    | Other ↦ λ is. stops Other is cc
+    | Lacked ↦ λ is. stops Lacked is (λ e. cc)
+    | Other ↦ λ is. stops Other is (λ e. cc)
     ]) refl
 looks_alike ids ids' queue (wait ∷ waits) signals [] (r' ∷ rs') all = absurd all
 looks_alike ids ids' queue (wait ∷ waits) signals (r ∷ rs) [] all = absurd all
@@ -171,7 +170,7 @@ serving_alike ids ids' queue request request' seen of of' (r ∷ rs) [] all = ab
 runs_alike : (ids ids' : List BufferId) (plan plan' : Plan) (events events' : List Event) (rs rs' : List Reply) (w w' x x' : World) →
     AreAlikeWorlds ids ids' w w' → IsWorldOf ids w → IsWorldOf ids' w' → AskAlike ids ids' plan plan' →
     AreAsked plan events rs → AreAsked plan' events' rs' → RunsWith IsSoundStep w events rs x → RunsWith IsSoundStep w' events' rs' x' →
-    plan rs ≡ None → plan' rs' ≡ None → All IsAmpleReply rs → All IsAmpleReply rs' → StayAlike ids ids' rs rs' x x'
+    plan rs ≡ None → plan' rs' ≡ None → AreAmple rs → AreAmple rs' → StayAlike ids ids' rs rs' x x'
 runs_alike ids ids' plan plan' [] [] [] [] w w' x x' alike of of' ask asked asked' ran ran' done done' ample ample' = record {
   replies_are = tt;
   worlds = rw (ran, ran') alike;
@@ -203,7 +202,7 @@ runs_alike ids ids' plan plan' events (e' ∷ es') rs [] w w' x x' alike of of' 
 -- where no reply is want of memory, plans that ask the same are told the same
 pub carried_alike : (ids ids' : List BufferId) (plan plan' : Plan) (rs rs' : List Reply) (w w' x x' : World) →
     AreAlikeWorlds ids ids' w w' → IsWorldOf ids w → IsWorldOf ids' w' → AskAlike ids ids' plan plan' →
-    IsCarriedOut plan w rs x → IsCarriedOut plan' w' rs' x' → All IsAmpleReply rs → All IsAmpleReply rs' → StayAlike ids ids' rs rs' x x'
+    IsCarriedOut plan w rs x → IsCarriedOut plan' w' rs' x' → AreAmple rs → AreAmple rs' → StayAlike ids ids' rs rs' x x'
 carried_alike ids ids' plan plan' rs rs' w w' x x' alike of of' ask out out' ample ample' =
     runs_alike ids ids' plan plan' out.under_way.events out'.under_way.events rs rs' w w' x x' alike of of' ask out.under_way.asked out'.under_way.asked
     out.under_way.ran out'.under_way.ran out.done out'.done ample ample'

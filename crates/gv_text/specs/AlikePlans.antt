@@ -1,7 +1,7 @@
 -- Two plans that ask the same of two worlds, each with the ids that its world gave.
 use Rattle.std.specs.Prelude.{List, [], ◌∷◌, Option, Some, None}
 use Rattle.gv_types.specs.declared.mapping.BufferId.{BufferId}
-use Rattle.gv_vm.specs.Alike.{AreAlikeWorlds, AreAlikeEvents, AreAlikeReplies, IsWorldOf, ids_after}
+use Rattle.gv_vm.specs.Alike.{AreAlikeWorlds, AreAlikeEvents, AreAlikeReplies, IsAmpleReply, IsWorldOf, ids_after}
 use Rattle.gv_vm.specs.World.{World}
 use Rattle.gv_vm.specs.declared.event.Event.{Event}
 use Rattle.gv_vm.specs.declared.event.Reply.{Reply}
@@ -31,6 +31,11 @@ abbrev pub AskAlike : List BufferId → List BufferId → Plan → Plan → Type
 AskAlike ids ids' plan plan' =
     (replies replies' : List Reply) → AreAllAlike replies replies' →
     AreAskedAlike (ids_after_all ids replies) (ids_after_all ids' replies') (plan replies) (plan' replies')
+
+-- no reply is want of memory
+abbrev pub AreAmple : List Reply → Type 0
+AreAmple [] = Unit {0}
+AreAmple (reply ∷ replies) = IsAmpleReply reply × AreAmple replies
 
 -- Two worlds gave replies that tell the same, and came to worlds that do.
 pub record StayAlike (ids ids' : List BufferId) (replies replies' : List Reply) (w w' : World) : Type 0 where
