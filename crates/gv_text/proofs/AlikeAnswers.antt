@@ -13,7 +13,7 @@ use Rattle.gv_table.specs.Table.{tables_of}
 use Rattle.gv_buffers.specs.Table.{uses, kept}
 use Rattle.gv_space.specs.State.{AddressSpace}
 use Rattle.gv_space.specs.Refusal.{operation_fault}
-use Rattle.gv_journal.specs.Items.{Journaled, Numbered, numbered, entries, is_withdrawn}
+use Rattle.gv_journal.specs.Items.{Numbered, numbered, entries, is_withdrawn}
 use Rattle.gv_journal.specs.Alike.{SeenItem, seen_item, bind_of}
 use Rattle.gv_journal.specs.Renamed.{said_by}
 use Rattle.gv_journal.specs.declared.item.Item.{Item}

@@ -1,5 +1,5 @@
 -- The same declared names are those of the same buffers by their new names, so a line asks the same of two worlds.
-use Rattle.std.proofs.Common.{◌≡◌, ℕ, ◌<◌, Bool, List, [], ◌∷◌, ◌++◌, length, map, slice_get, position, bytes_eq, option_and_then, get_or, Option, Some, None, IsSome, is_some, option_map, refl, sym, ap, ◌∙◌, subst}
+use Rattle.std.proofs.Common.{◌≡◌, ℕ, ◌<◌, List, [], ◌∷◌, ◌++◌, length, map, slice_get, position, bytes_eq, option_and_then, get_or, Option, Some, None, IsSome, is_some, option_map, refl, sym, ap, ◌∙◌, subst}
 use Rattle.std.specs.List.{All}
 use Rattle.std.proofs.lemmas.List.{length-map, map-append}
 use Rattle.std.proofs.lemmas.List.Elements.{All-nil, All-cons}
@@ -128,8 +128,7 @@ seen_of ops waits signals = record { ops = ops; waits = waits; signals = signals
 module _ (buffers buffers' : Buffers) (numbered : AreNumbered (ids_of buffers)) (numbered' : AreNumbered (ids_of buffers')) (same : texts buffers ≡ texts buffers') where
   inside : (name : List ℕ) (place : ℕ) → position (bytes_eq name) (texts buffers) ≡ Some place → (place < length (ids_of buffers)) × (place < length (ids_of buffers'))
   inside name place is =
-      let below : place < length (texts buffers) = (position-Some (bytes_eq name) (texts buffers) place [] is).0 in
-      (
+      let below : place < length (texts buffers) = (position-Some (bytes_eq name) (texts buffers) place [] is).0 in (
         subst (λ n. place < n) (sym (count_of_ids buffers)) below,
         subst (λ n. place < n) (ap (λ (ts : List (List ℕ)). length ts) same ∙ sym (count_of_ids buffers')) below,
       )

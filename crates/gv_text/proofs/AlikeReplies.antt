@@ -1,5 +1,5 @@
 -- Replies that tell the same are written as the same text.
-use Rattle.std.proofs.Common.{◌≡◌, ℕ, Bool, true, false, ◌||◌, List, [], ◌∷◌, ◌++◌, map, Option, codes, decimal, refl, ap, ◌∙◌}
+use Rattle.std.proofs.Common.{◌≡◌, ℕ, Bool, ◌||◌, List, [], ◌∷◌, ◌++◌, map, Option, codes, decimal, refl, ap, ◌∙◌}
 use Rattle.std.specs.Global.{Vec}
 use Rattle.std.specs.List.{flat_map, list_any}
 use Rattle.gv_types.specs.declared.fault.Fault.{Fault}
@@ -8,8 +8,9 @@ use Rattle.gv_types.specs.declared.request.Request.{Request}
 use Rattle.gv_vm.specs.Alike.{AreAlikeReplies}
 use Rattle.gv_vm.specs.Renamed.{renamed_place}
 use Rattle.gv_vm.specs.declared.event.Reply.{Reply}
-use Rattle.gv_vm.specs.declared.event.Reply.TheVariants.{Idle, Put, NotPut, Taken, Reached, Lacking, Told, Raised, Created, Destroyed, Rewound, Withdrawn, Settled, Begun, Ended, Found, Refused}
+use Rattle.gv_vm.specs.declared.event.Reply.TheVariants.{NotPut, Created, Begun, Found}
 use Rattle.gv_vm.specs.declared.places.Place.{Place}
+use Rattle.gv_text.specs.AlikePlans.{AreAllAlike}
 use Rattle.gv_text.specs.Reply.{reply as reply_line}
 use Rattle.gv_text.specs.Said.{said, said_of_withdrawal, told, is_lacking}
 use Rattle.gv_text.proofs.AlikeTexts.{places_alike}
@@ -64,13 +65,6 @@ said_of_withdrawal_alike entry = same_said (said_of_withdrawal entry) (withdrawa
 
 pub is_lacking_alike : (r r' : Reply) → AreAlikeReplies r r' → is_lacking r ≡ is_lacking r'
 is_lacking_alike = same_said is_lacking lacking_reads
-
--- as many replies, each of which tells the same
-abbrev pub AreAllAlike : List Reply → List Reply → Type 0
-AreAllAlike [] [] = Unit {0}
-AreAllAlike (reply ∷ replies) (reply' ∷ replies') = AreAlikeReplies reply reply' × AreAllAlike replies replies'
-AreAllAlike [] (reply' ∷ replies') = ⊥
-AreAllAlike (reply ∷ replies) [] = ⊥
 
 -- all that is written for such replies
 pub all_said_alike : {Y : Type 0} (say : Reply → List Y) → ((r r' : Reply) → AreAlikeReplies r r' → say r ≡ say r') → (rs rs' : List Reply) → AreAllAlike rs rs' →

@@ -1,18 +1,17 @@
 -- What lies inside a buffer: pieces of a mapping, an edited list, and split steps.
-use Rattle.std.proofs.Common.{◌≡◌, ℕ, ◌+◌, ◌-◌, ◌≤◌, ◌<◌, max, min, List, [], ◌∷◌, true, false, cond, Some, None, arith, refl, map, Option, option_map, ap, sym, subst}
+use Rattle.std.proofs.Common.{◌≡◌, ℕ, ◌+◌, ◌-◌, ◌≤◌, ◌<◌, max, min, List, true, false, cond, Some, None, arith, refl, map, option_map, ap, sym, subst}
 use Rattle.std.specs.List.{All, filter}
-use Rattle.std.proofs.lemmas.List.Elements.{All-head, All-tail, All-append, All-map, All-filter}
-use Rattle.std.proofs.lemmas.Bool.Decides.{nat_tests}
+use Rattle.std.proofs.lemmas.List.Elements.{All-append, All-map, All-filter}
 use Rattle.gv_types.specs.Page.{PAGES}
-use Rattle.gv_types.specs.Span.{end_of, covers, lies_in}
-use Rattle.gv_types.specs.Mapping.{advanced, clip, part, IsMapping}
+use Rattle.gv_types.specs.Span.{end_of, lies_in}
+use Rattle.gv_types.specs.Mapping.{advanced, clip, IsMapping}
 use Rattle.gv_types.specs.Operation.{range_of, own_mapping}
 use Rattle.gv_types.specs.declared.mapping.Backing.{Backing}
 use Rattle.gv_types.specs.declared.mapping.Backing.TheVariants.{Buffer, Zero}
 use Rattle.gv_types.specs.declared.mapping.Mapping.{Mapping}
 use Rattle.gv_types.specs.declared.operation.PageOp.{PageOp}
 use Rattle.gv_types.specs.declared.operation.PageOp.TheVariants.{Map as MapOp, Unmap as UnmapOp, UnmapBuffer}
-use Rattle.gv_ranges.specs.List.{at, IsLaidOut}
+use Rattle.gv_ranges.specs.List.{IsLaidOut}
 use Rattle.gv_ranges.specs.Edit.{edited}
 use Rattle.gv_ranges.proofs.KeptLemmas.{clip_is_piece, HoldsOfPieces, All-edited}
 use Rattle.gv_ranges.proofs.ReplacedLemmas.{all_mappings}

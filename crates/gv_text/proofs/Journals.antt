@@ -1,5 +1,5 @@
 -- The lines of a journal, the oldest item first.
-use Rattle.std.proofs.Common.{◌≡◌, ◌≢◌, ℕ, ◌+◌, ◌<◌, ◌||◌, List, [], ◌∷◌, ◌++◌, Bool, true, false, length, take, get_or, reverse, map, refl, sym, ap, ◌∙◌, append_assoc, append-nil, add-zero, arith, cond, suc, zero, replicate}
+use Rattle.std.proofs.Common.{◌≡◌, ℕ, ◌+◌, ◌<◌, ◌||◌, List, [], ◌∷◌, ◌++◌, Bool, true, false, length, take, get_or, reverse, refl, sym, ap, ◌∙◌, append_assoc, append-nil, add-zero, arith, suc, zero, replicate}
 use Rattle.std.specs.List.{list_any, flat_map}
 use Rattle.std.proofs.lemmas.List.{take_more, length-take-le, length-reverse, reverse-append}
 use Rattle.std.proofs.lemmas.List.Folds.{list_any-append}

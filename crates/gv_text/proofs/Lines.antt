@@ -1,5 +1,5 @@
 -- What single lines do.
-use Rattle.std.proofs.Common.{◌≡◌, ◌≢◌, ℕ, List, [], ◌∷◌, ◌++◌, true, false, Bool, Option, Some, None, IsSome, option_map, is_some, Result, Ok, Err, MatchOption, IsOkUnless, String, string_bytes, refl, sym, ap, ◌∙◌, subst, append-nil, append_assoc, add-zero, ◌+◌, ◌<◌, length, take, get_or, nat_lt, arith, codes, decimal}
+use Rattle.std.proofs.Common.{◌≡◌, ◌≢◌, ℕ, List, [], ◌∷◌, ◌++◌, true, false, Option, Some, None, is_some, Result, Ok, Err, MatchOption, IsOkUnless, String, string_bytes, refl, sym, ap, ◌∙◌, subst, append-nil, append_assoc, add-zero, ◌+◌, ◌<◌, length, take, get_or, nat_lt, arith, codes, decimal}
 use Rattle.std.proofs.lemmas.Bool.Decides.{nat_tests}
 use Rattle.std.proofs.lemmas.List.{take_more, length-take-le}
 use Rattle.std.specs.List.{flat_map, list_any}
@@ -16,7 +16,7 @@ use Rattle.gv_text.specs.State.{State, begun}
 use Rattle.gv_text.specs.Events.{once, IsCarriedOut, Steps}
 use Rattle.gv_text.specs.Reply.{reply, outcome_text, outcome_lines}
 use Rattle.gv_text.specs.Said.{is_lacking}
-use Rattle.gv_text.specs.Line.{Written, plain, Does, Answers, Of}
+use Rattle.gv_text.specs.Line.{Written, plain, Does, Of}
 use Rattle.gv_text.specs.Serving.{nothing, Wrote}
 use Rattle.gv_text.proofs.Servings.{goes_first, carried_out}
 

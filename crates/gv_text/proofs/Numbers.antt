@@ -1,5 +1,5 @@
 -- No event makes or takes away a timeline.
-use Rattle.std.proofs.Common.{◌≡◌, ℕ, length, ap, ◌∙◌, Result, Ok, Err}
+use Rattle.std.proofs.Common.{◌≡◌, length, ap, ◌∙◌, Result, Ok, Err}
 use Rattle.std.proofs.lemmas.List.{length-set}
 use Rattle.gv_types.specs.declared.fault.OutOfMemory.{OutOfMemory}
 use Rattle.gv_vm.specs.World.{World}

@@ -1,5 +1,5 @@
 -- How a line goes on with its events.
-use Rattle.std.proofs.Common.{◌≡◌, ◌≢◌, ℕ, zero, suc, ◌+◌, ◌<◌, List, [], ◌∷◌, ◌++◌, length, drop, Option, Some, None, String, string_bytes, refl, sym, ap, ◌∙◌, subst, append_assoc, append-nil, arith, true, false, Result, Ok, Err, OnOk}
+use Rattle.std.proofs.Common.{◌≡◌, ◌≢◌, ℕ, zero, suc, ◌+◌, ◌<◌, List, [], ◌∷◌, ◌++◌, length, drop, Some, None, String, string_bytes, refl, sym, ap, ◌∙◌, subst, append_assoc, append-nil, arith, true, false, Result, Ok, Err, OnOk}
 use Rattle.std.specs.List.{flat_map}
 use Rattle.std.specs.declared.alloc.Global.{Global}
 use Rattle.gv_types.specs.declared.request.Point.{Point}
@@ -13,11 +13,11 @@ use Rattle.gv_vm.specs.declared.event.Reply.{Reply}
 use Rattle.gv_vm.specs.declared.event.Reply.TheVariants.{Put as IsPut, Taken, Reached, Lacking, Told, Raised}
 use Rattle.gv_vm.specs.declared.outcome.Outcome.TheVariants.{Accepted, Refused, NotReady}
 use Rattle.gv_text.specs.State.{State, begun}
-use Rattle.gv_text.specs.Events.{Plan, once, serving, taking, looks, carrying_out, payments, AreAsked, IsUnderWay, IsCarriedOut, Steps}
+use Rattle.gv_text.specs.Events.{Plan, once, serving, taking, looks, carrying_out, payments, AreAsked, IsCarriedOut, Steps}
 use Rattle.gv_text.specs.Said.{told}
 use Rattle.gv_text.specs.Serving.{nothing, GoesOn, Goes, Tells, is_put, is_taken, is_accepted, is_raised, looked_of, after_looks}
 use Rattle.gv_text.specs.declared.serve.Looked.{Looked}
-use Rattle.gv_text.specs.declared.serve.Looked.TheVariants.{AllReached, Lacked, Other}
+use Rattle.gv_text.specs.declared.serve.Looked.TheVariants.{AllReached}
 
 -- nothing was asked yet
 pub goes_nil : (plan : Plan) (w : World) → Goes plan w [] w plan

@@ -1,18 +1,14 @@
 -- What a line of a script does: what it asks of the world, what is written, and the state after it.
-use Rattle.std.specs.Prelude.{◌≡◌, ℕ, ◌<◌, Bool, true, false, List, [], ◌∷◌, ◌++◌, length, map, Option, Some, None, IsSome, IsSomeAnd, Vec, slice_index, ◌⊎◌}
+use Rattle.std.specs.Prelude.{◌≡◌, ℕ, ◌<◌, Bool, false, List, [], ◌∷◌, ◌++◌, length, map, Option, Some, None, IsSome, IsSomeAnd, Vec, slice_index, ◌⊎◌}
 use Rattle.std.specs.List.{list_any, flat_map}
 use Rattle.std.specs.declared.alloc.Global.{Global}
 use Rattle.gv_types.specs.Bounds.{Area, byte_area}
 use Rattle.gv_types.specs.Limits.{Caps, caps, greatest, IsWithin}
-use Rattle.gv_types.specs.declared.mapping.BufferId.{BufferId}
-use Rattle.gv_types.specs.declared.operation.Op.{Op}
-use Rattle.gv_types.specs.declared.request.Point.{Point}
 use Rattle.gv_types.specs.declared.request.Request.{Request}
 use Rattle.gv_sync.specs.Seats.{most_timelines}
 use Rattle.gv_table.specs.Table.{tables_of}
 use Rattle.gv_vm.specs.Outcomes.{queues, told_to}
 use Rattle.gv_vm.specs.Places.{place_at}
-use Rattle.gv_vm.specs.World.{World}
 use Rattle.gv_vm.specs.declared.event.Event.{Event}
 use Rattle.gv_vm.specs.declared.event.Event.TheVariants.{Raise, Create, Destroy, Rewind, Withdraw, Settle, JobBegin, JobEnd}
 use Rattle.gv_vm.specs.declared.event.Reply.{Reply}

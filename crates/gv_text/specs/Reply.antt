@@ -5,12 +5,9 @@ use Rattle.gv_types.specs.Page.{bytes_per_page}
 use Rattle.gv_types.specs.Span.{end_of}
 use Rattle.gv_types.specs.Fault.{fault_text}
 use Rattle.gv_types.specs.declared.fault.Fault.{Fault}
-use Rattle.gv_types.specs.declared.mapping.Backing.{Backing}
-use Rattle.gv_types.specs.declared.mapping.Backing.TheVariants.{Buffer, Zero}
 use Rattle.gv_types.specs.declared.mapping.BufferId.{BufferId}
 use Rattle.gv_types.specs.declared.mapping.Flags.{Flags}
 use Rattle.gv_types.specs.declared.mapping.Mapping.{Mapping}
-use Rattle.gv_types.specs.declared.request.Point.{Point}
 use Rattle.gv_split.specs.declared.step.Step.{Step}
 use Rattle.gv_split.specs.declared.step.Step.TheVariants.{Unmap, Remap, Map}
 use Rattle.gv_lines.specs.Hex.{hex}
@@ -23,7 +20,7 @@ use Rattle.gv_vm.specs.Places.{target_of}
 use Rattle.gv_vm.specs.declared.places.Place.{Place}
 use Rattle.gv_vm.specs.declared.places.Target.{Target}
 use Rattle.gv_vm.specs.declared.places.Target.TheVariants.{Buffer as BufferByte, Zero as ZeroByte}
-use Rattle.gv_text.specs.State.{IsHeld, LieInside}
+use Rattle.gv_text.specs.State.{IsHeld}
 
 -- these parts, one after another
 abbrev pub joined : List (List ℕ) → List ℕ

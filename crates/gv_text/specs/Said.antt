@@ -1,5 +1,5 @@
 -- What the replies of the world say in a script.
-use Rattle.std.specs.Prelude.{ℕ, Bool, true, false, ◌||◌, codes, List, [], ◌∷◌, ◌++◌, Option, Some, None, slice_index, map}
+use Rattle.std.specs.Prelude.{ℕ, Bool, true, false, codes, List, [], ◌∷◌, Option, Some, None}
 use Rattle.std.specs.Option.{option_zip}
 use Rattle.gv_types.specs.Operation.{in_pages}
 use Rattle.gv_types.specs.declared.fault.Fault.{Fault}
@@ -14,7 +14,6 @@ use Rattle.gv_vm.specs.declared.event.Reply.{Reply}
 use Rattle.gv_vm.specs.declared.event.Reply.TheVariants.{NotPut, Told, Raised, Created, Destroyed, Rewound, Withdrawn, Settled, Begun, Ended, Refused}
 use Rattle.gv_vm.specs.declared.outcome.Outcome.{Outcome}
 use Rattle.gv_vm.specs.declared.outcome.Outcome.TheVariants.{Refused as RefusedAt}
-use Rattle.gv_text.specs.State.{State, texts}
 use Rattle.gv_text.specs.Reply.{reply as reply_line, ok_reply, refused_reply, outcome_text, number_reply, counted_reply, withdrawn_reply, begun_reply, uses_reply, lines_reply, step_text}
 
 -- what is written for the reply to a call

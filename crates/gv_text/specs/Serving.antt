@@ -1,16 +1,15 @@
 -- How far a line has come with its events. No public clause cites this module.
-use Rattle.std.specs.Prelude.{◌≡◌, ℕ, Bool, true, false, if◌then◌else◌, List, [], ◌∷◌, ◌++◌, length, Option, None, IsSome, String, string_bytes}
+use Rattle.std.specs.Prelude.{◌≡◌, ℕ, Bool, true, false, List, ◌++◌, None, IsSome, String, string_bytes}
 use Rattle.std.specs.List.{flat_map}
 use Rattle.std.specs.declared.alloc.Global.{Global}
 use Rattle.gv_types.specs.declared.request.Point.{Point}
 use Rattle.gv_vm.specs.World.{World}
-use Rattle.gv_vm.specs.declared.event.Event.{Event}
 use Rattle.gv_vm.specs.declared.event.Event.TheVariants.{GiveUp}
 use Rattle.gv_vm.specs.declared.event.Reply.{Reply}
 use Rattle.gv_vm.specs.declared.event.Reply.TheVariants.{Put, Taken, Reached, Lacking, Told, Raised}
 use Rattle.gv_vm.specs.declared.outcome.Outcome.TheVariants.{Accepted}
 use Rattle.gv_text.specs.State.{State, begun}
-use Rattle.gv_text.specs.Events.{Plan, once, looks, carrying_out, payments, IsUnderWay}
+use Rattle.gv_text.specs.Events.{Plan, once, carrying_out, IsUnderWay}
 use Rattle.gv_text.specs.Said.{told}
 use Rattle.gv_text.specs.Line.{Written}
 use Rattle.gv_text.specs.Asking.{op_named, point_named}

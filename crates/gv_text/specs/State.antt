@@ -1,5 +1,5 @@
 -- What contracts see of a `Session` (`State`), and of its names: what stands between two lines of a script.
-use Rattle.std.specs.Prelude.{ℕ, ◌+◌, ◌≤◌, List, [], ◌∷◌, ◌++◌, Option, IsSome, map, length, slice_get, position, bytes_eq, option_and_then}
+use Rattle.std.specs.Prelude.{ℕ, ◌+◌, ◌≤◌, List, [], Option, map, slice_get, position, bytes_eq, option_and_then}
 use Rattle.std.specs.Option.{option_map}
 use Rattle.gv_types.specs.Page.{pages_per_buffer}
 use Rattle.gv_types.specs.Bounds.{Area, whole_area}
@@ -12,7 +12,7 @@ use Rattle.gv_sync.specs.Seats.{most_timelines}
 use Rattle.gv_vm.specs.Outcomes.{queues}
 use Rattle.gv_vm.specs.World.{World, new_world}
 use Rattle.gv_text.specs.declared.stage.Stage.{Stage}
-use Rattle.gv_text.specs.declared.stage.Stage.TheVariants.{Fresh, Bounded, Begun}
+use Rattle.gv_text.specs.declared.stage.Stage.TheVariants.{Fresh, Begun}
 
 -- the declared buffers in the order of their lines: each one's name and its id; a destroyed buffer's name stays
 abbrev pub Buffers : Type 0

@@ -1,8 +1,8 @@
 use Rattle.std.proofs.Common.{◌≡◌, ◌∙◌, ◌+◌, ◌<◌, ◌++◌, ◌∷◌, [], List, ℕ, Bool, false, ap, sym, append_assoc, string_bytes, take, get_or, length, arith, rules}
 use Rattle.std.specs.List.{list_any}
-use Rattle.gv_journal.specs.Items.{Journaled, names}
+use Rattle.gv_journal.specs.Items.{names}
 use Rattle.gv_journal.specs.declared.item.Item.{Item}
-use Rattle.gv_text.specs.Reply.{reply, kind_text, journal_reply}
+use Rattle.gv_text.specs.Reply.{reply, kind_text}
 use Rattle.gv_text.proofs.Journals.{item_lines, item_lines-more, journal_lines, take_all, same_mark}
 use Rattle.gv_text.proofs.journal.write_journal.Goals as goal
 

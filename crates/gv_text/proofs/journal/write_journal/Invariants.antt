@@ -1,4 +1,4 @@
-use Rattle.std.proofs.Common.{◌≡◌, ◌++◌, take, string_bytes, ℕ, List}
+use Rattle.std.proofs.Common.{◌≡◌, ◌++◌, take, string_bytes}
 use Rattle.std.specs.List.{list_any}
 use Rattle.gv_journal.specs.Items.{names}
 use Rattle.gv_text.proofs.Journals.{item_lines}

@@ -1,4 +1,4 @@
-use Rattle.std.proofs.Common.{◌∙◌, sym, ap, subst}
+use Rattle.std.proofs.Common.{sym, subst}
 use Rattle.gv_text.specs.State.{IsHeld}
 use Rattle.std.specs.List.{All}
 use Rattle.gv_text.proofs.Held.{held_list}

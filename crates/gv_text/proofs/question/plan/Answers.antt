@@ -1,7 +1,5 @@
-use Rattle.std.proofs.Common.{◌≡◌, ◌∙◌, ℕ, List, Some, None, Option, refl, sym, ap, subst, rules}
+use Rattle.std.proofs.Common.{◌≡◌, ◌∙◌, ℕ, List, Some, None, sym, ap, subst, rules}
 use Rattle.gv_types.specs.Operation.{in_pages}
-use Rattle.gv_types.specs.declared.fault.Fault.{Fault}
-use Rattle.gv_split.specs.declared.step.Step.{Step}
 use Rattle.gv_split.specs.Steps.{steps}
 use Rattle.gv_space.specs.State.{AddressSpace, IsSpace}
 use Rattle.gv_space.specs.Refusal.{operation_fault}
@@ -12,7 +10,7 @@ use Rattle.gv_text.specs.State.{State, Buffers, texts}
 use Rattle.gv_text.specs.Asking.{op_named}
 use Rattle.gv_text.specs.Reply.{lines_reply, step_text, refused_reply}
 use Rattle.gv_text.specs.Said.{plan_reply}
-use Rattle.gv_text.specs.Line.{Written, plain, Runs}
+use Rattle.gv_text.specs.Line.{plain, Runs}
 use Rattle.gv_text.proofs.Held.{held_plan}
 use Rattle.gv_text.proofs.Lines.{wrote_plain, of_found, none_from_ok, fault_but_memory}
 use Rattle.gv_text.proofs.question.plan.Goals as goal

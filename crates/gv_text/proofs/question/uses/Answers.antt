@@ -1,4 +1,4 @@
-use Rattle.std.proofs.Common.{◌≡◌, ◌∙◌, ℕ, List, Some, None, Option, refl, sym, ap, rules}
+use Rattle.std.proofs.Common.{◌≡◌, ◌∙◌, ℕ, Some, None, Option, sym, ap, rules}
 use Rattle.std.specs.Option.{option_zip}
 use Rattle.gv_types.specs.declared.fault.Fault.TheVariants.{NoBuffer}
 use Rattle.gv_buffers.specs.Table.{uses, kept}

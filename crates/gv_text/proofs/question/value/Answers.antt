@@ -1,9 +1,9 @@
-use Rattle.std.proofs.Common.{◌≡◌, ◌∙◌, ◌<◌, List, ℕ, Some, Option, length, sym, ap, refl, rules, arith, slice_index}
+use Rattle.std.proofs.Common.{◌≡◌, ◌∙◌, List, ℕ, Some, length, ap, refl, arith, slice_index}
 use Rattle.gv_vm.specs.World.{World}
 use Rattle.gv_lines.specs.declared.line.Line.TheVariants as line
 use Rattle.gv_text.specs.State.{State, timeline_named}
 use Rattle.gv_text.specs.Reply.{number_reply}
-use Rattle.gv_text.specs.Line.{plain, Runs}
+use Rattle.gv_text.specs.Line.{Runs}
 use Rattle.gv_text.proofs.Lines.{wrote_plain, of_found}
 use Rattle.gv_text.proofs.question.value.Goals as goal
 

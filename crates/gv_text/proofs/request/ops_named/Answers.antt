@@ -1,4 +1,4 @@
-use Rattle.std.proofs.Common.{◌≡◌, [], refl, ap, ◌∙◌, append-nil, Some, List, rules}
+use Rattle.std.proofs.Common.{◌≡◌, [], ap, ◌∙◌, append-nil, Some, List, rules}
 use Rattle.gv_types.specs.declared.operation.Op.{Op}
 use Rattle.gv_lines.specs.Chain.{all_read}
 use Rattle.gv_lines.specs.Clause.{operations_of}

@@ -1,4 +1,4 @@
-use Rattle.std.proofs.Common.{◌≡◌, List, sym, ap, subst, refl, ℕ}
+use Rattle.std.proofs.Common.{subst, refl, ℕ}
 use Rattle.std.specs.List.{flat_map, list_any}
 use Rattle.gv_text.specs.Events.{serving, IsCarriedOut}
 use Rattle.gv_text.specs.Said.{told, is_lacking}

@@ -1,4 +1,4 @@
-use Rattle.std.proofs.Common.{◌≡◌, ◌∙◌, sym, ap, refl, Option, None, is_some, false, rules}
+use Rattle.std.proofs.Common.{◌≡◌, ◌∙◌, sym, ap, refl, None, is_some, false, rules}
 use Rattle.gv_lines.specs.declared.line.Line.TheVariants as line
 use Rattle.gv_text.specs.State.{State, Buffers, texts, buffer_named}
 use Rattle.gv_text.specs.Said.{said}

@@ -1,4 +1,4 @@
-use Rattle.std.proofs.Common.{◌≡◌, ◌∙◌, ◌<◌, ℕ, map, length, inl, inr, refl, sym, ap, subst, rules}
+use Rattle.std.proofs.Common.{◌≡◌, ◌<◌, ℕ, map, length, inl, inr, refl, sym, subst, rules}
 use Rattle.std.proofs.lemmas.List.{length-map}
 use Rattle.gv_types.specs.declared.fault.Fault.TheVariants.{TooManyAccesses}
 use Rattle.gv_vm.specs.Jobs.{most_accesses}

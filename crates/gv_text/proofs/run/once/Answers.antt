@@ -1,5 +1,5 @@
 use Rattle.std.proofs.Common.{◌≡◌, ap, ◌∙◌}
-use Rattle.gv_text.specs.State.{State, texts, Buffers}
+use Rattle.gv_text.specs.State.{State, texts}
 use Rattle.gv_text.specs.Said.{said}
 use Rattle.std.specs.List.{flat_map}
 use Rattle.gv_text.specs.Events.{once}

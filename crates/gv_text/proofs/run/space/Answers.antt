@@ -1,5 +1,5 @@
-use Rattle.std.proofs.Common.{◌≡◌, Some, refl, sym, ◌∙◌, rules}
-use Rattle.gv_text.specs.Line.{plain, SetsBounds}
+use Rattle.std.proofs.Common.{refl, sym, rules}
+use Rattle.gv_text.specs.Line.{SetsBounds}
 use Rattle.gv_text.specs.Reply.{ok_reply}
 use Rattle.gv_text.proofs.Lines.{wrote_plain, of_found}
 use Rattle.gv_text.proofs.run.space.Goals as goal

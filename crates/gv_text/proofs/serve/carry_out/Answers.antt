@@ -1,4 +1,4 @@
-use Rattle.std.proofs.Common.{◌≡◌, ◌++◌, ◌∷◌, [], sym}
+use Rattle.std.proofs.Common.{◌∷◌, [], sym}
 use Rattle.gv_text.proofs.Servings.{goes_trans, tells_trans, then_ok, bound_goes_on, bound_stops}
 use Rattle.gv_text.proofs.serve.carry_out.Goals as goal
 

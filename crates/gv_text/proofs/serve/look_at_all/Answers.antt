@@ -1,4 +1,4 @@
-use Rattle.std.proofs.Common.{◌≡◌, ◌++◌, ◌∷◌, ◌+◌, [], drop, refl, sym, ap, ◌∙◌, arith}
+use Rattle.std.proofs.Common.{◌++◌, ◌∷◌, [], sym, arith}
 use Rattle.gv_text.specs.Events.{looks, carrying_out}
 use Rattle.gv_text.specs.declared.serve.Looked.TheVariants.{Lacked, Other}
 use Rattle.gv_text.proofs.Servings.{goes_nil, goes_trans, goes_as, tells_nil, tells_trans, look_goes_on, look_stops, looks_done}

@@ -1,4 +1,4 @@
-use Rattle.std.proofs.Common.{◌≡◌, ◌++◌, ◌∷◌, ◌+◌, [], drop, refl, sym, ap, ◌∙◌, arith, rules, true, false}
+use Rattle.std.proofs.Common.{◌≡◌, ◌++◌, ◌∷◌, [], sym, ◌∙◌, arith, rules, true, false}
 use Rattle.gv_text.specs.Events.{payments}
 use Rattle.gv_text.specs.Serving.{nothing}
 use Rattle.gv_text.proofs.Servings.{goes_nil, goes_trans, goes_as, tells_nil, tells_trans, pay_goes_on, pay_stops, payments_done}
