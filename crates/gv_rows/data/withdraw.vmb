@@ -1,16 +1,16 @@
-# Three requests: a over all, b over a part of it, c over the end of b.
-buffer a 256
-buffer b 32
-buffer c 16
-bind map 0x0 0x100000 a 0x0
-bind map 0x40000 0x20000 b 0x0
-bind map 0x70000 0x10000 c 0x0
+# Three requests: a over all, then b over a part of it, then c over another.
+buffer a 9
+buffer b 2
+buffer c 1
+bind map 0x0 0x9000 a 0x0
+bind map 0x3000 0x2000 b 0x0
+bind map 0x6000 0x1000 c 0x0
 map
 
-# The request before the newest one is withdrawn: its pages hold what they held before, as mappings of their own.
+# The request before the newest one is withdrawn: its pages hold what they held before, as a mapping of their own.
 withdraw 1
-at 0x50000
 map
+at 0x4000
 journal
 
 # The first one can't be: the newest one lies over it, and is live.

@@ -29,7 +29,7 @@ const EXAMPLES: [&str; 11] = [
 ];
 
 /// The examples that the page of pictures draws, in its order.
-const PICTURES: [&str; 3] = ["first", "replace", "keep"];
+const PICTURES: [&str; 5] = ["first", "replace", "keep", "withdraw", "tables"];
 
 fn main(rt: HostRuntime) -> io::Result<ExitCode> {
     let mut all_same = true;
@@ -61,7 +61,7 @@ fn is_answered(rt: &(impl Files + AllocGlobal), name: &str) -> io::Result<bool> 
     Ok(ended.is_ok() && sink.bytes() == wanted.as_slice())
 }
 
-/// Whether the pictures of the page have the lines that the program answers.
+/// Whether the pictures of the page are what the program answers.
 fn are_drawn(rt: &(impl Files + AllocGlobal)) -> io::Result<bool> {
     let page = fs::read_to_string(rt, "pictures.md")?;
     let mut names = PICTURES.iter();

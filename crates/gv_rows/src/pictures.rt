@@ -1,4 +1,4 @@
-//! The page of pictures, whose drawings and lines are to be what the program answers.
+//! The page of pictures, whose drawings and answers are to be what the program gives.
 
 use gv_text::{MemorySink, MemorySource, run_script};
 use std::alloc::{AllocError, Global};
@@ -6,57 +6,94 @@ use std::alloc::{AllocError, Global};
 /// How many columns a page has in a drawing.
 const PAGE_COLUMNS: usize = 10;
 
-/// A picture: the mappings drawn before and after an operation, and below them the operation's `plan` line and its
-/// steps, which may be broken into more lines.
+/// A picture: the mappings or the tables, drawn before and after a change, and below them the line that asks for it or for
+/// its steps, with the answer, which may be broken into more lines.
 #[derive(Drop)]
 pub struct Picture<'a> {
+    drawing: Drawing,
     before: &'a str,
     after: &'a str,
-    operation: &'a str,
-    steps: &'a str,
+    line: &'a str,
+    answer: &'a str,
+}
+
+/// What is drawn.
+#[derive(Clone, Copy)]
+enum Drawing {
+    Mappings,
+    Tables,
+}
+
+impl Drawing {
+    /// The line of a script that asks for it.
+    fn question(self) -> &'static str {
+        match self {
+            Drawing::Mappings => "map",
+            Drawing::Tables => "tables",
+        }
+    }
+
+    /// What the question was answered, drawn in a row.
+    fn drawn(self, alloc: Global, answer: &str) -> Result<String, AllocError> {
+        match self {
+            Drawing::Mappings => drawn_mappings(alloc, answer),
+            Drawing::Tables => drawn_tables(alloc, answer),
+        }
+    }
 }
 
 /// The picture in a block of the page, if it is one.
 pub fn picture_in(block: &str) -> Option<Picture<'_>> {
-    let (drawing, lines) = block.split_once("\n  plan ")?;
-    let (operation, steps) = lines.split_once("\n")?;
+    let (rows, lines) = block.split_once("\n\n  ")?;
+    let (line, answer) = lines.split_once("\n")?;
+    let drawing = if rows.contains("\n              level ") {
+        Drawing::Tables
+    } else {
+        Drawing::Mappings
+    };
     Some(Picture {
-        before: row(drawing, "\n  before      ")?,
-        after: row(drawing, "\n  after       ")?,
-        operation,
-        steps,
+        drawing,
+        before: row(rows, "\n  before      ")?,
+        after: row(rows, "\n  after       ")?,
+        line,
+        answer,
     })
 }
 
 /// The row of a drawing with this label.
 fn row<'a>(drawing: &'a str, label: &str) -> Option<&'a str> {
     let (_, rest) = drawing.split_once(label)?;
-    let (row, _) = rest.split_once("\n")?;
-    Some(row)
+    rest.lines().next()
 }
 
-/// Whether the script has the picture's `plan` line, is answered with its steps there, and has the mappings drawn.
+/// Whether the script has the picture's line, answers it so, and has the mappings or the tables drawn before and after it. A
+/// `plan` line changes nothing: the change is its operation.
 pub fn is_of(alloc: Global, picture: &Picture<'_>, script: &str) -> Result<bool, AllocError> {
-    let operation = picture.operation;
-    let plan = format!(in alloc; "\nplan {operation}\n")?;
-    let bind = format!(in alloc; "\nbind {operation}\nmap\n")?;
-    let Some((front, _)) = script.split_once(plan.as_str()) else {
+    let line = picture.line;
+    let question = picture.drawing.question();
+    let asked = format!(in alloc; "\n{line}\n")?;
+    let change = match line.strip_prefix("plan ") {
+        Some(operation) => format!(in alloc; "\nbind {operation}\n{question}\n")?,
+        None => format!(in alloc; "\n{line}\n{question}\n")?,
+    };
+    let ask = format!(in alloc; "\n{question}\n")?;
+    let Some((front, _)) = script.split_once(asked.as_str()) else {
         return Ok(false);
     };
-    let steps = replies(alloc, front, plan.as_str())?;
-    let before = replies(alloc, front, "\nmap\n")?;
-    let after = replies(alloc, front, bind.as_str())?;
+    let answer = replies(alloc, front, asked.as_str())?;
+    let before = replies(alloc, front, ask.as_str())?;
+    let after = replies(alloc, front, change.as_str())?;
     let Some((_, after)) = after.as_str().split_once("\n") else {
         return Ok(false);
     };
-    let are_same = steps
+    let are_same = answer
         .as_str()
         .split_whitespace()
-        .eq(picture.steps.split_whitespace());
+        .eq(picture.answer.split_whitespace());
     Ok(
         are_same
-            && drawn(alloc, before.as_str())?.as_str() == picture.before
-            && drawn(alloc, after)?.as_str() == picture.after,
+            && picture.drawing.drawn(alloc, before.as_str())?.as_str() == picture.before
+            && picture.drawing.drawn(alloc, after)?.as_str() == picture.after,
     )
 }
 
@@ -84,7 +121,7 @@ fn all_replies(alloc: Global, front: &str, last: &str) -> Result<String, AllocEr
 }
 
 /// Mappings of buffers, as they are printed, drawn in a row.
-fn drawn(alloc: Global, mappings: &str) -> Result<String, AllocError> {
+fn drawn_mappings(alloc: Global, mappings: &str) -> Result<String, AllocError> {
     let mut row = String::new(alloc);
     for line in mappings.lines() {
         let mut words = line.split_whitespace();
@@ -100,6 +137,18 @@ fn drawn(alloc: Global, mappings: &str) -> Result<String, AllocError> {
             draw(&mut row, column(first), column(end), label.as_str())?;
         }
     }
+    Ok(row)
+}
+
+/// The tables of each level, the highest first, drawn in a row: a mark a table.
+fn drawn_tables(alloc: Global, counts: &str) -> Result<String, AllocError> {
+    let mut row = String::new(alloc);
+    push_times(&mut row, ' ', PAGE_COLUMNS)?;
+    for count in counts.split_whitespace() {
+        row.push_str(if count == "0" { "  " } else { "# " })?;
+    }
+    let len = row.trim_end().len();
+    row.truncate(len);
     Ok(row)
 }
 

@@ -1,5 +1,5 @@
 -- How far a line has come with its events. No public clause cites this module.
-use Rattle.std.specs.Prelude.{◌≡◌, ℕ, Bool, true, false, List, ◌++◌, None, IsSome, String, string_bytes}
+use Rattle.std.specs.Prelude.{◌≡◌, ℕ, Bool, true, false, List, [], ◌++◌, None, IsSome, String, string_bytes}
 use Rattle.std.specs.List.{flat_map}
 use Rattle.std.specs.declared.alloc.Global.{Global}
 use Rattle.gv_types.specs.declared.request.Point.{Point}
@@ -15,6 +15,7 @@ use Rattle.gv_text.specs.Line.{Written}
 use Rattle.gv_text.specs.Asking.{op_named, point_named}
 use Rattle.gv_text.specs.declared.serve.Looked.{Looked}
 use Rattle.gv_text.specs.declared.serve.Looked.TheVariants.{AllReached, Lacked, Other}
+use Rattle.gv_lines.specs.Clause.{queue_asked, waits_of, signals_of}
 use Rattle.gv_lines.specs.declared.clause.Clause.{Clause}
 use Rattle.gv_lines.specs.declared.clause.Clause.TheVariants.{Change, Wait, Signal, Queue}
 
@@ -76,3 +77,16 @@ IsDeclared s (Change operation) = IsSome (op_named s.buffers operation)
 IsDeclared s (Wait point) = IsSome (point_named s.timelines point)
 IsDeclared s (Signal point) = IsSome (point_named s.timelines point)
 IsDeclared s (Queue queue) = Unit {0}
+
+-- the clause is an operation
+abbrev pub IsOperationAlone : Clause → Type 0
+IsOperationAlone (Change operation) = Unit {0}
+IsOperationAlone (Wait point) = ⊥
+IsOperationAlone (Signal point) = ⊥
+IsOperationAlone (Queue queue) = ⊥
+
+-- Nothing but operations is asked for, on the first queue.
+pub record AreOperations (clauses : List Clause) : Type 0 where
+  pub waits : waits_of clauses ≡ []
+  pub signals : signals_of clauses ≡ []
+  pub queue : queue_asked clauses ≡ 0

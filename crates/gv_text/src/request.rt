@@ -1,12 +1,13 @@
 //! What the words of a line ask for, with ids and timelines for names.
-ghost use Rattle.std.specs.Prelude.{◌≡◌, ◌↔◌, IsTrue, IsSome, IfOk, map, length, None, ◌<◌};
+ghost use Rattle.std.specs.Prelude.{◌≡◌, ◌≢◌, ◌↔◌, IsTrue, IsSome, IfOk, map, length, None, ◌<◌};
 ghost use Rattle.gv_lines.specs.Chain.{all_read};
-ghost use Rattle.gv_lines.specs.Clause.{operations_of, waits_of, signals_of};
+ghost use Rattle.gv_lines.specs.Clause.{queue_asked, operations_of, waits_of, signals_of};
 ghost use Rattle.gv_vm.specs.Jobs.{most_accesses};
 ghost use Rattle.gv_text.specs.State.{timeline_named};
 ghost use Rattle.gv_text.specs.Asking.{flags_of, op_named, point_named, access_of, IsRequest};
 ghost use Rattle.gv_text.specs.Line.{AreDeclared};
-ghost use Rattle.gv_text.specs.Serving.{IsDeclared};
+ghost use Rattle.gv_text.specs.Serving.{IsDeclared, IsOperationAlone, AreOperations};
+ghost use Rattle.gv_text.specs.declared.request.Named.TheVariants as named;
 
 use crate::fault::LineFault;
 use crate::names::Names;
@@ -83,17 +84,46 @@ fn is_declared(session: &Session, clause: &Clause) -> bool
     }
 }
 
-/// Whether the names in all clauses are declared.
-fn are_declared(session: &Session, clauses: &ClauseList<'_>) -> bool
-    ensures { IsTrue result ↔ AreDeclared session.now clauses.now }
+/// Whether a clause is an operation.
+fn is_operation(clause: &Clause) -> bool
+    ensures { IsTrue result → IsOperationAlone clause.now }
 {
+    match clause {
+        Clause::Change { .. } => true,
+        Clause::Wait { .. } | Clause::Signal { .. } | Clause::Queue { .. } => false,
+    }
+}
+
+/// What some clauses name.
+#[derive(Clone, Copy, Debug, PartialEq, Eq)]
+pub enum Named {
+    /// A name that is not declared.
+    Undeclared,
+    /// What is declared, and they are operations alone.
+    Operations,
+    /// What is declared.
+    Declared,
+}
+
+/// What some clauses name. A clause is read from its words each time, so that what has no points needs no look for them.
+fn named_by(session: &Session, clauses: &ClauseList<'_>) -> Named
+    ensures undeclared { result ≡ named.Undeclared → ¬ AreDeclared session.now clauses.now }
+    ensures declared { result ≢ named.Undeclared → AreDeclared session.now clauses.now }
+    ensures operations { result ≡ named.Operations → AreOperations clauses.now }
+{
+    let mut alone = true;
     let mut left = clauses.again();
     while let Some(clause) = left.take() {
         if !is_declared(session, &clause) {
-            return false;
+            return Named::Undeclared;
         }
+        alone = alone && is_operation(&clause);
     }
-    true
+    if alone {
+        Named::Operations
+    } else {
+        Named::Declared
+    }
 }
 
 /// The operations of some clauses.
@@ -164,23 +194,45 @@ fn signals_named(
     Ok(points)
 }
 
-/// The request of some clauses. A name that is not declared is found before memory is asked for.
-pub fn request_of(
+/// A request, and the queue that it is put in.
+#[derive(Drop)]
+pub struct Asked {
+    pub queue: u64,
+    pub request: Request,
+}
+
+/// What some clauses ask for. A name that is not declared is found before memory is asked for.
+pub fn asked_by(
     alloc: Global,
     session: &Session,
     clauses: &ClauseList<'_>,
-) -> Result<Request, LineFault>
-    ensures request { IfOk result (IsRequest session.now clauses.now) }
+) -> Result<Asked, LineFault>
+    ensures request { IfOk result (λ asked. IsRequest session.now clauses.now asked.request) }
+    ensures queue { IfOk result (λ asked. asked.queue ≡ queue_asked clauses.now) }
     ensures bad { result ≡ Err LineFault.Bad → ¬ AreDeclared session.now clauses.now }
     ensures memory { result ≡ Err LineFault.OutOfMemory → AreDeclared session.now clauses.now }
 {
-    if !are_declared(session, clauses) {
+    let named = named_by(session, clauses);
+    if named == Named::Undeclared {
         return Err(LineFault::Bad);
     }
-    Ok(Request {
-        ops: ops_named(alloc, session.buffers(), clauses)?,
+    let ops = ops_named(alloc, session.buffers(), clauses)?;
+    if named == Named::Operations {
+        let request = Request {
+            ops,
+            waits: Vec::new(alloc),
+            signals: Vec::new(alloc),
+        };
+        return Ok(Asked { queue: 0, request });
+    }
+    let request = Request {
+        ops,
         waits: waits_named(alloc, session.timelines(), clauses)?,
         signals: signals_named(alloc, session.timelines(), clauses)?,
+    };
+    Ok(Asked {
+        queue: clauses.queue(),
+        request,
     })
 }
 

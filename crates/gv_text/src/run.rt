@@ -6,7 +6,7 @@ ghost use Rattle.gv_text.specs.Serving.{Wrote};
 
 use crate::fault::LineFault;
 use crate::question::{at, journal, map, plan, tables, told, uses, value};
-use crate::request::{accesses_of, are_too_many, point_named, request_of};
+use crate::request::{accesses_of, are_too_many, asked_by, point_named};
 use crate::said::{write_refused, write_said, write_withdrawn};
 use crate::serve::serve;
 use crate::session::{Session, TIMELINES};
@@ -205,8 +205,8 @@ fn bind(
     ensures bad { result ≡ Err LineFault.Bad → ¬ IsGood (line.Bind clauses.now) session.old }
     ensures memory { result ≡ Err LineFault.OutOfMemory → IsGood (line.Bind clauses.now) session.old }
 {
-    let request = request_of(alloc, session, clauses)?;
-    serve(alloc, session, clauses.queue(), request, out)
+    let asked = asked_by(alloc, session, clauses)?;
+    serve(alloc, session, asked.queue, asked.request, out)
 }
 
 /// One call of the world, and what it replies.

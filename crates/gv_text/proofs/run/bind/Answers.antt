@@ -8,15 +8,16 @@ use Rattle.gv_text.proofs.run.bind.Goals as goal
 pub returns-clause-done : goal.returns-clause-done
 returns-clause-done c =
     let s = c.args.session.now in
+    let asked = c.in_ok-asked.asked in
     then_ok c.serve.result _ _ (λ ran. record {
       written = record { text = flat_map (told s.timelines) ran.0; lacking = list_any is_lacking ran.0 };
       text = ran.1.wrote;
       runs = record {
-        request = c.in_ok-request.request;
-        asked = c.in_ok-request.ensures.request;
+        request = asked.request;
+        asked = c.in_ok-asked.ensures.request;
         does = record {
           replies = ran.0;
-          carried_out = subst (λ (q : ℕ). IsCarriedOut (serving q c.in_ok-request.request) s.world ran.0 c.serve.new.session.world) c.queue.ensures ran.2;
+          carried_out = subst (λ (q : ℕ). IsCarriedOut (serving q asked.request) s.world ran.0 c.serve.new.session.world) c.in_ok-asked.ensures.queue ran.2;
           written = refl;
           state = ran.1.state;
         };
