@@ -1,5 +1,6 @@
 //! What the words of a line ask for, with ids and timelines for names.
 ghost use Rattle.std.specs.Prelude.{◌≡◌, ◌↔◌, IsTrue, IsSome, IfOk, map, length, None, ◌<◌};
+ghost use Rattle.gv_types.specs.Request.{Fits};
 ghost use Rattle.gv_lines.specs.Chain.{all_read};
 ghost use Rattle.gv_lines.specs.Clause.{operations_of, waits_of, signals_of};
 ghost use Rattle.gv_vm.specs.Jobs.{most_accesses};
@@ -96,6 +97,39 @@ fn are_declared(session: &Session, clauses: &ClauseList<'_>) -> bool
     true
 }
 
+/// Whether the timelines that a clause names are declared.
+fn is_point_declared(timelines: &TimelineNames, clause: &Clause) -> bool {
+    match clause {
+        Clause::Wait { point } => point_named(timelines, point).is_some(),
+        Clause::Signal { point } => point_named(timelines, point).is_some(),
+        Clause::Change { .. } | Clause::Queue { .. } => true,
+    }
+}
+
+/// Whether the timelines that some clauses name are declared.
+pub fn are_points_declared(timelines: &TimelineNames, clauses: &ClauseList<'_>) -> bool {
+    let mut left = clauses.again();
+    while let Some(clause) = left.take() {
+        if !is_point_declared(timelines, &clause) {
+            return false;
+        }
+    }
+    true
+}
+
+/// Whether the buffers that some clauses name are declared.
+pub fn are_ops_declared(names: &Names, clauses: &ClauseList<'_>) -> bool {
+    let mut left = clauses.again();
+    while let Some(clause) = left.take() {
+        if let Clause::Change { operation } = clause {
+            if op_named(names, &operation).is_none() {
+                return false;
+            }
+        }
+    }
+    true
+}
+
 /// The operations of some clauses.
 fn ops_named(alloc: Global, names: &Names, clauses: &ClauseList<'_>) -> Result<Vec<Op>, LineFault>
     ensures ops { IfOk result (λ ops. all_read (op_named names.now.entries) (operations_of clauses.now) ≡ Some ops.items) }
@@ -162,6 +196,22 @@ fn signals_named(
         }
     }
     Ok(points)
+}
+
+/// The request of some clauses, with these names.
+pub fn request_named(
+    alloc: Global,
+    names: &Names,
+    timelines: &TimelineNames,
+    clauses: &ClauseList<'_>,
+) -> Result<Request, LineFault>
+    ensures { IfOk result (Fits (length timelines.now.names)) }
+{
+    Ok(Request {
+        ops: ops_named(alloc, names, clauses)?,
+        waits: waits_named(alloc, timelines, clauses)?,
+        signals: signals_named(alloc, timelines, clauses)?,
+    })
 }
 
 /// The request of some clauses. A name that is not declared is found before memory is asked for.
