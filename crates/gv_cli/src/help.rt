@@ -18,8 +18,7 @@ pub const THREADS: &str =
 pub const QUEUES: &str = "How many queues there are, 1 to 16";
 
 /// What `--turns` says.
-pub const TURNS: &str =
-    "After how many looks that lacked a request is given up, 1 to 1000000000";
+pub const TURNS: &str = "After how many looks that lacked a request is given up, 1 to 1000000000";
 
 /// A threads script and an example.
 pub const THREADS_SCRIPT: &str = "\

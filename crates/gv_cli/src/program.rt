@@ -112,12 +112,7 @@ fn run<R: AllocGlobal + Eprint, S: Source, K: Sink>(rt: &R, reader: &mut S, writ
 }
 
 /// Runs the threads script that the reader gives, and gives the exit status: that of the fault, if one is answered.
-fn run_with_threads<
-    R: AllocGlobal + Eprint,
-    T: Threads + Wait + Sync,
-    S: Source,
-    K: Sink,
->(
+fn run_with_threads<R: AllocGlobal + Eprint, T: Threads + Wait + Sync, S: Source, K: Sink>(
     rt: &R,
     threads: &T,
     reader: &mut S,

@@ -55,7 +55,10 @@ fn stops_at_a_bad_line(rt: HostRuntime) {
 #[test]
 fn refuses_a_long_script(rt: HostRuntime) -> Result<(), Fail> {
     let script = vec![in rt.alloc(); b'#'; 1_048_577]?;
-    let got = ended(&rt, Fake::new(rt.alloc(), &RUN, Stream::Text(script.as_slice())));
+    let got = ended(
+        &rt,
+        Fake::new(rt.alloc(), &RUN, Stream::Text(script.as_slice())),
+    );
     expect(&rt, &got, 1, b"", b"vmbind: script too long\n");
     Ok(())
 }
@@ -211,11 +214,21 @@ fn refuses_words(rt: HostRuntime) {
         &[b"vmbind", b"threads", b"--queues", b"two"],
         &[b"vmbind", b"threads", b"--queues", b"1", b"--queues", b"1"],
         &[b"vmbind", b"threads", b"--queues", b"1", b"--turns", b"0"],
-        &[b"vmbind", b"threads", b"--queues", b"1", b"--turns", b"1000000001"],
+        &[
+            b"vmbind",
+            b"threads",
+            b"--queues",
+            b"1",
+            b"--turns",
+            b"1000000001",
+        ],
         &[b"vmbind", b"threads", b"--queues", b"1", b"extra"],
     ];
     for (row, words) in rows.iter().enumerate() {
-        let got = ended(&rt, Fake::new(rt.alloc(), words, Stream::Text(b"buffer a 4\n")));
+        let got = ended(
+            &rt,
+            Fake::new(rt.alloc(), words, Stream::Text(b"buffer a 4\n")),
+        );
         assert_eq!(rt; got.status, 2, "at {row}");
         assert!(rt; got.output.is_empty(), "at {row}");
         assert!(rt; got.errors.starts_with(b"error: "), "at {row}");

@@ -10,4 +10,6 @@ pub mod Servings
 pub mod Lines
 pub mod Numbers
 pub mod Journals
+pub mod Within
+pub mod LineFaults
 pub mod AlikePlans

@@ -3,7 +3,7 @@ ghost use Rattle.std.specs.Prelude.{◌≡◌, ◌≤◌, length};
 ghost use Rattle.gv_types.specs.Limits.{IsFromOneTo};
 ghost use Rattle.gv_vm.specs.Outcomes.{queues};
 ghost use Rattle.gv_sync.specs.Seats.{most_timelines};
-ghost use Rattle.gv_text.specs.Threads.{most_places};
+ghost use Rattle.gv_text.specs.Threads.{IsOfLine, most_places};
 
 use crate::fault::{LineFault, ScriptFault};
 use crate::numbered::NumberedLines;
@@ -56,9 +56,9 @@ impl Model for Checks {
 
 impl Checks {
     /// No line so far, of a script for so many queues.
-    pub fn new(alloc: Global, queues: u64) -> Self
-        requires { IsFromOneTo queues queues }
-        ensures { result.queues ≡ queues }
+    pub fn new(alloc: Global, count: u64) -> Self
+        requires { IsFromOneTo queues count }
+        ensures { result.queues ≡ count }
     {
         Checks {
             part: Part::Settings,
@@ -66,7 +66,7 @@ impl Checks {
             bounds: Bounds::whole(),
             limits: Limits::full(),
             timelines: TimelineNames::new(alloc),
-            queues,
+            queues: count,
             binds: [0; QUEUES],
             depth: 1,
         }
@@ -74,7 +74,8 @@ impl Checks {
 
     /// Reads all lines of a script. The first line that is bad by anything but a buffer's name is told.
     pub fn read(&mut self, script: &[u8]) -> Result<(), ScriptFault>
-        ensures { self.new.queues ≡ self.old.queues }
+        ensures queues { self.new.queues ≡ self.old.queues }
+        ensures lines { IsOfLine result }
     {
         let mut lines = NumberedLines::new(script);
         while let Some((number, line)) = lines.take() {

@@ -1,5 +1,6 @@
 //! The lines of a script with their numbers.
-ghost use Rattle.std.specs.Prelude.{◌≡◌, ◌<◌, length, IsSome};
+ghost use Rattle.std.specs.Prelude.{◌<◌, length, IsSome};
+ghost use Rattle.gv_text.specs.Threads.{IsOfLine};
 
 use crate::fault::ScriptFault;
 use gv_lines::split_once;
@@ -43,7 +44,9 @@ impl<'a> NumberedLines<'a> {
     }
 
     /// That no line is left. What stands behind the last line end is a bad line.
-    pub fn end(&self) -> Result<(), ScriptFault> {
+    pub fn end(&self) -> Result<(), ScriptFault>
+        ensures { IsOfLine result }
+    {
         if self.rest.is_empty() {
             Ok(())
         } else {

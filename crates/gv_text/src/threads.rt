@@ -54,17 +54,17 @@ impl ThreadsScript {
     pub fn read<R: Source>(
         alloc: Global,
         reader: &mut R,
-        queues: u64,
+        count: u64,
     ) -> Result<ThreadsScript, ScriptFault>
-        requires { IsFromOneTo queues queues }
-        ensures queues { IfOk result (λ script. script.queues ≡ queues) }
+        requires { IsFromOneTo queues count }
+        ensures queues { IfOk result (λ script. script.queues ≡ count) }
         ensures depth { IfOk result (λ script. IsFromOneTo most_places script.depth) }
         ensures too_long { TellsLength (R.remaining reader.old) result }
         ensures read_fault { TellsReads (R.failed reader.old) (R.failed reader.new) result }
         ensures silent { IsSilent result }
     {
         let text = read_script(alloc, reader)?;
-        let mut checks = Checks::new(alloc, queues);
+        let mut checks = Checks::new(alloc, count);
         checks.read(text.as_slice())?;
         let Checked {
             bounds,

@@ -29,7 +29,7 @@ impl ScriptDriver {
 fn put<R: Wait>(
     rt: &R,
     submitters: &mut [Submitter],
-    counts: &mut [u64],
+    counts: &mut [u64; QUEUES],
     queue: u64,
     request: Request,
 )
@@ -39,13 +39,30 @@ fn put<R: Wait>(
     ensures len { length submitters.new ≡ length submitters.old }
 {
     let place = queue as usize;
-    if place >= submitters.len() || place >= counts.len() {
+    if place >= submitters.len() || place >= QUEUES {
         return;
     }
     if request.fits(submitters[place].timelines()) {
         // A request that is refused is not tried again.
         let _ = submitters[place].put(rt, request);
         counts[place] = submitters[place].count();
+    }
+}
+
+/// Puts requests in order, each on its queue.
+fn put_all<R: Wait>(
+    rt: &R,
+    submitters: &mut [Submitter],
+    counts: &mut [u64; QUEUES],
+    requests: Vec<(u64, Request)>,
+)
+    requires counts { AreCounted (count_at counts.old) submitters.old }
+    ensures same { AreSameSubmitters submitters.old submitters.new }
+    ensures counts { AreCounted (count_at counts.new) submitters.new }
+    ensures len { length submitters.new ≡ length submitters.old }
+{
+    for (queue, request) in requests {
+        put(rt, submitters, counts, queue, request);
     }
 }
 
@@ -62,13 +79,11 @@ impl Driver for ScriptDriver {
         _timelines: &Timelines,
         _seat: &mut Seat,
     ) {
-        self.counts = [0; QUEUES];
-        let Some(requests) = self.requests.take() else {
-            return;
-        };
-        for (queue, request) in requests {
-            put(rt, submitters, self.counts.as_mut_slice(), queue, request);
+        let mut counts = [0; QUEUES];
+        if let Some(requests) = self.requests.take() {
+            put_all(rt, submitters, &mut counts, requests);
         }
+        self.counts = counts;
     }
 
     fn count(&self, queue: u64) -> u64 {

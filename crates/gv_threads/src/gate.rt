@@ -11,7 +11,9 @@ pub struct TurnLimit {
 }
 
 impl TurnLimit {
-    pub fn new(turns: u64) -> Self {
+    pub fn new(turns: u64) -> Self
+        ensures { result.turns ≡ turns }
+    {
         TurnLimit { turns }
     }
 }

@@ -4,7 +4,7 @@ ghost use Rattle.gv_types.specs.Limits.{IsFromOneTo};
 ghost use Rattle.gv_sync.specs.Seats.{IsSeatOf, count_of, most_timelines};
 ghost use Rattle.gv_vm.specs.Outcomes.{queues};
 ghost use Rattle.gv_text.specs.Threads.{most_places};
-ghost use Rattle.gv_queues.specs.Ending.{IsUntold};
+ghost use Rattle.gv_queues.specs.Ending.{IsOfQueueBelow, IsUntold};
 ghost use Rattle.gv_threads.specs.Ending.{HasNotBegun, RunsAs};
 
 use crate::driver::ScriptDriver;
@@ -31,14 +31,14 @@ pub fn run_threads<R: Threads + Wait + Sync, S: Source, K: Sink>(
     alloc: Global,
     reader: &mut S,
     writer: &mut K,
-    queues: u64,
+    count: u64,
     turns: u64,
 ) -> Result<(), ThreadsFault>
-    requires { IsFromOneTo queues queues }
-    ensures ends { RunsAs (S.failed reader.old) (S.failed reader.new) (K.failed writer.old) (K.failed writer.new) queues result }
+    requires { IsFromOneTo queues count }
+    ensures ends { RunsAs (S.failed reader.old) (S.failed reader.new) (K.failed writer.old) (K.failed writer.new) count result }
     ensures silent { IfErr result (λ fault. HasNotBegun fault → writer.new ≡ writer.old) }
 {
-    let script = match ThreadsScript::read(alloc, reader, queues) {
+    let script = match ThreadsScript::read(alloc, reader, count) {
         Ok(script) => script,
         Err(fault) => return Err(ThreadsFault::Script(fault)),
     };
@@ -47,7 +47,7 @@ pub fn run_threads<R: Threads + Wait + Sync, S: Source, K: Sink>(
     };
     match Vm::new(alloc, script.bounds(), script.limits()) {
         Ok(vm) => run_on(
-            rt, alloc, script, vm, &timelines, seat, writer, queues, turns,
+            rt, alloc, script, vm, &timelines, seat, writer, count, turns,
         ),
         Err(_) => Err(ThreadsFault::Script(ScriptFault::OutOfMemory)),
     }
@@ -62,16 +62,16 @@ fn run_on<R: Threads + Wait + Sync, K: Sink>(
     timelines: &Timelines,
     mut seat: Seat,
     writer: &mut K,
-    queues: u64,
+    count: u64,
     turns: u64,
 ) -> Result<(), ThreadsFault>
-    requires queues { IsFromOneTo queues queues }
+    requires queues { IsFromOneTo queues count }
     requires own { IsSeatOf timelines.now seat }
     requires all { count_of timelines.now ≡ most_timelines }
     requires untold { IsUntold vm }
     requires depth { IsFromOneTo most_places script.depth }
     // The reader has nothing to do with it.
-    ensures ends { (read : Bool) → RunsAs read read (K.failed writer.old) (K.failed writer.new) queues result }
+    ensures ends { (read : Bool) → RunsAs read read (K.failed writer.old) (K.failed writer.new) count result }
     ensures begun { IfErr result (λ fault. HasNotBegun fault → ⊥) }
 {
     let requests = match script.begin(alloc, &mut vm, timelines, &mut seat, writer) {
@@ -90,45 +90,41 @@ fn run_on<R: Threads + Wait + Sync, K: Sink>(
         vm,
         timelines,
         &mut seat,
-        queues,
+        count,
         depth,
         &gate,
         &mut driver,
     );
-    let ended = match ran {
-        Ok(ends) => end(
-            alloc,
-            &script,
-            ends.as_slice(),
-            &vm,
-            timelines,
-            &mut seat,
-            writer,
-        ),
-        Err(fault) => Err(ThreadsFault::Queues(fault)),
-    };
+    let ended = end(
+        alloc, &script, ran, &vm, timelines, &mut seat, writer, count,
+    );
     vm.close();
     ended
 }
 
-/// Writes what each queue came to, and the replies of the last part.
+/// Writes what each queue came to, where the queues ran to their end, and the replies of the last part.
 fn end<K: Sink>(
     alloc: Global,
     script: &ThreadsScript,
-    ends: &[QueueEnd],
+    ran: Result<Vec<QueueEnd>, QueuesFault>,
     vm: &Vm,
     timelines: &Timelines,
     seat: &mut Seat,
     writer: &mut K,
+    count: u64,
 ) -> Result<(), ThreadsFault>
     requires own { IsSeatOf timelines.now seat.old }
     requires all { count_of timelines.now ≡ most_timelines }
-    ensures ends { (read : Bool) → RunsAs read read (K.failed writer.old) (K.failed writer.new) 0 result }
+    requires queue { IfErr ran (IsOfQueueBelow count) }
+    ensures ends { (read : Bool) → RunsAs read read (K.failed writer.old) (K.failed writer.new) count result }
     ensures begun { IfErr result (λ fault. HasNotBegun fault → ⊥) }
 {
-    match write_ends(alloc, ends, writer) {
-        Ok(()) => {}
-        Err(fault) => return Err(ThreadsFault::Script(fault)),
+    let ends = match ran {
+        Ok(ends) => ends,
+        Err(fault) => return Err(ThreadsFault::Queues(fault)),
+    };
+    if let Err(fault) = write_ends(alloc, ends.as_slice(), writer) {
+        return Err(ThreadsFault::Script(fault));
     }
     match script.end(alloc, vm, timelines, seat, writer) {
         Ok(()) => Ok(()),

@@ -1,5 +1,5 @@
 //! The lines of a threads script, gone through part by part.
-ghost use Rattle.std.specs.Prelude.{◌≡◌, IfOk};
+ghost use Rattle.std.specs.Prelude.{◌≡◌, ◌≤◌, IfOk, length};
 ghost use Rattle.std.specs.List.{All};
 ghost use Rattle.gv_sync.specs.Seats.{IsSeatOf, count_of, most_timelines};
 ghost use Rattle.gv_text.specs.Reading.{TellsWrites};
@@ -15,6 +15,7 @@ use crate::part::Part;
 use crate::request::{are_ops_declared, request_named};
 use crate::setup::set_up;
 use crate::threads::ThreadsScript;
+use crate::timeline_names::TimelineNames;
 use gv_lines::{ClauseList, Line, parse_line};
 use gv_sync::{Seat, Timelines};
 use gv_types::Request;
@@ -47,6 +48,50 @@ fn has_declared_buffers(names: &Names, text: &[u8]) -> bool {
     }
 }
 
+/// Runs the lines of the first part, and declares the buffers that it makes.
+fn set_up_each<W: Sink>(
+    alloc: Global,
+    script: &[u8],
+    names: &mut Names,
+    timeline_names: &TimelineNames,
+    vm: &mut Vm,
+    timelines: &Timelines,
+    seat: &mut Seat,
+    output: &mut Output,
+    writer: &mut W,
+) -> Result<(), ScriptFault>
+    requires own { IsSeatOf timelines.now seat.old }
+    requires there { length timeline_names.now.names ≤ count_of timelines.now }
+    ensures told { vm.new.told ≡ vm.old.told }
+    ensures own { IsSeatOf timelines.now seat.new }
+    ensures ends { EndsByLine result }
+    ensures fault { TellsWrites (W.failed writer.old) (W.failed writer.new) result }
+{
+    let mut reply = String::new(alloc);
+    let mut lines = NumberedLines::new(script);
+    while let Some((number, text)) = lines.take() {
+        let Some(line) = line_in(Part::Settings, text) else {
+            continue;
+        };
+        reply.clear();
+        let done = set_up(
+            alloc,
+            line,
+            names,
+            timeline_names,
+            vm,
+            timelines,
+            seat,
+            &mut reply,
+        );
+        if let Err(fault) = done {
+            return Err(fault.at(number));
+        }
+        output.push(writer, reply.as_bytes())?;
+    }
+    Ok(())
+}
+
 impl ThreadsScript {
     /// Runs the first part, looks at the buffers' names behind it, and gives the requests.
     pub(super) fn set_up_all<W: Sink>(
@@ -67,51 +112,19 @@ impl ThreadsScript {
         ensures ends { EndsByLine result }
         ensures fault { TellsWrites (W.failed writer.old) (W.failed writer.new) result }
     {
-        self.set_up_each(alloc, vm, timelines, seat, output, writer)?;
+        set_up_each(
+            alloc,
+            self.text.as_slice(),
+            &mut self.buffers,
+            &self.timelines,
+            vm,
+            timelines,
+            seat,
+            output,
+            writer,
+        )?;
         self.check_buffers()?;
         self.requests(alloc)
-    }
-
-    /// Runs the lines of the first part.
-    fn set_up_each<W: Sink>(
-        &mut self,
-        alloc: Global,
-        vm: &mut Vm,
-        timelines: &Timelines,
-        seat: &mut Seat,
-        output: &mut Output,
-        writer: &mut W,
-    ) -> Result<(), ScriptFault>
-        requires own { IsSeatOf timelines.now seat.old }
-        requires all { count_of timelines.now ≡ most_timelines }
-        ensures told { vm.new.told ≡ vm.old.told }
-        ensures own { IsSeatOf timelines.now seat.new }
-        ensures same { self.new ≡ self.old }
-        ensures ends { EndsByLine result }
-        ensures fault { TellsWrites (W.failed writer.old) (W.failed writer.new) result }
-    {
-        let mut reply = String::new(alloc);
-        let mut lines = NumberedLines::new(self.text.as_slice());
-        while let Some((number, text)) = lines.take() {
-            if let Some(line) = line_in(Part::Settings, text) {
-                reply.clear();
-                let done = set_up(
-                    alloc,
-                    line,
-                    &mut self.buffers,
-                    &self.timelines,
-                    vm,
-                    timelines,
-                    seat,
-                    &mut reply,
-                );
-                if let Err(fault) = done {
-                    return Err(fault.at(number));
-                }
-                output.push(writer, reply.as_bytes())?;
-            }
-        }
-        Ok(())
     }
 
     /// That each buffer which later lines name is declared. It takes no memory.
