@@ -125,7 +125,7 @@ fn run_with_threads<R: AllocGlobal + Eprint, T: Threads + Wait + Sync, S: Source
 {
     match run_threads(threads, rt.alloc(), reader, writer, queues, turns) {
         Ok(()) => DONE,
-        Err(fault) => told(rt, ProgramFault::from(fault)),
+        Err(ended) => told(rt, ProgramFault::from(ended)),
     }
 }
 

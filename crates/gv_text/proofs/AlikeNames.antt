@@ -128,7 +128,8 @@ seen_of ops waits signals = record { ops = ops; waits = waits; signals = signals
 module _ (buffers buffers' : Buffers) (numbered : AreNumbered (ids_of buffers)) (numbered' : AreNumbered (ids_of buffers')) (same : texts buffers ≡ texts buffers') where
   inside : (name : List ℕ) (place : ℕ) → position (bytes_eq name) (texts buffers) ≡ Some place → (place < length (ids_of buffers)) × (place < length (ids_of buffers'))
   inside name place is =
-      let below : place < length (texts buffers) = (position-Some (bytes_eq name) (texts buffers) place [] is).0 in (
+      let below : place < length (texts buffers) = (position-Some (bytes_eq name) (texts buffers) place [] is).0 in
+      (
         subst (λ n. place < n) (sym (count_of_ids buffers)) below,
         subst (λ n. place < n) (ap (λ (ts : List (List ℕ)). length ts) same ∙ sym (count_of_ids buffers')) below,
       )

@@ -67,10 +67,10 @@ payments_alike ids ids' queue (signal ∷ signals) (r ∷ rs) (r' ∷ rs') all =
     let here' = ids_after_all ids' (r' ∷ rs') in
     let plan = payments queue (signal ∷ signals) in
     (elim (is_raised r) as (λ b. is_raised r ≡ b → AreAskedAlike here here' (plan (r ∷ rs)) (plan (r' ∷ rs'))) [
-      | true ↦ λ is. asked_as here here' (plan (r ∷ rs)) (plan (r' ∷ rs')) (payments queue signals rs) (payments queue signals rs')
+      true ↦ λ is. asked_as here here' (plan (r ∷ rs)) (plan (r' ∷ rs')) (payments queue signals rs) (payments queue signals rs')
           (raised_goes queue signal signals r is rs) (raised_goes queue signal signals r' (sym (raised_alike r r' all.0) ∙ is) rs')
           (payments_alike (ids_after ids r) (ids_after ids' r') queue signals rs rs' all.1)
-      | false ↦ λ is. asked_as here here' (plan (r ∷ rs)) (plan (r' ∷ rs')) None None
+    | false ↦ λ is. asked_as here here' (plan (r ∷ rs)) (plan (r' ∷ rs')) None None
           (not_raised queue signal signals r is rs) (not_raised queue signal signals r' (sym (raised_alike r r' all.0) ∙ is) rs') tt
     ]) refl
 payments_alike ids ids' queue (signal ∷ signals) [] (r' ∷ rs') all = absurd all
@@ -83,10 +83,10 @@ carrying_alike ids ids' queue signals (r ∷ rs) (r' ∷ rs') all =
     let here' = ids_after_all ids' (r' ∷ rs') in
     let plan = carrying_out queue signals in
     (elim (is_accepted r) as (λ b. is_accepted r ≡ b → AreAskedAlike here here' (plan (r ∷ rs)) (plan (r' ∷ rs'))) [
-      | true ↦ λ is. asked_as here here' (plan (r ∷ rs)) (plan (r' ∷ rs')) (payments queue signals rs) (payments queue signals rs')
+      true ↦ λ is. asked_as here here' (plan (r ∷ rs)) (plan (r' ∷ rs')) (payments queue signals rs) (payments queue signals rs')
           (accepted_goes queue signals r is rs) (accepted_goes queue signals r' (sym (accepted_alike r r' all.0) ∙ is) rs')
           (payments_alike (ids_after ids r) (ids_after ids' r') queue signals rs rs' all.1)
-      | false ↦ λ is. asked_as here here' (plan (r ∷ rs)) (plan (r' ∷ rs')) None None
+    | false ↦ λ is. asked_as here here' (plan (r ∷ rs)) (plan (r' ∷ rs')) None None
           (not_accepted queue signals r is rs) (not_accepted queue signals r' (sym (accepted_alike r r' all.0) ∙ is) rs') tt
     ]) refl
 carrying_alike ids ids' queue signals [] (r' ∷ rs') all = absurd all
@@ -111,11 +111,11 @@ looks_alike ids ids' queue (wait ∷ waits) signals (r ∷ rs) (r' ∷ rs') all 
     (look_ends queue wait waits signals r' (λ e. ends (sym is ∙ same ∙ e)) rs' ∙ ap (λ (c : Looked). after_looks queue signals c rs') (sym same ∙ is))
     (stopped_alike (ids_after ids r) (ids_after ids' r') queue signals came rs rs' all.1) in
     (elim (looked_of r) as (λ came. looked_of r ≡ came → AreAskedAlike here here' (plan (r ∷ rs)) (plan (r' ∷ rs'))) [
-      | AllReached ↦ λ is. asked_as here here' (plan (r ∷ rs)) (plan (r' ∷ rs')) (looks queue waits signals rs) (looks queue waits signals rs')
+      AllReached ↦ λ is. asked_as here here' (plan (r ∷ rs)) (plan (r' ∷ rs')) (looks queue waits signals rs) (looks queue waits signals rs')
           (reached_goes queue wait waits signals r is rs) (reached_goes queue wait waits signals r' (sym same ∙ is) rs')
           (looks_alike (ids_after ids r) (ids_after ids' r') queue waits signals rs rs' all.1)
-      | Lacked ↦ λ is. stops Lacked is (λ e. cc)
-      | Other ↦ λ is. stops Other is (λ e. cc)
+    | Lacked ↦ λ is. stops Lacked is (λ e. cc)
+    | Other ↦ λ is. stops Other is (λ e. cc)
     ]) refl
 looks_alike ids ids' queue (wait ∷ waits) signals [] (r' ∷ rs') all = absurd all
 looks_alike ids ids' queue (wait ∷ waits) signals (r ∷ rs) [] all = absurd all
@@ -137,10 +137,10 @@ taking_alike ids ids' queue request request' seen (r ∷ rs) (r' ∷ rs') all =
     let plan = taking queue request in
     let plan' = taking queue request' in
     (elim (is_taken r) as (λ b. is_taken r ≡ b → AreAskedAlike here here' (plan (r ∷ rs)) (plan' (r' ∷ rs'))) [
-      | true ↦ λ is. asked_as here here' (plan (r ∷ rs)) (plan' (r' ∷ rs')) (looks queue request.waits.items request.signals.items rs) (looks queue request'.waits.items request'.signals.items rs')
+      true ↦ λ is. asked_as here here' (plan (r ∷ rs)) (plan' (r' ∷ rs')) (looks queue request.waits.items request.signals.items rs) (looks queue request'.waits.items request'.signals.items rs')
           (taken_goes queue request r is rs) (taken_goes queue request' r' (sym (taken_alike r r' all.0) ∙ is) rs')
           (looks_of_alike (ids_after ids r) (ids_after ids' r') queue request request' seen rs rs' all.1)
-      | false ↦ λ is. asked_as here here' (plan (r ∷ rs)) (plan' (r' ∷ rs')) None None
+    | false ↦ λ is. asked_as here here' (plan (r ∷ rs)) (plan' (r' ∷ rs')) None None
           (not_taken queue request r is rs) (not_taken queue request' r' (sym (taken_alike r r' all.0) ∙ is) rs') tt
     ]) refl
 taking_alike ids ids' queue request request' seen [] (r' ∷ rs') all = absurd all
@@ -156,10 +156,10 @@ serving_alike ids ids' queue request request' seen of of' (r ∷ rs) (r' ∷ rs'
     let plan = serving queue request in
     let plan' = serving queue request' in
     (elim (is_put r) as (λ b. is_put r ≡ b → AreAskedAlike here here' (plan (r ∷ rs)) (plan' (r' ∷ rs'))) [
-      | true ↦ λ is. asked_as here here' (plan (r ∷ rs)) (plan' (r' ∷ rs')) (taking queue request rs) (taking queue request' rs')
+      true ↦ λ is. asked_as here here' (plan (r ∷ rs)) (plan' (r' ∷ rs')) (taking queue request rs) (taking queue request' rs')
           (put_goes queue request r is rs) (put_goes queue request' r' (sym (put_alike r r' all.0) ∙ is) rs')
           (taking_alike (ids_after ids r) (ids_after ids' r') queue request request' seen rs rs' all.1)
-      | false ↦ λ is. asked_as here here' (plan (r ∷ rs)) (plan' (r' ∷ rs')) None None
+    | false ↦ λ is. asked_as here here' (plan (r ∷ rs)) (plan' (r' ∷ rs')) None None
           (not_put queue request r is rs) (not_put queue request' r' (sym (put_alike r r' all.0) ∙ is) rs') tt
     ]) refl
 serving_alike ids ids' queue request request' seen of of' [] (r' ∷ rs') all = absurd all

@@ -53,8 +53,8 @@ module _ (names : List (List ℕ)) where
   mapping_seen : (m : Mapping) → mapping_text names m ≡ mapping_text names (renamed_mapping m)
   mapping_seen m =
       ap (λ (target : List ℕ). joined (
-      hex (m.range.first * bytes_per_page) ∷ codes " " ∷ hex (end_of m.range * bytes_per_page) ∷ codes " "
-      ∷ target ∷ codes " " ∷ flags_text m.flags ∷ [])) (backing_seen m.backing)
+          hex (m.range.first * bytes_per_page) ∷ codes " " ∷ hex (end_of m.range * bytes_per_page) ∷ codes " "
+          ∷ target ∷ codes " " ∷ flags_text m.flags ∷ [])) (backing_seen m.backing)
 
   rest_seen : (o : Option Mapping) → rest_text names o ≡ rest_text names (option_map renamed_mapping o)
   rest_seen None = refl
@@ -64,12 +64,12 @@ module _ (names : List (List ℕ)) where
   step_seen (Unmap m keep) = ap (λ (text : List ℕ). joined (codes "unmap " ∷ text ∷ keep_text keep ∷ [])) (mapping_seen m)
   step_seen (Remap m prev next keep) =
       ap (λ (text : List ℕ). joined (
-      codes "remap " ∷ text ∷ codes " prev " ∷ rest_text names prev ∷ codes " next " ∷ rest_text names next ∷ keep_text keep ∷ [])) (mapping_seen m)
+          codes "remap " ∷ text ∷ codes " prev " ∷ rest_text names prev ∷ codes " next " ∷ rest_text names next ∷ keep_text keep ∷ [])) (mapping_seen m)
       ∙ ap (λ (text : List ℕ). joined (
-      codes "remap " ∷ mapping_text names (renamed_mapping m) ∷ codes " prev " ∷ text ∷ codes " next " ∷ rest_text names next ∷ keep_text keep ∷ [])) (rest_seen prev)
+          codes "remap " ∷ mapping_text names (renamed_mapping m) ∷ codes " prev " ∷ text ∷ codes " next " ∷ rest_text names next ∷ keep_text keep ∷ [])) (rest_seen prev)
       ∙ ap (λ (text : List ℕ). joined (
-      codes "remap " ∷ mapping_text names (renamed_mapping m) ∷ codes " prev " ∷ rest_text names (option_map renamed_mapping prev) ∷ codes " next " ∷ text
-      ∷ keep_text keep ∷ [])) (rest_seen next)
+          codes "remap " ∷ mapping_text names (renamed_mapping m) ∷ codes " prev " ∷ rest_text names (option_map renamed_mapping prev) ∷ codes " next " ∷ text
+          ∷ keep_text keep ∷ [])) (rest_seen next)
   step_seen (Map m) = ap (λ (text : List ℕ). joined (codes "map " ∷ text ∷ [])) (mapping_seen m)
 
   place_seen : (p : Place) → place_text names p ≡ place_text names (renamed_place p)

@@ -7,7 +7,10 @@ use Rattle.gv_vm.specs.State.{Machine, new_machine}
 use Rattle.gv_vm.specs.declared.outcome.Outcome.{Outcome}
 use Rattle.gv_queues.specs.Ending.{IsUntold}
 
-none_at : (n queue : ℕ) → get_or (replicate n ([] : List Outcome)) queue [] ≡ []
+abbrev nothing : List Outcome
+nothing = []
+
+none_at : (n queue : ℕ) → get_or (replicate n nothing) queue nothing ≡ nothing
 none_at zero queue = refl
 none_at (suc n) zero = refl
 none_at (suc n) (suc queue) = none_at n queue
