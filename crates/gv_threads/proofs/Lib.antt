@@ -1,3 +1,2 @@
 pub mod Puts
 pub mod Flags
-pub mod Untold
