@@ -1,8 +1,12 @@
 -- From what clap says of the words to what the program says.
-use Rattle.std.proofs.Common.{◌≡◌, ℕ, List, [], ◌∷◌, true, Result, Ok, Err, refl, subst, codes, inl, inr, ap, ◌∙◌}
-use Rattle.std.specs.Prelude.{IsErrAnd, IsOkUnless}
+use Rattle.std.proofs.Common.{◌≡◌, ℕ, List, [], ◌∷◌, length, true, Option, Some, None, option_map, Result, Ok, Err, refl, sym, subst, codes, inl, inr, ap, ◌∙◌, arith}
+use Rattle.std.specs.Prelude.{IsErrAnd}
 use Rattle.clap.specs.Kinds.{Kinds, HasKind, IsAmong}
-use Rattle.clap.specs.Simple.{App}
+use Rattle.clap.specs.Simple.{App, HasMatchesOf, is_simple, subcommand_of, subcommand_rows_of}
+use Rattle.clap.specs.Walk.{Row, Text}
+use Rattle.clap.specs.Matches.{subcommand_name_of}
+use Rattle.clap.specs.declared.parser.matches.ArgMatches.{ArgMatches}
+use Rattle.clap.specs.declared.parser.matches.ArgMatches.TheViews.{out-ArgMatches}
 use Rattle.clap.specs.Takes.{takes}
 use Rattle.clap.specs.Faults.{fault_of, is_simple_and_free}
 use Rattle.clap.specs.Values.{kind_of}
@@ -16,6 +20,10 @@ use Rattle.gv_cli.specs.declared.words.WordsFault.TheVariants.{Printed, OutOfMem
 is_exact : is_simple_and_free command_line ≡ true
 unfolding clap_on_literals
 is_exact = refl
+
+is_exact_simple : is_simple command_line ≡ true
+unfolding clap_on_literals
+is_exact_simple = refl
 
 takes_run : (name : List ℕ) → takes command_line (name ∷ codes "run" ∷ []) ≡ true
 unfolding clap_on_literals
@@ -38,7 +46,7 @@ reads_by kinds error (Err OutOfMemory) has given = tt
 -- an error of clap's for want of memory is the program's
 pub no_memory_of : {T : Type 0} (error : Error) (r : Result T WordsFault)
     → kind_of error ≡ kind.OutOfMemory → IsErrAnd r (IsFaultOf error)
-    → IsOkUnless r OutOfMemory
+    → r ≡ Err OutOfMemory
 no_memory_of error (Ok task) memory given = absurd given
 no_memory_of error (Err (Printed shown)) memory given = absurd (given.1 memory)
 no_memory_of error (Err OutOfMemory) memory given = refl
@@ -68,3 +76,25 @@ version_is_shown words name error e among = elim (rw (asks_for_version words nam
   | inl same ↦ same
   | inr none ↦ absurd none
 ]
+
+map_twice : {A B C : Type 0} (f : A → B) (g : B → C) (o : Option A) → option_map g (option_map f o) ≡ option_map (λ x. g (f x)) o
+map_twice f g None = refl
+map_twice f g (Some x) = refl
+
+entered_run : (name : List ℕ) → option_map (λ (p : Text × List Row). p.0) (subcommand_of command_line (name ∷ codes "run" ∷ [])) ≡ Some (codes "run")
+unfolding clap_on_literals
+entered_run name = refl
+
+size : Option (List ℕ) → ℕ
+size None = 0
+size (Some text) = length text
+
+-- of the word `run` clap enters `run`, and not `threads`
+pub run_is_not_threads : (app : App) (words : List (List ℕ)) (name : List ℕ) (m : ArgMatches) → app ≡ command_line → words ≡ name ∷ codes "run" ∷ []
+    → HasMatchesOf app words m → subcommand_name_of m ≡ Some (codes "threads") → ⊥
+run_is_not_threads app words name m e f has is =
+    let rows : subcommand_rows_of m ≡ subcommand_of app words = (has (ap is_simple e ∙ is_exact_simple)).1 in
+    let run : subcommand_name_of m ≡ Some (codes "run") =
+    sym (map_twice _ (λ (p : Text × List Row). p.0) (out-ArgMatches m).subcommand) ∙ ap (option_map (λ (p : Text × List Row). p.0)) (rows ∙ rw (e, f) refl) ∙ entered_run name in
+    let bad : 7 ≡ 3 = ap size (sym is ∙ run) in
+    omega (arith, bad)

@@ -1,19 +1,61 @@
 -- The command line of the program.
-use Rattle.std.specs.Prelude.{◌≡◌, ◌≢◌, ◌⊎◌, List, [], ◌∷◌, ℕ, map, true, codes, Result, Ok, Err, String, string_bytes}
+use Rattle.std.specs.Prelude.{◌≡◌, ◌≢◌, ◌⊎◌, List, [], ◌∷◌, ℕ, map, true, codes, Option, Some, Result, Ok, Err, String, string_bytes}
 use Rattle.std.specs.declared.alloc.Global.{Global}
 use Rattle.clap.specs.Kinds.{Kinds, IsAmong}
-use Rattle.clap.specs.Simple.{App, new_app, new_shape, on_top, with_subcommand}
+use Rattle.clap.specs.Simple.{App, new_app, new_rule, new_shape, on_top, with_rule, with_subcommand}
+use Rattle.clap.specs.Walk.{Rule}
 use Rattle.clap.specs.Values.{kind_of}
+use Rattle.clap.specs.declared.builder.value_parser.ValueParser.TheVariants.{Unsigned}
 use Rattle.clap.specs.declared.error.Error.{Error}
 use Rattle.clap.specs.declared.error.kind.ErrorKind.TheVariants as kind
+use Rattle.gv_types.specs.Limits.{IsFromOneTo}
+use Rattle.gv_vm.specs.Outcomes.{queues}
+use Rattle.gv_cli.specs.declared.words.Task.{Task}
+use Rattle.gv_cli.specs.declared.words.Task.TheVariants.{Run, Threads}
 use Rattle.gv_cli.specs.declared.words.WordsFault.{WordsFault}
 use Rattle.gv_cli.specs.declared.words.WordsFault.TheVariants.{Printed, OutOfMemory}
 
--- one subcommand, `run`, which takes no arguments and may not be left out; help and the version may be asked for
+-- how many queues there may be, and how many turns a request may wait
+abbrev pub most_queues : ℕ
+most_queues = queues
+
+abbrev pub most_turns : ℕ
+most_turns = 1000000000
+
+-- `--queues N`, which may not be left out
+abbrev pub queues_rule : Rule
+queues_rule = record (new_rule (codes "queues")) {
+  long = Some (codes "queues");
+  value_names = 1;
+  parser = Some (Unsigned 1 most_queues);
+  required = true;
+}
+
+-- `--turns T`, or 100,000
+abbrev pub turns_rule : Rule
+turns_rule = record (new_rule (codes "turns")) {
+  long = Some (codes "turns");
+  value_names = 1;
+  defaults = codes "100000" ∷ [];
+  parser = Some (Unsigned 1 most_turns);
+}
+
+abbrev pub threads_line : App
+threads_line = with_rule (with_rule (new_app (codes "threads")) queues_rule) turns_rule
+
+-- two subcommands, one of which may not be left out: `run`, which takes no arguments, and `threads`; help and the version may be
+-- asked for
 abbrev pub command_line : App
 command_line = with_subcommand
+    (with_subcommand
     (on_top (λ s. record s { has_version = true; subcommand_required = true }) (new_app (codes "vmbind")))
-    (new_shape (codes "run"))
+    (new_shape (codes "run")))
+    threads_line.top
+
+-- so many queues, and turns, as `run_threads` and its gate take them
+abbrev pub IsTask : Task → Type 0
+IsTask Run = Unit {0}
+IsTask (Threads asked turns) = IsFromOneTo most_queues asked × IsFromOneTo most_turns turns
 
 -- nothing is refused: help is asked for, or the version
 abbrev pub AskForText : Kinds → Type 0

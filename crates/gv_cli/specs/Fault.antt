@@ -2,9 +2,13 @@
 use Rattle.std.specs.Prelude.{ℕ, List, ◌++◌, codes, decimal}
 use Rattle.gv_text.specs.declared.fault.ScriptFault.{ScriptFault}
 use Rattle.gv_text.specs.declared.fault.ScriptFault.TheVariants.{BadLine, ScriptTooLong, ReadFault, WriteFault, OutOfMemory}
-use Rattle.gv_cli.specs.Status.{bad_script, bad_words, broken_stream, no_memory}
+use Rattle.gv_queues.specs.declared.finishing.QueuesFault.{QueuesFault}
+use Rattle.gv_queues.specs.declared.finishing.QueuesFault.TheVariants.{NotMade, NotStarted, Disagree}
+use Rattle.gv_threads.specs.declared.fault.ThreadsFault.{ThreadsFault}
+use Rattle.gv_threads.specs.declared.fault.ThreadsFault.TheVariants as threads
+use Rattle.gv_cli.specs.Status.{bad_queues, bad_script, bad_words, broken_stream, no_memory}
 use Rattle.gv_cli.specs.declared.fault.ProgramFault.{ProgramFault}
-use Rattle.gv_cli.specs.declared.fault.ProgramFault.TheVariants.{Script, ArgumentNotText}
+use Rattle.gv_cli.specs.declared.fault.ProgramFault.TheVariants.{Script, Queues, ArgumentNotText}
 
 -- the exit status of a script that ended early
 abbrev pub script_status : ScriptFault → ℕ
@@ -14,9 +18,16 @@ script_status ReadFault = broken_stream
 script_status WriteFault = broken_stream
 script_status OutOfMemory = no_memory
 
+-- the exit status of queues that did not run to their end
+abbrev pub queues_status : QueuesFault → ℕ
+queues_status NotMade = no_memory
+queues_status (NotStarted queue) = bad_queues
+queues_status (Disagree queue) = bad_queues
+
 -- the exit status
 abbrev pub status_of : ProgramFault → ℕ
 status_of (Script fault) = script_status fault
+status_of (Queues fault) = queues_status fault
 status_of ArgumentNotText = bad_words
 
 -- the line on standard error, but for its line end
@@ -26,4 +37,12 @@ line_of (Script ScriptTooLong) = codes "vmbind: script too long"
 line_of (Script ReadFault) = codes "vmbind: read fault"
 line_of (Script WriteFault) = codes "vmbind: write fault"
 line_of (Script OutOfMemory) = codes "vmbind: out of memory"
+line_of (Queues NotMade) = codes "vmbind: out of memory"
+line_of (Queues (NotStarted queue)) = codes "vmbind: worker not started " ++ decimal queue
+line_of (Queues (Disagree queue)) = codes "vmbind: queues disagree " ++ decimal queue
 line_of ArgumentNotText = codes "vmbind: argument is not text"
+
+-- a threads script's fault as the program's
+abbrev pub of_threads : ThreadsFault → ProgramFault
+of_threads (threads.Script fault) = Script fault
+of_threads (threads.Queues fault) = Queues fault

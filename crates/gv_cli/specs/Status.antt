@@ -21,6 +21,10 @@ broken_stream = 3
 abbrev pub no_memory : ℕ
 no_memory = 4
 
--- one of the five
+-- the queues of a threads script did not start, or disagree
+abbrev pub bad_queues : ℕ
+bad_queues = 5
+
+-- one of the six
 abbrev pub IsStatus : ℕ → Type 0
-IsStatus = Contains (done ∷ bad_script ∷ bad_words ∷ broken_stream ∷ no_memory ∷ [])
+IsStatus = Contains (done ∷ bad_script ∷ bad_words ∷ broken_stream ∷ no_memory ∷ bad_queues ∷ [])

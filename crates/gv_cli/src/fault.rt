@@ -1,11 +1,13 @@
 //! What the program says of a failure: a line on standard error, and an exit status.
 ghost use Rattle.std.specs.Prelude.{◌≡◌, Some};
 ghost use Rattle.gv_text.specs.declared.fault.ScriptFault.TheVariants as script;
-ghost use Rattle.gv_cli.specs.Fault.{line_of, script_status, status_of};
+ghost use Rattle.gv_cli.specs.Fault.{line_of, queues_status, script_status, status_of};
 ghost use Rattle.gv_cli.specs.declared.fault.ProgramFault.TheVariants as fault;
 
-use crate::status::{BAD_SCRIPT, BAD_WORDS, BROKEN_STREAM, NO_MEMORY};
+use crate::status::{BAD_QUEUES, BAD_SCRIPT, BAD_WORDS, BROKEN_STREAM, NO_MEMORY};
+use gv_queues::QueuesFault;
 use gv_text::ScriptFault;
+use gv_threads::ThreadsFault;
 use std::alloc::AllocError;
 use std::fmt;
 
@@ -15,6 +17,8 @@ pub enum ProgramFault {
     /// The script was not run to its end. Help that can't be written, and words for which memory is refused, are told
     /// by the same faults.
     Script(ScriptFault),
+    /// The queues of a threads script did not run to their end.
+    Queues(QueuesFault),
     /// An argument of the program is not UTF-8 text.
     ArgumentNotText,
 }
@@ -26,6 +30,7 @@ impl ProgramFault {
     {
         match self {
             ProgramFault::Script(fault) => script_status(fault),
+            ProgramFault::Queues(fault) => queues_status(fault),
             ProgramFault::ArgumentNotText => BAD_WORDS,
         }
     }
@@ -39,6 +44,16 @@ fn script_status(fault: &ScriptFault) -> u8
         ScriptFault::BadLine { .. } | ScriptFault::ScriptTooLong => BAD_SCRIPT,
         ScriptFault::ReadFault | ScriptFault::WriteFault => BROKEN_STREAM,
         ScriptFault::OutOfMemory => NO_MEMORY,
+    }
+}
+
+/// The exit status of queues that did not run to their end.
+fn queues_status(fault: &QueuesFault) -> u8
+    ensures { result ≡ queues_status fault.now }
+{
+    match fault {
+        QueuesFault::NotMade => NO_MEMORY,
+        QueuesFault::NotStarted { .. } | QueuesFault::Disagree { .. } => BAD_QUEUES,
     }
 }
 
@@ -56,6 +71,13 @@ impl fmt::Display for ProgramFault {
             ProgramFault::Script(ScriptFault::ReadFault) => write!(f, "vmbind: read fault"),
             ProgramFault::Script(ScriptFault::WriteFault) => write!(f, "vmbind: write fault"),
             ProgramFault::Script(ScriptFault::OutOfMemory) => write!(f, "vmbind: out of memory"),
+            ProgramFault::Queues(QueuesFault::NotMade) => write!(f, "vmbind: out of memory"),
+            ProgramFault::Queues(QueuesFault::NotStarted { queue }) => {
+                write!(f, "vmbind: worker not started {queue}")
+            }
+            ProgramFault::Queues(QueuesFault::Disagree { queue }) => {
+                write!(f, "vmbind: queues disagree {queue}")
+            }
             ProgramFault::ArgumentNotText => write!(f, "vmbind: argument is not text"),
         }
     }
@@ -66,6 +88,19 @@ impl From<ScriptFault> for ProgramFault {
 
     fn from(fault: ScriptFault) -> ProgramFault {
         ProgramFault::Script(fault)
+    }
+}
+
+impl From<ThreadsFault> for ProgramFault {
+    ghost use Rattle.gv_cli.specs.Fault.{of_threads};
+
+    ghost from_gives = { λ threads program. program ≡ of_threads threads };
+
+    fn from(fault: ThreadsFault) -> ProgramFault {
+        match fault {
+            ThreadsFault::Script(fault) => ProgramFault::Script(fault),
+            ThreadsFault::Queues(fault) => ProgramFault::Queues(fault),
+        }
     }
 }
 

@@ -10,6 +10,48 @@ pub const PROGRAM: &str = "Manages the address space of a GPU by the lines of a 
 pub const RUN: &str =
     "Reads a script from standard input and writes its replies to standard output";
 
+/// What `threads` does.
+pub const THREADS: &str =
+    "Reads a script whose requests are put on running queues, each with a thread of its own";
+
+/// What `--queues` says.
+pub const QUEUES: &str = "How many queues there are, 1 to 16";
+
+/// What `--turns` says.
+pub const TURNS: &str = "After how many looks that lacked a request is given up, 1 to 1000000000";
+
+/// A threads script and an example.
+pub const THREADS_SCRIPT: &str = "\
+The script is read from standard input, and the replies are written to standard output. It has the
+lines of 'vmbind run' in three parts:
+  space, limits, buffer, timeline, raise
+      Run one after another, before the queues are opened.
+  bind
+      Put in order, each on its queue, and served by the queue's thread. They give no reply.
+  map, at, tables, uses, value, told, journal
+      Asked when all queues have ended.
+Empty lines and comments stand anywhere. Between the replies of the first part and those of the last
+one stands a line for each queue: how many requests were put on it, were told an outcome and were
+left. A queue takes 65536 requests; those behind them are not put.
+
+The entries' numbers, their order, and the outcomes of requests that meet depend on which queue is
+served first.
+
+An example of a script, for --queues 2:
+  buffer a 8
+  bind queue 0 ; map 0x0 0x2000 a 0x0
+  bind queue 1 ; map 0x4000 0x2000 a 0x2000
+  map
+Its replies:
+  ok
+  queue 0 put 1 told 1 left 0
+  queue 1 put 1 told 1 left 0
+  0000000000000000 0000000000002000 a 0000000000000000 rw
+  0000000000004000 0000000000006000 a 0000000000002000 rw
+
+Exit statuses are those of 'vmbind run', and
+  5  a queue's thread was not started, or its ends disagree";
+
 /// The lines of a script, the exit statuses and an example.
 pub const SCRIPT: &str = "\
 The lines of a script:
@@ -87,6 +129,7 @@ Exit statuses:
   2  the words of the command line are refused
   3  standard input or standard output failed
   4  the system refused to give memory
+  5  the queues of 'vmbind threads' did not start, or disagree
 
 An example of a script:
   buffer b 4

@@ -12,7 +12,7 @@ use program::program;
 use std::process::ExitCode;
 
 fn main(rt: HostRuntime) -> ExitCode {
-    ExitCode::from(program(&rt))
+    ExitCode::from(program(&rt, &rt))
 }
 
 #[cfg(test)]

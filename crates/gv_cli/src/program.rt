@@ -5,7 +5,8 @@ ghost use Rattle.std.specs.declared.io.ErrorKind.TheVariants as stream;
 ghost use Rattle.gv_text.specs.declared.fault.ScriptFault.{ScriptFault};
 ghost use Rattle.clap.specs.Words.{fault_of, kind_of};
 ghost use Rattle.clap.specs.declared.error.kind.ErrorKind.TheVariants as kind;
-ghost use Rattle.gv_cli.specs.CommandLine.{command_line, texts, AskForText};
+ghost use Rattle.gv_types.specs.Limits.{IsFromOneTo};
+ghost use Rattle.gv_cli.specs.CommandLine.{command_line, most_queues, texts, AskForText};
 ghost use Rattle.gv_cli.specs.Fault.{status_of};
 ghost use Rattle.gv_cli.specs.Run.{HasRun, exit_status};
 ghost use Rattle.gv_cli.specs.Status.{IsStatus, bad_words, broken_stream, done, no_memory};
@@ -13,14 +14,21 @@ ghost use Rattle.gv_cli.specs.Status.{IsStatus, bad_words, broken_stream, done, 
 use crate::fault::ProgramFault;
 use crate::stack::is_stack_there;
 use crate::status::{BAD_WORDS, DONE};
-use crate::words::{WordsFault, read_words};
+use crate::words::{Task, WordsFault, read_words};
 use clap::Error;
 use gv_text::{ReadSource, ScriptFault, Sink, Source, WriteSink, run_script};
+use gv_threads::run_threads;
 use std::rt::Env;
+use std::sync::Wait;
+use std::thread::Threads;
 use std::{env, io};
 
-/// Does what the words of the command line ask for, over the standard streams, and gives the exit status.
-pub fn program<R: Env + AllocGlobal + Input + Print + Eprint>(rt: &R) -> u8
+/// Does what the words of the command line ask for, over the standard streams and with threads, and gives the exit
+/// status. It may wait, for threads alone.
+pub fn program<R: Env + AllocGlobal + Input + Print + Eprint, T: Threads + Wait + Sync>(
+    rt: &R,
+    threads: &T,
+) -> u8
     ensures { IsStatus result }
 {
     if !is_stack_there(DONE) {
@@ -32,12 +40,13 @@ pub fn program<R: Env + AllocGlobal + Input + Print + Eprint>(rt: &R) -> u8
     };
     let mut reader = ReadSource::new(rt.reader());
     let mut writer = WriteSink::new(io::writer(rt));
-    obey(rt, words.as_slice(), &mut reader, &mut writer)
+    obey(rt, threads, words.as_slice(), &mut reader, &mut writer)
 }
 
-/// Does what these words ask for, over these devices, and gives the exit status.
-fn obey<R: AllocGlobal + Print + Eprint, S: Source, K: Sink>(
+/// Does what these words ask for, over these devices and with these threads, and gives the exit status.
+fn obey<R: AllocGlobal + Print + Eprint, T: Threads + Wait + Sync, S: Source, K: Sink>(
     rt: &R,
+    threads: &T,
     words: &[String],
     reader: &mut S,
     writer: &mut K,
@@ -58,7 +67,10 @@ fn obey<R: AllocGlobal + Print + Eprint, S: Source, K: Sink>(
     ensures status { IsStatus result }
 {
     match read_words(rt.alloc(), words) {
-        Ok(()) => run(rt, reader, writer),
+        Ok(Task::Run) => run(rt, reader, writer),
+        Ok(Task::Threads { queues, turns }) => {
+            run_with_threads(rt, threads, reader, writer, queues, turns)
+        }
         Err(WordsFault::Printed(error)) => printed(rt, &error),
         Err(WordsFault::OutOfMemory) => told(rt, ProgramFault::Script(ScriptFault::OutOfMemory)),
     }
@@ -96,6 +108,24 @@ fn run<R: AllocGlobal + Eprint, S: Source, K: Sink>(rt: &R, reader: &mut S, writ
     match run_script(rt.alloc(), reader, writer) {
         Ok(()) => DONE,
         Err(fault) => told(rt, ProgramFault::from(fault)),
+    }
+}
+
+/// Runs the threads script that the reader gives, and gives the exit status: that of the fault, if one is answered.
+fn run_with_threads<R: AllocGlobal + Eprint, T: Threads + Wait + Sync, S: Source, K: Sink>(
+    rt: &R,
+    threads: &T,
+    reader: &mut S,
+    writer: &mut K,
+    queues: u64,
+    turns: u64,
+) -> u8
+    requires { IsFromOneTo most_queues queues }
+    ensures { IsStatus result }
+{
+    match run_threads(threads, rt.alloc(), reader, writer, queues, turns) {
+        Ok(()) => DONE,
+        Err(ended) => told(rt, ProgramFault::from(ended)),
     }
 }
 

@@ -14,3 +14,6 @@ pub const BROKEN_STREAM: u8 = 3;
 
 /// The system refused to give memory.
 pub const NO_MEMORY: u8 = 4;
+
+/// The queues of a threads script did not start, or disagree.
+pub const BAD_QUEUES: u8 = 5;

@@ -1,13 +1,20 @@
 //! The words of the command line.
-ghost use Rattle.std.specs.Prelude.{◌≡◌, ◌∷◌, [], ℕ, List, IfOk, IsOkUnless, codes};
+ghost use Rattle.std.specs.Prelude.{◌≡◌, ◌⊎◌, ◌∷◌, [], ℕ, List, IfOk, Ok, Err, codes};
 ghost use Rattle.clap.specs.Words.{app_of, fault_of, kind_of};
-ghost use Rattle.gv_cli.specs.CommandLine.{IsFaultOf, ReadsBy, command_line, texts};
+ghost use Rattle.gv_cli.specs.CommandLine.{IsFaultOf, IsTask, ReadsBy, command_line, texts, threads_line};
 ghost use Rattle.gv_cli.specs.declared.words.WordsFault.TheVariants as words;
 
 use crate::help;
+use clap::builder::ValueParser;
 use clap::error::ErrorKind;
-use clap::{Command, Error};
+use clap::{Arg, ArgMatches, Command, Error};
 use std::alloc::{AllocError, Global};
+
+/// How many queues there may be.
+const MAX_QUEUES: u64 = 16;
+
+/// How many turns a request may wait.
+const MAX_TURNS: u64 = 1_000_000_000;
 
 /// Why the words lead to no task.
 #[derive(Drop)]
@@ -37,15 +44,41 @@ impl From<Error> for WordsFault {
     }
 }
 
-/// Reads the words, of which the first is the program's name. `Ok` where they ask for `run`.
-pub fn read_words<'a>(alloc: Global, words: &'a [String]) -> Result<(), WordsFault>
+/// What the words ask for.
+#[derive(Clone, Copy, Debug, PartialEq, Eq)]
+pub enum Task {
+    /// A script is run.
+    Run,
+    /// A threads script is run on so many queues, from 1 to 16. A request that waits is given up after so many turns,
+    /// from 1 to 1,000,000,000.
+    Threads { queues: u64, turns: u64 },
+}
+
+/// Reads the words, of which the first is the program's name: what they ask for.
+pub fn read_words<'a>(alloc: Global, words: &'a [String]) -> Result<Task, WordsFault>
     ensures kinds { ReadsBy (fault_of command_line (texts words.entry.now)) result }
     ensures run { (name : List ℕ) → texts words.entry.now ≡ name ∷ codes "run" ∷ []
-        → IsOkUnless result WordsFault.OutOfMemory }
+        → (result ≡ Ok Task.Run) ⊎ (result ≡ Err WordsFault.OutOfMemory) }
+    ensures task { IfOk result IsTask }
 {
     let command = command(alloc)?;
-    command.try_get_matches_from(words)?;
-    Ok(())
+    let matches = command.try_get_matches_from(words)?;
+    match matches.subcommand_matches("threads") {
+        Some(given) => Ok(threads_of(given)),
+        None => Ok(Task::Run),
+    }
+}
+
+/// The numbers of `threads`. Each was read, in its range: none other is taken by the command line.
+fn threads_of(given: &ArgMatches<'_>) -> Task
+    ensures { IsTask result }
+{
+    let queues = given.get_one::<u64>("queues").unwrap_or(1);
+    let turns = given.get_one::<u64>("turns").unwrap_or(MAX_TURNS);
+    Task::Threads {
+        queues: queues.clamp(1, MAX_QUEUES),
+        turns: turns.clamp(1, MAX_TURNS),
+    }
 }
 
 fn command<'a>(alloc: Global) -> Result<Command<'a>, AllocError>
@@ -54,10 +87,34 @@ fn command<'a>(alloc: Global) -> Result<Command<'a>, AllocError>
     let run = Command::new(alloc, "run")
         .about(help::RUN)
         .after_long_help(help::SCRIPT);
+    let threads = threads_command(alloc)?;
     Command::new(alloc, "vmbind")
         .version(help::VERSION)
         .about(help::PROGRAM)
         .after_long_help(help::SCRIPT)
         .subcommand_required(true)
-        .subcommand(run)
+        .subcommand(run)?
+        .subcommand(threads)
+}
+
+fn threads_command<'a>(alloc: Global) -> Result<Command<'a>, AllocError>
+    ensures { IfOk result (λ command. app_of command ≡ threads_line) }
+{
+    let queues = Arg::new(alloc, "queues")
+        .long("queues")
+        .value_name("N")
+        .help(help::QUEUES)
+        .value_parser(ValueParser::unsigned(1, MAX_QUEUES))
+        .required(true);
+    let turns = Arg::new(alloc, "turns")
+        .long("turns")
+        .value_name("T")
+        .help(help::TURNS)
+        .value_parser(ValueParser::unsigned(1, MAX_TURNS))
+        .default_value("100000");
+    Command::new(alloc, "threads")
+        .about(help::THREADS)
+        .after_long_help(help::THREADS_SCRIPT)
+        .arg(queues)?
+        .arg(turns)
 }

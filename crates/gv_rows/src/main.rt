@@ -10,8 +10,12 @@ mod refusals;
 mod rows;
 
 use gv_text::{MemorySink, MemorySource, run_script};
+use gv_threads::run_threads;
+use gv_vm::QUEUES;
 use std::process::ExitCode;
 use std::rt::Files;
+use std::sync::Wait;
+use std::thread::Threads;
 use std::{fs, io};
 
 const EXAMPLES: [&str; 11] = [
@@ -28,6 +32,12 @@ const EXAMPLES: [&str; 11] = [
     "settle",
 ];
 
+/// The examples for running queues, each with their number. Their replies are the same whichever queue is served first.
+const THREADS_EXAMPLES: [(&str, u64); 1] = [("threads", 2)];
+
+/// Enough turns for a request to wait for any other of an example.
+const TURNS: u64 = 1_000_000_000;
+
 /// The examples that the page of pictures draws, in its order.
 const PICTURES: [&str; 5] = ["first", "replace", "keep", "withdraw", "tables"];
 
@@ -35,6 +45,12 @@ fn main(rt: HostRuntime) -> io::Result<ExitCode> {
     let mut all_same = true;
     for name in EXAMPLES {
         let same = is_answered(&rt, name)?;
+        let word = if same { "as wanted" } else { "OTHERWISE" };
+        println!(rt; "{name}: {word}")?;
+        all_same = all_same && same;
+    }
+    for (name, queues) in THREADS_EXAMPLES {
+        let same = is_answered_by_queues(&rt, name, queues)?;
         let word = if same { "as wanted" } else { "OTHERWISE" };
         println!(rt; "{name}: {word}")?;
         all_same = all_same && same;
@@ -58,6 +74,24 @@ fn is_answered(rt: &(impl Files + AllocGlobal), name: &str) -> io::Result<bool> 
     let mut source = MemorySource::new(&script);
     let mut sink = MemorySink::new(alloc);
     let ended = run_script(alloc, &mut source, &mut sink);
+    Ok(ended.is_ok() && sink.bytes() == wanted.as_slice())
+}
+
+/// Whether the example's script, run on so many queues, gives the replies beside it.
+fn is_answered_by_queues<R: Files + AllocGlobal + Threads + Wait + Sync>(
+    rt: &R,
+    name: &str,
+    queues: u64,
+) -> io::Result<bool> {
+    let alloc = rt.alloc();
+    let script = fs::read(rt, format!(in alloc; "{name}.vmb")?)?;
+    let wanted = fs::read(rt, format!(in alloc; "{name}.replies")?)?;
+    let mut source = MemorySource::new(&script);
+    let mut sink = MemorySink::new(alloc);
+    if queues == 0 || queues > QUEUES as u64 {
+        return Ok(false);
+    }
+    let ended = run_threads(rt, alloc, &mut source, &mut sink, queues, TURNS);
     Ok(ended.is_ok() && sink.bytes() == wanted.as_slice())
 }
 

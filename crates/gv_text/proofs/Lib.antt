@@ -16,3 +16,5 @@ pub mod Ends
 pub mod Held
 pub mod Numbers
 pub mod Journals
+pub mod Within
+pub mod LineFaults

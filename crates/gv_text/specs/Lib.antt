@@ -9,3 +9,4 @@ pub mod Serving
 pub mod Reading
 pub mod Script
 pub mod AlikePlans
+pub mod Threads

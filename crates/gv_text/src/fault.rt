@@ -2,6 +2,7 @@
 ghost use Rattle.std.specs.Prelude.{◌≡◌};
 ghost use Rattle.gv_text.specs.declared.fault.ScriptFault.TheVariants as fault;
 ghost use Rattle.gv_text.specs.declared.fault.LineFault.TheVariants as line_fault;
+ghost use Rattle.gv_text.specs.Threads.{fault_at};
 
 use crate::device::{ReadFault, WriteFault};
 use gv_types::OutOfMemory;
@@ -57,6 +58,18 @@ pub enum LineFault {
     /// The line is not of the language, or not at this place, or names what is not declared, or declares what is.
     Bad,
     OutOfMemory,
+}
+
+impl LineFault {
+    /// The same of the line with this number, counted from 1.
+    pub fn at(self, number: u64) -> ScriptFault
+        ensures { result ≡ fault_at number self }
+    {
+        match self {
+            LineFault::Bad => ScriptFault::BadLine { line: number },
+            LineFault::OutOfMemory => ScriptFault::OutOfMemory,
+        }
+    }
 }
 
 impl From<AllocError> for LineFault {

@@ -1,12 +1,17 @@
 //! Scripts of an address space: read whole, run line by line, each line's reply written.
 #![tactic(auto)]
 
+mod accesses;
+mod asked;
+mod checks;
 mod device;
 mod fault;
 mod journal;
 mod memory;
 mod names;
+mod numbered;
 mod output;
+mod part;
 mod question;
 mod reply;
 mod request;
@@ -15,8 +20,10 @@ mod said;
 mod script;
 mod serve;
 mod session;
+mod setup;
 mod stage;
 mod standard;
+mod threads;
 mod timeline_names;
 mod transfer;
 
@@ -25,4 +32,5 @@ pub use fault::ScriptFault;
 pub use memory::{MemorySink, MemorySource};
 pub use script::run_script;
 pub use standard::{ReadCalls, ReadSource, WriteCalls, WriteSink};
-pub use transfer::SCRIPT_LIMIT;
+pub use threads::ThreadsScript;
+pub use transfer::{SCRIPT_LIMIT, write_all};

@@ -1,7 +1,8 @@
 //! The lines that ask, and change nothing.
-ghost use Rattle.std.specs.Prelude.{◌≡◌, ◌≢◌, OnOk};
+ghost use Rattle.std.specs.Prelude.{◌≡◌, ◌≢◌, ◌++◌, OnOk, string_bytes};
 ghost use Rattle.gv_lines.specs.declared.line.Line.TheVariants as line;
 ghost use Rattle.gv_text.specs.Line.{Runs, IsGood};
+ghost use Rattle.gv_text.specs.Said.{uses_said};
 ghost use Rattle.gv_text.specs.Serving.{Wrote};
 
 use crate::fault::LineFault;
@@ -11,9 +12,10 @@ use crate::request::op_named;
 use crate::said::{write_number, write_refused, write_told};
 use crate::session::Session;
 use gv_lines::{Name, Operation};
-use gv_types::Fault;
+use gv_space::Space;
+use gv_types::{BufferId, Fault};
 use gv_vm::QUEUES;
-use std::alloc::Global;
+use std::alloc::{AllocError, Global};
 use std::fmt::Write;
 
 /// Writes how many mappings of a buffer there are.
@@ -27,9 +29,16 @@ pub fn uses(session: &mut Session, name: &Name, out: &mut String) -> Result<(), 
     };
     session.begin();
     let space = session.world().vm().space();
-    match space.uses(id).zip(space.kept(id)) {
-        Some((uses, kept)) => Ok(writeln!(out, "uses {uses} kept {kept}")?),
-        None => Ok(write_refused(out, &Fault::NoBuffer)?),
+    Ok(write_uses(out, space, &id)?)
+}
+
+/// Writes how many mappings of a buffer there are, unless it is destroyed.
+pub fn write_uses(out: &mut String, space: &Space, id: &BufferId) -> Result<(), AllocError>
+    ensures { OnOk result (string_bytes out.new ≡ string_bytes out.old ++ uses_said space.now.buffers id.now) }
+{
+    match space.uses(*id).zip(space.kept(*id)) {
+        Some((uses, kept)) => writeln!(out, "uses {uses} kept {kept}"),
+        None => write_refused(out, &Fault::NoBuffer),
     }
 }
 

@@ -1,10 +1,10 @@
 //! What the words of a line ask for, with ids and timelines for names.
-ghost use Rattle.std.specs.Prelude.{◌≡◌, ◌≢◌, ◌↔◌, IsTrue, IsSome, IfOk, map, length, None, ◌<◌};
+ghost use Rattle.std.specs.Prelude.{◌≡◌, ◌≢◌, ◌↔◌, IsTrue, IsSome, IfOk, length, None};
+ghost use Rattle.gv_types.specs.Request.{Fits};
 ghost use Rattle.gv_lines.specs.Chain.{all_read};
 ghost use Rattle.gv_lines.specs.Clause.{queue_asked, operations_of, waits_of, signals_of};
-ghost use Rattle.gv_vm.specs.Jobs.{most_accesses};
 ghost use Rattle.gv_text.specs.State.{timeline_named};
-ghost use Rattle.gv_text.specs.Asking.{flags_of, op_named, point_named, access_of, IsRequest};
+ghost use Rattle.gv_text.specs.Asking.{flags_of, op_named, point_named, IsRequest};
 ghost use Rattle.gv_text.specs.Line.{AreDeclared};
 ghost use Rattle.gv_text.specs.Serving.{IsDeclared, IsOperationAlone, AreOperations};
 ghost use Rattle.gv_text.specs.declared.request.Named.TheVariants as named;
@@ -13,10 +13,8 @@ use crate::fault::LineFault;
 use crate::names::Names;
 use crate::session::Session;
 use crate::timeline_names::TimelineNames;
-use gv_buffers::Usage;
-use gv_lines::{Access as NamedAccess, AccessList, Clause, ClauseList, NamedPoint, Operation};
-use gv_types::{Flags, Op, OutOfMemory, Point, Request};
-use gv_vm::{Access, MAX_ACCESSES};
+use gv_lines::{Clause, ClauseList, NamedPoint, Operation};
+use gv_types::{Flags, Op, Point, Request};
 use std::alloc::Global;
 
 fn flags(read_only: bool) -> Flags
@@ -126,6 +124,39 @@ fn named_by(session: &Session, clauses: &ClauseList<'_>) -> Named
     }
 }
 
+/// Whether the timelines that a clause names are declared.
+fn is_point_declared(timelines: &TimelineNames, clause: &Clause) -> bool {
+    match clause {
+        Clause::Wait { point } => point_named(timelines, point).is_some(),
+        Clause::Signal { point } => point_named(timelines, point).is_some(),
+        Clause::Change { .. } | Clause::Queue { .. } => true,
+    }
+}
+
+/// Whether the timelines that some clauses name are declared.
+pub fn are_points_declared(timelines: &TimelineNames, clauses: &ClauseList<'_>) -> bool {
+    let mut left = clauses.again();
+    while let Some(clause) = left.take() {
+        if !is_point_declared(timelines, &clause) {
+            return false;
+        }
+    }
+    true
+}
+
+/// Whether the buffers that some clauses name are declared.
+pub fn are_ops_declared(names: &Names, clauses: &ClauseList<'_>) -> bool {
+    let mut left = clauses.again();
+    while let Some(clause) = left.take() {
+        if let Clause::Change { operation } = clause {
+            if op_named(names, &operation).is_none() {
+                return false;
+            }
+        }
+    }
+    true
+}
+
 /// The operations of some clauses.
 fn ops_named(alloc: Global, names: &Names, clauses: &ClauseList<'_>) -> Result<Vec<Op>, LineFault>
     ensures ops { IfOk result (λ ops. all_read (op_named names.now.entries) (operations_of clauses.now) ≡ Some ops.items) }
@@ -194,6 +225,29 @@ fn signals_named(
     Ok(points)
 }
 
+/// The request of some clauses, with these names.
+pub fn request_named(
+    alloc: Global,
+    names: &Names,
+    timelines: &TimelineNames,
+    clauses: &ClauseList<'_>,
+) -> Result<Request, LineFault>
+    ensures fits { IfOk result (Fits (length timelines.now.names)) }
+    ensures ops { IfOk result (λ request. all_read (op_named names.now.entries) (operations_of clauses.now) ≡ Some request.ops.items) }
+    ensures waits { IfOk result (λ request. all_read (point_named timelines.now.names) (waits_of clauses.now) ≡ Some request.waits.items) }
+    ensures signals { IfOk result (λ request. all_read (point_named timelines.now.names) (signals_of clauses.now) ≡ Some request.signals.items) }
+    ensures bad { result ≡ Err LineFault.Bad
+        → ¬ (IsSome (all_read (op_named names.now.entries) (operations_of clauses.now))
+        × IsSome (all_read (point_named timelines.now.names) (waits_of clauses.now))
+        × IsSome (all_read (point_named timelines.now.names) (signals_of clauses.now))) }
+{
+    Ok(Request {
+        ops: ops_named(alloc, names, clauses)?,
+        waits: waits_named(alloc, timelines, clauses)?,
+        signals: signals_named(alloc, timelines, clauses)?,
+    })
+}
+
 /// A request, and the queue that it is put in.
 #[derive(Drop)]
 pub struct Asked {
@@ -216,64 +270,17 @@ pub fn asked_by(
     if named == Named::Undeclared {
         return Err(LineFault::Bad);
     }
-    let ops = ops_named(alloc, session.buffers(), clauses)?;
     if named == Named::Operations {
         let request = Request {
-            ops,
+            ops: ops_named(alloc, session.buffers(), clauses)?,
             waits: Vec::new(alloc),
             signals: Vec::new(alloc),
         };
         return Ok(Asked { queue: 0, request });
     }
-    let request = Request {
-        ops,
-        waits: waits_named(alloc, session.timelines(), clauses)?,
-        signals: signals_named(alloc, session.timelines(), clauses)?,
-    };
+    let request = request_named(alloc, session.buffers(), session.timelines(), clauses)?;
     Ok(Asked {
         queue: clauses.queue(),
         request,
     })
-}
-
-/// An access of a job.
-fn access_of(access: NamedAccess) -> Access
-    ensures { result ≡ access_of access }
-{
-    match access {
-        NamedAccess::Read { addr } => Access {
-            addr,
-            usage: Usage::Read,
-        },
-        NamedAccess::Write { addr } => Access {
-            addr,
-            usage: Usage::Write,
-        },
-    }
-}
-
-/// The accesses of a job.
-pub fn accesses_of(alloc: Global, accesses: AccessList<'_>) -> Result<Vec<Access>, OutOfMemory>
-    ensures { IfOk result (λ list. list.items ≡ map access_of accesses.entry) }
-{
-    let mut list = Vec::new(alloc);
-    let mut left = accesses;
-    while let Some(access) = left.take() {
-        list.reserve(1)?;
-        list.push_reserved(access_of(access));
-    }
-    Ok(list)
-}
-
-/// Whether a job has more accesses than any job may have. It takes no memory.
-pub fn are_too_many(accesses: &AccessList<'_>) -> bool
-    ensures { IsTrue result ↔ most_accesses < length accesses.now }
-{
-    let mut left = accesses.again();
-    for done in 0..=MAX_ACCESSES {
-        if left.take().is_none() {
-            return false;
-        }
-    }
-    true
 }

@@ -4,9 +4,10 @@ ghost use Rattle.gv_lines.specs.declared.line.Line.TheVariants as line;
 ghost use Rattle.gv_text.specs.Line.{Runs, RunsText, IsGood, IsGoodText, DoesOnce, SetsBounds, MaySetBounds};
 ghost use Rattle.gv_text.specs.Serving.{Wrote};
 
+use crate::accesses::{accesses_of, are_too_many};
 use crate::fault::LineFault;
 use crate::question::{at, journal, map, plan, tables, told, uses, value};
-use crate::request::{accesses_of, are_too_many, asked_by, point_named};
+use crate::request::{asked_by, point_named};
 use crate::said::{write_refused, write_said, write_withdrawn};
 use crate::serve::serve;
 use crate::session::{Session, TIMELINES};

@@ -1,6 +1,6 @@
 use Rattle.std.proofs.Common.{◌≡◌, ◌++◌, map, length}
 use Rattle.gv_text.specs.Asking.{access_of}
-use Rattle.gv_text.proofs.request.accesses_of.Given as goal
+use Rattle.gv_text.proofs.accesses.accesses_of.Given as goal
 
 abbrev pub invariant-loop-access : goal.invariant-loop-access
 invariant-loop-access l = map access_of l.initial.left ≡ l.list.items ++ map access_of l.left

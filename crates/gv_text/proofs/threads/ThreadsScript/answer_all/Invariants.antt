@@ -1,0 +1,12 @@
+use Rattle.std.proofs.Common.{◌≡◌, length}
+use Rattle.gv_sync.specs.Seats.{IsSeatOf}
+use Rattle.gv_text.proofs.threads.ThreadsScript.answer_all.Given as goal
+
+abbrev pub invariant-loop-number : goal.invariant-loop-number
+invariant-loop-number g l = record {
+  own : IsSeatOf l.timelines l.seat;
+  flag : g.W.Sink.failed l.writer ≡ g.W.Sink.failed l.initial.writer;
+}
+
+abbrev pub decreases-loop-number : goal.decreases-loop-number
+decreases-loop-number g l = length l.lines

@@ -1,0 +1,26 @@
+-- How a threads script ends.
+use Rattle.std.specs.Prelude.{◌≡◌, ℕ, ◌<◌, Bool, true, Result, Ok, Err}
+use Rattle.gv_queues.specs.declared.finishing.QueuesFault.TheVariants.{NotMade, NotStarted, Disagree}
+use Rattle.gv_text.specs.declared.fault.ScriptFault.{ScriptFault}
+use Rattle.gv_text.specs.declared.fault.ScriptFault.TheVariants.{BadLine, ScriptTooLong, ReadFault, WriteFault, OutOfMemory}
+use Rattle.gv_threads.specs.declared.fault.ThreadsFault.{ThreadsFault}
+use Rattle.gv_threads.specs.declared.fault.ThreadsFault.TheVariants.{Script, Queues}
+
+-- A script of so many queues ends so: a device's fault is the answer exactly where the device's flag goes up, of which the reader's
+-- and the writer's are given before and after, and a queue that is named is one of them.
+abbrev pub RunsAs : Bool → Bool → Bool → Bool → ℕ → Result (Unit {0}) ThreadsFault → Type 0
+RunsAs read new_read old new queues (Err (Script ReadFault)) = (new_read ≡ true) × (new ≡ old)
+RunsAs read new_read old new queues (Err (Script ScriptTooLong)) = (new_read ≡ read) × (new ≡ old)
+RunsAs read new_read old new queues (Err (Script WriteFault)) = (new_read ≡ read) × (new ≡ true)
+RunsAs read new_read old new queues (Err (Script (BadLine line))) = (new_read ≡ read) × (new ≡ old)
+RunsAs read new_read old new queues (Err (Script OutOfMemory)) = (new_read ≡ read) × (new ≡ old)
+RunsAs read new_read old new queues (Ok done) = (new_read ≡ read) × (new ≡ old)
+RunsAs read new_read old new queues (Err (Queues NotMade)) = (new_read ≡ read) × (new ≡ old)
+RunsAs read new_read old new queues (Err (Queues (NotStarted queue))) = (queue < queues) × (new_read ≡ read) × (new ≡ old)
+RunsAs read new_read old new queues (Err (Queues (Disagree queue))) = (queue < queues) × (new_read ≡ read) × (new ≡ old)
+
+-- the script was not read, so nothing ran
+abbrev pub HasNotBegun : ThreadsFault → Type 0
+HasNotBegun (Script ReadFault) = Unit {0}
+HasNotBegun (Script ScriptTooLong) = Unit {0}
+HasNotBegun fault = ⊥

@@ -1,0 +1,92 @@
+//! What puts the requests of a script.
+ghost use Rattle.std.specs.Prelude.{◌≡◌, length};
+ghost use Rattle.gv_queues.specs.Submitting.{AreCounted, AreSameSubmitters};
+ghost use Rattle.gv_threads.specs.Counts.{count_at};
+
+use gv_queues::{Driver, Submitter, VmLock};
+use gv_sync::{Seat, Timelines};
+use gv_types::Request;
+use gv_vm::QUEUES;
+use std::sync::Wait;
+
+/// Puts requests in order, each on its queue, and counts those that were put. One that is refused is not tried again.
+#[derive(Drop)]
+pub struct ScriptDriver {
+    requests: Option<Vec<(u64, Request)>>,
+    counts: [u64; QUEUES],
+}
+
+impl ScriptDriver {
+    pub fn new(requests: Vec<(u64, Request)>) -> Self {
+        ScriptDriver {
+            requests: Some(requests),
+            counts: [0; QUEUES],
+        }
+    }
+}
+
+/// Puts a request on its queue, and counts what was put there.
+fn put<R: Wait>(
+    rt: &R,
+    submitters: &mut [Submitter],
+    counts: &mut [u64; QUEUES],
+    queue: u64,
+    request: Request,
+)
+    requires counts { AreCounted (count_at counts.old) submitters.old }
+    ensures same { AreSameSubmitters submitters.old submitters.new }
+    ensures counts { AreCounted (count_at counts.new) submitters.new }
+    ensures len { length submitters.new ≡ length submitters.old }
+{
+    let place = queue as usize;
+    if place >= submitters.len() || place >= QUEUES {
+        return;
+    }
+    if request.fits(submitters[place].timelines()) {
+        // A request that is refused is not tried again.
+        let _ = submitters[place].put(rt, request);
+        counts[place] = submitters[place].count();
+    }
+}
+
+/// Puts requests in order, each on its queue.
+fn put_all<R: Wait>(
+    rt: &R,
+    submitters: &mut [Submitter],
+    counts: &mut [u64; QUEUES],
+    requests: Vec<(u64, Request)>,
+)
+    requires counts { AreCounted (count_at counts.old) submitters.old }
+    ensures same { AreSameSubmitters submitters.old submitters.new }
+    ensures counts { AreCounted (count_at counts.new) submitters.new }
+    ensures len { length submitters.new ≡ length submitters.old }
+{
+    for (queue, request) in requests {
+        put(rt, submitters, counts, queue, request);
+    }
+}
+
+impl Driver for ScriptDriver {
+    ghost use Rattle.gv_threads.specs.Counts.{count_at};
+
+    ghost put_on = { λ d. count_at d.counts };
+
+    fn drive<R: Wait>(
+        &mut self,
+        rt: &R,
+        _lock: &VmLock,
+        submitters: &mut [Submitter],
+        _timelines: &Timelines,
+        _seat: &mut Seat,
+    ) {
+        let mut counts = [0; QUEUES];
+        if let Some(requests) = self.requests.take() {
+            put_all(rt, submitters, &mut counts, requests);
+        }
+        self.counts = counts;
+    }
+
+    fn count(&self, queue: u64) -> u64 {
+        self.counts.get(queue as usize).copied().unwrap_or(0)
+    }
+}

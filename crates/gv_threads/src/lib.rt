@@ -1,0 +1,14 @@
+//! Scripts whose requests are put on running queues, run from their bytes to their replies.
+#![tactic(auto)]
+
+mod driver;
+mod ends;
+mod fault;
+mod gate;
+mod run;
+
+pub use fault::ThreadsFault;
+pub use run::run_threads;
+
+#[cfg(test)]
+mod tests;

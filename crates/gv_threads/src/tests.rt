@@ -1,0 +1,132 @@
+//! Threads scripts from their bytes to their replies.
+mod bad;
+
+use crate::{ThreadsFault, run_threads};
+use gv_text::{MemorySink, MemorySource, ScriptFault};
+use std::alloc::Global;
+use std::process::Abort;
+use std::sync::Wait;
+use std::test::Fail;
+use std::thread::Threads;
+
+const TURNS: u64 = 100_000;
+
+/// Runs the script on so many queues, and asserts what it comes to.
+fn expect<R: Threads + Wait + Sync + Abort>(
+    rt: &R,
+    alloc: Global,
+    script: &[u8],
+    queues: u64,
+    turns: u64,
+    wanted: Result<(), ThreadsFault>,
+    replies: &[u8],
+) {
+    if queues == 0 || queues > 16 {
+        return;
+    }
+    let mut sink = MemorySink::new(alloc);
+    let mut source = MemorySource::new(script);
+    let outcome = run_threads(rt, alloc, &mut source, &mut sink, queues, turns);
+    assert!(rt; outcome == wanted);
+    assert!(rt; sink.bytes() == replies);
+}
+
+fn bad_line(line: u64) -> Result<(), ThreadsFault> {
+    Err(ThreadsFault::Script(ScriptFault::BadLine { line }))
+}
+
+#[test]
+fn two_queues_map_apart(rt: HostRuntime) {
+    expect(
+        &rt,
+        rt.alloc(),
+        b"buffer a 8\nbind queue 0 ; map 0x0 0x2000 a 0x0\nbind queue 1 ; map 0x4000 0x2000 a 0x2000\nmap\n",
+        2,
+        TURNS,
+        Ok(()),
+        b"ok\nqueue 0 put 1 told 1 left 0\nqueue 1 put 1 told 1 left 0\n\
+0000000000000000 0000000000002000 a 0000000000000000 rw\n\
+0000000000004000 0000000000006000 a 0000000000002000 rw\n",
+    );
+}
+
+#[test]
+fn empty_script_closes_its_queues(rt: HostRuntime) {
+    expect(
+        &rt,
+        rt.alloc(),
+        b"",
+        3,
+        TURNS,
+        Ok(()),
+        b"queue 0 put 0 told 0 left 0\nqueue 1 put 0 told 0 left 0\nqueue 2 put 0 told 0 left 0\n",
+    );
+}
+
+/// Each line of the third part, on what stands when the workers have ended.
+#[test]
+fn questions_are_answered_behind_the_workers(rt: HostRuntime) {
+    expect(
+        &rt,
+        rt.alloc(),
+        b"# first\n\nspace 0x0 0x10000 0x8000 0x4000\nlimits 2 4 3\nbuffer a 8\nbuffer b 0\nbuffer b 1\n\
+timeline t\ntimeline u\nraise t 3\nraise t 2\n# then\nbind map 0x0 0x2000 a 0x0 ro ; signal u 5\nbind zero 0x8000 0x1000\n\
+bind wait t 4\nbind wait t 3 ; unmap 0x1000 0x1000\n\n# last\nmap\nat 0x10\nat 0x1000\ntables\nuses a\nvalue t\nvalue u\n\
+told 0\njournal\n",
+        1,
+        3,
+        Ok(()),
+        b"ok\nok\nok\nrefused BadSize\nok\nok\nok\nt 3\nt 3\nqueue 0 put 4 told 4 left 0\n\
+0000000000000000 0000000000001000 a 0000000000000000 ro\na 0000000000000010 ro\nnone\n1 1 1 1 1\nuses 1 kept 1\nt 3\nu 5\n\
+0 accepted 0\n1 refused 0 Reserved\n2 notready t 4 have 3\n3 accepted 1\n0 bind 0 0 live\n1 bind 0 3 live\n",
+    );
+}
+
+/// A request on one queue waits for the signal of one on another, whichever is served first.
+#[test]
+fn one_queue_waits_for_another(rt: HostRuntime) {
+    expect(
+        &rt,
+        rt.alloc(),
+        b"timeline t\nbind queue 0 ; wait t 1 ; zero 0x0 0x1000\nbind queue 1 ; zero 0x4000 0x1000 ; signal t 1\n\
+told 0\ntold 1\nvalue t\n",
+        2,
+        1_000_000_000,
+        Ok(()),
+        b"ok\nqueue 0 put 1 told 1 left 0\nqueue 1 put 1 told 1 left 0\n0 accepted 1\n0 accepted 0\nt 1\n",
+    );
+}
+
+/// Nothing raises the timeline, so the request is given up at the limit of turns, and the next one is served.
+#[test]
+fn request_is_given_up_at_its_turns(rt: HostRuntime) {
+    expect(
+        &rt,
+        rt.alloc(),
+        b"timeline t\nbind wait t 9\nbind zero 0x0 0x1000\ntold 0\n",
+        1,
+        1,
+        Ok(()),
+        b"ok\nqueue 0 put 2 told 2 left 0\n0 notready t 9 have 0\n1 accepted 0\n",
+    );
+}
+
+/// Over 65,536 requests on one queue: it takes that number and no more.
+#[test]
+fn queue_is_spent_at_its_limit(rt: HostRuntime) -> Result<(), Fail> {
+    let mut script = Vec::new(rt.alloc());
+    for _ in 0..65_540 {
+        script.extend_from_slice(b"bind\n")?;
+    }
+    script.extend_from_slice(b"bind queue 1\n")?;
+    expect(
+        &rt,
+        rt.alloc(),
+        script.as_slice(),
+        2,
+        TURNS,
+        Ok(()),
+        b"queue 0 put 65536 told 65536 left 0\nqueue 1 put 1 told 1 left 0\n",
+    );
+    Ok(())
+}
