@@ -1,14 +1,15 @@
 //! Runs the examples, and compares what they come to with the replies that are wanted.
 #![tactic(auto)]
 
-#[cfg(test)]
 mod devices;
+mod failing;
 mod pictures;
 #[cfg(test)]
 mod refusals;
 #[cfg(test)]
 mod rows;
 
+use failing::{is_read_fault_told, is_write_fault_told};
 use gv_text::{MemorySink, MemorySource, run_script};
 use std::process::ExitCode;
 use std::rt::Files;
@@ -28,6 +29,9 @@ const EXAMPLES: [&str; 11] = [
     "settle",
 ];
 
+/// The longest example, which is run on devices that fail at each of their calls.
+const LONGEST: &str = "buffers";
+
 /// The examples that the page of pictures draws, in its order.
 const PICTURES: [&str; 3] = ["first", "replace", "keep"];
 
@@ -43,6 +47,10 @@ fn main(rt: HostRuntime) -> io::Result<ExitCode> {
     let word = if drawn { "as wanted" } else { "OTHERWISE" };
     println!(rt; "pictures: {word}")?;
     all_same = all_same && drawn;
+    let told = are_failures_told(&rt)?;
+    let word = if told { "as wanted" } else { "OTHERWISE" };
+    println!(rt; "failing devices: {word}")?;
+    all_same = all_same && told;
     Ok(if all_same {
         ExitCode::SUCCESS
     } else {
@@ -59,6 +67,14 @@ fn is_answered(rt: &(impl Files + AllocGlobal), name: &str) -> io::Result<bool> 
     let mut sink = MemorySink::new(alloc);
     let ended = run_script(alloc, &mut source, &mut sink);
     Ok(ended.is_ok() && sink.bytes() == wanted.as_slice())
+}
+
+/// Whether a read or a write that fails is told, at each call that the longest example makes.
+fn are_failures_told(rt: &(impl Files + AllocGlobal)) -> io::Result<bool> {
+    let alloc = rt.alloc();
+    let script = fs::read(rt, format!(in alloc; "{LONGEST}.vmb")?)?;
+    let replies = fs::read(rt, format!(in alloc; "{LONGEST}.replies")?)?;
+    Ok(is_read_fault_told(alloc, &script) && is_write_fault_told(alloc, &script, &replies))
 }
 
 /// Whether the pictures of the page have the lines that the program answers.
