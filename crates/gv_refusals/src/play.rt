@@ -1,7 +1,7 @@
 //! Rows of acts on a world. An act whose memory is refused has changed nothing, and is done again.
 use crate::act::{Act, Ask, BUFFERS, Ids, event_of, may_grow, request_of};
 use crate::fold::Fold;
-use crate::sight::{Sight, sight, take_reply};
+use crate::sight::{Sight, sight_of, take_reply};
 use gv_types::{Bounds, Fault, Limits};
 use gv_vm::{Event, Outcome, Reply, World};
 use std::alloc::{AllocError, Global};
@@ -61,7 +61,7 @@ fn play_on(alloc: Global, world: &mut World, acts: &[Act]) -> Result<Course, Wro
                 return Err(Wrong::Twice);
             }
         }
-        let seen = sight(world, &ids);
+        let seen = sight_of(world, &ids);
         course.fold.take_all(seen.state);
     }
     Ok(course)
@@ -84,7 +84,7 @@ fn is_done(
     let Some(event) = event else {
         return Ok(true);
     };
-    let before = sight(world, ids);
+    let before = sight_of(world, ids);
     match world.step(alloc, event) {
         Ok(reply) => {
             take_reply(&mut course.fold, &reply);
@@ -102,7 +102,7 @@ fn unchanged(world: &World, ids: &Ids, before: Sight, told: u64) -> Result<bool,
         state: before.state,
         told: before.told.saturating_add(told),
     };
-    if sight(world, ids) == wanted {
+    if sight_of(world, ids) == wanted {
         Ok(false)
     } else {
         Err(Wrong::Changed)
@@ -156,7 +156,7 @@ fn step_at_last(
     queue: u64,
     course: &mut Course,
 ) -> Result<Reply, Wrong> {
-    let before = sight(world, ids);
+    let before = sight_of(world, ids);
     if let Ok(reply) = world.step(alloc, event_at(stage, queue)) {
         return Ok(reply);
     }
@@ -199,7 +199,8 @@ fn is_served(
     ask: &Ask,
     course: &mut Course,
 ) -> Result<bool, Wrong> {
-    let before = sight(world, ids);
+    let before = sight_of(world, ids);
+    let replies = course.fold;
     let queue = ask.queue;
     let Ok(request) = request_of(alloc, ids, ask) else {
         return Ok(false);
@@ -209,6 +210,8 @@ fn is_served(
     }
     let reply = told(alloc, world, ids, ask, course)?;
     if is_wanting(&reply) {
+        // It is served again from its put.
+        course.fold = replies;
         return unchanged(world, ids, before, 1);
     }
     take_reply(&mut course.fold, &reply);

@@ -47,9 +47,10 @@ pub fn holds(alloc: Global, script: &[u8]) -> Result<Option<bool>, AllocError> {
     }
 }
 
+/// Whether a run of a good script met a refusal.
 fn is_wanting(ending: &Ending) -> bool {
     let wanting = b"OutOfMemory";
-    ending.outcome == Err(ScriptFault::OutOfMemory)
+    ending.outcome.is_err()
         || ending
             .replies
             .windows(wanting.len())

@@ -16,7 +16,7 @@ pub struct Sight {
 }
 
 /// All that is seen of a world and of these buffers.
-pub fn sight(world: &World, ids: &Ids) -> Sight {
+pub fn sight_of(world: &World, ids: &Ids) -> Sight {
     let vm = world.vm();
     let mut state = Fold::new();
     for mapping in vm.space().mappings() {
