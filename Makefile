@@ -4,7 +4,7 @@ RT ?= rt
 PROGRAM := crates/gv_cli
 SOURCES := crates.txt HANDLES $(shell find crates -type f \( -name '*.rt' -o -name '*.antt' \) -not -path '*/out/*')
 
-.PHONY: build try run test refuse-memory measure clean
+.PHONY: build try run test fuzz refuse-memory measure clean
 
 # The proved program, at ./vmbind.
 build: vmbind
@@ -35,10 +35,17 @@ test:
 	@! grep -rnw Wait crates/gv_sync/src
 	$(RT) ci
 
-# Outside the gate, since it has no way to refuse memory: a long script under limits of the address space, and the first,
-# second and further requests for memory refused in the tests that are made for it. Each run is compared with what it may
-# come to; the last line is 'N passed, M failed'.
-LAST ?= 40
+# Scripts by chance, from a seed on and for so many seconds, each run by the program's own call and by a model that is written
+# from the definitions. What differs is shrunk and printed; the last line is 'N passed, M failed'. The gate runs a few.
+SECONDS ?= 60
+SEED ?= 1000
+fuzz:
+	cd crates/gv_fuzz && $(RT) run -- --seed $(SEED) --seconds $(SECONDS)
+
+# Outside the gate, since it has no way to refuse memory: a long script under limits of the address space, then rows of
+# events and every example with each request for memory refused in turn until a run meets none, and the tests that are made
+# for it. Each run is compared with what it may come to; the last line is 'N passed, M failed'.
+LAST ?= 120
 refuse-memory: vmbind
 	@RT="$(RT)" tools/refuse-memory $(LAST)
 

@@ -2,8 +2,6 @@
 
 use gv_text::{MemorySink, MemorySource, ReadFault, Sink, Source, WriteFault};
 use std::alloc::Global;
-use std::io;
-use std::io::Write;
 
 /// A script that comes byte by byte. The read after `reads_left` of them fails.
 #[derive(Drop)]
@@ -91,19 +89,5 @@ impl Sink for FailingSink {
                 Err(fault)
             }
         }
-    }
-}
-
-/// A writer that takes nothing.
-#[derive(Drop)]
-pub struct StuckWriter;
-
-impl Write for StuckWriter {
-    fn write(&mut self, _bytes: &[u8]) -> io::Result<usize> {
-        Ok(0)
-    }
-
-    fn flush(&mut self) -> io::Result<()> {
-        Ok(())
     }
 }

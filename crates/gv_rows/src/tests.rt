@@ -1,10 +1,13 @@
 //! Scripts from their bytes to their replies.
 mod many;
 
-use crate::devices::{FailingSink, FailingSource, StuckWriter};
+use crate::devices::FailingSource;
+use crate::failing::{is_read_fault_told, is_write_fault_told};
 use crate::rows::{BAD_LINES, EDITS, REQUESTS};
 use gv_text::{MemorySink, MemorySource, SCRIPT_LIMIT, ScriptFault, WriteSink, run_script};
 use std::alloc::Global;
+use std::io;
+use std::io::Write;
 use std::process::Abort;
 use std::test::Fail;
 
@@ -119,38 +122,29 @@ fn script_is_read_in_as_many_reads_as_it_has_bytes(rt: HostRuntime) -> Result<()
 
 #[test]
 fn failed_read_writes_nothing(rt: HostRuntime) {
-    for reads in 0..HOLE.len() + 1 {
-        let mut source = FailingSource::new(HOLE, reads);
-        let mut sink = MemorySink::new(rt.alloc());
-        let outcome = run_script(rt.alloc(), &mut source, &mut sink);
-        assert!(rt;
-            outcome == Err(ScriptFault::ReadFault),
-            "after {reads} reads"
-        );
-        assert!(rt; sink.bytes().is_empty(), "after {reads} reads");
-    }
+    assert!(rt; is_read_fault_told(rt.alloc(), HOLE));
 }
 
 #[test]
 fn failed_write_is_told(rt: HostRuntime) -> Result<(), Fail> {
     let mut whole = MemorySink::new(rt.alloc());
     run_script(rt.alloc(), &mut MemorySource::new(HOLE), &mut whole)?;
-    for writes in 0..whole.bytes().len() {
-        let mut sink = FailingSink::new(rt.alloc(), writes);
-        let outcome = run_script(rt.alloc(), &mut MemorySource::new(HOLE), &mut sink);
-        assert!(rt;
-            outcome == Err(ScriptFault::WriteFault),
-            "after {writes} writes"
-        );
-        assert!(rt;
-            whole.bytes().starts_with(sink.bytes()),
-            "after {writes} writes"
-        );
-    }
-    let mut sink = FailingSink::new(rt.alloc(), whole.bytes().len());
-    run_script(rt.alloc(), &mut MemorySource::new(HOLE), &mut sink)?;
-    assert!(rt; sink.bytes() == whole.bytes());
+    assert!(rt; is_write_fault_told(rt.alloc(), HOLE, whole.bytes()));
     Ok(())
+}
+
+/// A writer that takes nothing.
+#[derive(Drop)]
+pub struct StuckWriter;
+
+impl Write for StuckWriter {
+    fn write(&mut self, _bytes: &[u8]) -> io::Result<usize> {
+        Ok(0)
+    }
+
+    fn flush(&mut self) -> io::Result<()> {
+        Ok(())
+    }
 }
 
 #[test]

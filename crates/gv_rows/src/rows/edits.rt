@@ -70,8 +70,8 @@ pub const EDITS: [Row; 34] = [
     },
     Row {
         name: "greatest_numbers",
-        script: b"buffer b 0\nbuffer b 68719476737\nbuffer b 68719476736\nbind zero 0xfffffffffffff000 0x1000\nbind zero 0x0 0xfffffffffffff000\nbind map 0x0 0x1000 b 0xfffffffffffff000\nat 0xffffffffffffffff\n",
-        replies: b"refused BadSize\nrefused BadSize\nok\nrefused 0 OutOfSpace\nrefused 0 OutOfSpace\nrefused 0 OutOfBuffer\nnone\n",
+        script: b"buffer b 0\nbuffer b 68719476737\nbuffer b 68719476736\nbind zero 0xfffffffffffff000 0x1000\nbind zero 0x0 0xfffffffffffff000\nbind map 0x0 0x1000 b 0xfffffffffffff000\nat 0xffffffffffffffff\ntimeline t\nraise t 18446744073709551615\n",
+        replies: b"refused BadSize\nrefused BadSize\nok\nrefused 0 OutOfSpace\nrefused 0 OutOfSpace\nrefused 0 OutOfBuffer\nnone\nok\nt 18446744073709551615\n",
         bad_line: None,
     },
     Row {

@@ -6,8 +6,20 @@ use std::test::Fail;
 
 /// Runs the script, and asserts how its replies end.
 fn expect_end(rt: &impl Abort, alloc: Global, script: &str, end: &[u8]) -> Result<(), Fail> {
+    expect_ends(rt, alloc, script, b"", end)
+}
+
+/// Runs the script, and asserts how its replies begin and end.
+fn expect_ends(
+    rt: &impl Abort,
+    alloc: Global,
+    script: &str,
+    start: &[u8],
+    end: &[u8],
+) -> Result<(), Fail> {
     let mut sink = MemorySink::new(alloc);
     run_script(alloc, &mut MemorySource::new(script.as_bytes()), &mut sink)?;
+    assert!(rt; sink.bytes().starts_with(start));
     assert!(rt; sink.bytes().ends_with(end));
     Ok(())
 }
@@ -53,8 +65,12 @@ fn as_many_jobs_and_accesses_as_may_be(rt: HostRuntime) -> Result<(), Fail> {
     }
     push_many(&mut script, "job read 0x0\n", 1_024)?;
     script.push_str("end 0\njob read 0x0\n")?;
+    let mut start = String::new(rt.alloc());
+    start.push_str("accepted 0\nrefused TooManyAccesses\njob 0\n")?;
+    push_many(&mut start, "zero rw\n", 256)?;
+    start.push_str("job 1\n")?;
     let end = b"job 1023\nzero rw\nrefused TooManyJobs\nended 0\njob 1024\nzero rw\n";
-    expect_end(&rt, rt.alloc(), script.as_str(), end)
+    expect_ends(&rt, rt.alloc(), script.as_str(), start.as_bytes(), end)
 }
 
 #[test]

@@ -1,0 +1,90 @@
+//! Scripts by chance, each run by `run_script` and by a model that is written from the definitions. Where the two differ, the
+//! script is shrunk and printed with its seed. The last line is 'N passed, M failed'.
+#![tactic(auto)]
+
+mod line;
+mod model;
+mod operation;
+mod random;
+mod script;
+mod shape;
+mod shrink;
+mod trial;
+mod words;
+
+use script::by_chance;
+use shrink::shrunk;
+use std::io;
+use std::process::ExitCode;
+use std::time::{Clock, Instant};
+use trial::Trial;
+use words::{Plan, plan_of};
+
+/// After so many differences no further script is tried.
+const MOST_FAILED: u64 = 5;
+
+fn main(rt: HostRuntime) -> io::Result<ExitCode> {
+    let Some(plan) = plan_of(&rt)? else {
+        rt.eprintln("gv_fuzz [--seed N] [--scripts N] [--seconds N], one of the last two")?;
+        return Ok(ExitCode::from(2));
+    };
+    let failed = try_all(&rt, &plan)?;
+    Ok(if failed == 0 {
+        ExitCode::SUCCESS
+    } else {
+        ExitCode::from(1)
+    })
+}
+
+/// Tries the scripts of a plan, and gives how many differed.
+fn try_all<R: Clock + Print + AllocGlobal>(rt: &R, plan: &Plan) -> io::Result<u64> {
+    let start = Instant::now(rt)?;
+    let mut passed: u64 = 0;
+    let mut failed: u64 = 0;
+    for number in 0..plan.scripts {
+        if failed >= MOST_FAILED || start.elapsed(rt)?.as_secs() >= plan.seconds {
+            break;
+        }
+        if agrees(rt, plan.seed.wrapping_add(number))? {
+            passed = passed.saturating_add(1);
+        } else {
+            failed = failed.saturating_add(1);
+        }
+    }
+    println!(rt; "{passed} passed, {failed} failed")?;
+    Ok(failed)
+}
+
+/// Tries the script of a seed. One that differs is printed.
+fn agrees<R: Print + AllocGlobal>(rt: &R, seed: u64) -> io::Result<bool> {
+    let script = by_chance(rt.alloc(), seed)?;
+    if Trial::new(rt.alloc(), &script)?.agrees() {
+        return Ok(true);
+    }
+    let script = shrunk(rt.alloc(), &script)?;
+    let trial = Trial::new(rt.alloc(), &script)?;
+    println!(rt; "seed {seed}: this script")?;
+    print_text(rt, &script)?;
+    println!(rt; "came to {:?}", trial.outcome)?;
+    print_text(rt, &trial.got)?;
+    let line = trial.wanted.bad_line.unwrap_or(0);
+    println!(rt; "and was to come to (bad line {line}, 0 for none)")?;
+    print_text(rt, trial.wanted.text.as_bytes())?;
+    Ok(false)
+}
+
+/// Prints bytes as text; those that are not ASCII as they are written in a string.
+fn print_text<R: Print + AllocGlobal>(rt: &R, bytes: &[u8]) -> io::Result<()> {
+    let mut text = String::new(rt.alloc());
+    for byte in bytes {
+        for letter in std::ascii::escape_default(*byte) {
+            if *byte != b'\n' {
+                text.push(char::from(letter))?;
+            }
+        }
+        if *byte == b'\n' {
+            text.push('\n')?;
+        }
+    }
+    rt.print(text.as_str())
+}

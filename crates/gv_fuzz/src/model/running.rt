@@ -1,0 +1,349 @@
+//! Lines that change something.
+use super::area::{Area, Limits, PAGE};
+use super::fault::Fault;
+use super::grammar::{Access, Clause, Line, Point, line_of};
+use super::history::{Item, Kind};
+use super::job::{Job, reached_all};
+use super::names::{Buffer, Timeline};
+use super::request::{Refusal, Request};
+use super::text::write_place;
+use super::{Model, Stage, Told};
+use std::alloc::{AllocError, Global};
+use std::fmt::Write;
+
+/// The greatest number of operations of a request, and of accesses of a job.
+const MANY: usize = 256;
+
+/// The greatest number of running jobs.
+const JOBS: usize = 1_024;
+
+/// The greatest number of timelines.
+const TIMELINES: usize = 64;
+
+/// The greatest number of pages of a buffer.
+const BUFFER_PAGES: u64 = 1 << 36;
+
+impl Model {
+    /// Runs a line and writes its reply. False where it is a bad line.
+    pub fn run_line(
+        &mut self,
+        alloc: Global,
+        line: &[u8],
+        out: &mut String,
+    ) -> Result<bool, AllocError> {
+        match line_of(alloc, &self.names, line)? {
+            None => Ok(false),
+            Some(Line::Silent) => Ok(true),
+            Some(
+                Line::Space {
+                    start,
+                    len,
+                    reserved_start,
+                    reserved_len,
+                },
+            ) => {
+                let area = Area::from_bytes(start, len, reserved_start, reserved_len);
+                self.set_area(area, out)
+            }
+            Some(
+                Line::Limits {
+                    buffers,
+                    mappings,
+                    items,
+                },
+            ) => self.set_limits(Limits::new(buffers, mappings, items), out),
+            Some(line) => {
+                self.stage = Stage::Begun;
+                self.run(alloc, line, out)
+            }
+        }
+    }
+
+    fn set_area(&mut self, area: Option<Area>, out: &mut String) -> Result<bool, AllocError> {
+        match area {
+            Some(area) if self.stage == Stage::Fresh => {
+                self.area = area;
+                self.stage = Stage::Bounded;
+                out.push_str("ok\n")?;
+                Ok(true)
+            }
+            _ => Ok(false),
+        }
+    }
+
+    fn set_limits(&mut self, limits: Option<Limits>, out: &mut String) -> Result<bool, AllocError> {
+        match limits {
+            Some(limits) if self.stage != Stage::Begun => {
+                self.limits = limits;
+                self.stage = Stage::Begun;
+                out.push_str("ok\n")?;
+                Ok(true)
+            }
+            _ => Ok(false),
+        }
+    }
+
+    /// Runs a line that is no setting.
+    fn run(&mut self, alloc: Global, line: Line, out: &mut String) -> Result<bool, AllocError> {
+        match line {
+            Line::Buffer { name, pages } => self.make(name, pages, out),
+            Line::Timeline { name } => self.declare(name, out),
+            Line::Destroy { place } => self.destroy(alloc, place, out),
+            Line::Raise(point) => {
+                self.raise(point);
+                self.write_value(point.place, out)
+            }
+            Line::Bind(clauses) => self.bind(alloc, &clauses, out),
+            Line::Rewind => self.rewind(out),
+            Line::Withdraw { entry } => self.withdraw(alloc, entry, out),
+            Line::Settle { to } => self.settle(alloc, to, out),
+            Line::Job(accesses) => self.begin(alloc, &accesses, out),
+            Line::End { job } => self.end(alloc, job, out),
+            line => self.answer(alloc, &line, out),
+        }
+    }
+
+    fn make(&mut self, name: String, pages: u64, out: &mut String) -> Result<bool, AllocError> {
+        if self.names.buffer(name.as_str()).is_some() {
+            return Ok(false);
+        }
+        if pages == 0 || pages > BUFFER_PAGES {
+            Fault::plain("BadSize").write_refused(out)?;
+        } else if self.names.live() >= self.limits.buffers {
+            Fault::plain("TooManyBuffers").write_refused(out)?;
+        } else {
+            self.names.buffers.push(Buffer {
+                name,
+                pages,
+                is_alive: true,
+            })?;
+            out.push_str("ok\n")?;
+        }
+        Ok(true)
+    }
+
+    fn declare(&mut self, name: String, out: &mut String) -> Result<bool, AllocError> {
+        let is_declared = self.names.timeline(name.as_str()).is_some();
+        if is_declared || self.names.timelines.len() >= TIMELINES {
+            return Ok(false);
+        }
+        self.names.timelines.push(Timeline { name, number: 0 })?;
+        out.push_str("ok\n")?;
+        Ok(true)
+    }
+
+    fn destroy(
+        &mut self,
+        alloc: Global,
+        place: usize,
+        out: &mut String,
+    ) -> Result<bool, AllocError> {
+        match self.holder(alloc, place)? {
+            Some(fault) => fault.write_refused(out)?,
+            None => {
+                if let Some(buffer) = self.names.buffers.get_mut(place) {
+                    buffer.is_alive = false;
+                }
+                out.push_str("ok\n")?;
+            }
+        }
+        Ok(true)
+    }
+
+    fn raise(&mut self, point: Point) {
+        if let Some(timeline) = self.names.timelines.get_mut(point.place) {
+            timeline.number = timeline.number.max(point.value);
+        }
+    }
+
+    /// A request, from its waits to its signals.
+    fn bind(
+        &mut self,
+        alloc: Global,
+        clauses: &[Clause],
+        out: &mut String,
+    ) -> Result<bool, AllocError> {
+        let request = Request::from_clauses(alloc, clauses)?;
+        let mut text = String::new(alloc);
+        let lacking = request.waits.iter().find(|point| self.lacks(point));
+        match lacking {
+            Some(point) => self.write_lacking(*point, &mut text)?,
+            None => self.try_request(alloc, &request, &mut text)?,
+        }
+        out.push_str(text.as_str())?;
+        self.told.push(Told {
+            queue: request.queue,
+            text,
+        })?;
+        Ok(true)
+    }
+
+    fn lacks(&self, point: &Point) -> bool {
+        self.number(point.place) < point.value
+    }
+
+    fn write_lacking(&self, point: Point, text: &mut String) -> Result<(), AllocError> {
+        let have = self.number(point.place);
+        let value = point.value;
+        let name = self.timeline_name(point.place);
+        writeln!(text, "notready {name} {value} have {have}")
+    }
+
+    /// A request whose waits are reached.
+    fn try_request(
+        &mut self,
+        alloc: Global,
+        request: &Request,
+        text: &mut String,
+    ) -> Result<(), AllocError> {
+        if let Some(fault) = self.no_place(request.ops.len()) {
+            return write_refusal(Refusal { op: 0, fault }, text);
+        }
+        let number = self.count_told(request.queue);
+        match self.carried_out(alloc, &request.ops)? {
+            Err(refusal) => write_refusal(refusal, text),
+            Ok(outcome) => {
+                let entry = self.history.next();
+                let before = std::mem::replace(&mut self.list, outcome.list);
+                let kind = Kind::Bind {
+                    queue: request.queue,
+                    number,
+                    done: outcome.done,
+                };
+                self.history.items.push(Item { before, kind })?;
+                for point in &request.signals {
+                    self.raise(*point);
+                }
+                writeln!(text, "accepted {entry}")
+            }
+        }
+    }
+
+    /// Why a request of so many operations finds no place in the journal.
+    fn no_place(&self, ops: usize) -> Option<Fault> {
+        if ops > MANY {
+            return Some(Fault::plain("TooManyOps"));
+        }
+        let is_full = self.history.items.len() as u64 >= self.limits.items;
+        is_full.then_some(Fault::plain("JournalFull"))
+    }
+
+    fn rewind(&mut self, out: &mut String) -> Result<bool, AllocError> {
+        match self.history.items.pop() {
+            Some(item) => {
+                self.list = item.before;
+                let number = self.history.next();
+                writeln!(out, "rewound {number}")?;
+            }
+            None => Fault::plain("NoEntry").write_refused(out)?,
+        }
+        Ok(true)
+    }
+
+    fn withdraw(
+        &mut self,
+        alloc: Global,
+        entry: u64,
+        out: &mut String,
+    ) -> Result<bool, AllocError> {
+        if let Some(fault) = self.not_withdrawn(entry) {
+            fault.write_refused(out)?;
+            return Ok(true);
+        }
+        let (turns, list) = self.history.restored(alloc, &self.list, entry)?;
+        let limit = self.limits.mappings;
+        let lists = turns.iter().skip(1).map(|turn| turn.list.len() as u64);
+        if list.len() as u64 > limit || lists.max().unwrap_or(0) > limit {
+            Fault::plain("TooManyMappings").write_refused(out)?;
+            return Ok(true);
+        }
+        let number = self.history.next();
+        let before = std::mem::replace(&mut self.list, list);
+        let kind = Kind::Withdrawal { of: entry };
+        self.history.items.push(Item { before, kind })?;
+        writeln!(out, "withdrawn {entry} as {number}")?;
+        Ok(true)
+    }
+
+    /// Why an entry can't be withdrawn, but for the list's limit.
+    fn not_withdrawn(&self, entry: u64) -> Option<Fault> {
+        let Some(item) = self.history.item(entry) else {
+            return Some(Fault::plain("NoEntry"));
+        };
+        if let Kind::Withdrawal { .. } = &item.kind {
+            return Some(Fault::plain("NotABind"));
+        }
+        if self.history.is_withdrawn(entry) {
+            return Some(Fault::plain("Withdrawn"));
+        }
+        match self.history.toucher(entry, entry.saturating_add(1)) {
+            Some(by) => Some(Fault::with("Touched", by)),
+            None => self.no_place(0),
+        }
+    }
+
+    fn settle(&mut self, alloc: Global, to: u64, out: &mut String) -> Result<bool, AllocError> {
+        if to < self.history.first || to > self.history.next() {
+            Fault::plain("NoEntry").write_refused(out)?;
+        } else if let Some(by) = self.history.crosser(to) {
+            Fault::with("Crossed", by).write_refused(out)?;
+        } else {
+            let count = to.saturating_sub(self.history.first);
+            let items = std::mem::replace(&mut self.history.items, Vec::new(alloc));
+            self.history.items = items.into_iter().skip(count as usize).collect(alloc)?;
+            self.history.first = to;
+            writeln!(out, "settled {count}")?;
+        }
+        Ok(true)
+    }
+
+    fn begin(
+        &mut self,
+        alloc: Global,
+        accesses: &[Access],
+        out: &mut String,
+    ) -> Result<bool, AllocError> {
+        if accesses.len() > MANY {
+            Fault::plain("TooManyAccesses").write_refused(out)?;
+            return Ok(true);
+        }
+        if self.jobs.len() >= JOBS {
+            Fault::plain("TooManyJobs").write_refused(out)?;
+            return Ok(true);
+        }
+        match reached_all(alloc, &self.list, &self.jobs, accesses)? {
+            Err(fault) => fault.write_refused(out)?,
+            Ok((places, uses)) => {
+                let number = self.begun;
+                self.begun = number.saturating_add(1);
+                self.jobs.push(Job { number, uses })?;
+                writeln!(out, "job {number}")?;
+                for (shown, access) in places.iter().zip(accesses) {
+                    write_place(out, &self.names, *shown, access.addr % PAGE)?;
+                }
+            }
+        }
+        Ok(true)
+    }
+
+    fn end(&mut self, alloc: Global, job: u64, out: &mut String) -> Result<bool, AllocError> {
+        if !self.jobs.iter().any(|running| running.number == job) {
+            Fault::plain("NoJob").write_refused(out)?;
+            return Ok(true);
+        }
+        let jobs = std::mem::replace(&mut self.jobs, Vec::new(alloc));
+        self.jobs = jobs
+            .into_iter()
+            .filter(|running| running.number != job)
+            .collect(alloc)?;
+        writeln!(out, "ended {job}")?;
+        Ok(true)
+    }
+}
+
+fn write_refusal(refusal: Refusal, text: &mut String) -> Result<(), AllocError> {
+    let op = refusal.op;
+    write!(text, "refused {op} ")?;
+    refusal.fault.write(text)?;
+    text.push_str("\n")
+}

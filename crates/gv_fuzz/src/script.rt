@@ -1,0 +1,100 @@
+//! Scripts by chance.
+use crate::line::{write_limits, write_line, write_space};
+use crate::model::Model;
+use crate::random::Random;
+use crate::shape::Shape;
+use std::alloc::{AllocError, Global};
+
+/// Words and signs that a soup is made of.
+const SOUP: [&str; 40] = [
+    "bind", "map", "zero", "unmap", "unmapall", "plan", "buffer", "destroy", "uses", "timeline",
+    "raise", "value", "wait", "signal", "queue", "job", "read", "write", "end", "at", "tables",
+    "rewind", "journal", "withdraw", "settle", "told", "space", "limits", "ro", "b", "c", "0", "1",
+    "4096", "0x1000", "0x0", ";", " ; ", "#", "\n",
+];
+
+/// Bytes that take another's place.
+const BYTES: &[u8] = b" \n;#0x19afgzbm_-\r\t\x00\x80\xff";
+
+/// The script of a seed: lines that name what there is; such lines with some bytes changed; or words and bytes at random.
+pub fn by_chance(alloc: Global, seed: u64) -> Result<Vec<u8>, AllocError> {
+    let mut random = Random::new(seed);
+    match random.below(20) {
+        0 => soup(alloc, &mut random),
+        1 => noise(alloc, &mut random),
+        2..=4 => {
+            let script = lines(alloc, &mut random)?;
+            mutated(alloc, &mut random, &script)
+        }
+        _ => lines(alloc, &mut random),
+    }
+}
+
+/// Lines, each chosen by what the model knows after those before it.
+fn lines(alloc: Global, random: &mut Random) -> Result<Vec<u8>, AllocError> {
+    let shape = Shape::by_chance(random);
+    let mut model = Model::new(alloc);
+    let mut script = Vec::new(alloc);
+    let mut replies = String::new(alloc);
+    let mut line = String::new(alloc);
+    let count = random.below(60).saturating_add(4);
+    for number in 0..count {
+        line.clear();
+        match number {
+            0 if random.one_in(2) => write_space(random, &shape, &mut line)?,
+            0 | 1 if random.one_in(2) => write_limits(random, &mut line)?,
+            _ => write_line(random, &shape, &model.sight(), &mut line)?,
+        }
+        let _good = model.run_line(alloc, line.as_bytes(), &mut replies)?;
+        script.extend_from_slice(line.as_bytes())?;
+        script.push(b'\n')?;
+    }
+    Ok(script)
+}
+
+/// A script with few of its bytes changed, left out or doubled.
+fn mutated(alloc: Global, random: &mut Random, script: &[u8]) -> Result<Vec<u8>, AllocError> {
+    let mut changed = Vec::new(alloc);
+    for byte in script {
+        if !random.one_in(300) {
+            changed.push(*byte)?;
+            continue;
+        }
+        match random.below(4) {
+            0 => {}
+            1 => changed.extend_from_slice(&[*byte, *byte])?,
+            2 => changed.extend_from_slice(&[any(random), *byte])?,
+            _ => changed.push(any(random))?,
+        }
+    }
+    Ok(changed)
+}
+
+fn any(random: &mut Random) -> u8 {
+    let place = random.below(BYTES.len() as u64);
+    BYTES.get(place as usize).copied().unwrap_or(b' ')
+}
+
+/// Words at random.
+fn soup(alloc: Global, random: &mut Random) -> Result<Vec<u8>, AllocError> {
+    let mut script = Vec::new(alloc);
+    for _ in 0..random.below(200) {
+        let place = random.below(SOUP.len() as u64);
+        let word = SOUP.get(place as usize).copied().unwrap_or("b");
+        script.extend_from_slice(word.as_bytes())?;
+        if !random.one_in(6) {
+            script.push(if random.one_in(4) { b'\n' } else { b' ' })?;
+        }
+    }
+    Ok(script)
+}
+
+/// Bytes at random.
+fn noise(alloc: Global, random: &mut Random) -> Result<Vec<u8>, AllocError> {
+    let mut script = Vec::new(alloc);
+    for _ in 0..random.below(400) {
+        let byte = random.below(256) as u8;
+        script.push(if random.one_in(8) { b'\n' } else { byte })?;
+    }
+    Ok(script)
+}

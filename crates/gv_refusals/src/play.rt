@@ -1,0 +1,245 @@
+//! Rows of acts on a world. An act whose memory is refused has changed nothing, and is done again.
+use crate::act::{Act, Ask, BUFFERS, Ids, event_of, may_grow, request_of};
+use crate::fold::Fold;
+use crate::sight::{Sight, sight_of, take_reply};
+use gv_types::{Bounds, Fault, Limits};
+use gv_vm::{Event, Outcome, Reply, World};
+use std::alloc::{AllocError, Global};
+
+/// What went wrong at a refusal.
+#[derive(Clone, Copy, Debug, PartialEq, Eq)]
+pub enum Wrong {
+    /// Something else changed than what was told.
+    Changed,
+    /// A call that takes no memory wanted some.
+    Wanted,
+    /// Memory was wanting twice, though one request alone is refused.
+    Twice,
+    /// A buffer that nothing should name any more can't be destroyed.
+    Held,
+}
+
+/// What a row came to: its replies and the state after each act, and how often memory was wanting.
+#[derive(Clone, Copy, Debug, PartialEq, Eq)]
+pub struct Course {
+    pub fold: Fold,
+    pub refused: u64,
+}
+
+impl From<AllocError> for Wrong {
+    fn from(_error: AllocError) -> Wrong {
+        Wrong::Twice
+    }
+}
+
+/// Plays a row on a world of its own.
+pub fn play(alloc: Global, acts: &[Act]) -> Result<Course, Wrong> {
+    let mut world = match new_world(alloc) {
+        Some(world) => world,
+        None => new_world(alloc).ok_or(Wrong::Twice)?,
+    };
+    let course = play_on(alloc, &mut world, acts);
+    world.close();
+    course
+}
+
+/// A world of two queues of depth 1 and one timeline.
+fn new_world(alloc: Global) -> Option<World> {
+    World::new(alloc, Bounds::whole(), Limits::full(), 2, 1, 1).ok()
+}
+
+fn play_on(alloc: Global, world: &mut World, acts: &[Act]) -> Result<Course, Wrong> {
+    let mut ids: Ids = [None; BUFFERS];
+    let mut course = Course {
+        fold: Fold::new(),
+        refused: 0,
+    };
+    for act in acts {
+        if !is_done(alloc, world, &mut ids, *act, &mut course)? {
+            course.refused = course.refused.saturating_add(1);
+            if !is_done(alloc, world, &mut ids, *act, &mut course)? {
+                return Err(Wrong::Twice);
+            }
+        }
+        let seen = sight_of(world, &ids);
+        course.fold.take_all(seen.state);
+    }
+    Ok(course)
+}
+
+/// Whether an act was done. Else memory was wanting, and nothing has changed but what a queue was told.
+fn is_done(
+    alloc: Global,
+    world: &mut World,
+    ids: &mut Ids,
+    act: Act,
+    course: &mut Course,
+) -> Result<bool, Wrong> {
+    if let Act::Ask(ask) = act {
+        return is_served(alloc, world, ids, &ask, course);
+    }
+    let Ok(event) = event_of(alloc, ids, act) else {
+        return Ok(false);
+    };
+    let Some(event) = event else {
+        return Ok(true);
+    };
+    let before = sight_of(world, ids);
+    match world.step(alloc, event) {
+        Ok(reply) => {
+            take_reply(&mut course.fold, &reply);
+            note_id(ids, &reply);
+            destroyed(act, &reply)
+        }
+        Err(_) if !may_grow(act) => Err(Wrong::Wanted),
+        Err(_) => unchanged(world, ids, before, 0),
+    }
+}
+
+/// Not done, where all is as it was and so many outcomes more were told.
+fn unchanged(world: &World, ids: &Ids, before: Sight, told: u64) -> Result<bool, Wrong> {
+    let wanted = Sight {
+        state: before.state,
+        told: before.told.saturating_add(told),
+    };
+    if sight_of(world, ids) == wanted {
+        Ok(false)
+    } else {
+        Err(Wrong::Changed)
+    }
+}
+
+/// Done, where a buffer that was to be destroyed is.
+fn destroyed(act: Act, reply: &Reply) -> Result<bool, Wrong> {
+    match (act, reply) {
+        (Act::Destroy { .. }, Reply::Destroyed) => Ok(true),
+        (Act::Destroy { .. }, _) => Err(Wrong::Held),
+        _ => Ok(true),
+    }
+}
+
+/// Keeps the id of a buffer that was made.
+fn note_id(ids: &mut Ids, reply: &Reply) {
+    if let Reply::Created { id } = reply {
+        if let Some(free) = ids.iter_mut().find(|held| held.is_none()) {
+            *free = Some(*id);
+        }
+    }
+}
+
+/// An event of a queue behind the put.
+#[derive(Clone, Copy, PartialEq, Eq)]
+enum Stage {
+    Take,
+    Look,
+    Bind,
+    GiveUp,
+    Pay,
+}
+
+fn event_at(stage: Stage, queue: u64) -> Event {
+    match stage {
+        Stage::Take => Event::Take { queue },
+        Stage::Look => Event::Look { queue },
+        Stage::Bind => Event::Bind { queue },
+        Stage::GiveUp => Event::GiveUp { queue },
+        Stage::Pay => Event::Pay { queue },
+    }
+}
+
+/// One event of a queue, and again where its memory is refused: nothing has changed then.
+fn step_at_last(
+    alloc: Global,
+    world: &mut World,
+    ids: &Ids,
+    stage: Stage,
+    queue: u64,
+    course: &mut Course,
+) -> Result<Reply, Wrong> {
+    let before = sight_of(world, ids);
+    if let Ok(reply) = world.step(alloc, event_at(stage, queue)) {
+        return Ok(reply);
+    }
+    course.refused = course.refused.saturating_add(1);
+    if stage == Stage::Take || stage == Stage::Pay {
+        return Err(Wrong::Wanted);
+    }
+    unchanged(world, ids, before, 0)?;
+    match world.step(alloc, event_at(stage, queue)) {
+        Ok(reply) => Ok(reply),
+        Err(_) => Err(Wrong::Twice),
+    }
+}
+
+fn is_wanting(reply: &Reply) -> bool {
+    match reply {
+        Reply::Told {
+            outcome: Outcome::Refused { fault, .. },
+            ..
+        } => *fault == Fault::OutOfMemory,
+        _ => false,
+    }
+}
+
+fn is_accepted(reply: &Reply) -> bool {
+    match reply {
+        Reply::Told {
+            outcome: Outcome::Accepted { .. },
+            ..
+        } => true,
+        _ => false,
+    }
+}
+
+/// A request from its put to its last signal. Where it was refused for want of memory, one outcome more is told.
+fn is_served(
+    alloc: Global,
+    world: &mut World,
+    ids: &Ids,
+    ask: &Ask,
+    course: &mut Course,
+) -> Result<bool, Wrong> {
+    let before = sight_of(world, ids);
+    let replies = course.fold;
+    let queue = ask.queue;
+    let Ok(request) = request_of(alloc, ids, ask) else {
+        return Ok(false);
+    };
+    if world.step(alloc, Event::Put { queue, request }).is_err() {
+        return unchanged(world, ids, before, 0);
+    }
+    let reply = told(alloc, world, ids, ask, course)?;
+    if is_wanting(&reply) {
+        // It is served again from its put.
+        course.fold = replies;
+        return unchanged(world, ids, before, 1);
+    }
+    take_reply(&mut course.fold, &reply);
+    if is_accepted(&reply) {
+        for _ in ask.signals {
+            let paid = step_at_last(alloc, world, ids, Stage::Pay, queue, course)?;
+            take_reply(&mut course.fold, &paid);
+        }
+    }
+    Ok(true)
+}
+
+/// What the request at the front of a queue is told: it is carried out where all its waits are reached, and else given up.
+fn told(
+    alloc: Global,
+    world: &mut World,
+    ids: &Ids,
+    ask: &Ask,
+    course: &mut Course,
+) -> Result<Reply, Wrong> {
+    let queue = ask.queue;
+    let _taken = step_at_last(alloc, world, ids, Stage::Take, queue, course)?;
+    for _ in ask.waits {
+        let seen = step_at_last(alloc, world, ids, Stage::Look, queue, course)?;
+        take_reply(&mut course.fold, &seen);
+    }
+    match step_at_last(alloc, world, ids, Stage::Bind, queue, course)? {
+        Reply::Idle => step_at_last(alloc, world, ids, Stage::GiveUp, queue, course),
+        reply => Ok(reply),
+    }
+}
