@@ -14,6 +14,7 @@ mod words;
 
 use script::by_chance;
 use shrink::shrunk;
+use std::alloc::AllocError;
 use std::io;
 use std::process::ExitCode;
 use std::time::{Clock, Instant};
@@ -77,14 +78,18 @@ fn agrees<R: Print + AllocGlobal>(rt: &R, seed: u64) -> io::Result<bool> {
 fn print_text<R: Print + AllocGlobal>(rt: &R, bytes: &[u8]) -> io::Result<()> {
     let mut text = String::new(rt.alloc());
     for byte in bytes {
-        for letter in std::ascii::escape_default(*byte) {
-            if *byte != b'\n' {
-                text.push(char::from(letter))?;
-            }
-        }
         if *byte == b'\n' {
             text.push('\n')?;
+        } else {
+            push_escaped(&mut text, *byte)?;
         }
     }
     rt.print(text.as_str())
+}
+
+fn push_escaped(text: &mut String, byte: u8) -> Result<(), AllocError> {
+    for letter in std::ascii::escape_default(byte) {
+        text.push(char::from(letter))?;
+    }
+    Ok(())
 }

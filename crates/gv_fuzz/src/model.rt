@@ -2,10 +2,12 @@
 //! values and no page table. It is slow, and knows nothing of the program but its language.
 mod area;
 mod asking;
+mod entries;
 mod fault;
 mod grammar;
 mod history;
 mod job;
+mod line;
 mod list;
 mod names;
 mod request;

@@ -2,8 +2,8 @@
 use super::Model;
 use super::area::PAGE;
 use super::fault::Fault;
-use super::grammar::{Line, Operation};
 use super::history::Kind;
+use super::line::{Line, Operation};
 use super::list::count_of;
 use super::tables::tables;
 use super::text::{write_list, write_place, write_steps};

@@ -1,7 +1,7 @@
 //! Running jobs, and the buffers that they use.
 use super::area::PAGE;
 use super::fault::Fault;
-use super::grammar::Access;
+use super::line::Access;
 use super::list::{Backing, Mapping, Shown, at};
 use std::alloc::{AllocError, Global};
 

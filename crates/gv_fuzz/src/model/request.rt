@@ -2,7 +2,7 @@
 use super::Model;
 use super::area::PAGE;
 use super::fault::Fault;
-use super::grammar::{Clause, Operation, Point};
+use super::line::{Clause, Operation, Point};
 use super::list::{Backing, Change, Mapping, edited};
 use std::alloc::{AllocError, Global};
 

@@ -1,9 +1,10 @@
 //! Lines that change something.
 use super::area::{Area, Limits, PAGE};
 use super::fault::Fault;
-use super::grammar::{Access, Clause, Line, Point, line_of};
+use super::grammar::line_of;
 use super::history::{Item, Kind};
 use super::job::{Job, reached_all};
+use super::line::{Access, Clause, Line, Point};
 use super::names::{Buffer, Timeline};
 use super::request::{Refusal, Request};
 use super::text::write_place;
@@ -220,81 +221,12 @@ impl Model {
     }
 
     /// Why a request of so many operations finds no place in the journal.
-    fn no_place(&self, ops: usize) -> Option<Fault> {
+    pub fn no_place(&self, ops: usize) -> Option<Fault> {
         if ops > MANY {
             return Some(Fault::plain("TooManyOps"));
         }
         let is_full = self.history.items.len() as u64 >= self.limits.items;
         is_full.then_some(Fault::plain("JournalFull"))
-    }
-
-    fn rewind(&mut self, out: &mut String) -> Result<bool, AllocError> {
-        match self.history.items.pop() {
-            Some(item) => {
-                self.list = item.before;
-                let number = self.history.next();
-                writeln!(out, "rewound {number}")?;
-            }
-            None => Fault::plain("NoEntry").write_refused(out)?,
-        }
-        Ok(true)
-    }
-
-    fn withdraw(
-        &mut self,
-        alloc: Global,
-        entry: u64,
-        out: &mut String,
-    ) -> Result<bool, AllocError> {
-        if let Some(fault) = self.not_withdrawn(entry) {
-            fault.write_refused(out)?;
-            return Ok(true);
-        }
-        let (turns, list) = self.history.restored(alloc, &self.list, entry)?;
-        let limit = self.limits.mappings;
-        let lists = turns.iter().skip(1).map(|turn| turn.list.len() as u64);
-        if list.len() as u64 > limit || lists.max().unwrap_or(0) > limit {
-            Fault::plain("TooManyMappings").write_refused(out)?;
-            return Ok(true);
-        }
-        let number = self.history.next();
-        let before = std::mem::replace(&mut self.list, list);
-        let kind = Kind::Withdrawal { of: entry };
-        self.history.items.push(Item { before, kind })?;
-        writeln!(out, "withdrawn {entry} as {number}")?;
-        Ok(true)
-    }
-
-    /// Why an entry can't be withdrawn, but for the list's limit.
-    fn not_withdrawn(&self, entry: u64) -> Option<Fault> {
-        let Some(item) = self.history.item(entry) else {
-            return Some(Fault::plain("NoEntry"));
-        };
-        if let Kind::Withdrawal { .. } = &item.kind {
-            return Some(Fault::plain("NotABind"));
-        }
-        if self.history.is_withdrawn(entry) {
-            return Some(Fault::plain("Withdrawn"));
-        }
-        match self.history.toucher(entry, entry.saturating_add(1)) {
-            Some(by) => Some(Fault::with("Touched", by)),
-            None => self.no_place(0),
-        }
-    }
-
-    fn settle(&mut self, alloc: Global, to: u64, out: &mut String) -> Result<bool, AllocError> {
-        if to < self.history.first || to > self.history.next() {
-            Fault::plain("NoEntry").write_refused(out)?;
-        } else if let Some(by) = self.history.crosser(to) {
-            Fault::with("Crossed", by).write_refused(out)?;
-        } else {
-            let count = to.saturating_sub(self.history.first);
-            let items = std::mem::replace(&mut self.history.items, Vec::new(alloc));
-            self.history.items = items.into_iter().skip(count as usize).collect(alloc)?;
-            self.history.first = to;
-            writeln!(out, "settled {count}")?;
-        }
-        Ok(true)
     }
 
     fn begin(

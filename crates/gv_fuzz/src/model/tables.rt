@@ -38,14 +38,19 @@ fn slots_broken(list: &[Mapping], bits: u32) -> u64 {
     for mapping in list {
         let first = slot_of(mapping.first, bits);
         let last = slot_of(mapping.end.saturating_sub(1), bits);
-        for slot in [first, last] {
-            if counted <= slot && !is_covered(list, slot, bits) {
-                count = count.saturating_add(1);
-                counted = slot.saturating_add(1);
-            }
-        }
+        count = count.saturating_add(u64::from(is_new(list, first, bits, &mut counted)));
+        count = count.saturating_add(u64::from(is_new(list, last, bits, &mut counted)));
     }
     count
+}
+
+/// Whether a slot that some mapping meets is broken, and not counted yet: it is from then on, with those below it.
+fn is_new(list: &[Mapping], slot: u64, bits: u32, counted: &mut u64) -> bool {
+    let is_new = *counted <= slot && !is_covered(list, slot, bits);
+    if is_new {
+        *counted = slot.saturating_add(1);
+    }
+    is_new
 }
 
 fn slot_of(page: u64, bits: u32) -> u64 {
