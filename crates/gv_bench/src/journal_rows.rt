@@ -113,7 +113,8 @@ fn measure_binds<R: CpuClock + AllocGlobal>(
     Ok(times)
 }
 
-/// Prints what withdrawing a request of 8 operations takes where nothing is later, and where there are later ones elsewhere.
+/// Prints what withdrawing a request of 8 operations takes where it is the newest, and where as many requests elsewhere that
+/// stood before it are later. The list is the same both times, so that both move as many mappings.
 fn measure_withdrawals<R: CpuClock + Eprint + AllocGlobal>(
     rt: &R,
     space: &mut Space,
@@ -125,22 +126,41 @@ fn measure_withdrawals<R: CpuClock + Eprint + AllocGlobal>(
 {
     let edits = plan.edits(rt.alloc())?;
     let (own, others) = edits.split_at(edits.len().min(8));
+    let others = &others[..others.len().min(ELSEWHERE)];
+    let newest = time_between(rt, space, journal, others, own, &[])?;
+    let under = time_between(rt, space, journal, &[], own, others)?;
+    let percent = under.percent_of(newest);
+    let (newest, under, count) = (newest.each(), under.each(), others.len());
+    eprintln!(rt;
+        "withdraw: the newest {newest}, under {count} later ones elsewhere {under} ({percent}%)"
+    )?;
+    Ok(())
+}
+
+/// The least time of withdrawing a request of 8 operations, where requests of one operation are bound before it and after it.
+/// All are taken back.
+fn time_between<R: CpuClock + AllocGlobal>(
+    rt: &R,
+    space: &mut Space,
+    journal: &mut Journal,
+    before: &[Edit],
+    own: &[Edit],
+    after: &[Edit],
+) -> Result<Least, Failure>
+    requires { FitsSpace space.old journal.old }
+    ensures { FitsSpace space.new journal.new }
+{
+    let mut requests = requests_of(rt.alloc(), before, 1)?;
+    let _before = bind_all(rt, rt.alloc(), space, journal, &mut requests)?;
     let entry = journal.next();
     let mut requests = requests_of(rt.alloc(), own, 8)?;
     let _own = bind_all(rt, rt.alloc(), space, journal, &mut requests)?;
-    let alone = time_withdrawals(rt, space, journal, entry)?;
-    let others = &others[..others.len().min(ELSEWHERE)];
-    let mut requests = requests_of(rt.alloc(), others, 1)?;
-    let count = requests.len();
-    let _others = bind_all(rt, rt.alloc(), space, journal, &mut requests)?;
-    let under = time_withdrawals(rt, space, journal, entry)?;
-    let percent = under.percent_of(alone);
-    let (alone, under) = (alone.each(), under.each());
-    eprintln!(rt;
-        "withdraw: alone {alone}, under {count} later ones elsewhere {under} ({percent}%)"
-    )?;
-    let _rewound = rewind_some(rt, space, journal, count.saturating_add(1))?;
-    Ok(())
+    let mut requests = requests_of(rt.alloc(), after, 1)?;
+    let _after = bind_all(rt, rt.alloc(), space, journal, &mut requests)?;
+    let least = time_withdrawals(rt, space, journal, entry)?;
+    let count = before.len().saturating_add(after.len()).saturating_add(1);
+    let _rewound = rewind_some(rt, space, journal, count)?;
+    Ok(least)
 }
 
 /// The least time of withdrawing an item.

@@ -1,5 +1,5 @@
 //! Times edits of an address space, their undoing and look-ups in it, beside those of a plain list in a `BTreeMap`, and what a
-//! journal takes.
+//! journal and a whole machine take.
 //! Figures go to standard error, and sums of the mappings that both end with to standard output.
 #![tactic(auto)]
 
@@ -10,6 +10,8 @@ mod failure;
 mod figures;
 mod journal_rows;
 mod journals;
+mod machine_rows;
+mod machines;
 mod measure;
 mod plain_list;
 mod random;
@@ -19,6 +21,7 @@ mod workload;
 use failure::Failure;
 use figures::HEADER;
 use journal_rows::measure_journals;
+use machine_rows::measure_machines;
 use measure::measure;
 use std::process::ExitCode;
 use std::time::CpuClock;
@@ -50,5 +53,6 @@ fn measure_all<R: CpuClock + Print + Eprint + AllocGlobal>(rt: &R) -> Result<(),
             println!(rt; "{name} {size}: {sum:016x}")?;
         }
     }
-    measure_journals(rt)
+    measure_journals(rt)?;
+    measure_machines(rt)
 }

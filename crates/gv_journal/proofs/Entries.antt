@@ -1,9 +1,8 @@
 -- The item that is withdrawn, among those newer and older than it.
-use Rattle.std.proofs.Common.{◌≡◌, ℕ, ◌+◌, ◌<◌, ◌≤◌, suc, max, min, Bool, true, false, cond, List, [], ◌∷◌, ◌++◌, length, take, drop, reverse, get_or, Option, Some, None, Vec, Global, refl, ap, sym, ◌∙◌, subst, arith, append_assoc}
+use Rattle.std.proofs.Common.{◌≡◌, ℕ, ◌+◌, ◌<◌, ◌≤◌, suc, Bool, true, false, cond, List, [], ◌∷◌, ◌++◌, length, take, drop, reverse, get_or, Option, Some, None, Vec, Global, inl, inr, refl, ap, sym, ◌∙◌, subst, arith, append_assoc}
 use Rattle.std.specs.List.{All}
-use Rattle.std.proofs.lemmas.Bool.{le-ltb}
 use Rattle.std.proofs.lemmas.List.{drop_more, reverse-append, reverse-reverse, length-reverse, length-take-le, take-append-drop, append-nil}
-use Rattle.std.proofs.lemmas.List.Elements.{All-head, All-tail, filter_map-append}
+use Rattle.std.proofs.lemmas.List.Elements.{filter_map-append}
 use Rattle.gv_types.specs.Span.{Span, end_of}
 use Rattle.gv_types.specs.Mapping.{clip}
 use Rattle.gv_types.specs.Operation.{range_of}
@@ -15,6 +14,7 @@ use Rattle.gv_types.specs.declared.operation.PageOp.{PageOp}
 use Rattle.gv_types.specs.declared.request.Request.{Request}
 use Rattle.gv_ranges.specs.List.{IsOverlappingRun, run}
 use Rattle.gv_ranges.specs.Edit.{clipped, replaced, restored, edited_by_all}
+use Rattle.gv_ranges.proofs.ReplacedLemmas.{clipped_none, split_at_run}
 use Rattle.gv_space.specs.State.{AddressSpace, AreKept}
 use Rattle.gv_space.specs.Undo.{UndoValue, IsUndoOf, AreAmongKept}
 use Rattle.gv_space.specs.Refusal.{first_of, limit_fault}
@@ -29,7 +29,6 @@ use Rattle.gv_journal.specs.Restoring.{after_put, after_puts, put_limits}
 use Rattle.gv_journal.specs.declared.item.Item.{Item}
 use Rattle.gv_journal.specs.declared.item.ItemKind.{ItemKind}
 use Rattle.gv_journal.specs.declared.item.ItemKind.TheVariants.{Bind, Withdrawal}
-use Rattle.gv_journal.proofs.Runs.{split_at_run}
 use Rattle.gv_journal.proofs.Histories.{kept_by-append}
 
 -- a Bind that is live, and that no later live item touches
@@ -91,30 +90,17 @@ item_kept s newer item older kept = record {
       (subst (λ (ms : List Mapping). AreKept s ms) (kept_by-append newer (item ∷ older)) kept);
 }
 
-clip_before : (range : Span) (m : Mapping) → end_of m.range ≤ range.first → clip range.first (end_of range) m ≡ None
-clip_before range m le = rw (le-ltb (max range.first m.range.first) (min (end_of range) (end_of m.range)) (omega arith)) refl
-
-clip_behind : (range : Span) (m : Mapping) → end_of range ≤ m.range.first → clip range.first (end_of range) m ≡ None
-clip_behind range m le = rw (le-ltb (max range.first m.range.first) (min (end_of range) (end_of m.range)) (omega arith)) refl
-
-no_pieces : (range : Span) (ms : List Mapping) → All (λ m. clip range.first (end_of range) m ≡ None) ms → clipped range.first (end_of range) ms ≡ []
-no_pieces range [] all = refl
-no_pieces range (m ∷ ms) all =
-    let here : clip range.first (end_of range) m ≡ None = All-head (λ m. clip range.first (end_of range) m ≡ None) m ms all in
-    rw (here, no_pieces range ms (All-tail (λ m. clip range.first (end_of range) m ≡ None) m ms all)) refl
-
 -- what lies in a range lies in the run that meets it
 pub clipped_run : (ms : List Mapping) (range : Span) (place count : ℕ) → IsOverlappingRun ms range place count →
     clipped range.first (end_of range) ms ≡ clipped range.first (end_of range) (run ms place count)
 clipped_run ms range place count is =
-    let cut : List Mapping → List Mapping = clipped range.first (end_of range) in
     ap (clipped range.first (end_of range)) (split_at_run ms place count)
     ∙ filter_map-append (clip range.first (end_of range)) (take place ms) (run ms place count ++ drop (place + count) ms)
     ∙ ap (λ (xs : List Mapping). xs ++ clipped range.first (end_of range) (run ms place count ++ drop (place + count) ms))
-    (no_pieces range (take place ms) (λ k d below. clip_before range _ (is.before k d below)))
+    (clipped_none range.first (end_of range) (take place ms) (λ k d below. inl (is.before k d below)))
     ∙ filter_map-append (clip range.first (end_of range)) (run ms place count) (drop (place + count) ms)
     ∙ ap (λ (xs : List Mapping). clipped range.first (end_of range) (run ms place count) ++ xs)
-    (no_pieces range (drop (place + count) ms) (λ k d below. clip_behind range _ (is.beyond k d below)))
+    (clipped_none range.first (end_of range) (drop (place + count) ms) (λ k d below. inr (is.beyond k d below)))
     ∙ append-nil (clipped range.first (end_of range) (run ms place count))
 
 -- to put back what an undo value took is to put back what the list before it held

@@ -14,7 +14,7 @@ use Rattle.gv_journal.specs.Withdrawing.{item_at, touched_from, touched_by, touc
 use Rattle.gv_journal.specs.declared.item.Item.{Item}
 use Rattle.gv_journal.specs.declared.item.ItemKind.{ItemKind}
 use Rattle.gv_journal.specs.declared.item.ItemKind.TheVariants.{Bind}
-use Rattle.gv_journal.specs.declared.note.Note.{Note}
+use Rattle.gv_journal.specs.Note.{Note}
 use Rattle.gv_journal.proofs.Noted.{named_is, note_at, length-notes}
 
 not_less : (n low : ℕ) → low ≤ n → nat_lt n low ≡ false

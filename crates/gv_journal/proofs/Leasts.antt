@@ -5,7 +5,7 @@ use Rattle.std.specs.List.{position_from}
 use Rattle.std.proofs.lemmas.Bool.{cases_lt}
 use Rattle.std.proofs.lemmas.Bool.Decides.{nat_tests}
 use Rattle.gv_journal.specs.Notes.{crossed, lesser, crossing_from}
-use Rattle.gv_journal.specs.declared.note.Note.{Note}
+use Rattle.gv_journal.specs.Note.{Note}
 
 -- the place of the first element of a list that passes
 pub record IsFirstAt {A : Type 0} (p : A → Bool) (xs : List A) (k : ℕ) : Type 0 where

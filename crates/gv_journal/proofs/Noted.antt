@@ -3,10 +3,11 @@ use Rattle.std.proofs.Common.{◌≡◌, ℕ, ◌+◌, ◌<◌, ◌≤◌, suc, 
 use Rattle.std.specs.Prelude.{is_some, ◌⊎◌}
 use Rattle.std.proofs.lemmas.List.{reverse-append, length-reverse, length-map, length-set, get_or-map, get_or_append_left, get_or_at, get_or-set_same, get_or-set_other, get_or_default, same_lists}
 use Rattle.std.proofs.lemmas.Bool.{cases_lt, cases_eq}
+use Rattle.gv_types.specs.Span.{Span}
 use Rattle.gv_journal.specs.Items.{Numbered, numbered, names, is_withdrawn, done_by}
 use Rattle.gv_journal.specs.Notes.{named_by, reach_of, note_of}
 use Rattle.gv_journal.specs.declared.item.Item.{Item}
-use Rattle.gv_journal.specs.declared.note.Note.{Note}
+use Rattle.gv_journal.specs.Note.{Note}
 
 -- an item is gone where one names it
 pub named_is : (xs : List Numbered) (n : ℕ) → is_some (named_by xs n) ≡ is_withdrawn xs n
@@ -89,3 +90,15 @@ marked_one ms ns p w note size below others here =
         ∙ ap (λ (x : Note). record x { withdrawal = w }) (get_or_default ns p note d below)
         ∙ sym (here d) ∙ ap (λ (k : ℕ). get_or ms k d) (sym is)
     by_cases i d within (inr apart) = get_or-set_other ns p i (record (get_or ns p note) { withdrawal = w }) d apart ∙ sym (others i d within apart)
+
+-- a note that nothing withdraws
+pub fresh : (note : Note) (reach : Option Span) → note.withdrawal ≡ None → note.reach ≡ reach → note ≡ record { withdrawal = None; reach = reach }
+fresh note reach none is =
+    ap (λ (w : Option ℕ). let n : Note = record { withdrawal = w; reach = note.reach } in n) none
+    ∙ ap (λ (r : Option Span). let n : Note = record { withdrawal = None; reach = r } in n) is
+
+-- a note once it is marked
+pub once_marked : (was new : Note) (withdrawal : Option ℕ) → new.withdrawal ≡ withdrawal → new.reach ≡ was.reach → new ≡ record { withdrawal = withdrawal; reach = was.reach }
+once_marked was new withdrawal is same =
+    ap (λ (w : Option ℕ). let n : Note = record { withdrawal = w; reach = new.reach } in n) is
+    ∙ ap (λ (r : Option Span). let n : Note = record { withdrawal = withdrawal; reach = r } in n) same

@@ -8,7 +8,7 @@ use Rattle.gv_journal.specs.Settling.{crosses}
 use Rattle.gv_journal.specs.declared.item.Item.{Item}
 use Rattle.gv_journal.specs.declared.item.ItemKind.{ItemKind}
 use Rattle.gv_journal.specs.declared.item.ItemKind.TheVariants.{Bind, Withdrawal}
-use Rattle.gv_journal.specs.declared.note.Note.{Note}
+use Rattle.gv_journal.specs.Note.{Note}
 use Rattle.gv_journal.proofs.Bindings.{not_named}
 use Rattle.gv_journal.proofs.Noted.{not_named_by, note_at, length-notes}
 use Rattle.gv_journal.proofs.SettledViews.{numbered-append, is_withdrawn-append, NoneCross}

@@ -12,7 +12,7 @@ use Rattle.gv_journal.specs.Notes.{named_by, reach_of, note_of, notes_of, NamesW
 use Rattle.gv_journal.specs.declared.item.Item.{Item}
 use Rattle.gv_journal.specs.declared.item.ItemKind.{ItemKind}
 use Rattle.gv_journal.specs.declared.item.ItemKind.TheVariants.{Bind, Withdrawal}
-use Rattle.gv_journal.specs.declared.note.Note.{Note}
+use Rattle.gv_journal.specs.Note.{Note}
 use Rattle.gv_journal.proofs.Bindings.{bound, not_named}
 use Rattle.gv_journal.proofs.Withdrawals.{withdrawal}
 use Rattle.gv_journal.proofs.Noted.{not_named_by, note_at, length-notes, marked_one}

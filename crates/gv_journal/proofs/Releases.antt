@@ -1,19 +1,11 @@
 -- The counts of buffers once mappings are given up one list after another.
 use Rattle.std.proofs.Common.{◌≡◌, ℕ, ◌+◌, ◌-◌, List, [], ◌∷◌, ◌++◌, map, length, refl, ap, ◌∙◌, arith, length-append}
-use Rattle.std.specs.List.{filter}
-use Rattle.std.proofs.lemmas.List.Elements.{filter-append}
-use Rattle.gv_types.specs.Mapping.{is_of}
-use Rattle.gv_types.specs.declared.mapping.BufferId.{BufferId}
 use Rattle.gv_types.specs.declared.mapping.Mapping.{Mapping}
 use Rattle.gv_buffers.specs.Table.{Buffer}
 use Rattle.gv_space.specs.Counts.{count_of, less_kept}
 use Rattle.gv_space.specs.State.{AddressSpace}
 use Rattle.gv_space.specs.Undo.{released}
-
-count_of-append : (id : BufferId) (xs ys : List Mapping) → count_of id (xs ++ ys) ≡ count_of id xs + count_of id ys
-count_of-append id xs ys =
-    ap (λ (ms : List Mapping). length ms) (filter-append (λ (m : Mapping). is_of id m.backing) xs ys)
-    ∙ length-append (filter (λ (m : Mapping). is_of id m.backing) xs) (filter (λ (m : Mapping). is_of id m.backing) ys)
+use Rattle.gv_space.proofs.CountLemmas.{count_of-append}
 
 less_twice : (b : Buffer) (first later : List Mapping) →
     less_kept (less_kept b (count_of b.id first)) (count_of b.id later) ≡ less_kept b (count_of b.id (first ++ later))

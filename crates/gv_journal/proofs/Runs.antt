@@ -1,50 +1,10 @@
 -- The mappings that meet a range are the run of the list.
-use Rattle.std.proofs.Common.{◌≡◌, ℕ, ◌+◌, take, drop, ◌++◌, List, [], ◌∷◌, Bool, true, false, length, refl, sym, ◌∙◌, ap}
-use Rattle.std.proofs.lemmas.Bool.{le-ltb, and_left, and_right}
-use Rattle.std.proofs.lemmas.List.{append-nil, take-append-drop, drop-drop}
-use Rattle.std.proofs.lemmas.List.Elements.{All-head, All-tail, filter-append}
-use Rattle.std.specs.List.{All, filter}
-use Rattle.gv_types.specs.Span.{Span, meets}
+use Rattle.std.proofs.Common.{◌≡◌, List, length, sym, ◌∙◌}
 use Rattle.gv_types.specs.declared.mapping.Mapping.{Mapping}
-use Rattle.gv_ranges.specs.List.{IsOverlappingRun, run}
+use Rattle.gv_ranges.proofs.OverlapLemmas.{filter_meets}
 use Rattle.gv_space.specs.Undo.{UndoValue, IsUndoOf}
 use Rattle.gv_journal.specs.Applying.{met}
 
-filter_all : {X : Type 0} (p : X → Bool) (xs : List X) → All (λ x. p x ≡ true) xs → filter p xs ≡ xs
-filter_all p [] all = refl
-filter_all p (x ∷ xs) all =
-    let here : p x ≡ true = All-head (λ x. p x ≡ true) x xs all in
-    let rest : filter p xs ≡ xs = filter_all p xs (All-tail (λ x. p x ≡ true) x xs all) in
-    rw (here, rest) refl
-
-filter_none : {X : Type 0} (p : X → Bool) (xs : List X) → All (λ x. p x ≡ false) xs → filter p xs ≡ []
-filter_none p [] all = refl
-filter_none p (x ∷ xs) all =
-    let here : p x ≡ false = All-head (λ x. p x ≡ false) x xs all in
-    let rest : filter p xs ≡ [] = filter_none p xs (All-tail (λ x. p x ≡ false) x xs all) in
-    rw (here, rest) refl
-
--- a list is what stands before a run, the run, and what stands behind it
-pub split_at_run : (ms : List Mapping) (place count : ℕ) → ms ≡ take place ms ++ (run ms place count ++ drop (place + count) ms)
-split_at_run ms place count =
-    sym (take-append-drop place ms)
-    ∙ ap (λ (xs : List Mapping). take place ms ++ xs) (sym (take-append-drop count (drop place ms)) ∙ ap (λ (xs : List Mapping). run ms place count ++ xs) (drop-drop count place ms))
-
-pub met_run : (ms : List Mapping) (range : Span) (place count : ℕ) → IsOverlappingRun ms range place count → met ms range ≡ run ms place count
-met_run ms range place count is =
-    let before : All (λ (m : Mapping). meets m.range range ≡ false) (take place ms) =
-    λ k d below. and_right _ _ (le-ltb _ _ (is.before k d below)) in
-    let behind : All (λ (m : Mapping). meets m.range range ≡ false) (drop (place + count) ms) =
-    λ k d below. and_left _ _ (le-ltb _ _ (is.beyond k d below)) in
-    ap (filter (λ (m : Mapping). meets m.range range)) (split_at_run ms place count) ∙
-    filter-append (λ (m : Mapping). meets m.range range) (take place ms) (run ms place count ++ drop (place + count) ms) ∙
-    rw (
-      filter_none (λ (m : Mapping). meets m.range range) (take place ms) before,
-      filter-append (λ (m : Mapping). meets m.range range) (run ms place count) (drop (place + count) ms),
-      filter_all (λ (m : Mapping). meets m.range range) (run ms place count) is.meeting,
-      filter_none (λ (m : Mapping). meets m.range range) (drop (place + count) ms) behind,
-    ) (append-nil (run ms place count))
-
 -- an undo value took out just what met its range
 pub taken_met : (old new : List Mapping) (u : UndoValue) → IsUndoOf old new u → u.change.taken ≡ met old u.range
-taken_met old new u is = is.taken ∙ sym (met_run old u.range u.change.place (length u.change.taken) is.met)
+taken_met old new u is = is.taken ∙ sym (filter_meets old u.range u.change.place (length u.change.taken) is.met)

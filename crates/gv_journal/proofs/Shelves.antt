@@ -5,7 +5,7 @@ use Rattle.std.proofs.lemmas.List.{append-nil, take_at, drop_at, drop-drop, drop
 use Rattle.std.proofs.lemmas.List.Elements.{All-pop}
 use Rattle.gv_journal.specs.Shelf.{IsSpent}
 use Rattle.gv_journal.specs.declared.item.Item.{Item}
-use Rattle.gv_journal.specs.declared.note.Note.{Note}
+use Rattle.gv_journal.specs.Note.{Note}
 
 -- what a write of the first items leaves
 pub written : (all xs new : List Item) (len spent count m : ℕ) → xs ≡ all → length all ≡ len → spent + count ≤ len → m ≡ count → length new ≡ count →

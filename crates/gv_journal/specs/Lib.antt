@@ -6,6 +6,7 @@ pub mod Applying
 pub mod Verdict
 pub mod Binding
 pub mod Work
+pub mod Note
 pub mod Notes
 pub mod Shelf
 pub mod Inside

@@ -7,7 +7,7 @@ use Rattle.gv_journal.specs.Restoring.{pages_named}
 use Rattle.gv_journal.specs.declared.item.Item.{Item}
 use Rattle.gv_journal.specs.declared.item.ItemKind.{ItemKind}
 use Rattle.gv_journal.specs.declared.item.ItemKind.TheVariants.{Bind, Withdrawal}
-use Rattle.gv_journal.specs.declared.note.Note.{Note}
+use Rattle.gv_journal.specs.Note.{Note}
 
 -- the number of the newest item that names a number
 abbrev pub named_by : List Numbered → ℕ → Option ℕ

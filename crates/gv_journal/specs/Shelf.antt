@@ -3,7 +3,7 @@
 use Rattle.std.specs.Prelude.{◌≡◌, ℕ, ◌-◌, ◌<◌, ◌≤◌, List, [], take, drop, vec_len, vec_capacity}
 use Rattle.std.specs.List.{All}
 use Rattle.gv_journal.specs.declared.item.Item.{Item}
-use Rattle.gv_journal.specs.declared.note.Note.{Note}
+use Rattle.gv_journal.specs.Note.{Note}
 use Rattle.gv_journal.specs.declared.shelf.Shelf.TheInside.{Inside}
 
 pub record Shelved : Type 0 where

@@ -133,10 +133,7 @@ impl Journal {
             Err(refusal) => return Err(refusal),
         };
         let entry = self.next();
-        let note = Note {
-            withdrawal: None,
-            reach: reach_of(&done),
-        };
+        let note = Note::new(reach_of(&done));
         let kind = ItemKind::Bind {
             queue,
             number,
@@ -205,10 +202,7 @@ impl Journal {
         };
         let number = self.next();
         let kind = ItemKind::Withdrawal { of: entry };
-        let note = Note {
-            withdrawal: None,
-            reach: None,
-        };
+        let note = Note::new(None);
         self.shelf.mark(place, Some(number));
         self.shelf.push(Item { kind, undos }, note);
         Ok(number)
@@ -229,7 +223,7 @@ impl Journal {
             return Err(Fault::NotABind);
         };
         let own = &notes[place];
-        if own.withdrawal.is_some() {
+        if own.is_withdrawn() {
             return Err(Fault::Withdrawn);
         }
         let from = place + 1;

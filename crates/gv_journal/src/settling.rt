@@ -18,7 +18,7 @@ use std::alloc::Global;
 fn crossed(note: &Note, to: u64) -> Option<u64>
     ensures { result ≡ crossed to note.now.withdrawal }
 {
-    match note.withdrawal {
+    match note.withdrawal() {
         Some(by) if by >= to => Some(by),
         _ => None,
     }

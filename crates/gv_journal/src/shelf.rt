@@ -1,5 +1,5 @@
 //! The items that a journal holds, in one slice that older items leave in front.
-ghost use Rattle.std.specs.Prelude.{◌≡◌, ◌++◌, ◌<◌, ◌≤◌, [], ◌∷◌, List, length, take, drop, set, reverse, slice_index_or, option_to_list, vec_len, vec_capacity, MatchOption, OnOk};
+ghost use Rattle.std.specs.Prelude.{◌≡◌, ◌++◌, ◌<◌, ◌≤◌, ◌-◌, ◌^◌, IfSome, [], ◌∷◌, List, length, take, drop, set, reverse, slice_index_or, option_to_list, vec_len, vec_capacity, MatchOption, OnOk};
 ghost use Rattle.std.specs.List.{All};
 ghost use Rattle.gv_types.specs.declared.mapping.Mapping.{Mapping};
 ghost use Rattle.gv_space.specs.State.{AreKept};
@@ -109,10 +109,8 @@ impl Shelf {
         ensures items { self.new.items ≡ self.old.items ++ item ∷ [] }
         ensures notes { self.new.notes ≡ self.old.notes ++ note ∷ [] }
     {
-        // The borrow checker proves this only where the types inside a note are named.
-        let Note { withdrawal, reach } = note;
         self.items.push_reserved(item);
-        self.notes.push_reserved(Note { withdrawal, reach });
+        self.notes.push_reserved(note);
     }
 
     /// Takes the newest item, and writes that what it names isn't withdrawn. The oldest item has the number `first`.
@@ -149,14 +147,15 @@ impl Shelf {
 
     /// Writes which withdrawal names an item.
     pub fn mark(&mut self, place: usize, withdrawal: Option<u64>)
-        requires { place < length self.old.notes }
+        requires place { place < length self.old.notes }
+        requires number { IfSome withdrawal (λ number. number < 2 ^ 64 - 1) }
         ensures items { self.new.items ≡ self.old.items }
         ensures notes { (note : Note) → self.new.notes
             ≡ set self.old.notes place (record (slice_index_or self.old.notes place note) { withdrawal = withdrawal }) }
         ensures item_room { self.new.item_room ≡ self.old.item_room }
         ensures note_room { self.new.note_room ≡ self.old.note_room }
     {
-        self.notes[self.spent + place].withdrawal = withdrawal;
+        self.notes[self.spent + place].mark(withdrawal);
     }
 
     /// Gives up what the oldest items keep, and lets them go. It takes no memory.

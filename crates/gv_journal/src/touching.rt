@@ -9,7 +9,7 @@ ghost use Rattle.gv_journal.specs.Restoring.{pages_named};
 ghost use Rattle.gv_journal.specs.Withdrawing.{touch, touched_from};
 
 use crate::item::{Item, ItemKind};
-use crate::note::{Note, reaches};
+use crate::note::Note;
 use gv_types::{PageOp, PageRange};
 
 /// The pages of an operation, if it names any.
@@ -64,10 +64,10 @@ fn is_in_way(note: &Note, item: &Item, own: &Note, ops: &[PageOp]) -> bool
     requires own { own.now.reach ≡ reach_of ops.now }
     ensures { result ≡ (touch ops.now (done_by item.now.kind) && not (is_some note.now.withdrawal)) }
 {
-    if note.withdrawal.is_some() {
+    if note.is_withdrawn() {
         return false;
     }
-    if !reaches(own.reach, note.reach) {
+    if !own.reaches(note) {
         return false;
     }
     touch(ops, done_by(&item.kind))

@@ -15,8 +15,8 @@ use Rattle.gv_vm.specs.Outcomes.{told_to, with_outcome, tell_fault}
 use Rattle.gv_vm.specs.Told.{IsCarriedOut, seen_by}
 use Rattle.gv_vm.specs.State.{Machine}
 use Rattle.gv_vm.specs.World.{World, InHand, Queue, put_fault_of, new_queue, queue_at, with_queue, next_number, next_wait, seen_at}
-use Rattle.gv_vm.specs.Turns.{IsPutReply, owed_in, MayTake, TookFront, wait_in, wait_of, hand_reached, with_reached, hand_lacked, with_lacked, IsReady, IsLacking, without_hand, PaidFirst, IsToldLacking}
-use Rattle.gv_vm.specs.Step.{step, IsStep, MayGrow, IsAsBefore, CanTake, CanLook, CanBind, CanGiveUp, CanPay, owed_for}
+use Rattle.gv_vm.specs.Turns.{IsPutReply, MayTake, TookFront, wait_in, wait_of, hand_reached, with_reached, hand_lacked, with_lacked, IsReady, IsLacking, without_hand, PaidFirst, IsToldLacking}
+use Rattle.gv_vm.specs.Step.{step, IsStep, MayGrow, IsAsBefore, CanTake, CanLook, CanBind, CanGiveUp, CanPay, owed_in, owed_for}
 use Rattle.gv_vm.specs.declared.event.Event.{Event}
 use Rattle.gv_vm.specs.declared.event.Reply.{Reply}
 use Rattle.gv_types.specs.declared.fault.OutOfMemory.{OutOfMemory as WantOfMemory}

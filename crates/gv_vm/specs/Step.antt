@@ -142,11 +142,15 @@ pub record IsLackingNow (old : World) (queue : ℕ) (point : Point) (have : ℕ)
         Some (record enabled.has.hand { lacked = Some (sight point have) });
   })
 
+-- which of these signals are owed for a request that came to this
+abbrev pub owed_in : Outcome → List Point → List Point
+owed_in (Accepted entry) signals = signals
+owed_in (RefusedAt op fault) signals = []
+owed_in (NotReady point have) signals = []
+
 -- what a queue owes for a request that came to this
 abbrev pub owed_for : Request → Outcome → List Point
-owed_for request (Accepted entry) = request.signals.items
-owed_for request (RefusedAt op fault) = []
-owed_for request (NotReady point have) = []
+owed_for request outcome = owed_in outcome request.signals.items
 
 -- the request in hand was carried out
 pub record IsBoundNow (old : World) (queue number : ℕ) (outcome : Outcome) (new : World) : Type 0 where

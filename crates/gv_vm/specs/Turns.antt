@@ -12,7 +12,7 @@ use Rattle.gv_vm.specs.declared.event.Reply.{Reply}
 use Rattle.gv_vm.specs.declared.event.Reply.TheVariants.{Put as IsPut, NotPut}
 use Rattle.gv_vm.specs.declared.outcome.NotTold.{NotTold}
 use Rattle.gv_vm.specs.declared.outcome.Outcome.{Outcome}
-use Rattle.gv_vm.specs.declared.outcome.Outcome.TheVariants.{Accepted, Refused, NotReady}
+use Rattle.gv_vm.specs.declared.outcome.Outcome.TheVariants.{NotReady}
 
 -- a request waits, nothing is in hand and nothing is owed
 pub record MayTake (q : Queue) : Type 0 where
@@ -73,12 +73,6 @@ without_hand q = record q { hand = None }
 pub record PaidFirst (old : Queue) (point : Point) (new : Queue) : Type 0 where
   pub owed : old.owed ≡ point ∷ new.owed
   pub state : new ≡ record old { owed = new.owed }
-
--- the signals of a request that was accepted
-abbrev pub owed_in : Outcome → List Point → List Point
-owed_in (Accepted entry) signals = signals
-owed_in (Refused op fault) signals = []
-owed_in (NotReady point have) signals = []
 
 -- A request in hand was given up: its queue was told what its last look saw.
 pub record IsToldLacking (old new : Machine) (queue : ℕ) (hand : InHand) (outcome : Outcome) : Type 0 where

@@ -3,8 +3,8 @@ ghost use Rattle.std.specs.Prelude.{◌≡◌, ◌≢◌, ◌<◌, map, None, On
 ghost use Rattle.gv_vm.specs.World.{next_wait};
 ghost use Rattle.gv_vm.specs.Outcomes.{queues, told_to, tell_fault};
 ghost use Rattle.gv_vm.specs.Told.{IsCarriedOut, seen_by};
-ghost use Rattle.gv_vm.specs.Step.{owed_for};
-ghost use Rattle.gv_vm.specs.Turns.{owed_in, IsToldLacking, IsPutReply};
+ghost use Rattle.gv_vm.specs.Step.{owed_in, owed_for};
+ghost use Rattle.gv_vm.specs.Turns.{IsToldLacking, IsPutReply};
 
 use super::World;
 use crate::event::{Event, Reply};

@@ -8,8 +8,9 @@ use Rattle.gv_types.specs.Span.{Span}
 use Rattle.gv_journal.specs.Inside.{NameOlder, NameOnce}
 use Rattle.gv_journal.specs.Notes.{notes_of, reach_of}
 use Rattle.gv_journal.specs.Verdict.{full_fault}
-use Rattle.gv_journal.specs.declared.note.Note.{Note}
+use Rattle.gv_journal.specs.Note.{Note}
 use Rattle.gv_journal.proofs.Lists.{last_first}
+use Rattle.gv_journal.proofs.Noted.{fresh}
 use Rattle.gv_journal.proofs.Noting.{notes_bound}
 use Rattle.gv_journal.specs.Items.{numbered, entries}
 use Rattle.gv_journal.specs.declared.item.Item.{Item}
@@ -72,7 +73,8 @@ invariant_of-self-3 c =
       numbered_below = omega (arith, number_left c.args.self.now room, ap (λ (xs : List Item). length xs) turned, size, first_is);
       name_older = subst (λ (xs : List Item). NameOlder (numbered first xs)) (sym turned) (tt, c.self.invariant.name_older);
       name_once = subst (λ (xs : List Item). NameOnce first (numbered first xs)) (sym turned) (tt, c.self.invariant.name_once);
-      notes = c.push.ensures.notes ∙ ap (λ (ms : List Note). ms ++ record { withdrawal = None; reach = c.reach_of.result } ∷ []) (c.make_room.ensures.notes ∙ c.self.invariant.notes)
+      notes = c.push.ensures.notes ∙ ap (λ (n : Note). c.make_room.new.self.notes ++ n ∷ []) (fresh c.new-note.result c.reach_of.result c.new-note.ensures.withdrawal c.new-note.ensures.reach)
+          ∙ ap (λ (ms : List Note). ms ++ record { withdrawal = None; reach = c.reach_of.result } ∷ []) (c.make_room.ensures.notes ∙ c.self.invariant.notes)
           ∙ ap (λ (r : Option Span). notes_of (numbered first (reverse all)) ++ record { withdrawal = None; reach = r } ∷ []) (c.reach_of.ensures ∙ ap reach_of c.deref-2.ensures.value)
           ∙ sym (notes_bound first (reverse all) c.args.queue c.args.number c.args.request c.args.seen c.in-Ok.work.ops c.in-Ok.work.undos c.self.invariant.name_older)
           ∙ ap (λ (xs : List Item). notes_of (numbered first xs)) (sym turned);

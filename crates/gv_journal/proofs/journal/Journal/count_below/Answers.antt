@@ -2,7 +2,7 @@ use Rattle.std.proofs.Common.{◌≡◌, ◌≤◌, ◌-◌, ◌+◌, List, take
 use Rattle.gv_journal.specs.Items.{Journaled, entries, next}
 use Rattle.gv_journal.specs.Inside.{NameOnce}
 use Rattle.gv_journal.specs.Notes.{notes_of}
-use Rattle.gv_journal.specs.declared.note.Note.{Note}
+use Rattle.gv_journal.specs.Note.{Note}
 use Rattle.gv_journal.proofs.Settlings.{settle_fault_is}
 use Rattle.gv_journal.proofs.Crossings.{crossing_is, none_is}
 use Rattle.gv_journal.proofs.journal.Journal.count_below.Goals as goal

@@ -9,8 +9,8 @@ use Rattle.gv_journal.proofs.Held.{shelf_items}
 use Rattle.gv_journal.proofs.Founds.{found_withdrawn, found_touched, own_note, later_reaches, later_gone}
 use Rattle.gv_journal.proofs.journal.Journal.find_entry.Goals as goal
 
-pub returns-then-is_some-clause-refused : goal.returns-then-is_some-clause-refused
-returns-then-is_some-clause-refused c =
+pub returns-then-is_withdrawn-clause-refused : goal.returns-then-is_withdrawn-clause-refused
+returns-then-is_withdrawn-clause-refused c =
     let first_is : c.self.inside.first ≡ c.args.self.now.first = ap (λ (j : Journaled). j.first) c.self.view_is in
     let low : c.self.inside.first ≤ c.args.entry = omega arith in
     let high : c.args.entry < next c.args.self.now = omega arith in
@@ -21,7 +21,7 @@ returns-then-is_some-clause-refused c =
     let own = own_note c.args.self.now c.args.entry c.self.inside.first c.items-items.result.now c.notes-notes.result.now first_is low high all noted
     c.index-notes-place.result c.index-items-place.result c.index-notes-place.is c.index-items-place.is in
     found_withdrawn c.args.self.now c.args.entry c.self.inside.first c.items-items.result.now c.index-items-place.result c.in-Bind.queue c.in-Bind.number c.in-Bind.request c.in-Bind.seen c.in-Bind.done
-    first_is low high all c.index-items-place.is (ap (λ (x : Item). x.kind) c.index-items-place.is ∙ c.in-Bind.is) (sym own.0 ∙ sym c.is_some.ensures ∙ c.if-is_some.true)
+    first_is low high all c.index-items-place.is (ap (λ (x : Item). x.kind) c.index-items-place.is ∙ c.in-Bind.is) (sym own.0 ∙ sym c.is_withdrawn.ensures ∙ c.if-is_withdrawn.true)
 
 pub first_touched-requires-clause-notes : goal.first_touched-requires-clause-notes
 first_touched-requires-clause-notes c =
@@ -60,7 +60,7 @@ returns-in-Some-clause-refused c =
     let own = own_note c.args.self.now c.args.entry c.self.inside.first c.items-items.result.now c.notes-notes.result.now first_is low high all noted
     c.index-notes-place.result c.index-items-place.result c.index-notes-place.is c.index-items-place.is in
     (found_touched c.args.self.now c.args.entry c.self.inside.first c.items-items.result.now c.index-items-place.result c.in-Bind.queue c.in-Bind.number c.in-Bind.request c.in-Bind.seen c.in-Bind.done
-    first_is low high all c.index-items-place.is (ap (λ (x : Item). x.kind) c.index-items-place.is ∙ c.in-Bind.is) (sym own.0 ∙ sym c.is_some.ensures ∙ c.if-is_some.false) c.first_touched.result
+    first_is low high all c.index-items-place.is (ap (λ (x : Item). x.kind) c.index-items-place.is ∙ c.in-Bind.is) (sym own.0 ∙ sym c.is_withdrawn.ensures ∙ c.if-is_withdrawn.false) c.first_touched.result
     (rw c.deref.ensures.value at (c.first_touched.ensures (is_withdrawn (entries c.args.self.now))
     (later_gone c.args.self.now c.args.entry c.self.inside.first c.items-items.result.now c.notes-notes.result.now first_is low high all noted c.index-items-place.result))))
     ∙ ap touched_fault c.in-Some.is
@@ -77,7 +77,7 @@ returns-in-None-clause-accepted c =
     let own = own_note c.args.self.now c.args.entry c.self.inside.first c.items-items.result.now c.notes-notes.result.now first_is low high all noted
     c.index-notes-place.result c.index-items-place.result c.index-notes-place.is c.index-items-place.is in
     (found_touched c.args.self.now c.args.entry c.self.inside.first c.items-items.result.now c.index-items-place.result c.in-Bind.queue c.in-Bind.number c.in-Bind.request c.in-Bind.seen c.in-Bind.done
-    first_is low high all c.index-items-place.is (ap (λ (x : Item). x.kind) c.index-items-place.is ∙ c.in-Bind.is) (sym own.0 ∙ sym c.is_some.ensures ∙ c.if-is_some.false) c.first_touched.result
+    first_is low high all c.index-items-place.is (ap (λ (x : Item). x.kind) c.index-items-place.is ∙ c.in-Bind.is) (sym own.0 ∙ sym c.is_withdrawn.ensures ∙ c.if-is_withdrawn.false) c.first_touched.result
     (rw c.deref.ensures.value at (c.first_touched.ensures (is_withdrawn (entries c.args.self.now))
     (later_gone c.args.self.now c.args.entry c.self.inside.first c.items-items.result.now c.notes-notes.result.now first_is low high all noted c.index-items-place.result))))
     ∙ ap touched_fault c.in-None.is

@@ -7,7 +7,7 @@ use Rattle.gv_journal.specs.declared.item.Item.{Item}
 use Rattle.gv_journal.specs.Shelf.{Shelved}
 use Rattle.gv_journal.specs.Notes.{notes_of, cleared}
 use Rattle.gv_journal.specs.Verdict.{numbers}
-use Rattle.gv_journal.specs.declared.note.Note.{Note}
+use Rattle.gv_journal.specs.Note.{Note}
 use Rattle.std.proofs.lemmas.List.{length-reverse}
 use Rattle.gv_journal.proofs.Lists.{last_first}
 use Rattle.gv_journal.proofs.Held.{journaled, one_less, back_one_more}

@@ -5,7 +5,7 @@ use Rattle.gv_journal.specs.Items.{Journaled, numbered}
 use Rattle.gv_journal.specs.Inside.{NameOlder, NameOnce}
 use Rattle.gv_journal.specs.Notes.{notes_of}
 use Rattle.gv_journal.specs.declared.item.Item.{Item}
-use Rattle.gv_journal.specs.declared.note.Note.{Note}
+use Rattle.gv_journal.specs.Note.{Note}
 use Rattle.gv_journal.proofs.NotesSettled.{once_settled, notes_settled, early_older}
 use Rattle.gv_journal.specs.History.{kept_by}
 use Rattle.gv_journal.specs.State.{FitsSpace}

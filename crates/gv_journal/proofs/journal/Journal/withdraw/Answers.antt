@@ -6,10 +6,10 @@ use Rattle.gv_journal.specs.Inside.{NameOlder, NameOnce}
 use Rattle.gv_journal.specs.declared.item.Item.{Item}
 use Rattle.gv_journal.specs.Items.{is_withdrawn, entries}
 use Rattle.gv_journal.specs.Withdrawing.{item_at}
-use Rattle.gv_journal.proofs.Noted.{length-notes}
+use Rattle.gv_journal.proofs.Noted.{length-notes, fresh}
 use Rattle.gv_journal.proofs.Entries.{found_live}
 use Rattle.gv_journal.specs.Notes.{notes_of}
-use Rattle.gv_journal.specs.declared.note.Note.{Note}
+use Rattle.gv_journal.specs.Note.{Note}
 use Rattle.gv_journal.proofs.Lists.{last_first}
 use Rattle.gv_journal.proofs.Noting.{notes_withdrawn}
 use Rattle.gv_journal.proofs.Held.{journaled, one_more, found_at, fits_room, number_left}
@@ -61,8 +61,17 @@ returns-clause-fits c =
     (fits_withdrawn c.args.space.now c.args.self.now c.args.entry c.in-Ok.place c.index-items-place.result c.requires c.in-Ok.ensures.place.0 c.in-Ok.ensures.place.1 at c.in-Ok.ensures.accepted
     c.restore_all.new.space c.in-Ok-restore_all.undos (rw (c.deref.ensures.value, sym c.index-items-place.is) at c.in-Ok-restore_all.ensures.restored))
 
-pub mark-requires : goal.mark-requires
-mark-requires c =
+pub mark-requires-clause-number : goal.mark-requires-clause-number
+mark-requires-clause-number c =
+    let room : full_fault c.args.self.now ≡ None = search rules in
+    let first_is : c.self.inside.first ≡ c.args.self.now.first = ap (λ (j : Journaled). j.first) c.self.view_is in
+    let size : length (reverse c.self.inside.shelf.items) ≡ length c.args.self.now.items = ap (λ (j : Journaled). length j.items) c.self.view_is in
+    let by : c.next-number.result ≡ c.self.inside.first + length (reverse c.self.inside.shelf.items) =
+    c.next-number.ensures ∙ ap (λ (xs : List Item). c.self.inside.first + length (reverse xs)) c.make_room.ensures.items in
+    omega (arith, number_left c.args.self.now room, first_is, size, by)
+
+pub mark-requires-clause-place : goal.mark-requires-clause-place
+mark-requires-clause-place c =
     let all = c.self.inside.shelf.items in
     let first = c.self.inside.first in
     let size : length (reverse all) ≡ length c.args.self.now.items = ap (λ (j : Journaled). length j.items) c.self.view_is in
@@ -95,6 +104,7 @@ invariant_of-self-3 c =
       name_older = subst (λ (xs : List Item). NameOlder (numbered first xs)) (sym turned) (within, c.self.invariant.name_older);
       name_once = subst (λ (xs : List Item). NameOnce first (numbered first xs)) (sym turned) ((low, live), c.self.invariant.name_once);
       notes = c.push.ensures.notes
+          ∙ ap (λ (n : Note). c.mark.new.self.notes ++ n ∷ []) (fresh c.new-note.result None c.new-note.ensures.withdrawal c.new-note.ensures.reach)
           ∙ ap (λ (ms : List Note). ms ++ note ∷ []) (c.mark.ensures.notes note
           ∙ ap (λ (ms : List Note). set ms place (record (get_or ms place note) { withdrawal = Some c.next-number.result })) (c.make_room.ensures.notes ∙ c.self.invariant.notes)
           ∙ ap (λ (n : ℕ). set (notes_of (numbered first (reverse all))) place (record (get_or (notes_of (numbered first (reverse all))) place note) { withdrawal = Some n })) by)

@@ -5,8 +5,8 @@ use Rattle.gv_journal.specs.declared.item.ItemKind.TheVariants.{Withdrawal}
 use Rattle.gv_journal.proofs.shelf.Shelf.take.Goals as goal
 use Rattle.std.proofs.Common.{length}
 
-pub mark-requires : goal.mark-requires
-mark-requires c =
+pub mark-requires-clause-place : goal.mark-requires-clause-place
+mark-requires-clause-place c =
     let named : NamesWithin (Withdrawal c.in-Withdrawal.of) c.args.first (length c.pop.new.self.items) =
     subst (λ (k : ItemKind). NamesWithin k c.args.first (length c.pop.new.self.items)) c.in-Withdrawal.is (c.requires c.pop.new.self.items c.in-Some.item c.in-Some.ensures.items) in
     omega (arith, named.0, named.1, c.pop.ensures.beside)
