@@ -7,23 +7,23 @@ use crate::finishing::{QueueEnd, QueuesFault, finish};
 use crate::put_end::PutEnd;
 use crate::submitter::Submitter;
 use crate::taking::Taker;
-use crate::tests::fixtures::{request, zero};
+use crate::tests::fixtures::{request, whole, zero};
 use crate::worker_end::WorkerEnd;
 use gv_sync::{Seat, Timelines};
-use gv_types::{Bounds, Limits};
+use gv_types::{Limits, Request};
 use gv_vm::Vm;
 use std::alloc::Global;
 use std::process::Abort;
 use std::sync::Wait;
 use std::test::Fail;
 
-/// The two ends of queue 0, on which some requests were put and none was taken.
+/// The two ends of queue 0, on which a request was put, if any, and none was taken.
 fn untaken<R: Wait>(
     rt: &R,
     alloc: Global,
     timelines: &Timelines,
     seat: &mut Seat,
-    count: u32,
+    wanted: Option<Request>,
 ) -> Result<(PutEnd, WorkerEnd), Fail>
     requires own { IsSeatOf timelines.now seat.old }
     ensures own { IsSeatOf timelines.now seat.new }
@@ -38,9 +38,8 @@ fn untaken<R: Wait>(
     } = open(alloc, 2, timelines.count())?;
     let own = timelines.split(seat)?;
     let mut submitter = Submitter::new(sends, puts, 0, 2, timelines.count());
-    for page in 0..count {
-        let wanted = request(alloc, &[zero(page)], &[], &[])?;
-        if submitter.put(rt, wanted).is_err() {
+    if let Some(request) = wanted {
+        if !request.fits(submitter.timelines()) || submitter.put(rt, request).is_err() {
             return Err("put".into());
         }
     }
@@ -71,7 +70,7 @@ fn disagrees() -> Result<Vec<QueueEnd>, QueuesFault> {
 
 #[test]
 fn ends_that_disagree_are_named(rt: HostRuntime) -> Result<(), Fail> {
-    let Ok(mut vm) = Vm::new(rt.alloc(), Bounds::whole(), Limits::full()) else {
+    let Ok(mut vm) = whole(rt.alloc(), Limits::full()) else {
         return Err("memory".into());
     };
     let end = each_end(&rt, rt.alloc(), &mut vm);
@@ -81,18 +80,19 @@ fn ends_that_disagree_are_named(rt: HostRuntime) -> Result<(), Fail> {
 
 fn each_end<R: Wait + Abort>(rt: &R, alloc: Global, vm: &mut Vm) -> Result<(), Fail> {
     let (timelines, mut seat) = Timelines::new(alloc, 1)?;
-    let (put, worker) = untaken(rt, alloc, &timelines, &mut seat, 0)?;
+    let (put, worker) = untaken(rt, alloc, &timelines, &mut seat, None)?;
     let nothing = QueueEnd {
         put: 0,
         told: 0,
         left: Vec::new(alloc),
     };
     assert!(rt; finished(alloc, vm, put, worker)? == Ok(vec![in alloc; nothing]?));
-    let (put, worker) = untaken(rt, alloc, &timelines, &mut seat, 1)?;
+    let wanted = request(alloc, &[zero(0)], &[], &[])?;
+    let (put, worker) = untaken(rt, alloc, &timelines, &mut seat, Some(wanted))?;
     assert!(rt; finished(alloc, vm, put, worker)? == disagrees());
     let wanted = request(alloc, &[zero(0)], &[], &[])?;
     assert!(rt; vm.bind(alloc, 0, 0, wanted, &[]).is_ok());
-    let (put, worker) = untaken(rt, alloc, &timelines, &mut seat, 0)?;
+    let (put, worker) = untaken(rt, alloc, &timelines, &mut seat, None)?;
     assert!(rt; finished(alloc, vm, put, worker)? == disagrees());
     Ok(())
 }

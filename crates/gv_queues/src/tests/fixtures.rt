@@ -1,13 +1,15 @@
 //! What the tests are made of.
+ghost use Rattle.std.specs.Prelude.{IfOk};
 ghost use Rattle.gv_types.specs.Limits.{IsFromOneTo};
 ghost use Rattle.gv_vm.specs.Outcomes.{queues};
+ghost use Rattle.gv_queues.specs.Ending.{IsUntold};
 ghost use Rattle.gv_queues.specs.Submitting.{most_places};
 
 use crate::tests::plan::Plan;
 use crate::{Driver, Gate, QueueEnd, QueuesFault, run_queues};
 use gv_journal::{Item, ItemKind};
 use gv_sync::Timelines;
-use gv_types::{Bounds, Flags, Limits, Op, PAGE_BYTES, Point, Request};
+use gv_types::{Bounds, Flags, Limits, Op, OutOfMemory, PAGE_BYTES, Point, Request};
 use gv_vm::{Place, QUEUES, Target, Vm};
 use std::alloc::{AllocError, Global};
 use std::sync::Wait;
@@ -83,15 +85,20 @@ impl Ran {
     }
 
     fn all_agree(&self, plan: &Plan<'_>, ends: &[QueueEnd]) -> bool {
-        ends.iter().zip(0..QUEUES as u64).all(|(end, queue)| {
-            let told = self.vm.told(queue).len() as u64;
-            let put = plan.count(queue);
-            end.told == told
-                && end.put == put
-                && put == plan.put_well(queue)
-                && end.left.len() as u64 == put.saturating_sub(told)
-                && told <= put
-        })
+        (0..QUEUES as u64).zip(ends).all(|(queue, end)| self.agrees_on(plan, queue, end))
+    }
+
+    fn agrees_on(&self, plan: &Plan<'_>, queue: u64, end: &QueueEnd) -> bool {
+        if queue >= QUEUES as u64 {
+            return false;
+        }
+        let told = self.vm.told(queue).len() as u64;
+        let put = plan.count(queue);
+        end.told == told
+            && end.put == put
+            && put == plan.put_well(queue)
+            && end.left.len() as u64 == put.saturating_sub(told)
+            && told <= put
     }
 
     pub fn close(self) {
@@ -104,8 +111,16 @@ impl Ran {
     }
 }
 
+/// An address space of all pages, of which no queue was told anything.
+#[tactic(auto, using(crate::proofs::Submitters::untold_of))]
+pub fn whole(alloc: Global, limits: Limits) -> Result<Vm, OutOfMemory>
+    ensures { IfOk result (λ v. IsUntold v) }
+{
+    Vm::new(alloc, Bounds::whole(), limits)
+}
+
 /// Runs so many queues of so many places on a new address space and two new timelines.
-pub fn ran<G: Gate + Sync, D: Driver, R: Threads + Wait + Sync>(
+pub fn run_new<G: Gate + Sync, D: Driver, R: Threads + Wait + Sync>(
     rt: &R,
     alloc: Global,
     limits: Limits,
@@ -118,7 +133,7 @@ pub fn ran<G: Gate + Sync, D: Driver, R: Threads + Wait + Sync>(
     requires depth { IsFromOneTo most_places depth }
 {
     let (timelines, mut seat) = Timelines::new(alloc, 2)?;
-    let Ok(vm) = Vm::new(alloc, Bounds::whole(), limits) else {
+    let Ok(vm) = whole(alloc, limits) else {
         return Err("memory".into());
     };
     let (vm, ends) = run_queues(

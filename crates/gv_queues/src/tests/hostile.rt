@@ -1,5 +1,5 @@
 //! Queues whose requests wait for what doesn't come, and drivers that go past the limits.
-use crate::tests::fixtures::{Ran, TIMES, at, ran, request, zero, zeros};
+use crate::tests::fixtures::{Ran, TIMES, at, run_new, request, zero, zeros};
 use crate::tests::gates::{Patience, TURNS};
 use crate::tests::plan::{Answer, Plan, Step};
 use crate::PutFault;
@@ -54,7 +54,7 @@ fn cross<R: Threads + Wait + Abort + Sync>(rt: &R, alloc: Global) -> Result<(), 
         Step::Put { queue: 1, request: request(alloc, &[zero(1)], &[at(1, 1)], &[at(0, 1)])? },
     ]?;
     let mut plan = Plan::new(alloc, &asked, steps)?;
-    let left = ran(rt, alloc, Limits::full(), 2, 1, &gate, &mut plan)?;
+    let left = run_new(rt, alloc, Limits::full(), 2, 1, &gate, &mut plan)?;
     assert!(rt; left.agrees(&plan, 2));
     assert!(rt; left.vm.told(0) == &[Outcome::NotReady { point: at(0, 1), have: 0 }][..]);
     assert!(rt; left.vm.told(1) == &[Outcome::NotReady { point: at(1, 1), have: 0 }][..]);
@@ -80,7 +80,7 @@ fn serve_behind<R: Threads + Wait + Abort + Sync>(rt: &R, alloc: Global) -> Resu
         Step::Put { queue: 0, request: request(alloc, &[zero(0)], &[], &[])? },
     ]?;
     let mut plan = Plan::new(alloc, &asked, steps)?;
-    let left = ran(rt, alloc, Limits::full(), 1, 2, &gate, &mut plan)?;
+    let left = run_new(rt, alloc, Limits::full(), 1, 2, &gate, &mut plan)?;
     assert!(rt; left.agrees(&plan, 1));
     let not_ready = Outcome::NotReady {
         point: at(0, 9),
@@ -122,7 +122,7 @@ fn fill<R: Threads + Wait + Abort + Sync>(rt: &R, alloc: Global) -> Result<(), F
         Fault::QueueFull,
         request(alloc, &[zero(2)], &[], &[])?,
     );
-    let left = ran(rt, alloc, Limits::full(), 1, 1, &gate, &mut plan)?;
+    let left = run_new(rt, alloc, Limits::full(), 1, 1, &gate, &mut plan)?;
     assert!(rt; left.agrees(&plan, 1));
     assert!(rt; plan.answers() == &[put(0), put(1), full][..]);
     assert_eq!(rt; left.vm.told(0).len(), 2);
@@ -152,7 +152,7 @@ fn fill_again<R: Threads + Wait + Abort + Sync>(rt: &R, alloc: Global) -> Result
         request: further,
     })?;
     let mut plan = Plan::new(alloc, &asked, steps)?;
-    let left = ran(rt, alloc, Limits::full(), 1, 1, &gate, &mut plan)?;
+    let left = run_new(rt, alloc, Limits::full(), 1, 1, &gate, &mut plan)?;
     assert!(rt; left.agrees(&plan, 1));
     assert!(rt; plan.answers().last() == Some(&put(2)));
     assert_eq!(rt; left.vm.told(0).len(), 3);
@@ -186,7 +186,7 @@ fn spend<R: Threads + Wait + Abort + Sync>(rt: &R, alloc: Global) -> Result<(), 
         Fault::QueueSpent,
         request(alloc, &[zero(2)], &[], &[])?,
     );
-    let left = ran(rt, alloc, limits, 1, 3, &gate, &mut plan)?;
+    let left = run_new(rt, alloc, limits, 1, 3, &gate, &mut plan)?;
     assert!(rt; left.agrees(&plan, 1));
     assert!(rt; plan.answers() == &[put(0), put(1), spent][..]);
     let refused = Outcome::Refused {
@@ -225,7 +225,7 @@ fn take_back<R: Threads + Wait + Abort + Sync>(rt: &R, alloc: Global) -> Result<
         Step::Rewind,
     ]?;
     let mut plan = Plan::new(alloc, &asked, steps)?;
-    let left = ran(rt, alloc, Limits::full(), 1, 2, &gate, &mut plan)?;
+    let left = run_new(rt, alloc, Limits::full(), 1, 2, &gate, &mut plan)?;
     let end = taken_back(rt, alloc, &left, &plan);
     left.close();
     end

@@ -1,5 +1,5 @@
 //! Two workers that run at once.
-use crate::tests::fixtures::{TIMES, ran, request, zero};
+use crate::tests::fixtures::{TIMES, run_new, request, zero};
 use crate::tests::gates::Meeting;
 use crate::tests::plan::{Plan, Step};
 use gv_types::Limits;
@@ -27,7 +27,7 @@ fn meet<R: Threads + Wait + Abort + Sync>(rt: &R, alloc: Global) -> Result<(), F
         Step::Put { queue: 1, request: request(alloc, &[zero(1)], &[], &[])? },
     ]?;
     let mut plan = Plan::new(alloc, &asked, steps)?;
-    let left = ran(rt, alloc, Limits::full(), 2, 1, &gate, &mut plan)?;
+    let left = run_new(rt, alloc, Limits::full(), 2, 1, &gate, &mut plan)?;
     assert!(rt; left.agrees(&plan, 2));
     assert_eq!(rt; left.vm.items().len(), 2);
     left.close();

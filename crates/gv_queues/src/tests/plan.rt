@@ -91,7 +91,7 @@ impl<'a> Plan<'a> {
     fn recount(&mut self, submitters: &[Submitter])
         requires { (queue : ℕ) → queue < length submitters.now
             → (submitter_at submitters.now queue).queue ≡ queue }
-        ensures { AreCounted (slice_index_or self.new.counts.items) submitters.now }
+        ensures { AreCounted (λ queue. slice_index_or self.new.counts.items queue 0) submitters.now }
     {
         for submitter in submitters {
             self.counts[submitter.queue() as usize] = submitter.count();
@@ -110,6 +110,7 @@ fn is_put_on(answer: &Answer, on: u64) -> bool {
 impl Driver for Plan<'_> {
     ghost put_on = { λ d queue. slice_index_or d.counts.items queue 0 };
 
+    #[tactic(auto, using(crate::proofs::Submitters::in_order_still))]
     fn drive<R: Wait>(
         &mut self,
         rt: &R,
@@ -124,11 +125,8 @@ impl Driver for Plan<'_> {
             timelines,
             asked: self.asked,
         };
-        for step in mem::replace(&mut self.steps, Vec::new(self.alloc)) {
-            if let Some(answer) = stage.act(rt, submitters, seat, step) {
-                let _ = self.answers.push(answer);
-            }
-        }
+        let steps = mem::replace(&mut self.steps, Vec::new(self.alloc));
+        stage.act_all(rt, submitters, seat, steps, &mut self.answers);
         self.recount(submitters);
     }
 
@@ -150,6 +148,26 @@ struct Stage<'a> {
 }
 
 impl Stage<'_> {
+    /// Does the steps in order. What has no room among the answers is not kept.
+    fn act_all<R: Wait>(
+        &self,
+        rt: &R,
+        submitters: &mut [Submitter],
+        seat: &mut Seat,
+        steps: Vec<Step>,
+        answers: &mut Vec<Answer>,
+    )
+        requires own { IsSeatOf self.now.timelines.now seat.old }
+        ensures own { IsSeatOf self.now.timelines.now seat.new }
+        ensures same { AreSameSubmitters submitters.old submitters.new }
+    {
+        for step in steps {
+            if let Some(answer) = self.act(rt, submitters, seat, step) {
+                let _ = answers.push(answer);
+            }
+        }
+    }
+
     /// Does a step, and answers what it was answered, if anything.
     fn act<R: Wait>(
         &self,
@@ -213,10 +231,10 @@ fn put_on<R: Wait>(
 ) -> Option<Answer>
     ensures same { AreSameSubmitters submitters.old submitters.new }
 {
-    let submitter = submitters.get_mut(queue as usize)?;
-    if !request.fits(submitter.timelines()) {
+    let place = queue as usize;
+    if place >= submitters.len() || !request.fits(submitters[place].timelines()) {
         return None;
     }
-    let number = submitter.put(rt, request);
+    let number = submitters[place].put(rt, request);
     Some(Answer::Put { queue, number })
 }

@@ -1,12 +1,13 @@
 //! Requests for memory that are refused while queues run.
-ghost use Rattle.std.specs.Prelude.{◌<◌};
+ghost use Rattle.std.specs.Prelude.{IfOk};
+ghost use Rattle.gv_queues.specs.Ending.{IsUntold};
 
-use crate::tests::fixtures::{at, request, zero};
+use crate::tests::fixtures::{at, request, whole, zero};
 use crate::tests::gates::Patience;
 use crate::tests::plan::{Plan, Step};
 use crate::{Driver, QueueEnd, QueuesFault, run_queues};
 use gv_sync::{Seat, Timelines};
-use gv_types::{Bounds, Fault, Limits, Request};
+use gv_types::{Fault, Limits, OutOfMemory, Request};
 use gv_vm::{Outcome, Vm};
 use std::alloc::{AllocError, Global};
 use std::process::Abort;
@@ -43,6 +44,24 @@ fn plan_of(alloc: Global, asked: &AtomicBool) -> Result<Plan<'_>, AllocError> {
     Plan::new(alloc, asked, steps)
 }
 
+/// Where memory is refused, it is made again.
+fn plan_at_last(alloc: Global, asked: &AtomicBool) -> Result<Plan<'_>, AllocError> {
+    match plan_of(alloc, asked) {
+        Ok(plan) => Ok(plan),
+        Err(_) => plan_of(alloc, asked),
+    }
+}
+
+/// Where memory is refused, it is made again.
+fn whole_at_last(alloc: Global) -> Result<Vm, OutOfMemory>
+    ensures { IfOk result (λ v. IsUntold v) }
+{
+    match whole(alloc, Limits::full()) {
+        Ok(vm) => Ok(vm),
+        Err(_) => whole(alloc, Limits::full()),
+    }
+}
+
 /// How many outcomes the queues were told, how many entries and mappings there are, and whether the first byte leads
 /// anywhere.
 fn sight(vm: &Vm) -> (usize, usize, usize, bool) {
@@ -71,16 +90,9 @@ fn refused_memory_loses_no_request(rt: HostRuntime) -> Result<(), Fail> {
         Err(_) => Timelines::new(alloc, 1)?,
     };
     let asked = AtomicBool::new(false);
-    let mut plan = match plan_of(alloc, &asked) {
-        Ok(plan) => plan,
-        Err(_) => plan_of(alloc, &asked)?,
-    };
-    let vm = match Vm::new(alloc, Bounds::whole(), Limits::full()) {
-        Ok(vm) => vm,
-        Err(_) => match Vm::new(alloc, Bounds::whole(), Limits::full()) {
-            Ok(vm) => vm,
-            Err(_) => return Err("memory".into()),
-        },
+    let mut plan = plan_at_last(alloc, &asked)?;
+    let Ok(vm) = whole_at_last(alloc) else {
+        return Err("memory".into());
     };
     let gate = Patience {
         turns: LOOKS,
@@ -111,8 +123,9 @@ fn each_left(
     plan: &Plan<'_>,
     ends: &[QueueEnd],
 ) -> Result<(), Fail> {
-    assert_eq!(rt; ends.len(), 2);
-    for (end, queue) in ends.iter().zip(0..2u64) {
+    assert!(rt; ends.len() == 2);
+    for queue in 0..2 {
+        let end = &ends[queue as usize];
         let told = vm.told(queue);
         assert!(rt; told.iter().all(may_come));
         assert_eq!(rt; end.told, told.len() as u64);

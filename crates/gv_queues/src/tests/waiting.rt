@@ -1,5 +1,5 @@
 //! Queues that wait for one another.
-use crate::tests::fixtures::{Ran, TIMES, at, is_bind, ran, request, zero, zeros};
+use crate::tests::fixtures::{Ran, TIMES, at, is_bind, run_new, request, zero, zeros};
 use crate::tests::gates::{Counting, Patience, TURNS};
 use crate::tests::plan::{Answer, Plan, Step};
 use gv_types::{Limits, PAGE_BYTES, Request};
@@ -41,7 +41,7 @@ fn wait_for_the_other<R: Threads + Wait + Abort + Sync>(rt: &R, alloc: Global) -
         Step::Put { queue: 1, request: signals(alloc)? },
     ]?;
     let mut plan = Plan::new(alloc, &asked, steps)?;
-    let left = ran(rt, alloc, Limits::full(), 2, 2, &gate, &mut plan)?;
+    let left = run_new(rt, alloc, Limits::full(), 2, 2, &gate, &mut plan)?;
     let end = in_turn(rt, alloc, &left, &plan);
     left.close();
     end
@@ -80,7 +80,7 @@ fn wait_for_both<R: Threads + Wait + Abort + Sync>(rt: &R, alloc: Global) -> Res
         Step::Raise { point: at(0, 1) },
     ]?;
     let mut plan = Plan::new(alloc, &asked, steps)?;
-    let left = ran(rt, alloc, Limits::full(), 1, 1, &gate, &mut plan)?;
+    let left = run_new(rt, alloc, Limits::full(), 1, 1, &gate, &mut plan)?;
     assert!(rt; left.agrees(&plan, 1));
     assert!(rt; left.vm.told(0) == &[Outcome::NotReady { point: at(1, 1), have: 0 }][..]);
     assert_eq!(rt; left.vm.items().len(), 0);
