@@ -4,4 +4,4 @@ pub mod Ends
 pub mod Same
 pub mod Outcomes
 pub mod Sends
-pub mod Submitters
+pub mod SubmittersLemmas

@@ -112,7 +112,6 @@ impl Ran {
 }
 
 /// An address space of all pages, of which no queue was told anything.
-#[tactic(auto, using(crate::proofs::Submitters::untold_of))]
 pub fn whole(alloc: Global, limits: Limits) -> Result<Vm, OutOfMemory>
     ensures { IfOk result (λ v. IsUntold v) }
 {

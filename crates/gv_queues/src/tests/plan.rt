@@ -110,7 +110,7 @@ fn is_put_on(answer: &Answer, on: u64) -> bool {
 impl Driver for Plan<'_> {
     ghost put_on = { λ d queue. slice_index_or d.counts.items queue 0 };
 
-    #[tactic(auto, using(crate::proofs::Submitters::in_order_still))]
+    #[tactic(auto, using(crate::proofs::SubmittersLemmas::in_order_still))]
     fn drive<R: Wait>(
         &mut self,
         rt: &R,
@@ -149,6 +149,7 @@ struct Stage<'a> {
 
 impl Stage<'_> {
     /// Does the steps in order. What has no room among the answers is not kept.
+    #[tactic(auto, using(crate::proofs::SubmittersLemmas::same_once_more))]
     fn act_all<R: Wait>(
         &self,
         rt: &R,

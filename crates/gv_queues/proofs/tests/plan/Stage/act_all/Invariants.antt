@@ -5,6 +5,6 @@ use Rattle.gv_queues.proofs.tests.plan.Stage.act_all.Given as goal
 
 abbrev pub invariant-loop-step : goal.invariant-loop-step
 invariant-loop-step g l =
-    IsSeatOf l.self.timelines l.seat
+    IsSeatOf l.self.timelines.now l.seat
     × AreSameSubmitters l.fn.submitters l.submitters
     × (length l.submitters ≡ length l.fn.submitters)
