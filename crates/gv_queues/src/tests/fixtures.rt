@@ -85,7 +85,9 @@ impl Ran {
     }
 
     fn all_agree(&self, plan: &Plan<'_>, ends: &[QueueEnd]) -> bool {
-        (0..QUEUES as u64).zip(ends).all(|(queue, end)| self.agrees_on(plan, queue, end))
+        (0..QUEUES as u64)
+            .zip(ends)
+            .all(|(queue, end)| self.agrees_on(plan, queue, end))
     }
 
     fn agrees_on(&self, plan: &Plan<'_>, queue: u64, end: &QueueEnd) -> bool {

@@ -119,7 +119,11 @@ impl Gate for Counting<'_> {
         }
         self.asked.store(true, SeqCst);
         if lacking.point().timeline == 0 {
-            return if turns < TURNS { Turn::GoOn } else { Turn::GiveUp };
+            return if turns < TURNS {
+                Turn::GoOn
+            } else {
+                Turn::GiveUp
+            };
         }
         if self.calls_of_second.fetch_add(1, SeqCst) < 9 {
             Turn::GoOn

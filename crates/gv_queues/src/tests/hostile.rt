@@ -1,8 +1,8 @@
 //! Queues whose requests wait for what doesn't come, and drivers that go past the limits.
-use crate::tests::fixtures::{Ran, TIMES, at, run_new, request, zero, zeros};
+use crate::PutFault;
+use crate::tests::fixtures::{Ran, TIMES, at, request, run_new, zero, zeros};
 use crate::tests::gates::{Patience, TURNS};
 use crate::tests::plan::{Answer, Plan, Step};
-use crate::PutFault;
 use gv_types::{Fault, Limits, PAGE_BYTES, Request};
 use gv_vm::Outcome;
 use std::alloc::{AllocError, Global};
@@ -50,14 +50,32 @@ fn cross<R: Threads + Wait + Abort + Sync>(rt: &R, alloc: Global) -> Result<(), 
     let asked = AtomicBool::new(false);
     let gate = gate_of(&asked, 1_000);
     let steps = vec![in alloc;
-        Step::Put { queue: 0, request: request(alloc, &[zero(0)], &[at(0, 1)], &[at(1, 1)])? },
-        Step::Put { queue: 1, request: request(alloc, &[zero(1)], &[at(1, 1)], &[at(0, 1)])? },
+        Step::Put {
+            queue: 0,
+            request: request(alloc, &[zero(0)], &[at(0, 1)], &[at(1, 1)])?
+        },
+        Step::Put {
+            queue: 1,
+            request: request(alloc, &[zero(1)], &[at(1, 1)], &[at(0, 1)])?
+        },
     ]?;
     let mut plan = Plan::new(alloc, &asked, steps)?;
     let left = run_new(rt, alloc, Limits::full(), 2, 1, &gate, &mut plan)?;
     assert!(rt; left.agrees(&plan, 2));
-    assert!(rt; left.vm.told(0) == &[Outcome::NotReady { point: at(0, 1), have: 0 }][..]);
-    assert!(rt; left.vm.told(1) == &[Outcome::NotReady { point: at(1, 1), have: 0 }][..]);
+    assert!(rt;
+        left.vm.told(0)
+            == &[Outcome::NotReady {
+                point: at(0, 1),
+                have: 0
+            }][..]
+    );
+    assert!(rt;
+        left.vm.told(1)
+            == &[Outcome::NotReady {
+                point: at(1, 1),
+                have: 0
+            }][..]
+    );
     assert_eq!(rt; left.vm.items().len(), 0);
     assert_eq!(rt; left.numbers, (0, 0));
     left.close();
@@ -76,8 +94,14 @@ fn serve_behind<R: Threads + Wait + Abort + Sync>(rt: &R, alloc: Global) -> Resu
     let asked = AtomicBool::new(false);
     let gate = gate_of(&asked, 10);
     let steps = vec![in alloc;
-        Step::Put { queue: 0, request: request(alloc, &[], &[at(0, 9)], &[])? },
-        Step::Put { queue: 0, request: request(alloc, &[zero(0)], &[], &[])? },
+        Step::Put {
+            queue: 0,
+            request: request(alloc, &[], &[at(0, 9)], &[])?
+        },
+        Step::Put {
+            queue: 0,
+            request: request(alloc, &[zero(0)], &[], &[])?
+        },
     ]?;
     let mut plan = Plan::new(alloc, &asked, steps)?;
     let left = run_new(rt, alloc, Limits::full(), 1, 2, &gate, &mut plan)?;
@@ -97,10 +121,19 @@ fn serve_behind<R: Threads + Wait + Abort + Sync>(rt: &R, alloc: Global) -> Resu
 /// reached.
 fn filling(alloc: Global) -> Result<Vec<Step>, AllocError> {
     let steps = vec![in alloc;
-        Step::Put { queue: 0, request: request(alloc, &[zero(0)], &[at(0, 1)], &[])? },
+        Step::Put {
+            queue: 0,
+            request: request(alloc, &[zero(0)], &[at(0, 1)], &[])?
+        },
         Step::AwaitAsked,
-        Step::Put { queue: 0, request: request(alloc, &[zero(1)], &[], &[])? },
-        Step::Put { queue: 0, request: request(alloc, &[zero(2)], &[], &[])? },
+        Step::Put {
+            queue: 0,
+            request: request(alloc, &[zero(1)], &[], &[])?
+        },
+        Step::Put {
+            queue: 0,
+            request: request(alloc, &[zero(2)], &[], &[])?
+        },
         Step::Raise { point: at(0, 1) },
     ]?;
     Ok(steps)
@@ -118,10 +151,7 @@ fn fill<R: Threads + Wait + Abort + Sync>(rt: &R, alloc: Global) -> Result<(), F
     let asked = AtomicBool::new(false);
     let gate = gate_of(&asked, TURNS);
     let mut plan = Plan::new(alloc, &asked, filling(alloc)?)?;
-    let full = not_put(
-        Fault::QueueFull,
-        request(alloc, &[zero(2)], &[], &[])?,
-    );
+    let full = not_put(Fault::QueueFull, request(alloc, &[zero(2)], &[], &[])?);
     let left = run_new(rt, alloc, Limits::full(), 1, 1, &gate, &mut plan)?;
     assert!(rt; left.agrees(&plan, 1));
     assert!(rt; plan.answers() == &[put(0), put(1), full][..]);
@@ -177,15 +207,21 @@ fn spend<R: Threads + Wait + Abort + Sync>(rt: &R, alloc: Global) -> Result<(), 
         return Err("limits".into());
     };
     let steps = vec![in alloc;
-        Step::Put { queue: 0, request: request(alloc, &[zero(0)], &[], &[])? },
-        Step::Put { queue: 0, request: request(alloc, &[zero(1)], &[], &[])? },
-        Step::Put { queue: 0, request: request(alloc, &[zero(2)], &[], &[])? },
+        Step::Put {
+            queue: 0,
+            request: request(alloc, &[zero(0)], &[], &[])?
+        },
+        Step::Put {
+            queue: 0,
+            request: request(alloc, &[zero(1)], &[], &[])?
+        },
+        Step::Put {
+            queue: 0,
+            request: request(alloc, &[zero(2)], &[], &[])?
+        },
     ]?;
     let mut plan = Plan::new(alloc, &asked, steps)?;
-    let spent = not_put(
-        Fault::QueueSpent,
-        request(alloc, &[zero(2)], &[], &[])?,
-    );
+    let spent = not_put(Fault::QueueSpent, request(alloc, &[zero(2)], &[], &[])?);
     let left = run_new(rt, alloc, limits, 1, 3, &gate, &mut plan)?;
     assert!(rt; left.agrees(&plan, 1));
     assert!(rt; plan.answers() == &[put(0), put(1), spent][..]);
@@ -212,15 +248,25 @@ fn take_back<R: Threads + Wait + Abort + Sync>(rt: &R, alloc: Global) -> Result<
     let asked = AtomicBool::new(false);
     let gate = gate_of(&asked, 1);
     let steps = vec![in alloc;
-        Step::Put { queue: 0, request: request(alloc, &[zero(0)], &[], &[])? },
-        Step::Put { queue: 0, request: request(alloc, &[zero(4)], &[], &[])? },
+        Step::Put {
+            queue: 0,
+            request: request(alloc, &[zero(0)], &[], &[])?
+        },
+        Step::Put {
+            queue: 0,
+            request: request(alloc, &[zero(4)], &[], &[])?
+        },
         Step::AwaitTold { outcomes: 2 },
         Step::Withdraw { entry: 0 },
         Step::Translate { addr: 0 },
-        Step::Translate { addr: 4 * PAGE_BYTES },
+        Step::Translate {
+            addr: 4 * PAGE_BYTES
+        },
         Step::Rewind,
         Step::Translate { addr: 0 },
-        Step::Translate { addr: 4 * PAGE_BYTES },
+        Step::Translate {
+            addr: 4 * PAGE_BYTES
+        },
         Step::Rewind,
         Step::Rewind,
     ]?;

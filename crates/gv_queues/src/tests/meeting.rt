@@ -1,5 +1,5 @@
 //! Two workers that run at once.
-use crate::tests::fixtures::{TIMES, run_new, request, zero};
+use crate::tests::fixtures::{TIMES, request, run_new, zero};
 use crate::tests::gates::Meeting;
 use crate::tests::plan::{Plan, Step};
 use gv_types::Limits;
@@ -23,8 +23,14 @@ fn meet<R: Threads + Wait + Abort + Sync>(rt: &R, alloc: Global) -> Result<(), F
     let asked = AtomicBool::new(false);
     let gate = Meeting::new();
     let steps = vec![in alloc;
-        Step::Put { queue: 0, request: request(alloc, &[zero(0)], &[], &[])? },
-        Step::Put { queue: 1, request: request(alloc, &[zero(1)], &[], &[])? },
+        Step::Put {
+            queue: 0,
+            request: request(alloc, &[zero(0)], &[], &[])?
+        },
+        Step::Put {
+            queue: 1,
+            request: request(alloc, &[zero(1)], &[], &[])?
+        },
     ]?;
     let mut plan = Plan::new(alloc, &asked, steps)?;
     let left = run_new(rt, alloc, Limits::full(), 2, 1, &gate, &mut plan)?;

@@ -9,10 +9,9 @@ use gv_sync::{Seat, Timelines};
 use gv_types::{Fault, Point, Request};
 use gv_vm::{Place, QUEUES};
 use std::alloc::{AllocError, Global};
-use std::mem;
 use std::sync::Wait;
 use std::sync::atomic::AtomicBool;
-use std::thread;
+use std::{mem, thread};
 
 /// What a driver does at once.
 #[derive(Drop)]

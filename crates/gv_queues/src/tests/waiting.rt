@@ -1,5 +1,5 @@
 //! Queues that wait for one another.
-use crate::tests::fixtures::{Ran, TIMES, at, is_bind, run_new, request, zero, zeros};
+use crate::tests::fixtures::{Ran, TIMES, at, is_bind, request, run_new, zero, zeros};
 use crate::tests::gates::{Counting, Patience, TURNS};
 use crate::tests::plan::{Answer, Plan, Step};
 use gv_types::{Limits, PAGE_BYTES, Request};
@@ -37,8 +37,14 @@ fn wait_for_the_other<R: Threads + Wait + Abort + Sync>(rt: &R, alloc: Global) -
         holds: true,
     };
     let steps = vec![in alloc;
-        Step::Put { queue: 0, request: waits(alloc)? },
-        Step::Put { queue: 1, request: signals(alloc)? },
+        Step::Put {
+            queue: 0,
+            request: waits(alloc)?
+        },
+        Step::Put {
+            queue: 1,
+            request: signals(alloc)?
+        },
     ]?;
     let mut plan = Plan::new(alloc, &asked, steps)?;
     let left = run_new(rt, alloc, Limits::full(), 2, 2, &gate, &mut plan)?;
@@ -75,14 +81,23 @@ fn wait_for_both<R: Threads + Wait + Abort + Sync>(rt: &R, alloc: Global) -> Res
     let asked = AtomicBool::new(false);
     let gate = Counting::new(&asked);
     let steps = vec![in alloc;
-        Step::Put { queue: 0, request: request(alloc, &[zero(0)], &[at(0, 1), at(1, 1)], &[at(1, 1)])? },
+        Step::Put {
+            queue: 0,
+            request: request(alloc, &[zero(0)], &[at(0, 1), at(1, 1)], &[at(1, 1)])?
+        },
         Step::AwaitAsked,
         Step::Raise { point: at(0, 1) },
     ]?;
     let mut plan = Plan::new(alloc, &asked, steps)?;
     let left = run_new(rt, alloc, Limits::full(), 1, 1, &gate, &mut plan)?;
     assert!(rt; left.agrees(&plan, 1));
-    assert!(rt; left.vm.told(0) == &[Outcome::NotReady { point: at(1, 1), have: 0 }][..]);
+    assert!(rt;
+        left.vm.told(0)
+            == &[Outcome::NotReady {
+                point: at(1, 1),
+                have: 0
+            }][..]
+    );
     assert_eq!(rt; left.vm.items().len(), 0);
     assert_eq!(rt; left.numbers, (1, 0));
     left.close();
