@@ -23,7 +23,10 @@ in_order_still limit depth timelines old new even opened same queue lt =
     let low : queue < length old = subst (λ (n : ℕ). queue < n) even lt in
     ap (λ (s : SubmitterState). s.queue) (same queue low) ∙ (opened queue low).queue
 
-untold : (n i : ℕ) → get_or (replicate n ([] : List Outcome)) i [] ≡ []
+abbrev no_outcomes : List Outcome
+no_outcomes = []
+
+untold : (n i : ℕ) → get_or (replicate n no_outcomes) i no_outcomes ≡ no_outcomes
 untold zero i = refl
 untold (suc n) zero = refl
 untold (suc n) (suc i) = untold n i

@@ -1,5 +1,5 @@
 //! What the tests are made of.
-ghost use Rattle.std.specs.Prelude.{IfOk};
+ghost use Rattle.std.specs.Prelude.{◌≡◌, IfOk};
 ghost use Rattle.gv_types.specs.Limits.{IsFromOneTo};
 ghost use Rattle.gv_vm.specs.Outcomes.{queues};
 ghost use Rattle.gv_queues.specs.Ending.{IsUntold};
@@ -45,7 +45,9 @@ pub fn request(
     ops: &[Op],
     waits: &[Point],
     signals: &[Point],
-) -> Result<Request, AllocError> {
+) -> Result<Request, AllocError>
+    ensures { IfOk result (λ r. r.waits.items ≡ waits.now) }
+{
     Ok(Request {
         ops: Vec::from_slice(alloc, ops)?,
         waits: Vec::from_slice(alloc, waits)?,
