@@ -4,3 +4,4 @@ pub mod Ends
 pub mod Same
 pub mod Outcomes
 pub mod Sends
+pub mod SubmittersLemmas

@@ -1,8 +1,9 @@
 //! The end of a queue at which requests are put.
-ghost use Rattle.std.specs.Prelude.{◌≡◌, ◌≤◌, ◌↔◌, ◌⊎◌, ◌++◌, ◌∷◌, [], length, IfOk, IfErr, OnOk, OnErr, IsErrAnd};
+ghost use Rattle.std.specs.Prelude.{◌≡◌, ◌<◌, ◌≤◌, ◌↔◌, ◌⊎◌, ◌++◌, ◌∷◌, [], length, IfOk, IfErr, OnOk, OnErr, IsErrAnd};
 ghost use Rattle.crossbeam_channel.specs.Claims.{view, IsSeatAt};
 ghost use Rattle.crossbeam_channel.specs.Ends.{sends_on, ruled_capacity};
 ghost use Rattle.gv_types.specs.Request.{Fits as FitsTimelines};
+ghost use Rattle.gv_vm.specs.Outcomes.{queues};
 ghost use Rattle.gv_queues.specs.Handover.{submitter_log};
 ghost use Rattle.gv_queues.specs.Submitting.{MayBeFull, put_end_of};
 
@@ -32,9 +33,10 @@ pub struct Submitter {
 }
 
 impl Model for Submitter {
-    ghost use Rattle.std.specs.Prelude.{◌≡◌, ◌≤◌, length};
+    ghost use Rattle.std.specs.Prelude.{◌≡◌, ◌<◌, ◌≤◌, length};
     ghost use Rattle.crossbeam_channel.specs.Claims.{view as log_of, IsSeatAt};
     ghost use Rattle.crossbeam_channel.specs.Ends.{sends_on, ruled_capacity};
+    ghost use Rattle.gv_vm.specs.Outcomes.{queues};
     ghost use Rattle.gv_queues.specs.Handover.{submitter_log};
     ghost use Rattle.gv_queues.specs.Submitting.{SubmitterState};
 
@@ -53,7 +55,8 @@ impl Model for Submitter {
         IsSeatAt (sends_on s.sends) s.pass
         × (log_of s.pass ≡ submitter_log s.timelines (log_of s.pass).put)
         × (s.count ≡ length (log_of s.pass).put)
-        × (s.count ≤ s.limit) };
+        × (s.count ≤ s.limit)
+        × (s.queue < queues) };
 }
 
 impl Submitter {
@@ -66,6 +69,7 @@ impl Submitter {
     ) -> Submitter
         requires seat { IsSeatAt (sends_on sends) pass }
         requires none { view pass ≡ submitter_log timelines [] }
+        requires queue { queue < queues }
         ensures { result ≡ record {
           queue = queue;
           channel = pass.table_id;
@@ -103,7 +107,8 @@ impl Submitter {
 
     /// Its queue.
     pub fn queue(&self) -> u64
-        ensures { result ≡ self.now.queue }
+        ensures value { result ≡ self.now.queue }
+        ensures below { result < queues }
     {
         self.queue
     }
