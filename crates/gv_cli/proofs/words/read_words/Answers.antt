@@ -23,8 +23,8 @@ pub returns-in-Some-clause-kinds : goal.returns-in-Some-clause-kinds
 returns-in-Some-clause-kinds c = at_command_line (λ kinds. kinds ≡ []) (texts c.args.words.now) _
     c.in_ok-command.ensures c.in_ok-matches.ensures.kinds
 
-pub returns-in-None-clause-kinds : goal.returns-in-None-clause-kinds
-returns-in-None-clause-kinds c = at_command_line (λ kinds. kinds ≡ []) (texts c.args.words.now) _
+pub returns-clause-kinds : goal.returns-clause-kinds
+returns-clause-kinds c = at_command_line (λ kinds. kinds ≡ []) (texts c.args.words.now) _
     c.in_ok-command.ensures c.in_ok-matches.ensures.kinds
 
 pub returns-in-Some-clause-run : goal.returns-in-Some-clause-run
