@@ -1,5 +1,5 @@
 -- From what clap says of the words to what the program says.
-use Rattle.std.proofs.Common.{◌≡◌, ℕ, List, [], ◌∷◌, length, true, Option, Some, None, option_map, Result, Ok, Err, refl, sym, subst, codes, inl, inr, ap, ◌∙◌, arith}
+use Rattle.std.proofs.Common.{◌≡◌, ℕ, List, [], ◌∷◌, true, Option, Some, None, option_map, Result, Ok, Err, refl, sym, subst, codes, inl, inr, ap, ◌∙◌, arith}
 use Rattle.std.specs.Prelude.{IsErrAnd}
 use Rattle.clap.specs.Kinds.{Kinds, HasKind, IsAmong}
 use Rattle.clap.specs.Simple.{App, HasMatchesOf, is_simple, subcommand_of, subcommand_rows_of}
@@ -85,9 +85,13 @@ entered_run : (name : List ℕ) → option_map (λ (p : Text × List Row). p.0) 
 unfolding clap_on_literals
 entered_run name = refl
 
-size : Option (List ℕ) → ℕ
-size None = 0
-size (Some text) = length text
+abbrev begins_with : Option (List ℕ) → ℕ
+begins_with (Some (letter ∷ more)) = letter
+begins_with other = 0
+
+run_apart : Some (codes "threads") ≡ Some (codes "run") → ⊥
+unfolding clap_on_literals
+run_apart same = let bad : ◌≡◌ {A = ℕ} 116 114 = ap begins_with same in omega (arith, bad)
 
 -- of the word `run` clap enters `run`, and not `threads`
 pub run_is_not_threads : (app : App) (words : List (List ℕ)) (name : List ℕ) (m : ArgMatches) → app ≡ command_line → words ≡ name ∷ codes "run" ∷ []
@@ -96,5 +100,4 @@ run_is_not_threads app words name m e f has is =
     let rows : subcommand_rows_of m ≡ subcommand_of app words = (has (ap is_simple e ∙ is_exact_simple)).1 in
     let run : subcommand_name_of m ≡ Some (codes "run") =
     sym (map_twice _ (λ (p : Text × List Row). p.0) (out-ArgMatches m).subcommand) ∙ ap (option_map (λ (p : Text × List Row). p.0)) (rows ∙ rw (e, f) refl) ∙ entered_run name in
-    let bad : 7 ≡ 3 = ap size (sym is ∙ run) in
-    omega (arith, bad)
+    run_apart (sym is ∙ run)

@@ -1,7 +1,7 @@
 //! The words of the command line.
-ghost use Rattle.std.specs.Prelude.{◌≡◌, ◌⊎◌, ◌∷◌, [], ℕ, List, IfOk, Ok, Err, codes};
-ghost use Rattle.clap.specs.Words.{app_of, fault_of, kind_of};
-ghost use Rattle.gv_cli.specs.CommandLine.{IsFaultOf, IsTask, ReadsBy, command_line, texts, threads_line};
+ghost use Rattle.std.specs.Prelude.{◌≡◌, ◌⊎◌, ◌∷◌, [], ℕ, List, IfOk, Ok, Err, codes, false};
+ghost use Rattle.clap.specs.Words.{app_of, fault_of, kind_of, rule_of};
+ghost use Rattle.gv_cli.specs.CommandLine.{IsFaultOf, IsTask, ReadsBy, command_line, queues_rule, texts, turns_rule};
 ghost use Rattle.gv_cli.specs.declared.words.WordsFault.TheVariants as words;
 
 use crate::help;
@@ -87,7 +87,11 @@ fn command<'a>(alloc: Global) -> Result<Command<'a>, AllocError>
     let run = Command::new(alloc, "run")
         .about(help::RUN)
         .after_long_help(help::SCRIPT);
-    let threads = threads_command(alloc)?;
+    let threads = Command::new(alloc, "threads")
+        .about(help::THREADS)
+        .after_long_help(help::THREADS_SCRIPT)
+        .arg(queues_arg(alloc))?
+        .arg(turns_arg(alloc))?;
     Command::new(alloc, "vmbind")
         .version(help::VERSION)
         .about(help::PROGRAM)
@@ -97,24 +101,28 @@ fn command<'a>(alloc: Global) -> Result<Command<'a>, AllocError>
         .subcommand(threads)
 }
 
-fn threads_command<'a>(alloc: Global) -> Result<Command<'a>, AllocError>
-    ensures { IfOk result (λ command. app_of command ≡ threads_line) }
+/// How many queues run: it may not be left out.
+fn queues_arg<'a>(alloc: Global) -> Arg<'a>
+    ensures rule { rule_of result ≡ queues_rule }
+    ensures one { result.global ≡ false }
 {
-    let queues = Arg::new(alloc, "queues")
+    Arg::new(alloc, "queues")
         .long("queues")
         .value_name("N")
         .help(help::QUEUES)
         .value_parser(ValueParser::unsigned(1, MAX_QUEUES))
-        .required(true);
-    let turns = Arg::new(alloc, "turns")
+        .required(true)
+}
+
+/// After how many turns a request that waits is given up.
+fn turns_arg<'a>(alloc: Global) -> Arg<'a>
+    ensures rule { rule_of result ≡ turns_rule }
+    ensures one { result.global ≡ false }
+{
+    Arg::new(alloc, "turns")
         .long("turns")
         .value_name("T")
         .help(help::TURNS)
         .value_parser(ValueParser::unsigned(1, MAX_TURNS))
-        .default_value("100000");
-    Command::new(alloc, "threads")
-        .about(help::THREADS)
-        .after_long_help(help::THREADS_SCRIPT)
-        .arg(queues)?
-        .arg(turns)
+        .default_value("100000")
 }

@@ -3,8 +3,11 @@ use Rattle.gv_cli.specs.CommandLine.{texts}
 use Rattle.gv_cli.proofs.Reading.{version_is_no_task, version_is_shown}
 use Rattle.gv_cli.proofs.program.obey.Goals as goal
 
-pub returns-in-Ok-clause-version : goal.returns-in-Ok-clause-version
-returns-in-Ok-clause-version g c = λ name given. absurd (version_is_no_task (texts c.args.words.now) name given c.in-Ok.ensures.kinds)
+pub returns-in-Ok-Run-clause-version : goal.returns-in-Ok-Run-clause-version
+returns-in-Ok-Run-clause-version g c = λ name given. absurd (version_is_no_task (texts c.args.words.now) name given c.in-Ok-Run.ensures.kinds)
+
+pub returns-in-Ok-Threads-clause-version : goal.returns-in-Ok-Threads-clause-version
+returns-in-Ok-Threads-clause-version g c = λ name given. absurd (version_is_no_task (texts c.args.words.now) name given c.in-Ok-Threads.ensures.kinds)
 
 pub returns-in-Err-Printed-clause-version : goal.returns-in-Err-Printed-clause-version
 returns-in-Err-Printed-clause-version g c = λ name given.

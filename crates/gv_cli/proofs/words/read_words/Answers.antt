@@ -1,4 +1,4 @@
-use Rattle.std.proofs.Common.{◌≡◌, [], inr}
+use Rattle.std.proofs.Common.{◌≡◌, [], inr, ap, is_some}
 use Rattle.clap.specs.Kinds.{HasKind}
 use Rattle.gv_cli.specs.CommandLine.{texts}
 use Rattle.gv_cli.proofs.Reading.{at_command_line, no_memory_of, reads_by, run_is_not_threads, run_passes}
@@ -29,4 +29,4 @@ returns-clause-kinds c = at_command_line (λ kinds. kinds ≡ []) (texts c.args.
 
 pub returns-in-Some-clause-run : goal.returns-in-Some-clause-run
 returns-in-Some-clause-run c = λ name given.
-    absurd (run_is_not_threads _ _ name c.in_ok-matches.matches c.in_ok-command.ensures given c.in_ok-matches.ensures.matches (c.subcommand_matches.ensures.found.0 c.in-Some.is))
+    absurd (run_is_not_threads _ _ name c.in_ok-matches.matches c.in_ok-command.ensures given c.in_ok-matches.ensures.matches (c.subcommand_matches.ensures.found.0 (ap is_some c.in-Some.is)))
