@@ -140,15 +140,19 @@ fn drawn_mappings(alloc: Global, mappings: &str) -> Result<String, AllocError> {
     Ok(row)
 }
 
-/// The tables of each level, the highest first, drawn in a row: a mark a table.
+/// The tables of each level, the highest first, drawn in a row: a mark for a level that has some.
 fn drawn_tables(alloc: Global, counts: &str) -> Result<String, AllocError> {
     let mut row = String::new(alloc);
-    push_times(&mut row, ' ', PAGE_COLUMNS)?;
+    let mut gap = PAGE_COLUMNS;
     for count in counts.split_whitespace() {
-        row.push_str(if count == "0" { "  " } else { "# " })?;
+        if count == "0" {
+            gap = gap.saturating_add(2);
+        } else {
+            push_times(&mut row, ' ', gap)?;
+            row.push('#')?;
+            gap = 1;
+        }
     }
-    let len = row.trim_end().len();
-    row.truncate(len);
     Ok(row)
 }
 
