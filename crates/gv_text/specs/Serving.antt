@@ -78,13 +78,6 @@ IsDeclared s (Wait point) = IsSome (point_named s.timelines point)
 IsDeclared s (Signal point) = IsSome (point_named s.timelines point)
 IsDeclared s (Queue queue) = Unit {0}
 
--- the clause is an operation
-abbrev pub IsOperationAlone : Clause → Type 0
-IsOperationAlone (Change operation) = Unit {0}
-IsOperationAlone (Wait point) = ⊥
-IsOperationAlone (Signal point) = ⊥
-IsOperationAlone (Queue queue) = ⊥
-
 -- Nothing but operations is asked for, on the first queue.
 pub record AreOperations (clauses : List Clause) : Type 0 where
   pub waits : waits_of clauses ≡ []

@@ -1,13 +1,12 @@
 //! What the words of a line ask for, with ids and timelines for names.
-ghost use Rattle.std.specs.Prelude.{◌≡◌, ◌≢◌, ◌↔◌, IsTrue, IsSome, IfOk, length, None};
+ghost use Rattle.std.specs.Prelude.{◌≡◌, ◌↔◌, IsTrue, IsSome, IfOk, IfSome, length, None};
 ghost use Rattle.gv_types.specs.Request.{Fits};
 ghost use Rattle.gv_lines.specs.Chain.{all_read};
 ghost use Rattle.gv_lines.specs.Clause.{queue_asked, operations_of, waits_of, signals_of};
 ghost use Rattle.gv_text.specs.State.{timeline_named};
 ghost use Rattle.gv_text.specs.Asking.{flags_of, op_named, point_named, IsRequest};
 ghost use Rattle.gv_text.specs.Line.{AreDeclared};
-ghost use Rattle.gv_text.specs.Serving.{IsDeclared, IsOperationAlone, AreOperations};
-ghost use Rattle.gv_text.specs.declared.request.Named.TheVariants as named;
+ghost use Rattle.gv_text.specs.Serving.{IsDeclared, AreOperations};
 
 use crate::fault::LineFault;
 use crate::names::Names;
@@ -82,46 +81,17 @@ fn is_declared(session: &Session, clause: &Clause) -> bool
     }
 }
 
-/// Whether a clause is an operation.
-fn is_operation(clause: &Clause) -> bool
-    ensures { IsTrue result → IsOperationAlone clause.now }
+/// Whether all that some clauses name is declared.
+fn are_declared(session: &Session, clauses: &ClauseList<'_>) -> bool
+    ensures { IsTrue result ↔ AreDeclared session.now clauses.now }
 {
-    match clause {
-        Clause::Change { .. } => true,
-        Clause::Wait { .. } | Clause::Signal { .. } | Clause::Queue { .. } => false,
-    }
-}
-
-/// What some clauses name.
-#[derive(Clone, Copy, Debug, PartialEq, Eq)]
-pub enum Named {
-    /// A name that is not declared.
-    Undeclared,
-    /// What is declared, and they are operations alone.
-    Operations,
-    /// What is declared.
-    Declared,
-}
-
-/// What some clauses name. A clause is read from its words each time, so that what has no points needs no look for them.
-fn named_by(session: &Session, clauses: &ClauseList<'_>) -> Named
-    ensures undeclared { result ≡ named.Undeclared → ¬ AreDeclared session.now clauses.now }
-    ensures declared { result ≢ named.Undeclared → AreDeclared session.now clauses.now }
-    ensures operations { result ≡ named.Operations → AreOperations clauses.now }
-{
-    let mut alone = true;
     let mut left = clauses.again();
     while let Some(clause) = left.take() {
         if !is_declared(session, &clause) {
-            return Named::Undeclared;
+            return false;
         }
-        alone = alone && is_operation(&clause);
     }
-    if alone {
-        Named::Operations
-    } else {
-        Named::Declared
-    }
+    true
 }
 
 /// Whether the timelines that a clause names are declared.
@@ -155,6 +125,33 @@ pub fn are_ops_declared(names: &Names, clauses: &ClauseList<'_>) -> bool {
         }
     }
     true
+}
+
+/// The operations of some clauses that are operations alone. None where one of them isn't.
+fn ops_alone(
+    alloc: Global,
+    names: &Names,
+    clauses: &ClauseList<'_>,
+) -> Result<Option<Vec<Op>>, LineFault>
+    ensures ops { IfOk result (λ found. IfSome found (λ ops.
+        all_read (op_named names.now.entries) (operations_of clauses.now) ≡ Some ops.items)) }
+    ensures alone { IfOk result (λ found. IfSome found (λ ops. AreOperations clauses.now)) }
+    ensures bad { result ≡ Err LineFault.Bad
+        → all_read (op_named names.now.entries) (operations_of clauses.now) ≡ None }
+{
+    let mut ops = Vec::new(alloc);
+    let mut left = clauses.again();
+    while let Some(clause) = left.take() {
+        let Clause::Change { operation } = clause else {
+            return Ok(None);
+        };
+        let Some(op) = op_named(names, &operation) else {
+            return Err(LineFault::Bad);
+        };
+        ops.reserve(1)?;
+        ops.push_reserved(op);
+    }
+    Ok(Some(ops))
 }
 
 /// The operations of some clauses.
@@ -256,6 +253,40 @@ pub struct Asked {
 }
 
 /// What some clauses ask for. A name that is not declared is found before memory is asked for.
+fn asked_in_full(
+    alloc: Global,
+    session: &Session,
+    clauses: &ClauseList<'_>,
+) -> Result<Asked, LineFault>
+    ensures request { IfOk result (λ asked. IsRequest session.now clauses.now asked.request) }
+    ensures queue { IfOk result (λ asked. asked.queue ≡ queue_asked clauses.now) }
+    ensures bad { result ≡ Err LineFault.Bad → ¬ AreDeclared session.now clauses.now }
+    ensures memory { result ≡ Err LineFault.OutOfMemory → AreDeclared session.now clauses.now }
+{
+    if !are_declared(session, clauses) {
+        return Err(LineFault::Bad);
+    }
+    let request = request_named(alloc, session.buffers(), session.timelines(), clauses)?;
+    Ok(Asked {
+        queue: clauses.queue(),
+        request,
+    })
+}
+
+/// Why clauses were not read to their end for want of memory: a name that is not declared comes first.
+fn refused_memory(session: &Session, clauses: &ClauseList<'_>) -> LineFault
+    ensures bad { result ≡ LineFault.Bad → ¬ AreDeclared session.now clauses.now }
+    ensures memory { result ≡ LineFault.OutOfMemory → AreDeclared session.now clauses.now }
+{
+    if are_declared(session, clauses) {
+        LineFault::OutOfMemory
+    } else {
+        LineFault::Bad
+    }
+}
+
+/// What some clauses ask for. Want of memory hides no name that is not declared. Clauses that are operations alone are read
+/// once, and each name in them is looked for once.
 pub fn asked_by(
     alloc: Global,
     session: &Session,
@@ -266,21 +297,17 @@ pub fn asked_by(
     ensures bad { result ≡ Err LineFault.Bad → ¬ AreDeclared session.now clauses.now }
     ensures memory { result ≡ Err LineFault.OutOfMemory → AreDeclared session.now clauses.now }
 {
-    let named = named_by(session, clauses);
-    if named == Named::Undeclared {
-        return Err(LineFault::Bad);
+    match ops_alone(alloc, session.buffers(), clauses) {
+        Ok(Some(ops)) => {
+            let request = Request {
+                ops,
+                waits: Vec::new(alloc),
+                signals: Vec::new(alloc),
+            };
+            Ok(Asked { queue: 0, request })
+        }
+        Ok(None) => asked_in_full(alloc, session, clauses),
+        Err(LineFault::Bad) => Err(LineFault::Bad),
+        Err(LineFault::OutOfMemory) => Err(refused_memory(session, clauses)),
     }
-    if named == Named::Operations {
-        let request = Request {
-            ops: ops_named(alloc, session.buffers(), clauses)?,
-            waits: Vec::new(alloc),
-            signals: Vec::new(alloc),
-        };
-        return Ok(Asked { queue: 0, request });
-    }
-    let request = request_named(alloc, session.buffers(), session.timelines(), clauses)?;
-    Ok(Asked {
-        queue: clauses.queue(),
-        request,
-    })
 }
