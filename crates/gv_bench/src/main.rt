@@ -14,7 +14,6 @@ mod machine_rows;
 mod machines;
 mod measure;
 mod plain_list;
-mod random;
 mod timing;
 mod workload;
 

@@ -1,8 +1,8 @@
 //! Lines by chance.
 use crate::model::Sight;
 use crate::operation::{write_addr, write_bind, write_job, write_operation, write_raise};
-use crate::random::Random;
 use crate::shape::{PAGE, Shape, UNITS, write_number};
+use gv_plain::Random;
 use std::alloc::AllocError;
 
 /// Writes a line, without its end, that names what there is.
@@ -30,7 +30,7 @@ pub fn write_line(
         }
         91..=92 => {
             out.push_str("told")?;
-            let queues = if random.one_in(50) { 17 } else { 3 };
+            let queues = if random.is_one_in(50) { 17 } else { 3 };
             let queue = random.below(queues);
             write_number(random, queue, out)
         }
@@ -56,8 +56,8 @@ fn write_make(
     sight: &Sight,
     out: &mut String,
 ) -> Result<(), AllocError> {
-    let again = u64::from(random.one_in(100));
-    if random.one_in(3) {
+    let again = u64::from(random.is_one_in(100));
+    if random.is_one_in(3) {
         out.push_str("timeline ")?;
         return shape.write_name(sight.timelines.saturating_sub(again), out);
     }
@@ -65,7 +65,7 @@ fn write_make(
     shape.write_name(sight.buffers.saturating_sub(again), out)?;
     let units = random.below(12).saturating_add(4);
     let pages = shape.pages(random, units);
-    let pages = if random.one_in(20) {
+    let pages = if random.is_one_in(20) {
         random.among(&[0, 1 << 36, (1 << 36) + 1, u64::MAX])
     } else {
         pages
@@ -101,7 +101,7 @@ fn write_timeline_line(
     sight: &Sight,
     out: &mut String,
 ) -> Result<(), AllocError> {
-    if random.one_in(2) {
+    if random.is_one_in(2) {
         return write_raise(random, shape, sight, out);
     }
     out.push_str("value ")?;
@@ -118,7 +118,7 @@ fn write_entry_line(
     let entry = sight
         .first
         .saturating_add(random.below(held.saturating_add(1)))
-        .saturating_sub(u64::from(random.one_in(20)));
+        .saturating_sub(u64::from(random.is_one_in(20)));
     match random.below(9) {
         0..=2 => out.push_str("rewind"),
         3..=7 => {
@@ -146,7 +146,7 @@ pub fn write_space(random: &mut Random, shape: &Shape, out: &mut String) -> Resu
         start.saturating_add(first.saturating_mul(unit)),
         count.saturating_mul(unit),
     ] {
-        let odd = random.one_in(100);
+        let odd = random.is_one_in(100);
         write_number(random, number.saturating_add(u64::from(odd)), out)?;
     }
     Ok(())
@@ -157,7 +157,7 @@ pub fn write_limits(random: &mut Random, out: &mut String) -> Result<(), AllocEr
     out.push_str("limits")?;
     for most in [4, 12, 12] {
         let number = random.below(most).saturating_add(1);
-        let odd = random.one_in(100);
+        let odd = random.is_one_in(100);
         write_number(random, if odd { 0 } else { number }, out)?;
     }
     Ok(())

@@ -5,7 +5,6 @@
 mod line;
 mod model;
 mod operation;
-mod random;
 mod script;
 mod shape;
 mod shrink;

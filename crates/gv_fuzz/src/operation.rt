@@ -1,7 +1,7 @@
 //! Operations and requests by chance.
 use crate::model::Sight;
-use crate::random::Random;
 use crate::shape::{PAGE, Shape, write_number};
+use gv_plain::Random;
 use std::alloc::AllocError;
 use std::fmt::Write;
 
@@ -22,7 +22,7 @@ const ODD_LENGTHS: [u64; 6] = [0, 1, 0x800, 1 << 41, (1 << 57) + PAGE, u64::MAX 
 
 /// A number of pages in bytes, or now and then another number.
 fn bytes(random: &mut Random, pages: u64, odd: &[u64]) -> u64 {
-    if random.one_in(60) {
+    if random.is_one_in(60) {
         return random.among(odd);
     }
     pages.saturating_mul(PAGE)
@@ -41,7 +41,7 @@ fn write_range(random: &mut Random, shape: &Shape, out: &mut String) -> Result<u
 }
 
 fn write_flags(random: &mut Random, out: &mut String) -> Result<(), AllocError> {
-    if random.one_in(4) {
+    if random.is_one_in(4) {
         out.push_str(" ro")?;
     }
     Ok(())
@@ -70,7 +70,7 @@ pub fn write_operation(
     out.push_str(" ")?;
     shape.write_buffer(random, sight, out)?;
     let units = random.below(8);
-    let offset = if random.one_in(2) {
+    let offset = if random.is_one_in(2) {
         page.saturating_sub(shape.base)
     } else {
         shape.pages(random, units)
@@ -125,11 +125,11 @@ pub fn write_bind(
 ) -> Result<(), AllocError> {
     out.push_str("bind")?;
     let few = random.below(3).saturating_add(1);
-    let many = if random.one_in(400) { 257 } else { 0 };
-    let count = if random.one_in(20) { many } else { few };
+    let many = if random.is_one_in(400) { 257 } else { 0 };
+    let count = if random.is_one_in(20) { many } else { few };
     let mut separator = " ";
-    if random.one_in(4) {
-        let queues = if random.one_in(30) { 20 } else { 3 };
+    if random.is_one_in(4) {
+        let queues = if random.is_one_in(30) { 20 } else { 3 };
         let queue = random.below(queues);
         write!(out, " queue {queue}")?;
         separator = " ; ";
@@ -165,11 +165,11 @@ pub fn write_addr(random: &mut Random, shape: &Shape, out: &mut String) -> Resul
 pub fn write_job(random: &mut Random, shape: &Shape, out: &mut String) -> Result<(), AllocError> {
     out.push_str("job")?;
     let few = random.below(3).saturating_add(1);
-    let count = if random.one_in(100) { 257 } else { few };
+    let count = if random.is_one_in(100) { 257 } else { few };
     let mut separator = " ";
     for _ in 0..count {
         out.push_str(separator)?;
-        out.push_str(if random.one_in(3) { "write" } else { "read" })?;
+        out.push_str(if random.is_one_in(3) { "write" } else { "read" })?;
         write_addr(random, shape, out)?;
         separator = " ; ";
     }

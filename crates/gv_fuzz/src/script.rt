@@ -1,8 +1,8 @@
 //! Scripts by chance.
 use crate::line::{write_limits, write_line, write_space};
 use crate::model::Model;
-use crate::random::Random;
 use crate::shape::Shape;
+use gv_plain::Random;
 use std::alloc::{AllocError, Global};
 
 /// Words and signs that a soup is made of.
@@ -41,8 +41,8 @@ fn lines(alloc: Global, random: &mut Random) -> Result<Vec<u8>, AllocError> {
     for number in 0..count {
         line.clear();
         match number {
-            0 if random.one_in(2) => write_space(random, &shape, &mut line)?,
-            0 | 1 if random.one_in(2) => write_limits(random, &mut line)?,
+            0 if random.is_one_in(2) => write_space(random, &shape, &mut line)?,
+            0 | 1 if random.is_one_in(2) => write_limits(random, &mut line)?,
             _ => write_line(random, &shape, &model.sight(), &mut line)?,
         }
         let _good = model.run_line(alloc, line.as_bytes(), &mut replies)?;
@@ -56,7 +56,7 @@ fn lines(alloc: Global, random: &mut Random) -> Result<Vec<u8>, AllocError> {
 fn mutated(alloc: Global, random: &mut Random, script: &[u8]) -> Result<Vec<u8>, AllocError> {
     let mut changed = Vec::new(alloc);
     for byte in script {
-        if !random.one_in(300) {
+        if !random.is_one_in(300) {
             changed.push(*byte)?;
             continue;
         }
@@ -82,8 +82,8 @@ fn soup(alloc: Global, random: &mut Random) -> Result<Vec<u8>, AllocError> {
         let place = random.below(SOUP.len() as u64);
         let word = SOUP.get(place as usize).copied().unwrap_or("b");
         script.extend_from_slice(word.as_bytes())?;
-        if !random.one_in(6) {
-            script.push(if random.one_in(4) { b'\n' } else { b' ' })?;
+        if !random.is_one_in(6) {
+            script.push(if random.is_one_in(4) { b'\n' } else { b' ' })?;
         }
     }
     Ok(script)
@@ -94,7 +94,7 @@ fn noise(alloc: Global, random: &mut Random) -> Result<Vec<u8>, AllocError> {
     let mut script = Vec::new(alloc);
     for _ in 0..random.below(400) {
         let byte = random.below(256) as u8;
-        script.push(if random.one_in(8) { b'\n' } else { byte })?;
+        script.push(if random.is_one_in(8) { b'\n' } else { byte })?;
     }
     Ok(script)
 }

@@ -2,7 +2,7 @@
 ghost use Rattle.std.specs.Prelude.{◌≤◌, ◌<◌, ◌^◌};
 
 use crate::model::Sight;
-use crate::random::Random;
+use gv_plain::Random;
 use std::alloc::AllocError;
 use std::fmt::Write;
 
@@ -75,7 +75,7 @@ impl Shape {
         sight: &Sight,
         out: &mut String,
     ) -> Result<(), AllocError> {
-        let past = u64::from(random.one_in(300));
+        let past = u64::from(random.is_one_in(300));
         let number = random.below(sight.buffers.max(1)).saturating_add(past * 9);
         self.write_name(number, out)
     }
@@ -87,7 +87,7 @@ impl Shape {
         sight: &Sight,
         out: &mut String,
     ) -> Result<(), AllocError> {
-        let past = u64::from(random.one_in(300));
+        let past = u64::from(random.is_one_in(300));
         let number = random
             .below(sight.timelines.max(1))
             .saturating_add(past * 9);
@@ -97,7 +97,7 @@ impl Shape {
 
 /// Writes a number, in one of its two forms, behind a space.
 pub fn write_number(random: &mut Random, number: u64, out: &mut String) -> Result<(), AllocError> {
-    if random.one_in(2) {
+    if random.is_one_in(2) {
         write!(out, " {number}")
     } else {
         write!(out, " 0x{number:x}")

@@ -1,5 +1,6 @@
-//! What a list of mappings comes to by the definitions alone: each page by itself, and rows that are cut.
-use gv_types::{Backing, BufferId, Entry, Flags, Mapping, Op, OutOfMemory, PAGE_BYTES, PageRange};
+//! What operations come to by the definitions alone: each place by itself, and the list.
+use gv_plain::{at, changed, further};
+use gv_types::{Backing, BufferId, Entry, Mapping, Op, OutOfMemory, PAGE_BYTES, PageRange};
 use std::alloc::Global;
 use std::test::Fail;
 
@@ -51,15 +52,12 @@ impl Model {
         range: PageRange,
         inside: &[Mapping],
     ) -> Result<Model, OutOfMemory> {
-        let mut list = Vec::new(alloc);
-        push_cut(&mut list, &self.list, 0, range.first())?;
-        push_cut(&mut list, inside, range.first(), range.end())?;
-        push_cut(&mut list, &self.list, range.end(), u64::MAX)?;
+        let list = changed(alloc, &self.list, range, inside)?;
         let mut pages = Vec::new(alloc);
         for (place, entry) in self.pages.iter().enumerate() {
             let page = self.setting.page(place as u64);
             if range.first() <= page && page < range.end() {
-                pages.push(held(inside, page))?;
+                pages.push(at(inside, page))?;
             } else {
                 pages.push(*entry)?;
             }
@@ -84,7 +82,7 @@ impl Model {
     /// Adds the mappings that have pages in the range to a list.
     pub fn push_met(&self, range: PageRange, met: &mut Vec<Mapping>) -> Result<(), OutOfMemory> {
         for mapping in &self.list {
-            if cut(mapping, range.first(), range.end()).is_some() {
+            if mapping.range.meets(range) {
                 met.push(*mapping)?;
             }
         }
@@ -133,31 +131,6 @@ fn put_by(op: &Op, range: PageRange) -> Option<Mapping> {
     }
 }
 
-/// How many of the mappings are of the buffer.
-pub fn count_of(list: &[Mapping], id: &BufferId) -> u64 {
-    list.iter()
-        .filter(|mapping| is_of(&mapping.backing, id))
-        .count() as u64
-}
-
-fn is_of(backing: &Backing, buffer: &BufferId) -> bool {
-    match backing {
-        Backing::Buffer { id, .. } => id == buffer,
-        Backing::Zero => false,
-    }
-}
-
-/// What stands so many pages further on.
-fn further(backing: Backing, pages: u64) -> Backing {
-    match backing {
-        Backing::Buffer { id, page } => Backing::Buffer {
-            id,
-            page: page.saturating_add(pages),
-        },
-        Backing::Zero => Backing::Zero,
-    }
-}
-
 /// What a page holds that is so many pages behind another, in what one mapping holds.
 pub fn entry_behind(entry: Option<Entry>, pages: u64) -> Option<Entry> {
     let entry = entry?;
@@ -165,49 +138,6 @@ pub fn entry_behind(entry: Option<Entry>, pages: u64) -> Option<Entry> {
         backing: further(entry.backing, pages),
         flags: entry.flags,
     })
-}
-
-/// What of a mapping lies at `low` or above and below `high`.
-fn cut(mapping: &Mapping, low: u64, high: u64) -> Option<Mapping> {
-    let start = mapping.range.first();
-    let first = low.max(start);
-    let end = high.min(mapping.range.end());
-    if first >= end {
-        return None;
-    }
-    Some(Mapping {
-        range: PageRange::new(first, end - first)?,
-        backing: further(mapping.backing, first - start),
-        flags: mapping.flags,
-    })
-}
-
-fn push_cut(
-    list: &mut Vec<Mapping>,
-    from: &[Mapping],
-    low: u64,
-    high: u64,
-) -> Result<(), OutOfMemory> {
-    for mapping in from {
-        if let Some(part) = cut(mapping, low, high) {
-            list.push(part)?;
-        }
-    }
-    Ok(())
-}
-
-/// What the mappings say of a page.
-fn held(list: &[Mapping], page: u64) -> Option<Entry> {
-    for mapping in list {
-        let start = mapping.range.first();
-        if start <= page && page < mapping.range.end() {
-            return Some(Entry {
-                backing: further(mapping.backing, page - start),
-                flags: mapping.flags,
-            });
-        }
-    }
-    None
 }
 
 /// Whether a slot of 512 pages needs a table: it has pages of mappings, and no mapping covers it.

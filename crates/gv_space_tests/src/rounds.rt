@@ -1,9 +1,10 @@
 //! Random operations, each compared with the model.
-ghost use Rattle.std.specs.Prelude.{◌<◌, IfOk};
+ghost use Rattle.std.specs.Prelude.{IfOk};
 ghost use Rattle.gv_space.specs.Undo.{CanRevert, AreAmongKept, released, reverted};
 
 use crate::fixtures::{apply, bind};
-use crate::model::{Model, PLACES, Setting, count_of, entry_behind, range_of};
+use crate::model::{Model, PLACES, Setting, entry_behind, range_of};
+use gv_plain::{Random, count_of};
 use gv_space::{OpUndo, Space};
 use gv_types::{Bounds, Entry, Flags, Limits, Mapping, Op, PAGE_BYTES, PageRange};
 use std::alloc::Global;
@@ -12,25 +13,6 @@ use std::test::Fail;
 
 /// How many rounds are played on a setting.
 const ROUNDS: u64 = 250;
-
-/// Knuth's linear congruence of 64 bits, which gives its upper bits.
-#[derive(Drop)]
-struct Random {
-    state: u64,
-}
-
-impl Random {
-    fn below(&mut self, bound: u64) -> u64
-        requires { 0 < bound }
-        ensures { result < bound }
-    {
-        self.state = self
-            .state
-            .wrapping_mul(6_364_136_223_846_793_005)
-            .wrapping_add(1_442_695_040_888_963_407);
-        (self.state >> 33) % bound
-    }
-}
 
 /// An operation on a few places.
 fn chosen(random: &mut Random, setting: &Setting) -> Op {
@@ -253,7 +235,7 @@ fn play(rt: &impl Abort, alloc: Global, first: u64, unit: u64) -> Result<(), Fai
             buffers,
         },
     )?;
-    let mut random = Random { state: 1 };
+    let mut random = Random::new(1);
     for round in 0..ROUNDS {
         let course = course_of(alloc, &model, &mut random)?;
         model = match round % 4 {

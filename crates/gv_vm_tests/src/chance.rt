@@ -1,8 +1,7 @@
 //! Events by chance.
-ghost use Rattle.std.specs.Prelude.{◌<◌};
-
 use crate::model::Model;
 use gv_buffers::Usage;
+use gv_plain::Random;
 use gv_types::{BufferId, Flags, Op, OutOfMemory, PAGE_BYTES, Point, Request};
 use gv_vm::{Access, Event};
 use std::alloc::Global;
@@ -10,43 +9,31 @@ use std::alloc::Global;
 /// More operations than a request may have.
 const TOO_MANY_OPS: u64 = 257;
 
-/// Knuth's linear congruence of 64 bits, which gives its upper bits.
+/// What comes next, by the numbers of a seed.
 #[derive(Drop)]
 pub struct Chance {
-    pub state: u64,
+    random: Random,
 }
 
 impl Chance {
-    fn below(&mut self, bound: u64) -> u64
-        requires { 0 < bound }
-        ensures { result < bound }
-    {
-        self.state = self
-            .state
-            .wrapping_mul(6_364_136_223_846_793_005)
-            .wrapping_add(1_442_695_040_888_963_407);
-        (self.state >> 33) % bound
-    }
-
-    /// Once in so many times.
-    fn is_one_in(&mut self, bound: u64) -> bool
-        requires { 0 < bound }
-    {
-        self.below(bound) == 0
+    pub fn new(seed: u64) -> Chance {
+        Chance {
+            random: Random::new(seed),
+        }
     }
 
     /// One of the queues, and now and then one that there is not.
     fn queue(&mut self) -> u64 {
-        if self.is_one_in(24) {
+        if self.random.is_one_in(24) {
             return 2;
         }
-        self.below(2)
+        self.random.below(2)
     }
 
     /// A buffer that was made, alive or not, mostly one of the newest.
     fn buffer(&mut self, model: &Model) -> BufferId {
         let buffers = model.ground.buffers.as_slice();
-        let back = self.below(3).saturating_add(1) as usize;
+        let back = self.random.below(3).saturating_add(1) as usize;
         match buffers.get(buffers.len().saturating_sub(back)) {
             Some(made) => made.id,
             None => BufferId::new(0, 0),
@@ -55,25 +42,25 @@ impl Chance {
 
     /// An operation on a few pages, now and then one that no space takes.
     fn op(&mut self, model: &Model) -> Op {
-        let first = self.below(31).saturating_add(1);
-        let shift = u64::from(self.is_one_in(40));
+        let first = self.random.below(31).saturating_add(1);
+        let shift = u64::from(self.random.is_one_in(40));
         let addr = first.saturating_mul(PAGE_BYTES).saturating_add(shift);
-        let len = self.below(6).saturating_mul(PAGE_BYTES);
-        let len = if len == 0 && !self.is_one_in(8) {
+        let len = self.random.below(6).saturating_mul(PAGE_BYTES);
+        let len = if len == 0 && !self.random.is_one_in(8) {
             PAGE_BYTES
         } else {
             len
         };
         let flags = Flags {
-            read_only: self.is_one_in(4),
+            read_only: self.random.is_one_in(4),
         };
         let buffer = self.buffer(model);
-        match self.below(10) {
+        match self.random.below(10) {
             0..=4 => Op::Map {
                 addr,
                 len,
                 buffer,
-                offset: self.below(4).saturating_mul(PAGE_BYTES),
+                offset: self.random.below(4).saturating_mul(PAGE_BYTES),
                 flags,
             },
             5 | 6 => Op::MapZero { addr, len, flags },
@@ -84,20 +71,24 @@ impl Chance {
 
     /// A point close to what its timeline is at, now and then of a timeline that there is not.
     fn point(&mut self, model: &Model) -> Point {
-        let timeline = if self.is_one_in(60) { 2 } else { self.below(2) };
+        let timeline = if self.random.is_one_in(60) {
+            2
+        } else {
+            self.random.below(2)
+        };
         let now = match model.numbers.get(timeline as usize) {
             Some(number) => *number,
             None => 0,
         };
         let value = now
-            .saturating_add(self.below(3))
-            .saturating_sub(self.below(2));
+            .saturating_add(self.random.below(3))
+            .saturating_sub(self.random.below(2));
         Point { timeline, value }
     }
 
     fn points(&mut self, alloc: Global, model: &Model) -> Result<Vec<Point>, OutOfMemory> {
         let mut points = Vec::new(alloc);
-        for _ in 0..self.below(3) {
+        for _ in 0..self.random.below(3) {
             points.push(self.point(model))?;
         }
         Ok(points)
@@ -105,10 +96,10 @@ impl Chance {
 
     /// A request of a few operations, now and then of too many.
     fn request(&mut self, alloc: Global, model: &Model) -> Result<Request, OutOfMemory> {
-        let count = if self.is_one_in(100) {
+        let count = if self.random.is_one_in(100) {
             TOO_MANY_OPS
         } else {
-            self.below(4)
+            self.random.below(4)
         };
         let mut ops = Vec::new(alloc);
         for _ in 0..count {
@@ -125,22 +116,24 @@ impl Chance {
 
     /// A byte of a page, of every second one that the first page of some mapping.
     fn addr(&mut self, model: &Model) -> u64 {
-        let any = self.below(34);
+        let any = self.random.below(34);
         let list = model.ground.list.as_slice();
-        let place = self.below((list.len() as u64).saturating_mul(2).saturating_add(1));
+        let place = self
+            .random
+            .below((list.len() as u64).saturating_mul(2).saturating_add(1));
         let page = match list.get(place as usize) {
             Some(mapping) => mapping.range.first(),
             None => any,
         };
         page.saturating_mul(PAGE_BYTES)
-            .saturating_add(self.below(PAGE_BYTES))
+            .saturating_add(self.random.below(PAGE_BYTES))
     }
 
     fn accesses(&mut self, alloc: Global, model: &Model) -> Result<Vec<Access>, OutOfMemory> {
         let mut accesses = Vec::new(alloc);
-        for _ in 0..self.below(3) {
+        for _ in 0..self.random.below(3) {
             let addr = self.addr(model);
-            let usage = if self.is_one_in(2) {
+            let usage = if self.random.is_one_in(2) {
                 Usage::Write
             } else {
                 Usage::Read
@@ -157,19 +150,19 @@ impl Chance {
             .ground
             .history
             .first
-            .saturating_add(self.below(held.saturating_add(2)))
-            .saturating_sub(u64::from(self.is_one_in(12)))
+            .saturating_add(self.random.below(held.saturating_add(2)))
+            .saturating_sub(u64::from(self.random.is_one_in(12)))
     }
 
     /// How many pages a buffer gets, now and then none.
     fn pages(&mut self) -> u64 {
-        if self.is_one_in(12) { 0 } else { 7 }
+        if self.random.is_one_in(12) { 0 } else { 7 }
     }
 
     /// The number of a job that may run, or not yet.
     fn job(&mut self, model: &Model) -> u64 {
         let begun = model.running.begun().saturating_add(1);
-        begun.saturating_sub(self.below(5).saturating_add(1))
+        begun.saturating_sub(self.random.below(5).saturating_add(1))
     }
 
     /// The event of a queue that is enabled there, or one of two.
@@ -182,7 +175,7 @@ impl Chance {
         }
         let event = match &line.hand {
             Some(hand) => match hand.wait() {
-                Some(point) => match self.below(3) {
+                Some(point) => match self.random.below(3) {
                     0 => Event::Raise { point },
                     1 if hand.lacked.is_some() => Event::GiveUp { queue },
                     _ => Event::Look { queue },
@@ -201,7 +194,7 @@ impl Chance {
     /// The next event.
     pub fn event(&mut self, alloc: Global, model: &Model) -> Result<Event, OutOfMemory> {
         let queue = self.queue();
-        let event = match self.below(40) {
+        let event = match self.random.below(40) {
             0..=19 => self.useful(alloc, model, queue)?,
             20..=22 => Event::Put {
                 queue,
@@ -219,7 +212,7 @@ impl Chance {
 
     /// The next event that is no queue's.
     fn call(&mut self, alloc: Global, model: &Model) -> Result<Event, OutOfMemory> {
-        let event = match self.below(18) {
+        let event = match self.random.below(18) {
             0 => Event::Raise {
                 point: self.point(model),
             },

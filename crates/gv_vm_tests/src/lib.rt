@@ -11,8 +11,6 @@ mod history;
 #[cfg(test)]
 mod lines;
 #[cfg(test)]
-mod lists;
-#[cfg(test)]
 mod model;
 #[cfg(test)]
 mod rounds;

@@ -74,7 +74,7 @@ fn counts_buffers(alloc: Global, world: &World, model: &Model) -> Result<bool, O
     let ground = &model.ground;
     for made in &ground.buffers {
         let id = &made.id;
-        let uses = crate::lists::count_of(ground.list.as_slice(), id);
+        let uses = gv_plain::count_of(ground.list.as_slice(), id);
         let kept = ground.history.kept(alloc, id)?;
         let wanted = if made.is_alive {
             (Some(made.pages), Some(uses), Some(kept))
@@ -158,7 +158,7 @@ fn round(
     tally: &mut Tally,
 ) -> Result<u64, OutOfMemory> {
     let mut model = Model::new(alloc, setting)?;
-    let mut chance = Chance { state: seed };
+    let mut chance = Chance::new(seed);
     for done in 0..events {
         if !turn(alloc, world, &mut model, &mut chance, tally)? {
             return Ok(done);

@@ -17,7 +17,7 @@ pub fn only(alloc: Global, op: PageOp) -> Result<Vec<PageOp>, OutOfMemory> {
 }
 
 /// What stands so many pages further on.
-fn further(backing: Backing, pages: u64) -> Backing {
+pub fn further(backing: Backing, pages: u64) -> Backing {
     match backing {
         Backing::Buffer { id, page } => Backing::Buffer {
             id,

@@ -1,0 +1,11 @@
+//! What tests and figures share: lists of mappings by the plain definitions, each mapping cut by itself, and seeded numbers.
+#![tactic(auto)]
+
+mod lists;
+mod random;
+
+pub use lists::{
+    at, changed, count_met, count_of, edited, edited_by_all, further, given, only, push, range_of,
+    unmaps_of,
+};
+pub use random::Random;
