@@ -6,9 +6,10 @@ ghost use Rattle.gv_sync.specs.Seats.{most_timelines};
 ghost use Rattle.gv_text.specs.Threads.{IsOfLine, most_places};
 
 use crate::fault::{LineFault, ScriptFault};
+use crate::naming::are_points_declared;
 use crate::numbered::NumberedLines;
 use crate::part::Part;
-use crate::request::{are_points_declared, point_named};
+use crate::request::point_named;
 use crate::session::TIMELINES;
 use crate::stage::Stage;
 use crate::timeline_names::TimelineNames;

@@ -9,6 +9,7 @@ mod fault;
 mod journal;
 mod memory;
 mod names;
+mod naming;
 mod numbered;
 mod output;
 mod part;

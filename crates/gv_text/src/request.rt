@@ -1,19 +1,20 @@
 //! What the words of a line ask for, with ids and timelines for names.
-ghost use Rattle.std.specs.Prelude.{◌≡◌, ◌↔◌, IsTrue, IsSome, IfOk, IfSome, length, None};
+ghost use Rattle.std.specs.Prelude.{◌≡◌, ◌++◌, ◌∷◌, [], IsSome, IfOk, IfSome, OnOk, length, None};
 ghost use Rattle.gv_types.specs.Request.{Fits};
 ghost use Rattle.gv_lines.specs.Chain.{all_read};
 ghost use Rattle.gv_lines.specs.Clause.{queue_asked, operations_of, waits_of, signals_of};
 ghost use Rattle.gv_text.specs.State.{timeline_named};
 ghost use Rattle.gv_text.specs.Asking.{flags_of, op_named, point_named, IsRequest};
 ghost use Rattle.gv_text.specs.Line.{AreDeclared};
-ghost use Rattle.gv_text.specs.Serving.{IsDeclared, AreOperations};
+ghost use Rattle.gv_text.specs.Serving.{AreOperations};
 
 use crate::fault::LineFault;
 use crate::names::Names;
+use crate::naming::are_declared;
 use crate::session::Session;
 use crate::timeline_names::TimelineNames;
 use gv_lines::{Clause, ClauseList, NamedPoint, Operation};
-use gv_types::{Flags, Op, Point, Request};
+use gv_types::{Flags, Op, OutOfMemory, Point, Request};
 use std::alloc::Global;
 
 fn flags(read_only: bool) -> Flags
@@ -69,62 +70,17 @@ pub fn point_named(timelines: &TimelineNames, point: &NamedPoint) -> Option<Poin
     })
 }
 
-/// Whether the names in a clause are declared.
-fn is_declared(session: &Session, clause: &Clause) -> bool
-    ensures { IsTrue result ↔ IsDeclared session.now clause.now }
+/// Adds an operation. Most requests have one, and the journal holds them: the first one asks for its own room alone.
+fn push_op(ops: &mut Vec<Op>, op: Op) -> Result<(), OutOfMemory>
+    ensures { OnOk result (ops.new.items ≡ ops.old.items ++ op ∷ []) }
 {
-    match clause {
-        Clause::Change { operation } => op_named(session.buffers(), operation).is_some(),
-        Clause::Wait { point } => point_named(session.timelines(), point).is_some(),
-        Clause::Signal { point } => point_named(session.timelines(), point).is_some(),
-        Clause::Queue { .. } => true,
+    if ops.is_empty() {
+        ops.reserve_exact(1)?;
+    } else {
+        ops.reserve(1)?;
     }
-}
-
-/// Whether all that some clauses name is declared.
-fn are_declared(session: &Session, clauses: &ClauseList<'_>) -> bool
-    ensures { IsTrue result ↔ AreDeclared session.now clauses.now }
-{
-    let mut left = clauses.again();
-    while let Some(clause) = left.take() {
-        if !is_declared(session, &clause) {
-            return false;
-        }
-    }
-    true
-}
-
-/// Whether the timelines that a clause names are declared.
-fn is_point_declared(timelines: &TimelineNames, clause: &Clause) -> bool {
-    match clause {
-        Clause::Wait { point } => point_named(timelines, point).is_some(),
-        Clause::Signal { point } => point_named(timelines, point).is_some(),
-        Clause::Change { .. } | Clause::Queue { .. } => true,
-    }
-}
-
-/// Whether the timelines that some clauses name are declared.
-pub fn are_points_declared(timelines: &TimelineNames, clauses: &ClauseList<'_>) -> bool {
-    let mut left = clauses.again();
-    while let Some(clause) = left.take() {
-        if !is_point_declared(timelines, &clause) {
-            return false;
-        }
-    }
-    true
-}
-
-/// Whether the buffers that some clauses name are declared.
-pub fn are_ops_declared(names: &Names, clauses: &ClauseList<'_>) -> bool {
-    let mut left = clauses.again();
-    while let Some(clause) = left.take() {
-        if let Clause::Change { operation } = clause {
-            if op_named(names, &operation).is_none() {
-                return false;
-            }
-        }
-    }
-    true
+    ops.push_reserved(op);
+    Ok(())
 }
 
 /// The operations of some clauses that are operations alone. None where one of them isn't.
@@ -148,8 +104,7 @@ fn ops_alone(
         let Some(op) = op_named(names, &operation) else {
             return Err(LineFault::Bad);
         };
-        ops.reserve(1)?;
-        ops.push_reserved(op);
+        push_op(&mut ops, op)?;
     }
     Ok(Some(ops))
 }
@@ -167,8 +122,7 @@ fn ops_named(alloc: Global, names: &Names, clauses: &ClauseList<'_>) -> Result<V
             let Some(op) = op_named(names, &operation) else {
                 return Err(LineFault::Bad);
             };
-            ops.reserve(1)?;
-            ops.push_reserved(op);
+            push_op(&mut ops, op)?;
         }
     }
     Ok(ops)

@@ -1,6 +1,6 @@
 use Rattle.std.proofs.Common.{length}
 use Rattle.gv_text.specs.Line.{AreDeclared}
-use Rattle.gv_text.proofs.request.are_declared.Given as goal
+use Rattle.gv_text.proofs.naming.are_declared.Given as goal
 
 abbrev pub invariant-loop-clause : goal.invariant-loop-clause
 invariant-loop-clause l = record {
