@@ -9,6 +9,8 @@ use Rattle.gv_types.specs.declared.mapping.Backing.TheVariants.{Buffer, Zero}
 use Rattle.gv_types.specs.declared.mapping.Mapping.{Mapping}
 use Rattle.gv_ranges.specs.List.{IsLaidOut}
 use Rattle.gv_buffers.specs.Table.{Table, pages, no_buffers, IsTable}
+use Rattle.gv_table.specs.Table.{IsTree}
+use Rattle.gv_table.specs.declared.page_table.PageTable.{PageTable}
 use Rattle.gv_space.specs.Counts.{count_of}
 
 -- what contracts see of a `Space`: its bounds and limits, its mappings and for how many it has room, its buffers, and
@@ -53,6 +55,10 @@ pub record IsSpace (s : AddressSpace) : Type 0 where
   pub all_kept : List Mapping
   pub are_kept : AreKept s all_kept
   pub few_kept : s.kept_count ≤ most_kept
+
+-- a page table is the tree of the list
+abbrev pub TableMatchesList : AddressSpace → PageTable → Type 0
+TableMatchesList s table = IsTree s.mappings table
 
 -- an address space of no mapping and no buffer
 abbrev pub new_space : Area → Caps → AddressSpace

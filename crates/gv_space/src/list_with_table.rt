@@ -52,6 +52,13 @@ impl ListWithTable {
         &self.list
     }
 
+    /// The page table.
+    pub fn table(&self) -> &PageTable
+        ensures { IsTree self.now.mappings result.now }
+    {
+        &self.table
+    }
+
     /// What the page holds, by the page table.
     pub fn walk(&self, page: u64) -> Option<Entry>
         ensures value { result ≡ at self.now.mappings page }

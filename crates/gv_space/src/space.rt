@@ -12,6 +12,7 @@ use crate::undo::OpUndo;
 use crate::{counts, ranges};
 use gv_buffers::{Buffers, Usage};
 use gv_split::Step;
+use gv_table::PageTable;
 use gv_types::{Backing, Bounds, BufferId, Entry, Fault, Limits, Mapping, Op, PageOp, PageRange};
 use std::alloc::Global;
 use std::marker::Model;
@@ -53,7 +54,7 @@ impl Space {
     ghost use Rattle.gv_table.specs.Table.{tables_of, IsTree, IsHeldAt};
     ghost use Rattle.gv_table.specs.declared.page_table.PageTable.{PageTable};
     ghost use Rattle.gv_space.specs.Counts.{count_of, ranges_of};
-    ghost use Rattle.gv_space.specs.State.{new_space, AreKept, IsPlaced, IsSpace, IsUnchanged};
+    ghost use Rattle.gv_space.specs.State.{new_space, AreKept, IsPlaced, IsSpace, IsUnchanged, TableMatchesList};
     ghost use Rattle.gv_space.specs.Refusal.{operation_fault, dead_fault, limit_fault, apply_fault};
     ghost use Rattle.gv_space.specs.Undo.{AreAmongKept, TookWhatWas, CanRevert, IsUndoOf, released, reverted};
     ghost use Rattle.gv_space.specs.Change.{IsChanged};
@@ -102,6 +103,13 @@ impl Space {
         ensures { result ≡ at self.now.mappings page }
     {
         self.mapped.list().at(page)
+    }
+
+    /// The page table, which is always the list's.
+    pub fn table(&self) -> &PageTable
+        ensures { TableMatchesList self.now result.now }
+    {
+        self.mapped.table()
     }
 
     /// What the page holds, by the page table, which is the list's: at most five steps. None past the end of the address

@@ -24,7 +24,7 @@ use Rattle.gv_vm.specs.declared.jobs.Job.{Job}
 use Rattle.gv_vm.specs.declared.places.Place.{Place}
 use Rattle.gv_vm.specs.declared.places.Target.{Target}
 use Rattle.gv_vm.specs.declared.places.Target.TheVariants.{Buffer as BufferByte, Zero}
-use Rattle.gv_vm.proofs.Entries.{All-without}
+use Rattle.gv_vm.proofs.Ascending.{All-without}
 
 abbrev uses_it : ℕ → List User → Bool
 uses_it job users = list_any (λ u. eqb u.job job) users

@@ -1,15 +1,16 @@
 -- Timelines rise along a run, and each is the greatest of its raises.
-use Rattle.std.proofs.Common.{◌≡◌, ◌≢◌, ℕ, zero, suc, ◌<◌, ◌≤◌, true, false, Bool, cond, eqb, List, [], ◌∷◌, ◌++◌, length, map, filter, replicate, max, arith, refl, sym, ◌∙◌, ap, subst, append_assoc, append-nil}
+use Rattle.std.proofs.Common.{◌≡◌, ◌≢◌, ℕ, zero, suc, ◌<◌, ◌≤◌, true, false, Bool, cond, eqb, List, [], ◌∷◌, ◌++◌, length, map, filter, replicate, max, arith, refl, sym, ◌∙◌, ap, subst, append_assoc, append-nil, Result, Ok, Err}
 use Rattle.std.specs.Prelude.{slice_index, slice_set}
 use Rattle.std.proofs.lemmas.Bool.{eqb-true, eqb-false}
 use Rattle.std.proofs.lemmas.List.{get_or-set_same, get_or-set_other, length-set}
 use Rattle.gv_types.specs.Bounds.{Area}
 use Rattle.gv_types.specs.Limits.{Caps}
+use Rattle.gv_types.specs.declared.fault.OutOfMemory.{OutOfMemory as WantOfMemory}
 use Rattle.gv_types.specs.declared.request.Point.{Point}
 use Rattle.gv_sync.specs.Laws.{RaisedOnceMore}
 use Rattle.gv_sync.specs.Raises.{raised, values_on, with_raise, IsAfter}
 use Rattle.gv_vm.specs.World.{World, new_world}
-use Rattle.gv_vm.specs.Step.{step}
+use Rattle.gv_vm.specs.Step.{step, IsStep, NoneFalls}
 use Rattle.gv_vm.specs.Run.{run}
 use Rattle.gv_vm.specs.Past.{raised_by}
 use Rattle.gv_vm.specs.declared.event.Event.{Event}
@@ -79,6 +80,11 @@ never_falls old new (event ∷ events) (reply ∷ replies) timeline ran =
     omega (arith, here, never_falls ran.0 new events replies timeline ran.3)
 never_falls old new [] (reply ∷ replies) timeline ran = absurd ran
 never_falls old new (event ∷ events) [] timeline ran = absurd ran
+
+-- a step lowers no timeline, and want of memory none
+pub none_falls : (old new : World) (event : Event) (answer : Result Reply WantOfMemory) → IsStep old event answer new → NoneFalls old new
+none_falls old new event (Ok reply) st timeline = subst (λ (ns : List ℕ). slice_index old.numbers timeline ≤ slice_index ns timeline) (sym (moved old new event reply st)) (rises reply old.numbers timeline)
+none_falls old new event (Err want) st timeline = subst (λ (ns : List ℕ). slice_index old.numbers timeline ≤ slice_index ns timeline) (sym (ap numbers_in st.1.state)) (omega arith)
 
 -- the raises of one more point
 under : (t : Bool) (v : ℕ) (vs : List ℕ) (value : ℕ) → v ∷ cond t (vs ++ value ∷ []) vs ≡ cond t ((v ∷ vs) ++ value ∷ []) (v ∷ vs)

@@ -1,16 +1,22 @@
 -- What `Jobs` keeps of its parts. No public clause cites this module.
-use Rattle.std.specs.Prelude.{ℕ, map}
-use Rattle.std.specs.Global.{Vec}
-use Rattle.gv_vm.specs.Jobs.{RunningJob, Running, AreRunning}
+use Rattle.std.specs.Prelude.{◌≡◌, ℕ, ◌<◌, List, length, map, slice_index_or}
+use Rattle.std.specs.List.{AllPairs}
+use Rattle.gv_vm.specs.Jobs.{Running, AreRunning, running_job}
+use Rattle.gv_vm.specs.declared.jobs.Job.{Job}
 use Rattle.gv_vm.specs.declared.jobs.Jobs.TheInside.{Inside}
-use Rattle.gv_vm.specs.declared.places.Place.{Place}
-
--- an entry of the map of running jobs
-abbrev pub job_of : (ℕ × Vec Place) → RunningJob
-job_of e = record { number = e.0; places = e.1.items }
 
 abbrev pub running_of : Inside → Running
-running_of j = record { begun = j.begun; jobs = map job_of j.running.entries }
+running_of j = record { begun = j.begun; jobs = map running_job j.running.items }
 
-abbrev pub IsSound : Inside → Type 0
-IsSound j = AreRunning (running_of j)
+-- the jobs stand in the order of their numbers
+abbrev pub AreAscending : List Job → Type 0
+AreAscending js = AllPairs (λ (a b : Job). a.number < b.number) js
+
+-- the job at this place has the number
+pub record IsAt (js : List Job) (number place : ℕ) : Type 0 where
+  pub in_range : place < length js
+  pub has_number : (d : Job) → (slice_index_or js place d).number ≡ number
+
+pub record IsSound (j : Inside) : Type 0 where
+  pub running : AreRunning (running_of j)
+  pub ascending : AreAscending j.running.items

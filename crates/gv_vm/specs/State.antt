@@ -60,7 +60,7 @@ WaitsWereReached xs = All (λ x. SawItsWaits x.item.kind) xs
 abbrev pub NoConflictingJobs : Table → Type 0
 NoConflictingJobs t = All (λ b. HaveNoConflict b.users) t.live
 
--- What always holds of a machine. That the page table is the list's is kept by its space, and each walk says so.
+-- What always holds of a machine. Its page table isn't seen here: that it is the list's is said where the table is given.
 pub record IsMachine (v : Machine) : Type 0 where
   pub translates : Translates v.space.mappings (entries v.journal) (base v.space.mappings v.journal.items)
   pub buffers_counted : BuffersCounted v

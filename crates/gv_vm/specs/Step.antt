@@ -1,6 +1,6 @@
 -- What each event does to a world, and which reply it gets. An event that is not enabled is answered by `Idle` and changes
 -- nothing; `Idle` is the answer to no other.
-use Rattle.std.specs.Prelude.{◌≡◌, ℕ, ◌+◌, ◌<◌, List, [], ◌∷◌, ◌++◌, length, slice_index, Option, Some, None, Result, Ok, Err}
+use Rattle.std.specs.Prelude.{◌≡◌, ℕ, ◌+◌, ◌<◌, ◌≤◌, List, [], ◌∷◌, ◌++◌, length, slice_index, Option, Some, None, Result, Ok, Err}
 use Rattle.gv_types.specs.Request.{Fits}
 use Rattle.gv_types.specs.declared.fault.Fault.{Fault}
 use Rattle.gv_types.specs.declared.fault.Fault.TheVariants.{NoEntry, OutOfMemory}
@@ -271,6 +271,10 @@ step old (JobBegin accesses) (Begun number places) new = IsBegunNow old accesses
 step old (JobEnd asked) (Ended job) new = IsEndedNow old asked job new
 step old (Translate addr) (Found place) new = (place ≡ place_at old.machine.space.mappings addr) × (new ≡ old)
 step old event _ new = ⊥
+
+-- no timeline is lower
+abbrev pub NoneFalls : World → World → Type 0
+NoneFalls old new = (timeline : ℕ) → slice_index old.numbers timeline ≤ slice_index new.numbers timeline
 
 -- Which events may want memory: those that are enabled, are not refused before, and keep something more.
 abbrev pub MayGrow : World → Event → Type 0

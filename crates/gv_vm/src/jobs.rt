@@ -1,15 +1,15 @@
 //! The running jobs, and the buffers that they hold.
 ghost use Rattle.std.specs.Prelude.{◌≡◌, ◌≢◌, ◌⊎◌, ◌+◌, ◌++◌, ◌∷◌, [], IfOk, IsOk, IsOkUnless, OnOk, OnErr, IfErr};
-ghost use Rattle.std.specs.Prelude.{MatchOption, List, Some, None, length, map};
+ghost use Rattle.std.specs.Prelude.{MatchOption, List, Some, None, length, map, false, IfSome, IfNone};
 ghost use Rattle.std.specs.List.{All};
 ghost use Rattle.std.specs.Option.{option_copied};
-ghost use Rattle.std.specs.Ordering.{nat_cmp};
-ghost use Rattle.std.specs.BTreeMap.{insert_entry};
 ghost use Rattle.gv_types.specs.declared.mapping.Mapping.{Mapping};
 ghost use Rattle.gv_space.specs.State.{AreKept};
 ghost use Rattle.gv_buffers.specs.Table.{left_everywhere};
 ghost use Rattle.gv_vm.specs.Places.{place_at};
 ghost use Rattle.gv_vm.specs.Jobs.{access_fault, access_held, target_fault, target_held, accesses_fault, all_held, AreRefused};
+ghost use Rattle.gv_vm.specs.Jobs.{runs, running_job};
+ghost use Rattle.gv_vm.specs.Inside.{AreAscending, IsAt};
 
 use crate::holding::hold_all;
 use crate::places::Place;
@@ -17,7 +17,6 @@ use gv_buffers::{Usage, laws};
 use gv_space::Space;
 use gv_types::{Fault, OutOfMemory};
 use std::alloc::Global;
-use std::collections::BTreeMap;
 use std::marker::Model;
 
 /// So many jobs run at most.
@@ -41,11 +40,12 @@ pub struct Job {
 }
 
 /// The jobs that run. Each holds the buffers behind its places, as the kernel's Reservation Objects do: a job that would
-/// have to wait there is refused here.
+/// have to wait there is refused here. They stand in the order of their numbers, which only grow: a new job is put behind the
+/// others, and one that ends is found by binary search.
 #[derive(Drop)]
 pub struct Jobs {
     begun: u64,
-    running: BTreeMap<u64, Vec<Place>>,
+    running: Vec<Job>,
 }
 
 impl Model for Jobs {
@@ -61,8 +61,8 @@ impl Model for Jobs {
 
 impl Jobs {
     ghost use Rattle.gv_buffers.specs.Table.{Table};
-    ghost use Rattle.gv_vm.specs.Jobs.{no_jobs, runs, places_in, without_job, many_fault, begin_fault, end_fault};
-    ghost use Rattle.gv_vm.specs.Jobs.{running_job, IsBegun, IsEnded, IsBeginRefused, AreHeld, AreRunning};
+    ghost use Rattle.gv_vm.specs.Jobs.{no_jobs, places_in, without_job, many_fault, begin_fault, end_fault};
+    ghost use Rattle.gv_vm.specs.Jobs.{IsBegun, IsEnded, IsBeginRefused, AreHeld, AreRunning};
 
     /// No job. It takes no memory.
     pub fn new(alloc: Global) -> Jobs
@@ -71,7 +71,7 @@ impl Jobs {
     {
         Jobs {
             begun: 0,
-            running: BTreeMap::new(alloc),
+            running: Vec::new(alloc),
         }
     }
 
@@ -79,8 +79,8 @@ impl Jobs {
     pub fn places(&self, number: u64) -> Option<&[Place]>
         ensures { option_copied result ≡ places_in self.now.jobs number }
     {
-        match self.running.get(&number) {
-            Some(places) => Some(places.as_slice()),
+        match place_of(&self.running, number) {
+            Some(place) => Some(self.running[place].places.as_slice()),
             None => None,
         }
     }
@@ -192,7 +192,11 @@ impl Jobs {
     {
         let number = self.begun;
         let kept = Vec::from_slice(alloc, &places)?;
-        put(&mut self.running, number, kept)?;
+        self.running.reserve(1)?;
+        self.running.push_reserved(Job {
+            number,
+            places: kept,
+        });
         self.begun += 1;
         Ok(Job { number, places })
     }
@@ -203,24 +207,24 @@ impl Jobs {
         ensures jobs { self.new ≡ record self.old { jobs = without_job number self.old.jobs } }
         ensures gone { All (λ j. j.number ≢ number) self.new.jobs }
     {
-        // For the prover: how many jobs run.
-        let _running = self.running.len();
-        self.running.remove(&number).is_some()
+        match place_of(&self.running, number) {
+            Some(place) => {
+                let _ended = self.running.remove(place);
+                true
+            }
+            None => false,
+        }
     }
 }
 
-/// Puts the places of a job beside its number.
-fn put(
-    running: &mut BTreeMap<u64, Vec<Place>>,
-    number: u64,
-    places: Vec<Place>,
-) -> Result<(), OutOfMemory>
-    ensures entries { OnOk result
-        (running.new.entries ≡ insert_entry nat_cmp running.old.entries number places) }
-    ensures err { OnErr result (running.new.entries ≡ running.old.entries) }
+/// Where the job with this number stands. None where no such job runs.
+fn place_of(running: &[Job], number: u64) -> Option<usize>
+    requires { AreAscending running.now }
+    ensures some { IfSome result (IsAt running.now number) }
+    ensures none { IfNone result (runs (map running_job running.now) number ≡ false) }
 {
-    match running.insert(number, places) {
-        Ok(_) => Ok(()),
-        Err(_) => Err(OutOfMemory),
+    match running.binary_search_by_key(&number, |job| job.number) {
+        Ok(place) => Some(place),
+        Err(_) => None,
     }
 }

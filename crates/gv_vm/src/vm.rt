@@ -4,6 +4,7 @@ ghost use Rattle.gv_types.specs.Operation.{in_pages};
 ghost use Rattle.gv_buffers.specs.Table.{create_fault, destroy_fault, without, IsCreated};
 ghost use Rattle.gv_split.specs.Steps.{steps};
 ghost use Rattle.gv_space.specs.Refusal.{operation_fault};
+ghost use Rattle.gv_space.specs.State.{TableMatchesList};
 ghost use Rattle.gv_vm.specs.Places.{place_at};
 ghost use Rattle.gv_vm.specs.Outcomes.{queues, told_to, with_outcome, tell_fault};
 ghost use Rattle.gv_vm.specs.Told.{IsCarriedOut, seen_by};
@@ -18,6 +19,7 @@ use gv_journal::{Item, Journal};
 use gv_space::Space;
 use gv_split::Step;
 use gv_sync::{Lacking, Reached};
+use gv_table::PageTable;
 use gv_types::{Backing, Bounds, BufferId, Fault, Limits, Op, OutOfMemory, Request};
 use std::alloc::Global;
 use std::marker::Model;
@@ -83,6 +85,13 @@ impl Vm {
         ensures holds { IsMachine self.now }
     {
         &self.space
+    }
+
+    /// The page table of that space, which is always its list's.
+    pub fn table(&self) -> &PageTable
+        ensures matches { TableMatchesList self.now.space result.now }
+    {
+        self.space.table()
     }
 
     /// The entries of the journal that are held, the oldest one first.

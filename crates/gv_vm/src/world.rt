@@ -43,7 +43,7 @@ impl Model for World {
 impl World {
     ghost use Rattle.gv_vm.specs.World.{new_world};
     ghost use Rattle.gv_vm.specs.State.{IsMachine};
-    ghost use Rattle.gv_vm.specs.Step.{IsStep};
+    ghost use Rattle.gv_vm.specs.Step.{IsStep, NoneFalls};
     ghost use Rattle.gv_vm.specs.Headline.{Says};
 
     /// A world that holds nothing, in which nothing was put and every timeline is at 0. `queues` from 1 to 16, `depth`
@@ -96,6 +96,7 @@ impl World {
     pub fn step(&mut self, alloc: Global, event: Event) -> Result<Reply, OutOfMemory>
         ensures step { IsStep self.old event result self.new }
         ensures says { IfOk result (λ reply. Says self.old event reply self.new) }
+        ensures rise { NoneFalls self.old self.new }
     {
         // For the prover: what always holds of the machine.
         let _before = self.vm.space();

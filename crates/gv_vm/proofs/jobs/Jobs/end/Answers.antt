@@ -3,7 +3,7 @@ use Rattle.std.specs.List.{All}
 use Rattle.gv_space.specs.State.{AddressSpace}
 use Rattle.gv_vm.specs.Jobs.{RunningJob, Running, AreHeld, without_job}
 use Rattle.gv_vm.proofs.Held.{AreHeld-ended}
-use Rattle.gv_vm.proofs.Entries.{without_none}
+use Rattle.gv_vm.proofs.Ascending.{without_none}
 use Rattle.gv_vm.proofs.jobs.Jobs.end.Goals as goal
 
 pub returns-then-not-remove-clause-unchanged : goal.returns-then-not-remove-clause-unchanged

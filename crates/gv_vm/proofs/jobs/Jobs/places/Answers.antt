@@ -1,19 +1,21 @@
-use Rattle.std.proofs.Common.{◌∙◌, ap, Some, List, Vec, Global}
-use Rattle.std.specs.Option.{option_map}
-use Rattle.gv_vm.specs.Jobs.{Running, places_in}
+use Rattle.std.proofs.Common.{◌≡◌, ◌∙◌, false, List, map, sym, ap, subst, Some}
+use Rattle.gv_vm.specs.Jobs.{Running, runs, places_in, running_job}
+use Rattle.gv_vm.specs.Inside.{IsAt}
+use Rattle.gv_vm.specs.declared.jobs.Job.{Job}
 use Rattle.gv_vm.specs.declared.places.Place.{Place}
-use Rattle.gv_vm.proofs.Entries.{places_from_lookup}
+use Rattle.gv_vm.proofs.Ascending.{places_at, places_absent}
 use Rattle.gv_vm.proofs.jobs.Jobs.places.Goals as goal
 
 pub returns-in-Some : goal.returns-in-Some
 returns-in-Some c =
-    ap (λ (ps : List Place). Some ps) c.as_slice.ensures.value
-    ∙ ap (option_map (λ (v : Vec Place Global). v.items)) c.in-Some.ensures.value
-    ∙ places_from_lookup c.args.number c.self.inside.running.entries
+    let js : List Job = c.self.inside.running.items in
+    let at : IsAt js c.args.number c.in-Some.place = subst (λ (xs : List Job). IsAt xs c.args.number c.in-Some.place) c.deref.ensures.value c.in-Some.ensures.some in
+    ap (λ (ps : List Place). Some ps) (c.as_slice.ensures.value ∙ ap (λ (j : Job). j.places.items) c.index.ensures)
+    ∙ sym (places_at js c.args.number c.in-Some.place _ c.self.invariant.ascending at)
     ∙ ap (λ (r : Running). places_in r.jobs c.args.number) c.self.view_is
 
 pub returns-in-None : goal.returns-in-None
 returns-in-None c =
-    ap (option_map (λ (v : Vec Place Global). v.items)) c.in-None.ensures.value
-    ∙ places_from_lookup c.args.number c.self.inside.running.entries
-    ∙ ap (λ (r : Running). places_in r.jobs c.args.number) c.self.view_is
+    let js : List Job = c.self.inside.running.items in
+    let none : runs (map running_job js) c.args.number ≡ false = subst (λ (xs : List Job). runs (map running_job xs) c.args.number ≡ false) c.deref.ensures.value c.in-None.ensures.none in
+    sym (places_absent (map running_job js) c.args.number none) ∙ ap (λ (r : Running). places_in r.jobs c.args.number) c.self.view_is
