@@ -1,6 +1,6 @@
 -- For callers: address spaces with their journals that tell the same go on to tell the same after a withdrawal, after a
 -- rewind, after items are settled, and where only buffers change.
-use Rattle.std.proofs.Common.{◌≡◌, ℕ, zero, suc, ◌+◌, ◌-◌, List, [], ◌∷◌, ◌++◌, map, drop, reverse, true, false, cond, None, slice_get, nat_lt, refl, sym, ap, ◌∙◌, subst}
+use Rattle.std.proofs.Common.{◌≡◌, ℕ, zero, suc, ◌+◌, ◌-◌, List, [], ◌∷◌, map, drop, reverse, true, false, cond, None, slice_get, nat_lt, refl, sym, ap, ◌∙◌, subst}
 use Rattle.std.specs.List.{All}
 use Rattle.std.proofs.lemmas.List.Elements.{All-head, All-tail, All-nil, All-cons}
 use Rattle.gv_types.specs.Renamed.{renamed_mapping, renamed_op, IsBackedOf, AreOf, IsOperationOf}
@@ -12,6 +12,7 @@ use Rattle.gv_space.specs.Counts.{count_of, by_count, counted, less_kept}
 use Rattle.gv_space.specs.State.{AddressSpace, AreKept}
 use Rattle.gv_space.specs.Undo.{UndoValue, reverted}
 use Rattle.gv_space.proofs.TableLemmas.{each, each-each}
+use Rattle.gv_space.proofs.KeptLemmas.{All-front, All-back}
 use Rattle.gv_journal.specs.Undoing.{taken_by, undone_by, reverted_by}
 use Rattle.gv_journal.specs.Items.{Journaled, next, done_by}
 use Rattle.gv_journal.specs.History.{undos_of, kept_by, back}
@@ -31,28 +32,18 @@ use Rattle.gv_journal.proofs.AlikeStateLemmas.{seen_kind, recounted_alike, enter
 
 -- Whose the lists before the items are.
 
-AreOf-front : (ids : List BufferId) (ms others : List Mapping) → AreOf ids (ms ++ others) → AreOf ids ms
-AreOf-front ids [] others are = All-nil (λ (m : Mapping). IsBackedOf ids m.backing)
-AreOf-front ids (m ∷ ms) others are =
-    All-cons (λ (n : Mapping). IsBackedOf ids n.backing) m ms (All-head (λ (n : Mapping). IsBackedOf ids n.backing) m (ms ++ others) are)
-    (AreOf-front ids ms others (All-tail (λ (n : Mapping). IsBackedOf ids n.backing) m (ms ++ others) are))
-
-AreOf-behind : (ids : List BufferId) (ms others : List Mapping) → AreOf ids (ms ++ others) → AreOf ids others
-AreOf-behind ids [] others are = are
-AreOf-behind ids (m ∷ ms) others are = AreOf-behind ids ms others (All-tail (λ (n : Mapping). IsBackedOf ids n.backing) m (ms ++ others) are)
-
 took_each : (ids : List BufferId) (us : List UndoValue) → AreOf ids (taken_by us) → All (TookOf ids) us
 took_each ids [] are = All-nil (TookOf ids)
 took_each ids (u ∷ older) are =
-    All-cons (TookOf ids) u older (AreOf-front ids u.change.taken (taken_by older) are) (took_each ids older (AreOf-behind ids u.change.taken (taken_by older) are))
+    All-cons (TookOf ids) u older (All-front (λ (m : Mapping). IsBackedOf ids m.backing) u.change.taken (taken_by older) are) (took_each ids older (All-back (λ (m : Mapping). IsBackedOf ids m.backing) u.change.taken (taken_by older) are))
 
 pub AreOf-back : (ids : List BufferId) (ms : List Mapping) (items : List Item) (n : ℕ) → AreOf ids ms → AreOf ids (kept_by items) → AreOf ids (back ms items n)
 AreOf-back ids ms items zero are kept = are
 AreOf-back ids ms [] (suc n) are kept = are
 AreOf-back ids ms (item ∷ older) (suc n) are kept =
     AreOf-back ids (undone_by ms (undos_of item)) older n
-    (AreOf-undone_by ids ms (undos_of item) are (took_each ids (undos_of item) (AreOf-front ids (taken_by (undos_of item)) (kept_by older) kept)))
-    (AreOf-behind ids (taken_by (undos_of item)) (kept_by older) kept)
+    (AreOf-undone_by ids ms (undos_of item) are (took_each ids (undos_of item) (All-front (λ (m : Mapping). IsBackedOf ids m.backing) (taken_by (undos_of item)) (kept_by older) kept)))
+    (All-back (λ (m : Mapping). IsBackedOf ids m.backing) (taken_by (undos_of item)) (kept_by older) kept)
 
 pub done_at_of : (ids : List BufferId) (items : List Item) (k : ℕ) → AreDoneOf ids items → All (IsOperationOf ids) (done_of (slice_get items k))
 done_at_of ids [] k all = All-nil (IsOperationOf ids)

@@ -1,7 +1,7 @@
 -- For callers: address spaces with their journals that tell the same by the new names answer the same faults.
 use Rattle.std.proofs.Common.{◌≡◌, ℕ, ◌-◌, List, [], ◌∷◌, map, refl, sym, ap, ◌∙◌, subst}
 use Rattle.gv_types.specs.Operation.{in_pages}
-use Rattle.gv_types.specs.Renamed.{renamed, renamed_mapping, renamed_op, renamed_bytes, AreOf, IsOperationOf}
+use Rattle.gv_types.specs.Renamed.{renamed_mapping, renamed_op, renamed_bytes, AreOf, IsOperationOf}
 use Rattle.gv_types.specs.declared.mapping.BufferId.{BufferId}
 use Rattle.gv_types.specs.declared.operation.Op.{Op}
 use Rattle.gv_space.specs.State.{AddressSpace}
@@ -25,7 +25,7 @@ use Rattle.gv_journal.proofs.RenamedHistoryLemmas.{back-renamed}
 use Rattle.gv_journal.proofs.RenamedSpaceLemmas.{IsRenamed-seen}
 use Rattle.gv_journal.proofs.RenamingLemmas.{verdict-renamed, withdraw_fault-renamed}
 
-cons_same : {X : Type 0} {x y : X} {xs ys : List X} → x ≡ y → xs ≡ ys → x ∷ xs ≡ y ∷ ys
+pub cons_same : {X : Type 0} {x y : X} {xs ys : List X} → x ≡ y → xs ≡ ys → x ∷ xs ≡ y ∷ ys
 cons_same first rest = cc
 
 said_kind : (kind : ItemKind) → said_by (renamed_kind kind) ≡ renamed_said (said_by kind)

@@ -21,7 +21,7 @@ use Rattle.gv_journal.specs.Items.{Journaled, next, done_by}
 use Rattle.gv_journal.specs.History.{undos_of, kept_by}
 use Rattle.gv_journal.specs.Applying.{met, all_do, after_all}
 use Rattle.gv_journal.specs.Binding.{IsBound, IsApplied, IsRewound}
-use Rattle.gv_journal.specs.Settling.{later, earlier, IsSettled}
+use Rattle.gv_journal.specs.Settling.{earlier, IsSettled}
 use Rattle.gv_journal.specs.Withdrawing.{list_before, ops_at, after_restore, after_withdrawal, IsWithdrawn}
 use Rattle.gv_journal.specs.Renamed.{AreRequested, AreDoneOf}
 use Rattle.gv_journal.specs.RenamedSpace.{AreNumbered}

@@ -1,5 +1,5 @@
 -- For callers: address spaces with their journals that tell the same go on to tell the same after the same change.
-use Rattle.std.proofs.Common.{◌≡◌, ℕ, zero, suc, ◌+◌, ◌-◌, List, ◌∷◌, map, drop, reverse, Some, None, Vec, Global, arith, sym, ap, ◌∙◌, subst}
+use Rattle.std.proofs.Common.{◌≡◌, ℕ, zero, suc, ◌+◌, List, ◌∷◌, map, drop, reverse, Some, None, Vec, Global, arith, sym, ap, ◌∙◌, subst}
 use Rattle.gv_types.specs.Bounds.{Area}
 use Rattle.gv_types.specs.Limits.{Caps}
 use Rattle.gv_types.specs.Renamed.{renamed_mapping, renamed_op, renamed_bytes, AreOf}
@@ -25,7 +25,7 @@ use Rattle.gv_journal.proofs.RenamedListLemmas.{all_do-renamed}
 use Rattle.gv_journal.proofs.RenamedLiveLemmas.{renamed_table-each}
 use Rattle.gv_journal.proofs.RenamedSpaceLemmas.{applied-seen}
 use Rattle.gv_journal.proofs.RecountLemmas.{kept_alike, uncounted, uncounted_nameless, tables_alike}
-use Rattle.gv_journal.proofs.AlikeLemmas.{list_alike, table_alike}
+use Rattle.gv_journal.proofs.AlikeLemmas.{list_alike, table_alike, cons_same}
 
 -- Parts of what is told.
 
@@ -75,9 +75,6 @@ lists_more ms old ms' old' items older items' older' now further further' before
     let step : suc n ≡ n + 1 = omega arith in
     ap (λ (k : ℕ). map renamed_mapping (back ms items k)) step ∙ ap (map renamed_mapping) (further n) ∙ before n
     ∙ ap (map renamed_mapping) (sym (further' n)) ∙ ap (λ (k : ℕ). map renamed_mapping (back ms' items' k)) (sym step)
-
-cons_same : {X : Type 0} {x y : X} {xs ys : List X} → x ≡ y → xs ≡ ys → x ∷ xs ≡ y ∷ ys
-cons_same first rest = cc
 
 items_more : (new old new' old' : List Item) (item item' : Item) → new ≡ item ∷ old → new' ≡ item' ∷ old' → seen_item item ≡ seen_item item' →
     map seen_item old ≡ map seen_item old' → map seen_item new ≡ map seen_item new'

@@ -11,6 +11,7 @@ use Rattle.gv_ranges.specs.Edit.{edited, edited_by_all, undone}
 use Rattle.gv_space.specs.State.{AddressSpace, AreKept, IsUnchanged}
 use Rattle.gv_space.specs.Undo.{UndoValue, IsUndoOf, TookWhatWas, reverted}
 use Rattle.gv_space.specs.Change.{IsChanged, changed_to}
+use Rattle.gv_space.proofs.KeptLemmas.{AreKept-room_alone}
 use Rattle.gv_journal.specs.Undoing.{taken_by, undone_by, reverted_by, AreRevertible}
 use Rattle.gv_journal.specs.Applying.{met, after_op, after_all, AreChanges, AreApplied}
 use Rattle.gv_journal.proofs.Runs.{taken_met}
@@ -25,11 +26,6 @@ AreRevertible-room limit room more ms (u ∷ us) le h =
 pub reverted_by-room : (s : AddressSpace) (room : ℕ) (us : List UndoValue) → reverted_by (record s { room = room }) us ≡ record (reverted_by s us) { room = room }
 reverted_by-room s room [] = refl
 reverted_by-room s room (u ∷ us) = reverted_by-room (reverted s u) room us
-
--- what is saved stays saved with other room
-pub AreKept-room : (old new : AddressSpace) (saved : List Mapping) → new ≡ record old { room = new.room } → AreKept old saved → AreKept new saved
-AreKept-room old new saved is h =
-    subst (λ (s : AddressSpace). AreKept s saved) (sym is) (record { placed = h.placed; kept = h.kept; kept_count = h.kept_count })
 
 pub AreChanges-none : (s : AddressSpace) → AreChanges s s []
 AreChanges-none s = record { room = omega arith; revertible = tt; list = refl; kept = λ others saved. saved; back = refl }
@@ -63,7 +59,7 @@ AreChanges-room old mid new us was same =
       revertible = subst (λ (xs : List Mapping). AreRevertible new.limits.mappings new.room xs us) (sym list_is)
           (subst (λ (n : ℕ). AreRevertible n new.room mid.mappings us) (sym limit_is) roomy);
       list = ap (λ (xs : List Mapping). undone_by xs us) list_is ∙ was.list;
-      kept = λ xs saved. AreKept-room mid new (taken_by us ++ xs) same.state (was.kept xs saved);
+      kept = λ xs saved. AreKept-room_alone mid new (taken_by us ++ xs) same.state (was.kept xs saved);
       back = ap (λ (s : AddressSpace). reverted_by s us) same.state ∙ reverted_by-room mid new.room us ∙ ap (λ (s : AddressSpace). record s { room = new.room }) was.back;
     }
 

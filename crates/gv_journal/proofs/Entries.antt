@@ -1,10 +1,7 @@
 -- The item that is withdrawn, among those newer and older than it.
-use Rattle.std.proofs.Common.{◌≡◌, ℕ, ◌+◌, ◌<◌, ◌≤◌, suc, Bool, true, false, cond, List, [], ◌∷◌, ◌++◌, length, take, drop, reverse, get_or, Option, Some, None, Vec, Global, inl, inr, refl, ap, sym, ◌∙◌, subst, arith, append_assoc}
-use Rattle.std.specs.List.{All}
-use Rattle.std.proofs.lemmas.List.{drop_more, reverse-append, reverse-reverse, length-reverse, length-take-le, take-append-drop, append-nil}
-use Rattle.std.proofs.lemmas.List.Elements.{filter_map-append}
+use Rattle.std.proofs.Common.{◌≡◌, ℕ, ◌+◌, ◌<◌, suc, Bool, true, false, cond, List, [], ◌∷◌, ◌++◌, length, take, drop, reverse, get_or, Option, Some, None, Vec, Global, refl, ap, sym, ◌∙◌, subst, arith, append_assoc}
+use Rattle.std.proofs.lemmas.List.{drop_more, reverse-append, reverse-reverse, length-reverse, length-take-le, take-append-drop}
 use Rattle.gv_types.specs.Span.{Span, end_of}
-use Rattle.gv_types.specs.Mapping.{clip}
 use Rattle.gv_types.specs.Operation.{range_of}
 use Rattle.gv_types.specs.declared.fault.Fault.{Fault}
 use Rattle.gv_types.specs.declared.fault.Fault.TheVariants.{Withdrawn}
@@ -12,9 +9,8 @@ use Rattle.gv_types.specs.declared.mapping.Entry.{Entry}
 use Rattle.gv_types.specs.declared.mapping.Mapping.{Mapping}
 use Rattle.gv_types.specs.declared.operation.PageOp.{PageOp}
 use Rattle.gv_types.specs.declared.request.Request.{Request}
-use Rattle.gv_ranges.specs.List.{IsOverlappingRun, run}
 use Rattle.gv_ranges.specs.Edit.{clipped, replaced, restored, edited_by_all}
-use Rattle.gv_ranges.proofs.ReplacedLemmas.{clipped_none, split_at_run}
+use Rattle.gv_ranges.proofs.OverlapLemmas.{clipped_run}
 use Rattle.gv_space.specs.State.{AddressSpace, AreKept}
 use Rattle.gv_space.specs.Undo.{UndoValue, IsUndoOf, AreAmongKept}
 use Rattle.gv_space.specs.Refusal.{first_of, limit_fault}
@@ -89,19 +85,6 @@ item_kept s newer item older kept = record {
   are_kept = kept_in_any_order s (kept_by newer) (taken_by (undos_of item)) (kept_by older)
       (subst (λ (ms : List Mapping). AreKept s ms) (kept_by-append newer (item ∷ older)) kept);
 }
-
--- what lies in a range lies in the run that meets it
-pub clipped_run : (ms : List Mapping) (range : Span) (place count : ℕ) → IsOverlappingRun ms range place count →
-    clipped range.first (end_of range) ms ≡ clipped range.first (end_of range) (run ms place count)
-clipped_run ms range place count is =
-    ap (clipped range.first (end_of range)) (split_at_run ms place count)
-    ∙ filter_map-append (clip range.first (end_of range)) (take place ms) (run ms place count ++ drop (place + count) ms)
-    ∙ ap (λ (xs : List Mapping). xs ++ clipped range.first (end_of range) (run ms place count ++ drop (place + count) ms))
-    (clipped_none range.first (end_of range) (take place ms) (λ k d below. inl (is.before k d below)))
-    ∙ filter_map-append (clip range.first (end_of range)) (run ms place count) (drop (place + count) ms)
-    ∙ ap (λ (xs : List Mapping). clipped range.first (end_of range) (run ms place count) ++ xs)
-    (clipped_none range.first (end_of range) (drop (place + count) ms) (λ k d below. inr (is.beyond k d below)))
-    ∙ append-nil (clipped range.first (end_of range) (run ms place count))
 
 -- to put back what an undo value took is to put back what the list before it held
 pub restored_same : (ms old new : List Mapping) (u : UndoValue) → IsUndoOf old new u → restored ms u.range u.change.taken ≡ restored ms u.range old

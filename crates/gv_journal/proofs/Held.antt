@@ -5,8 +5,10 @@ use Rattle.std.specs.Prelude.{nat_le, ◌||◌}
 use Rattle.std.proofs.lemmas.Bool.Decides.{nat_tests}
 use Rattle.gv_types.specs.declared.fault.Fault.TheVariants.{JournalFull}
 use Rattle.std.proofs.lemmas.List.{reverse-reverse}
+use Rattle.std.proofs.lemmas.Bool.{or_parts}
 use Rattle.gv_types.specs.declared.mapping.Mapping.{Mapping}
 use Rattle.gv_space.specs.State.{AddressSpace, IsUnchanged}
+use Rattle.gv_space.proofs.KeptLemmas.{AreKept-room_alone}
 use Rattle.gv_journal.specs.Undoing.{undone_by}
 use Rattle.gv_journal.specs.Items.{Journaled, next}
 use Rattle.gv_journal.specs.Verdict.{full_fault, numbers}
@@ -15,7 +17,6 @@ use Rattle.gv_journal.specs.Items.{entries}
 use Rattle.gv_journal.specs.State.{FitsSpace}
 use Rattle.gv_journal.specs.declared.item.Item.{Item}
 use Rattle.gv_journal.proofs.Lists.{last_first}
-use Rattle.gv_journal.proofs.Changing.{AreKept-room}
 use Rattle.gv_journal.proofs.Histories.{Rewinds-room}
 
 abbrev pub journaled : ℕ → ℕ → List Item → Journaled
@@ -54,7 +55,7 @@ fits_room s t j same fits =
       rewinds = subst (λ (ms : List Mapping). Rewinds t.limits.mappings t.room j.first ms j.items (base ms j.items)) (sym list_is)
           (subst (λ (n : ℕ). Rewinds n t.room j.first s.mappings j.items below) (sym limit_is)
           (Rewinds-room s.limits.mappings s.room t.room j.first s.mappings j.items below same.room fits.rewinds));
-      kept = AreKept-room s t (kept_by j.items) same.state fits.kept;
+      kept = AreKept-room_alone s t (kept_by j.items) same.state fits.kept;
     }
 
 -- an item stands at its place among those held
@@ -68,14 +69,10 @@ not_some : (b : Bool) → cond b (Some JournalFull) None ≡ None → b ≡ fals
 not_some true h = cc
 not_some false h = refl
 
-or_right : (a b : Bool) → (a || b) ≡ false → b ≡ false
-or_right false b h = h
-or_right true b h = cc
-
 -- a number is left where a journal isn't full
 pub number_left : (j : Journaled) → full_fault j ≡ None → next j < numbers
 number_left j room =
-    let free : nat_le numbers (next j) ≡ false = or_right (nat_le j.limit (length j.items)) (nat_le numbers (next j)) (not_some (nat_le j.limit (length j.items) || nat_le numbers (next j)) room) in
+    let free : nat_le numbers (next j) ≡ false = (or_parts (nat_le j.limit (length j.items)) (nat_le numbers (next j)) (not_some (nat_le j.limit (length j.items) || nat_le numbers (next j)) room)).1 in
     grind (arith, nat_tests)
 
 -- what stands on its shelf

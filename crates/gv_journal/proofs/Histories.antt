@@ -13,7 +13,7 @@ use Rattle.gv_journal.specs.Items.{Journaled, numbered}
 use Rattle.gv_journal.specs.State.{FitsSpace}
 use Rattle.gv_journal.specs.Shelf.{IsSpent}
 use Rattle.gv_journal.specs.declared.item.Item.{Item}
-use Rattle.gv_journal.proofs.Releases.{released-released}
+use Rattle.gv_space.proofs.ReleasedLemmas.{released-released}
 use Rattle.gv_journal.proofs.Undoings.{reverted_by-mappings}
 use Rattle.gv_journal.proofs.Changing.{AreRevertible-room}
 

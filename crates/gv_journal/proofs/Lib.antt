@@ -1,10 +1,8 @@
 pub mod Lists
-pub mod Releases
 pub mod Undoings
 pub mod Runs
 pub mod Changing
 pub mod Passing
-pub mod Unmapping
 pub mod Limits
 pub mod Named
 pub mod Turns

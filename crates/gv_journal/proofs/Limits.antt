@@ -1,12 +1,8 @@
 -- The limits that operations pass in turn.
 use Rattle.std.proofs.Common.{◌≡◌, ◌⊎◌, inl, inr, ℕ, ◌+◌, ◌<◌, Bool, true, false, cond, List, [], ◌∷◌, ◌++◌, map, take, drop, length, get_or, reverse, Option, Some, None, Result, Ok, Err, refl, ap, sym, ◌∙◌, subst, append_assoc}
-use Rattle.std.specs.Prelude.{MatchOption, IsOkUnless, ◌||◌, nat_lt, filter}
-use Rattle.std.specs.List.{All}
+use Rattle.std.specs.Prelude.{MatchOption, IsOkUnless, ◌||◌, nat_lt}
 use Rattle.std.proofs.lemmas.List.{drop_more, take_more, map-append}
-use Rattle.std.proofs.lemmas.List.Elements.{All-filter, All-map}
 use Rattle.gv_types.specs.Span.{Span}
-use Rattle.gv_types.specs.Mapping.{is_of}
-use Rattle.gv_types.specs.Bounds.{LieInArea}
 use Rattle.gv_types.specs.Operation.{range_of}
 use Rattle.gv_types.specs.declared.fault.Fault.{Fault}
 use Rattle.gv_types.specs.declared.fault.Fault.TheVariants.{TooManyMappings, OutOfMemory}
@@ -18,12 +14,13 @@ use Rattle.gv_types.specs.declared.operation.PageOp.TheVariants.{Unmap}
 use Rattle.gv_ranges.specs.Edit.{edited}
 use Rattle.gv_buffers.specs.Table.{pages}
 use Rattle.gv_space.specs.Counts.{ranges_of}
-use Rattle.gv_space.specs.State.{AddressSpace, IsSpace, IsPlaced, most_kept}
+use Rattle.gv_space.specs.State.{AddressSpace, most_kept}
 use Rattle.gv_space.specs.Refusal.{first_of, dead_fault, limit_fault, count_met}
 use Rattle.gv_journal.specs.Applying.{after_op, after_all}
 use Rattle.gv_journal.specs.Verdict.{limits_fault, turn_fault}
 use Rattle.gv_journal.specs.Work.{IsUnmapAll, IsTurnRefused}
 use Rattle.gv_journal.proofs.Lists.{last_first}
+use Rattle.gv_journal.proofs.Passing.{same_err}
 
 pub not_refused : {A : Type 0} (r : Result A Fault) (x : A) → r ≡ Ok x → (o : Option Fault) → MatchOption o (IsOkUnless r OutOfMemory) (λ g. r ≡ Err g) → o ≡ None
 not_refused r x is None h = refl
@@ -110,9 +107,6 @@ starved s id lives = of_limit (are_limits s (map Unmap (ranges_of id s.mappings)
 pub starved_is_refused : (s : AddressSpace) (id : BufferId) → dead_fault (pages s.buffers id) ≡ None → IsTurnRefused s (UnmapBuffer id) OutOfMemory
 starved_is_refused s id lives = inr (refl, starved s id lives)
 
-pub same_err : {A : Type 0} (f g : Fault) (r : Result A Fault) → r ≡ Err f → r ≡ Err g → f ≡ g
-same_err f g r is that = cc
-
 -- the ranges of a buffer were asked for in vain
 pub ranges_refused : {A : Type 0} (s : AddressSpace) (id : BufferId) (r : Result A Fault) (fault : Fault) → r ≡ Err fault →
     MatchOption (dead_fault (pages s.buffers id)) (IsOkUnless r OutOfMemory) (λ g. r ≡ Err g) → IsTurnRefused s (UnmapBuffer id) fault
@@ -145,12 +139,3 @@ unmap_refused s now id ranges i r answer fault are below is lives limits refused
     by_cases (Some g) passed h =
         inl (turn ∙ limits_from now ranges i r below is ∙ ap (λ (o : Option Fault). first_of o (limits_fault (after_op now (Unmap r)) (map Unmap (drop (i + 1) ranges)))) passed
         ∙ ap (λ (f : Fault). Some f) (sym (same_err fault g answer refused h)))
-
--- a range of a buffer lies in the area
-pub range_in_area : (s : AddressSpace) (id : BufferId) (ranges : List Span) (i : ℕ) (r : Span) → IsSpace s → ranges ≡ ranges_of id s.mappings → i < length ranges → r ≡ get_or ranges i r →
-    LieInArea s.area r
-range_in_area s id ranges i r space are below is =
-    let placed : All (IsPlaced s.area s.buffers) (filter (λ m. is_of id m.backing) s.mappings) = All-filter (λ m. is_of id m.backing) (IsPlaced s.area s.buffers) s.mappings space.placed in
-    let lie : All (LieInArea s.area) (map (λ (m : Mapping). m.range) (filter (λ m. is_of id m.backing) s.mappings)) =
-    All-map (LieInArea s.area) (λ (m : Mapping). m.range) _ (λ k d within. record { in_space = (placed k d within).in_space; off_region = (placed k d within).off_region }) in
-    subst (LieInArea s.area) (sym is) (subst (All (LieInArea s.area)) (sym are) lie i r below)

@@ -15,7 +15,7 @@ use Rattle.gv_space.specs.Refusal.{first_of, operation_fault, limit_fault, apply
 use Rattle.gv_journal.specs.Applying.{does}
 use Rattle.gv_journal.specs.Verdict.{limits_fault, turn_fault}
 use Rattle.gv_journal.specs.Work.{IsTurnRefused}
-use Rattle.gv_journal.proofs.Limits.{same_err}
+use Rattle.gv_journal.proofs.Passing.{same_err}
 
 pub does_itself : (ms : List Mapping) (op : Op) → IsTrue (has_range op) → does ms op ≡ in_pages op ∷ []
 does_itself ms (Map addr len buffer offset flags) ranged = refl

@@ -4,7 +4,7 @@ use Rattle.std.specs.Prelude.{MatchOption, IsOkUnless, IfErr, OnOk}
 use Rattle.gv_types.specs.declared.fault.Fault.{Fault}
 use Rattle.gv_types.specs.declared.fault.Fault.TheVariants.{OutOfMemory}
 
-same_err : {A : Type 0} (f g : Fault) (r : Result A Fault) → r ≡ Err f → r ≡ Err g → f ≡ g
+pub same_err : {A : Type 0} (f g : Fault) (r : Result A Fault) → r ≡ Err f → r ≡ Err g → f ≡ g
 same_err f g r is that = cc
 
 -- a call answers the fault of another one

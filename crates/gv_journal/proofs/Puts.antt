@@ -20,7 +20,8 @@ use Rattle.gv_journal.specs.Applying.{met, AreChanges}
 use Rattle.gv_journal.specs.Restoring.{after_put, after_puts, put_limits, put_back, ArePutBack}
 use Rattle.gv_journal.proofs.Lists.{last_first}
 use Rattle.gv_journal.proofs.Runs.{taken_met}
-use Rattle.gv_journal.proofs.Limits.{not_refused, same_err}
+use Rattle.gv_journal.proofs.Limits.{not_refused}
+use Rattle.gv_journal.proofs.Passing.{same_err}
 use Rattle.gv_journal.proofs.Changing.{AreChanges-none, AreChanges-more}
 
 after_puts-last : (newer : List UndoValue) (u : UndoValue) (s : AddressSpace) → after_puts (newer ++ u ∷ []) s ≡ after_put (after_puts newer s) u

@@ -1,5 +1,5 @@
 -- For callers: the lists before each item, what undo values keep and what the live items say, with the buffers renamed.
-use Rattle.std.proofs.Common.{◌≡◌, ℕ, zero, suc, ◌+◌, ◌-◌, ◌==◌, ◌||◌, List, [], ◌∷◌, ◌++◌, map, take, drop, reverse, length, Bool, true, false, cond, Option, option_map, refl, sym, ap, ◌∙◌}
+use Rattle.std.proofs.Common.{◌≡◌, ℕ, zero, suc, ◌+◌, ◌-◌, ◌==◌, ◌||◌, List, [], ◌∷◌, ◌++◌, map, reverse, length, Bool, true, false, cond, Option, option_map, refl, sym, ap, ◌∙◌}
 use Rattle.std.specs.List.{All}
 use Rattle.std.proofs.lemmas.List.{map-append, length-map}
 use Rattle.std.proofs.lemmas.List.Elements.{All-head, All-tail}
@@ -10,17 +10,17 @@ use Rattle.gv_types.specs.declared.mapping.Entry.{Entry}
 use Rattle.gv_types.specs.declared.mapping.Mapping.{Mapping}
 use Rattle.gv_types.specs.declared.operation.PageOp.{PageOp}
 use Rattle.gv_types.proofs.RenamingLemmas.{view-renamed}
-use Rattle.gv_types.proofs.IdLemmas.{AreOf-append, AreOf-take, AreOf-drop, AreOf-nil}
+use Rattle.gv_types.proofs.IdLemmas.{AreOf-append, AreOf-nil}
 use Rattle.gv_ranges.specs.List.{at}
-use Rattle.gv_ranges.specs.Edit.{undone, Undo}
-use Rattle.gv_ranges.proofs.RenamingLemmas.{at-renamed}
+use Rattle.gv_ranges.specs.Edit.{undone}
+use Rattle.gv_ranges.proofs.RenamingLemmas.{at-renamed, AreOf-undone}
 use Rattle.gv_space.specs.Undo.{UndoValue}
 use Rattle.gv_journal.specs.Undoing.{taken_by, undone_by}
 use Rattle.gv_journal.specs.Items.{Journaled, numbered, entries, next, is_withdrawn, done_by, ops_without, live_ops, view, view_without}
 use Rattle.gv_journal.specs.History.{undos_of, kept_by, back, base}
 use Rattle.gv_journal.specs.Renamed.{Said, said_by, renamed_said, all_said, renamed_undo, all_undos, HaveRenamedUndos, IsRenamedJournal, TookOf}
 use Rattle.gv_journal.specs.declared.item.Item.{Item}
-use Rattle.gv_journal.proofs.RenamedListLemmas.{reverse-map, undone_by-renamed, taken_by-renamed}
+use Rattle.gv_journal.proofs.RenamedListLemmas.{reverse-map, undone_by-renamed, taken_by-renamed, append_same}
 use Rattle.gv_journal.proofs.RenamedItemLemmas.{done_said, next-renamed, is_withdrawn-renamed}
 
 -- the list once the newest undo values are spent
@@ -68,9 +68,6 @@ kept_is : (items : List Item) → kept_by items ≡ kept_in (all_undos items)
 kept_is [] = refl
 kept_is (item ∷ older) = ap (λ (ms : List Mapping). taken_by (undos_of item) ++ ms) (kept_is older)
 
-append_same : {X : Type 0} {xs ys xs' ys' : List X} → xs ≡ xs' → ys ≡ ys' → xs ++ ys ≡ xs' ++ ys'
-append_same left right = cc
-
 kept_in-renamed : (undos : List (List UndoValue)) → kept_in (map (map renamed_undo) undos) ≡ map renamed_mapping (kept_in undos)
 kept_in-renamed [] = refl
 kept_in-renamed (us ∷ older) = append_same (taken_by-renamed us) (kept_in-renamed older) ∙ sym (map-append renamed_mapping (taken_by us) (kept_in older))
@@ -86,11 +83,6 @@ list_before-renamed ms new j n is are =
     ap (λ (at : ℕ). back (map renamed_mapping ms) new.items (at - n)) (next-renamed new j is) ∙ back-renamed ms new.items j.items (next j - n) are
 
 -- the buffers of what lies back are of their generations
-pub AreOf-undone : (ids : List BufferId) (ms : List Mapping) (u : Undo) → AreOf ids ms → AreOf ids u.taken → AreOf ids (undone ms u)
-AreOf-undone ids ms u are taken =
-    AreOf-append ids (take u.place ms) (u.taken ++ drop (u.place + u.put_in) ms) (AreOf-take ids u.place ms are)
-    (AreOf-append ids u.taken (drop (u.place + u.put_in) ms) taken (AreOf-drop ids (u.place + u.put_in) ms are))
-
 pub AreOf-undone_by : (ids : List BufferId) (ms : List Mapping) (us : List UndoValue) → AreOf ids ms → All (TookOf ids) us → AreOf ids (undone_by ms us)
 AreOf-undone_by ids ms [] are took = are
 AreOf-undone_by ids ms (u ∷ older) are took =

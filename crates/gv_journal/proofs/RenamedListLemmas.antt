@@ -1,12 +1,11 @@
 -- For callers: lists of operations and of mappings with their buffers renamed: what edits and undo values make of them.
-use Rattle.std.proofs.Common.{◌≡◌, ◌+◌, List, [], ◌∷◌, ◌++◌, map, filter, take, drop, reverse, refl, sym, ap, ◌∙◌}
+use Rattle.std.proofs.Common.{◌≡◌, ◌+◌, List, [], ◌∷◌, ◌++◌, map, take, drop, reverse, refl, sym, ap, ◌∙◌}
 use Rattle.std.specs.List.{All}
 use Rattle.std.proofs.lemmas.List.{map-append, take-map, drop-map, reverse-append}
 use Rattle.std.proofs.lemmas.List.Elements.{All-head, All-tail, All-cons, All-nil, All-append, All-map}
 use Rattle.gv_types.specs.Span.{Span}
-use Rattle.gv_types.specs.Mapping.{is_of}
 use Rattle.gv_types.specs.Operation.{range_of, in_pages}
-use Rattle.gv_types.specs.Renamed.{renamed, renamed_mapping, renamed_op, renamed_bytes, IsOf, AreOf, IsOperationOf}
+use Rattle.gv_types.specs.Renamed.{renamed_mapping, renamed_op, renamed_bytes, AreOf, IsOperationOf}
 use Rattle.gv_types.specs.declared.mapping.BufferId.{BufferId}
 use Rattle.gv_types.specs.declared.mapping.Mapping.{Mapping}
 use Rattle.gv_types.specs.declared.operation.Op.{Op}
@@ -14,11 +13,11 @@ use Rattle.gv_types.specs.declared.operation.Op.TheVariants.{Map as MapBytes, Ma
 use Rattle.gv_types.specs.declared.operation.PageOp.{PageOp}
 use Rattle.gv_types.specs.declared.operation.PageOp.TheVariants.{Unmap as UnmapPages}
 use Rattle.gv_types.proofs.RenamingLemmas.{range_of-renamed}
-use Rattle.gv_types.proofs.IdLemmas.{of_one-renamed}
 use Rattle.gv_ranges.specs.Edit.{edited_by_all, restored, undone, Undo}
-use Rattle.gv_ranges.proofs.RenamingLemmas.{edited-renamed, restored-renamed, AreOf-edited}
+use Rattle.gv_ranges.proofs.RenamingLemmas.{restored-renamed, edited_by_all-renamed, AreOf-edited_by_all}
 use Rattle.gv_space.specs.Counts.{ranges_of}
 use Rattle.gv_space.specs.Undo.{UndoValue}
+use Rattle.gv_space.proofs.RenamingLemmas.{ranges_of-renamed}
 use Rattle.gv_journal.specs.Undoing.{taken_by, undone_by}
 use Rattle.gv_journal.specs.Applying.{does, all_do}
 use Rattle.gv_journal.specs.Withdrawing.{withdrawn}
@@ -36,16 +35,6 @@ All-reverse P [] all = all
 All-reverse P (x ∷ xs) all =
     rw (reverse-append (x ∷ []) xs)
     (All-append P (reverse xs) (x ∷ []) (All-reverse P xs (All-tail P x xs all)) (All-cons P x [] (All-head P x xs all) (All-nil P)))
-
-ranges-map : (ms : List Mapping) → map (λ (m : Mapping). m.range) (map renamed_mapping ms) ≡ map (λ m. m.range) ms
-ranges-map [] = refl
-ranges-map (m ∷ ms) = rw (ranges-map ms) refl
-
--- the ranges of a buffer's mappings
-pub ranges_of-renamed : (ids : List BufferId) (id : BufferId) (ms : List Mapping) → IsOf ids id → AreOf ids ms →
-    ranges_of (renamed id) (map renamed_mapping ms) ≡ ranges_of id ms
-ranges_of-renamed ids id ms is are =
-    ap (map (λ (m : Mapping). m.range)) (of_one-renamed ids id ms is are) ∙ ranges-map (filter (λ m. is_of id m.backing) ms)
 
 unmaps-renamed : (ranges : List Span) → map UnmapPages ranges ≡ map renamed_op (map UnmapPages ranges)
 unmaps-renamed [] = refl
@@ -66,19 +55,6 @@ operations_of-does ids ms (MapZero addr len flags) is = All-cons (IsOperationOf 
 operations_of-does ids ms (UnmapBytes addr len) is = All-cons (IsOperationOf ids) _ [] is (All-nil (IsOperationOf ids))
 operations_of-does ids ms (UnmapBufferBytes id) is = All-map (IsOperationOf ids) UnmapPages (ranges_of id ms) (λ k d below. tt)
 
--- a list edited by operations
-pub edited_by_all-renamed : (ops : List PageOp) (ms : List Mapping) →
-    edited_by_all (map renamed_op ops) (map renamed_mapping ms) ≡ map renamed_mapping (edited_by_all ops ms)
-edited_by_all-renamed [] ms = refl
-edited_by_all-renamed (op ∷ older) ms = rw (edited_by_all-renamed older ms) (edited-renamed (edited_by_all older ms) op)
-
-pub AreOf-edited_by_all : (ids : List BufferId) (ops : List PageOp) (ms : List Mapping) → All (IsOperationOf ids) ops → AreOf ids ms →
-    AreOf ids (edited_by_all ops ms)
-AreOf-edited_by_all ids [] ms all are = are
-AreOf-edited_by_all ids (op ∷ older) ms all are =
-    AreOf-edited ids (edited_by_all older ms) op (AreOf-edited_by_all ids older ms (All-tail (IsOperationOf ids) op older all) are)
-    (All-head (IsOperationOf ids) op older all)
-
 -- the list after an operation of a request
 pub done-renamed : (ids : List BufferId) (ms : List Mapping) (op : Op) → AreOf ids ms → IsOperationOf ids (in_pages op) →
     reverse (does (map renamed_mapping ms) (renamed_bytes op)) ≡ map renamed_op (reverse (does ms op))
@@ -95,7 +71,7 @@ requested_head ids op ops all = All-head (λ (o : Op). IsOperationOf ids (in_pag
 pub requested_tail : (ids : List BufferId) (op : Op) (ops : List Op) → AreRequested ids (op ∷ ops) → AreRequested ids ops
 requested_tail ids op ops all = All-tail (λ (o : Op). IsOperationOf ids (in_pages o)) op ops all
 
-append_same : {X : Type 0} {xs ys xs' ys' : List X} → xs ≡ xs' → ys ≡ ys' → xs ++ ys ≡ xs' ++ ys'
+pub append_same : {X : Type 0} {xs ys xs' ys' : List X} → xs ≡ xs' → ys ≡ ys' → xs ++ ys ≡ xs' ++ ys'
 append_same left right = cc
 
 -- what the operations of a request do in turn

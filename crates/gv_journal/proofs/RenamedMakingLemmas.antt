@@ -8,9 +8,10 @@ use Rattle.gv_types.specs.Renamed.{renamed, IsOf}
 use Rattle.gv_types.specs.declared.mapping.BufferId.{BufferId}
 use Rattle.gv_buffers.specs.Table.{Buffer, Table, buffer, has_id, fresh, without, IsCreated}
 use Rattle.gv_buffers.proofs.FoundLemmas.{found_id, destroyed_is_dead, others_stay_destroyed, made_is_found, others_stay_made, is_same_id-itself}
+use Rattle.gv_space.proofs.CountLemmas.{same_from_is_same_id}
 use Rattle.gv_journal.specs.RenamedSpace.{renamed_buffer, renamed_live, renamed_table, AreNumbered}
 use Rattle.gv_journal.specs.Alike.{AreIdsOf}
-use Rattle.gv_journal.proofs.RenamedTableLemmas.{same_from_test, other_from_test, has_id-renamed}
+use Rattle.gv_journal.proofs.RenamedTableLemmas.{other_from_test, has_id-renamed}
 use Rattle.gv_journal.proofs.RenamedLiveLemmas.{AreNumbered-of}
 
 -- A buffer is destroyed.
@@ -46,7 +47,7 @@ live_without all (other ∷ ids) t id is are =
     (elim (is_same_id other id) as (λ same. is_same_id other id ≡ same →
     cons_option (option_map renamed_buffer (buffer (without id t) other)) (renamed_live ids (without id t)) ≡ filter (λ b. not (has_id (renamed id) b)) (cons_option (option_map renamed_buffer (buffer t other)) (renamed_live ids t))) [
       | true ↦ λ same.
-          let one : other ≡ id = same_from_test other id same in
+          let one : other ≡ id = same_from_is_same_id other id same in
           let gone : buffer (without id t) other ≡ None = ap (buffer (without id t)) one ∙ destroyed_is_dead t id in
           ap (λ (o : Option Buffer). cons_option (option_map renamed_buffer o) (renamed_live ids (without id t))) gone ∙ rest
           ∙ sym (dropped id other t (renamed_live ids t) one)

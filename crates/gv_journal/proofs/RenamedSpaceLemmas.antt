@@ -12,7 +12,7 @@ use Rattle.gv_types.specs.declared.request.Request.{Request}
 use Rattle.gv_types.proofs.RenamingLemmas.{range_of-renamed, met-renamed, length-renamed}
 use Rattle.gv_types.proofs.IdLemmas.{AreOf-filter}
 use Rattle.gv_ranges.specs.Edit.{edited, edited_by_all, restored, undone}
-use Rattle.gv_ranges.proofs.RenamingLemmas.{edited-renamed, restored-renamed, AreOf-edited, AreOf-replaced, AreOf-clipped}
+use Rattle.gv_ranges.proofs.RenamingLemmas.{edited-renamed, restored-renamed, AreOf-edited, edited_by_all-renamed, AreOf-edited_by_all, AreOf-undone, AreOf-restored}
 use Rattle.gv_buffers.specs.Table.{Table}
 use Rattle.gv_space.specs.Counts.{by_count, counted, more_kept, less_kept}
 use Rattle.gv_space.specs.State.{AddressSpace}
@@ -27,10 +27,9 @@ use Rattle.gv_journal.specs.Renamed.{renamed_change, renamed_undo, TookOf}
 use Rattle.gv_journal.specs.RenamedSpace.{renamed_table, seen_space, AreNumbered}
 use Rattle.gv_journal.proofs.Changing.{after_all-mappings}
 use Rattle.gv_journal.specs.Renamed.{AreRequested}
-use Rattle.gv_journal.proofs.RenamedListLemmas.{reverse-map, All-reverse, all_do-renamed, operations_of-all_do, edited_by_all-renamed, AreOf-edited_by_all, undone-renamed}
+use Rattle.gv_journal.proofs.RenamedListLemmas.{reverse-map, All-reverse, all_do-renamed, operations_of-all_do, undone-renamed}
 use Rattle.gv_journal.proofs.RenamedTableLemmas.{tells_sizes, counted_nameless, more_kept_nameless, less_kept_nameless}
 use Rattle.gv_journal.proofs.RenamedLiveLemmas.{renamed_table-by_count, TellsBuffers-renamed_table}
-use Rattle.gv_journal.proofs.RenamedHistoryLemmas.{AreOf-undone}
 
 -- faults are told as of the space itself
 pub IsRenamed-seen : (ids : List BufferId) (s : AddressSpace) → AreNumbered ids → IsRenamed ids (seen_space ids s) s
@@ -90,9 +89,6 @@ applied-seen ids s t request numbered are all applied =
     ∙ after_all-seen ids (reverse ops) s numbered are (All-reverse (IsOperationOf ids) ops (operations_of-all_do ids s.mappings request.ops.items all))
     ∙ ap (λ (xs : List PageOp). after_all xs (seen_space ids s)) (sym (reverse-map renamed_op ops))
     ∙ ap (λ (xs : List PageOp). after_all (reverse xs) (seen_space ids s)) (sym (all_do-renamed ids s.mappings request.ops.items are all))
-
-AreOf-restored : (ids : List BufferId) (ms : List Mapping) (range : Span) (saved : List Mapping) → AreOf ids ms → AreOf ids saved → AreOf ids (restored ms range saved)
-AreOf-restored ids ms range saved are are' = AreOf-replaced ids ms range _ are (AreOf-clipped ids _ _ saved are')
 
 -- the pages of an operation put back
 pub after_restore-seen : (ids : List BufferId) (s : AddressSpace) (op : PageOp) (old : List Mapping) → AreNumbered ids → AreOf ids s.mappings → AreOf ids old →

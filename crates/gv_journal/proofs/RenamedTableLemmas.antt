@@ -1,18 +1,19 @@
 -- For callers: what tables of buffers tell by their new names, where equal generations mean equal buffers.
-use Rattle.std.proofs.Common.{◌≡◌, ◌≢◌, ℕ, zero, suc, ◌+◌, List, [], ◌∷◌, ◌++◌, map, length, true, false, cond, eqb, Option, Some, None, option_map, slice_get, refl, sym, ap, ◌∙◌, subst}
-use Rattle.std.proofs.lemmas.Bool.{eqb-true, and_parts, false≢true}
+use Rattle.std.proofs.Common.{◌≡◌, ◌≢◌, ℕ, zero, suc, List, [], ◌∷◌, ◌++◌, map, length, true, false, cond, Option, Some, None, option_map, slice_get, refl, sym, ap, ◌∙◌, subst}
+use Rattle.std.proofs.lemmas.Bool.{false≢true}
 use Rattle.std.proofs.lemmas.Option.{none-some, same_Some}
-use Rattle.gv_types.specs.Mapping.{buffer_id, is_same_id}
+use Rattle.gv_types.specs.Mapping.{is_same_id}
 use Rattle.gv_types.specs.Renamed.{renamed, renamed_mapping, IsOf, AreOf}
 use Rattle.gv_types.specs.declared.mapping.BufferId.{BufferId}
 use Rattle.gv_types.specs.declared.mapping.Mapping.{Mapping}
 use Rattle.gv_types.proofs.IdLemmas.{same_id-renamed, same_generation, IsOf-last}
 use Rattle.gv_buffers.specs.declared.usage.Usage.{Usage}
-use Rattle.gv_buffers.specs.Table.{Buffer, Table, buffer, pages, uses, kept, only, changed, without, joined_by, left_by, left_everywhere, destroy_fault, destroy_fault_of, join_fault, join_fault_of, IsCreated}
+use Rattle.gv_buffers.specs.Table.{Buffer, Table, buffer, uses, kept, only, changed, without, joined_by, left_by, left_everywhere, destroy_fault, destroy_fault_of, join_fault, join_fault_of, IsCreated}
 use Rattle.gv_buffers.proofs.FoundLemmas.{found_id, changed_is_found, left_is_found, destroyed_is_dead, others_stay_destroyed, made_is_found, others_stay_made, is_same_id-itself}
 use Rattle.gv_space.specs.Counts.{count_of, by_count, counted, more_kept, less_kept}
 use Rattle.gv_space.proofs.RenamingLemmas.{TellsSizes, count_of-renamed}
 use Rattle.gv_space.proofs.TableLemmas.{buffer-each}
+use Rattle.gv_space.proofs.CountLemmas.{same_from_is_same_id}
 use Rattle.gv_journal.specs.RenamedSpace.{renamed_buffer, TellsBuffers}
 
 field_of : {A : Type 0} (f : Buffer → A) (o : Option Buffer) → ((b : Buffer) → f (renamed_buffer b) ≡ f b) → option_map f (option_map renamed_buffer o) ≡ option_map f o
@@ -121,11 +122,6 @@ TellsBuffers-by_count ids change ms new t nameless are tells other is =
     (λ b found. by_count_same ids change ms b nameless are (subst (IsOf ids) (sym (found_id t other b found)) is))
     ∙ ap (option_map renamed_buffer) (sym (buffer-each (λ b. change b (count_of b.id ms)) t other (λ b. nameless.keeps b (count_of b.id ms))))
 
-pub same_from_test : (a b : BufferId) → is_same_id a b ≡ true → a ≡ b
-same_from_test a b same =
-    let parts = and_parts (eqb a.index b.index) (eqb a.generation b.generation) same in
-    ap (λ (n : ℕ). buffer_id n a.generation) (eqb-true _ _ parts.0) ∙ ap (λ (n : ℕ). buffer_id b.index n) (eqb-true _ _ parts.1)
-
 pub other_from_test : (a b : BufferId) → is_same_id a b ≡ false → a ≢ b
 other_from_test a b apart one = false≢true (sym apart ∙ ap (λ (o : BufferId). is_same_id o b) one ∙ is_same_id-itself b)
 
@@ -139,7 +135,7 @@ pub TellsBuffers-without : (ids : List BufferId) (new t : Table) (id : BufferId)
 TellsBuffers-without ids new t id is tells other is' =
     (elim (is_same_id other id) as (λ b. is_same_id other id ≡ b → buffer (without (renamed id) new) (renamed other) ≡ option_map renamed_buffer (buffer (without id t) other)) [
       | true ↦ λ same.
-          subst (λ (o : BufferId). buffer (without (renamed id) new) (renamed o) ≡ option_map renamed_buffer (buffer (without id t) o)) (sym (same_from_test other id same))
+          subst (λ (o : BufferId). buffer (without (renamed id) new) (renamed o) ≡ option_map renamed_buffer (buffer (without id t) o)) (sym (same_from_is_same_id other id same))
           (destroyed_is_dead new (renamed id) ∙ ap (option_map renamed_buffer) (sym (destroyed_is_dead t id)))
       | false ↦ λ apart.
           let own : other ≢ id = other_from_test other id apart in
@@ -159,7 +155,7 @@ pub TellsBuffers-made : (ids : List BufferId) (new_old new_new old new : Table) 
 TellsBuffers-made ids new_old new_new old new id size number tells made new_made other is =
     (elim (is_same_id other id) as (λ b. is_same_id other id ≡ b → buffer new_new (renamed other) ≡ option_map renamed_buffer (buffer new other)) [
       | true ↦ λ same.
-          subst (λ (o : BufferId). buffer new_new (renamed o) ≡ option_map renamed_buffer (buffer new o)) (sym (same_from_test other id same))
+          subst (λ (o : BufferId). buffer new_new (renamed o) ≡ option_map renamed_buffer (buffer new o)) (sym (same_from_is_same_id other id same))
           (made_is_found new_old new_new (renamed id) size new_made ∙ ap (option_map renamed_buffer) (sym (made_is_found old new id size made)))
       | false ↦ λ apart.
           let own : other ≢ id = other_from_test other id apart in

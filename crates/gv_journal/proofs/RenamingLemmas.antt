@@ -14,14 +14,10 @@ use Rattle.gv_types.specs.declared.operation.Op.{Op}
 use Rattle.gv_types.specs.declared.operation.PageOp.{PageOp}
 use Rattle.gv_types.proofs.RenamingLemmas.{range_of-renamed, met-renamed, length-renamed}
 use Rattle.gv_ranges.specs.Edit.{edited, edited_by_all, restored}
-use Rattle.gv_ranges.proofs.RenamingLemmas.{edited-renamed, restored-renamed}
-use Rattle.gv_buffers.specs.Table.{Table}
-use Rattle.gv_space.specs.Counts.{by_count, counted, more_kept}
+use Rattle.gv_ranges.proofs.RenamingLemmas.{edited_by_all-renamed}
 use Rattle.gv_space.specs.State.{AddressSpace}
-use Rattle.gv_space.specs.Change.{changed_to}
 use Rattle.gv_space.specs.Refusal.{first_of, operation_fault, limit_fault}
-use Rattle.gv_space.proofs.ByCountLemmas.{pages-by_count, counted_of_counts, more_kept_of_counts}
-use Rattle.gv_space.proofs.RenamingLemmas.{TellsSizes, IsRenamed, operation_fault-renamed, limit_fault-renamed}
+use Rattle.gv_space.proofs.RenamingLemmas.{IsRenamed, operation_fault-renamed, limit_fault-renamed, IsRenamed-changed, list_edited, edit_limit, list_put}
 use Rattle.gv_journal.specs.Items.{Journaled}
 use Rattle.gv_journal.specs.Applying.{met, after_op, after_all, does}
 use Rattle.gv_journal.specs.Verdict.{limits_fault, turn_fault, refused_or, verdict_from, request_fault, verdict, IsUnmapAllAt, ComesBefore, IsRefused}
@@ -30,35 +26,12 @@ use Rattle.gv_journal.specs.Renamed.{IsRenamedJournal}
 use Rattle.gv_journal.specs.declared.refusal.Refusal.{Refusal}
 use Rattle.gv_journal.proofs.Changing.{after_all-mappings}
 use Rattle.gv_journal.specs.Renamed.{AreRequested}
-use Rattle.gv_journal.proofs.RenamedListLemmas.{reverse-map, does-renamed, edited_by_all-renamed, AreOf-done, requested_head, requested_tail}
+use Rattle.gv_journal.proofs.RenamedListLemmas.{reverse-map, does-renamed, AreOf-done, requested_head, requested_tail}
 use Rattle.gv_journal.proofs.RenamedItemLemmas.{full_fault-renamed, entry_fault-renamed, ops_at-renamed}
-
--- a change of the list leaves the sizes
-sizes_stay : (ids : List BufferId) (new t : Table) (new_ms new_taken ms taken : List Mapping) → TellsSizes ids new t →
-    TellsSizes ids (by_count counted new_ms (by_count more_kept new_taken new)) (by_count counted ms (by_count more_kept taken t))
-sizes_stay ids new t new_ms new_taken ms taken sizes id is =
-    pages-by_count counted new_ms (by_count more_kept new_taken new) (renamed id) counted_of_counts
-    ∙ pages-by_count more_kept new_taken new (renamed id) more_kept_of_counts ∙ sizes id is
-    ∙ sym (pages-by_count more_kept taken t id more_kept_of_counts)
-    ∙ sym (pages-by_count counted ms (by_count more_kept taken t) id counted_of_counts)
-
--- a space in which the list became another one
-pub IsRenamed-changed : (ids : List BufferId) (new s : AddressSpace) (new_ms new_taken ms taken : List Mapping) → new_ms ≡ map renamed_mapping ms →
-    length new_taken ≡ length taken → IsRenamed ids new s → IsRenamed ids (changed_to new_ms new_taken new) (changed_to ms taken s)
-IsRenamed-changed ids new s new_ms new_taken ms taken list count is = record {
-  area = is.area;
-  limits = is.limits;
-  mappings = list;
-  kept_count = rw (is.kept_count, count) refl;
-  sizes = sizes_stay ids new.buffers s.buffers new_ms new_taken ms taken is.sizes;
-}
 
 met_count : (ids : List BufferId) (new s : AddressSpace) (op : PageOp) → IsRenamed ids new s → length (met new.mappings (range_of (renamed_op op))) ≡ length (met s.mappings (range_of op))
 met_count ids new s op is =
     rw (is.mappings, range_of-renamed op, met-renamed s.mappings (range_of op)) (length-renamed (met s.mappings (range_of op)))
-
-list_edited : (ids : List BufferId) (new s : AddressSpace) (op : PageOp) → IsRenamed ids new s → edited new.mappings (renamed_op op) ≡ map renamed_mapping (edited s.mappings op)
-list_edited ids new s op is = ap (λ (ms : List Mapping). edited ms (renamed_op op)) is.mappings ∙ edited-renamed s.mappings op
 
 -- a space after an operation
 pub IsRenamed-after_op : (ids : List BufferId) (new s : AddressSpace) (op : PageOp) → IsRenamed ids new s → IsRenamed ids (after_op new (renamed_op op)) (after_op s op)
@@ -71,12 +44,6 @@ pub IsRenamed-after_all : (ids : List BufferId) (new s : AddressSpace) (ops : Li
 IsRenamed-after_all ids new s [] is = is
 IsRenamed-after_all ids new s (op ∷ older) is =
     IsRenamed-after_op ids (after_all (map renamed_op older) new) (after_all older s) op (IsRenamed-after_all ids new s older is)
-
-edit_limit : (ids : List BufferId) (new s : AddressSpace) (op : PageOp) → IsRenamed ids new s →
-    limit_fault new (range_of (renamed_op op)) (edited new.mappings (renamed_op op)) ≡ limit_fault s (range_of op) (edited s.mappings op)
-edit_limit ids new s op is =
-    ap (λ (range : Span). limit_fault new range (edited new.mappings (renamed_op op))) (range_of-renamed op)
-    ∙ ap (limit_fault new (range_of op)) (list_edited ids new s op is) ∙ limit_fault-renamed ids new s (range_of op) (edited s.mappings op) is
 
 -- the first limit that operations pass
 pub limits_fault-renamed : (ids : List BufferId) (new s : AddressSpace) (ops : List PageOp) → IsRenamed ids new s → limits_fault new (map renamed_op ops) ≡ limits_fault s ops
@@ -160,13 +127,6 @@ IsRefused-renamed ids new s new_j j ops refused is journal are all (inr want) = 
   there = there ops refused.op want.there;
   before = subst (ComesBefore refused.op (map renamed_bytes ops)) (sym (verdict_from-renamed ids 0 new s ops is are all)) (comes_before ops refused.op (verdict_from 0 s ops) want.before);
 })
-
-list_put : (ids : List BufferId) (new s : AddressSpace) (op : PageOp) (old : List Mapping) → IsRenamed ids new s →
-    restored new.mappings (range_of (renamed_op op)) (map renamed_mapping old) ≡ map renamed_mapping (restored s.mappings (range_of op) old)
-list_put ids new s op old is =
-    ap (λ (ms : List Mapping). restored ms (range_of (renamed_op op)) (map renamed_mapping old)) is.mappings
-    ∙ ap (λ (range : Span). restored (map renamed_mapping s.mappings) range (map renamed_mapping old)) (range_of-renamed op)
-    ∙ restored-renamed s.mappings (range_of op) old
 
 -- a space in which the pages of an operation are put back
 pub IsRenamed-after_restore : (ids : List BufferId) (new s : AddressSpace) (op : PageOp) (old : List Mapping) → IsRenamed ids new s →

@@ -4,6 +4,7 @@ use Rattle.std.specs.Prelude.{IsTrue}
 use Rattle.std.specs.List.{list_any}
 use Rattle.std.proofs.lemmas.List.{reverse-append, drop_more}
 use Rattle.std.proofs.lemmas.Bool.Decides.{nat_tests}
+use Rattle.std.proofs.lemmas.Bool.{or_parts}
 use Rattle.gv_types.specs.Page.{IsPage}
 use Rattle.gv_types.specs.Span.{Span, covers, meets}
 use Rattle.gv_types.specs.Operation.{range_of, own_part, view as view_of_ops}
@@ -20,20 +21,12 @@ use Rattle.gv_journal.proofs.Views.{view-at}
 abbrev pub covers_any : List PageOp → ℕ → Bool
 covers_any ops page = list_any (λ op. covers (range_of op) page) ops
 
-or_left : (a b : Bool) → (a || b) ≡ false → a ≡ false
-or_left false b h = refl
-or_left true b h = h
-
-or_right : (a b : Bool) → (a || b) ≡ false → b ≡ false
-or_right false b h = h
-or_right true b h = cc
-
 -- operations say nothing of a page that none of them covers
 pub view-silent : (ops : List PageOp) (below : ℕ → Option Entry) (page : ℕ) → covers_any ops page ≡ false → view_of_ops ops below page ≡ below page
 view-silent [] below page none = refl
 view-silent (op ∷ ops) below page none =
-    ap (λ (b : Bool). cond b (own_part op page) (view_of_ops ops below page)) (or_left (covers (range_of op) page) (covers_any ops page) none)
-    ∙ view-silent ops below page (or_right (covers (range_of op) page) (covers_any ops page) none)
+    ap (λ (b : Bool). cond b (own_part op page) (view_of_ops ops below page)) (or_parts (covers (range_of op) page) (covers_any ops page) none).0
+    ∙ view-silent ops below page (or_parts (covers (range_of op) page) (covers_any ops page) none).1
 
 pub any-append : {A : Type 0} (p : A → Bool) (xs ys : List A) → list_any p (xs ++ ys) ≡ (list_any p xs || list_any p ys)
 any-append p [] ys = refl
@@ -68,17 +61,17 @@ apart r s page none here = grind (arith, nat_tests)
 apart_from_all : (r : Span) (others : List PageOp) (page : ℕ) → list_any (λ other. meets r (range_of other)) others ≡ false → covers r page ≡ true → covers_any others page ≡ false
 apart_from_all r [] page none here = refl
 apart_from_all r (other ∷ others) page none here =
-    let first : covers (range_of other) page ≡ false = apart r (range_of other) page (or_left (meets r (range_of other)) (list_any (λ (o : PageOp). meets r (range_of o)) others) none) here in
-    rw (first, apart_from_all r others page (or_right (meets r (range_of other)) (list_any (λ (o : PageOp). meets r (range_of o)) others) none) here) refl
+    let first : covers (range_of other) page ≡ false = apart r (range_of other) page (or_parts (meets r (range_of other)) (list_any (λ (o : PageOp). meets r (range_of o)) others) none).0 here in
+    rw (first, apart_from_all r others page (or_parts (meets r (range_of other)) (list_any (λ (o : PageOp). meets r (range_of o)) others) none).1 here) refl
 
 -- operations that touch no others leave their pages alone
 pub touch_none : (ops others : List PageOp) (page : ℕ) → touch ops others ≡ false → covers_any ops page ≡ true → covers_any others page ≡ false
 touch_none [] others page none here = cc
 touch_none (op ∷ ops) others page none here =
-    by_cases (covers (range_of op) page) refl here (touch_none ops others page (or_right (list_any (λ (o : PageOp). meets (range_of op) (range_of o)) others) (touch ops others) none))
+    by_cases (covers (range_of op) page) refl here (touch_none ops others page (or_parts (list_any (λ (o : PageOp). meets (range_of op) (range_of o)) others) (touch ops others) none).1)
   where
     by_cases : (b : Bool) → covers (range_of op) page ≡ b → (b || covers_any ops page) ≡ true → (covers_any ops page ≡ true → covers_any others page ≡ false) → covers_any others page ≡ false
-    by_cases true is h later = apart_from_all (range_of op) others page (or_left (list_any (λ (o : PageOp). meets (range_of op) (range_of o)) others) (touch ops others) none) is
+    by_cases true is h later = apart_from_all (range_of op) others page (or_parts (list_any (λ (o : PageOp). meets (range_of op) (range_of o)) others) (touch ops others) none).0 is
     by_cases false is h later = later h
 
 -- none of the items that aren't gone touches the operations; the oldest of them has the number `base`

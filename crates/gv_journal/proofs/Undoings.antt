@@ -4,7 +4,7 @@ use Rattle.gv_types.specs.declared.mapping.Mapping.{Mapping}
 use Rattle.gv_space.specs.State.{AddressSpace, AreKept}
 use Rattle.gv_space.specs.Undo.{UndoValue, AreAmongKept, CanRevert, reverted, released}
 use Rattle.gv_journal.specs.Undoing.{taken_by, undone_by, reverted_by, AreRevertible}
-use Rattle.gv_journal.proofs.Releases.{released-released}
+use Rattle.gv_space.proofs.ReleasedLemmas.{released-released}
 
 -- what the first of them keeps is kept
 pub first_held : (s : AddressSpace) (u : UndoValue) (older : List UndoValue) → AreAmongKept s (taken_by (u ∷ older)) → AreAmongKept s u.change.taken

@@ -2,6 +2,7 @@
 -- the items without it say.
 use Rattle.std.proofs.Common.{◌≡◌, ℕ, ◌+◌, ◌<◌, ◌==◌, Bool, true, false, cond, ◌||◌, List, [], ◌∷◌, ◌++◌, length, reverse, Option, Vec, Global, refl, ap, sym, ◌∙◌, subst, arith, length-append}
 use Rattle.std.proofs.lemmas.Bool.Decides.{nat_tests}
+use Rattle.std.proofs.lemmas.Bool.{or_parts}
 use Rattle.gv_types.specs.Page.{IsPage}
 use Rattle.gv_types.specs.Span.{Span, covers}
 use Rattle.gv_types.specs.Operation.{range_of, view as view_of_ops}
@@ -54,17 +55,9 @@ gone_itself e gone' gone more = more e ∙ ap (λ (b : Bool). b || gone e) (itse
 put_back-silent : (ops : List PageOp) (us : List UndoValue) (before : List Mapping) (page : ℕ) (now : Option Entry) → AreUndosOf before ops us → covers_any ops page ≡ false → put_back us page now ≡ now
 put_back-silent [] [] before page now undos none = refl
 put_back-silent (op ∷ ops) (u ∷ us) before page now undos none =
-    let clear : covers u.range page ≡ false = ap (λ (r : Span). covers r page) undos.0 ∙ or_left (covers (range_of op) page) (covers_any ops page) none in
+    let clear : covers u.range page ≡ false = ap (λ (r : Span). covers r page) undos.0 ∙ (or_parts (covers (range_of op) page) (covers_any ops page) none).0 in
     ap (λ (b : Bool). put_back us page (cond b (at u.change.taken page) now)) clear
-    ∙ put_back-silent ops us before page now undos.2 (or_right (covers (range_of op) page) (covers_any ops page) none)
-  where
-    or_left : (a b : Bool) → (a || b) ≡ false → a ≡ false
-    or_left false b h = refl
-    or_left true b h = h
-
-    or_right : (a b : Bool) → (a || b) ≡ false → b ≡ false
-    or_right false b h = h
-    or_right true b h = cc
+    ∙ put_back-silent ops us before page now undos.2 (or_parts (covers (range_of op) page) (covers_any ops page) none).1
 put_back-silent [] (u ∷ us) before page now undos none = absurd undos
 put_back-silent (op ∷ ops) [] before page now undos none = absurd undos
 

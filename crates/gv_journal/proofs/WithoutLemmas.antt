@@ -1,6 +1,6 @@
 -- For callers: what the items say without one of them is what the list without it says.
 use Rattle.std.proofs.Common.{◌≡◌, ℕ, Bool, true, false, cond, not, ◌||◌, List, [], ◌∷◌, ◌++◌, reverse, Option, refl, ap, sym, ◌∙◌}
-use Rattle.std.specs.Prelude.{◌==◌, filter}
+use Rattle.std.specs.Prelude.{◌==◌}
 use Rattle.gv_types.specs.Operation.{view as view_of_ops}
 use Rattle.gv_types.specs.declared.mapping.Entry.{Entry}
 use Rattle.gv_types.specs.declared.operation.PageOp.{PageOp}

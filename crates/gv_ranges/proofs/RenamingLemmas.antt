@@ -1,7 +1,8 @@
 -- For callers: lists of mappings with their buffers renamed: what they hold, edits of them, and that they stay in order.
-use Rattle.std.proofs.Common.{◌≡◌, ℕ, List, [], ◌∷◌, ◌++◌, map, true, false, cond, Option, Some, None, option_map, refl, get_or}
+use Rattle.std.proofs.Common.{◌≡◌, ℕ, List, [], ◌∷◌, ◌++◌, map, true, false, cond, Option, Some, None, option_map, refl, get_or, ◌+◌, take, drop}
 use Rattle.std.proofs.lemmas.List.{map-append}
-use Rattle.std.specs.List.{cons_option}
+use Rattle.std.specs.List.{cons_option, All}
+use Rattle.std.proofs.lemmas.List.Elements.{All-head, All-tail}
 use Rattle.gv_types.specs.Page.{PAGES}
 use Rattle.gv_types.specs.Span.{Span, end_of, covers}
 use Rattle.gv_types.specs.Mapping.{part, clip}
@@ -9,12 +10,12 @@ use Rattle.gv_types.specs.Operation.{range_of, own_mapping}
 use Rattle.gv_types.specs.declared.mapping.Mapping.{Mapping}
 use Rattle.gv_types.specs.declared.operation.PageOp.{PageOp}
 use Rattle.gv_ranges.specs.List.{at, IsLaidOut, IsLaidOutFrom}
-use Rattle.gv_ranges.specs.Edit.{clipped, replaced, edited, restored}
+use Rattle.gv_ranges.specs.Edit.{clipped, replaced, edited, restored, edited_by_all, undone, Undo}
 use Rattle.gv_types.specs.Renamed.{renamed_entry, renamed_mapping, renamed_op, IsOperationOf, IsBackedOf, AreOf}
 use Rattle.gv_types.specs.declared.mapping.BufferId.{BufferId}
 use Rattle.gv_ranges.proofs.KeptLemmas.{clip_is_piece, All-clipped}
 use Rattle.gv_types.proofs.RenamingLemmas.{part-renamed, clip-renamed, range_of-renamed, own_mapping-renamed, IsMapping-renamed}
-use Rattle.gv_types.proofs.IdLemmas.{IsBackedOf-advanced, AreOf-append, AreOf-own_mapping}
+use Rattle.gv_types.proofs.IdLemmas.{IsBackedOf-advanced, AreOf-append, AreOf-own_mapping, AreOf-take, AreOf-drop}
 
 -- what a list holds at a page
 pub at-renamed : (ms : List Mapping) (page : ℕ) → at (map renamed_mapping ms) page ≡ option_map renamed_entry (at ms page)
@@ -83,3 +84,26 @@ AreOf-replaced ids ms range pieces are are' =
 -- the list after an operation
 pub AreOf-edited : (ids : List BufferId) (ms : List Mapping) (op : PageOp) → AreOf ids ms → IsOperationOf ids op → AreOf ids (edited ms op)
 AreOf-edited ids ms op are is = AreOf-replaced ids ms (range_of op) (own_mapping op) are (AreOf-own_mapping ids op is)
+
+-- the list after operations
+pub edited_by_all-renamed : (ops : List PageOp) (ms : List Mapping) →
+    edited_by_all (map renamed_op ops) (map renamed_mapping ms) ≡ map renamed_mapping (edited_by_all ops ms)
+edited_by_all-renamed [] ms = refl
+edited_by_all-renamed (op ∷ older) ms = rw (edited_by_all-renamed older ms) (edited-renamed (edited_by_all older ms) op)
+
+pub AreOf-edited_by_all : (ids : List BufferId) (ops : List PageOp) (ms : List Mapping) → All (IsOperationOf ids) ops → AreOf ids ms →
+    AreOf ids (edited_by_all ops ms)
+AreOf-edited_by_all ids [] ms all are = are
+AreOf-edited_by_all ids (op ∷ older) ms all are =
+    AreOf-edited ids (edited_by_all older ms) op (AreOf-edited_by_all ids older ms (All-tail (IsOperationOf ids) op older all) are)
+    (All-head (IsOperationOf ids) op older all)
+
+-- the list after older mappings came back
+pub AreOf-restored : (ids : List BufferId) (ms : List Mapping) (range : Span) (saved : List Mapping) → AreOf ids ms → AreOf ids saved → AreOf ids (restored ms range saved)
+AreOf-restored ids ms range saved are are' = AreOf-replaced ids ms range _ are (AreOf-clipped ids _ _ saved are')
+
+-- the list with a run taken back
+pub AreOf-undone : (ids : List BufferId) (ms : List Mapping) (u : Undo) → AreOf ids ms → AreOf ids u.taken → AreOf ids (undone ms u)
+AreOf-undone ids ms u are taken =
+    AreOf-append ids (take u.place ms) (u.taken ++ drop (u.place + u.put_in) ms) (AreOf-take ids u.place ms are)
+    (AreOf-append ids u.taken (drop (u.place + u.put_in) ms) taken (AreOf-drop ids (u.place + u.put_in) ms are))

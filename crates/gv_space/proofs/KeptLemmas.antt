@@ -120,6 +120,9 @@ AreKept-reverted s u others are_kept =
 pub AreKept-room : (s : AddressSpace) (room : ℕ) (saved : List Mapping) → AreKept s saved → AreKept (record s { room = room }) saved
 AreKept-room s room saved are_kept = record { placed = are_kept.placed; kept = are_kept.kept; kept_count = are_kept.kept_count }
 
+pub AreKept-room_alone : (old new : AddressSpace) (saved : List Mapping) → new ≡ record old { room = new.room } → AreKept old saved → AreKept new saved
+AreKept-room_alone old new saved is are_kept = subst (λ (s : AddressSpace). AreKept s saved) (sym is) (AreKept-room old new.room saved are_kept)
+
 -- a change, with the room that it left
 pub AreKept-changed_room : (old new : AddressSpace) (ms taken saved : List Mapping) → new ≡ record (changed_to ms taken old) { room = new.room } →
     All (IsPlaced old.area old.buffers) taken → AreKept old saved → AreKept new (taken ++ saved)

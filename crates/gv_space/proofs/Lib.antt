@@ -20,3 +20,5 @@ pub mod Spaces
 pub mod UnchangedLemmas
 pub mod UsesFound
 pub mod RenamingLemmas
+pub mod ReleasedLemmas
+pub mod UnmappingLemmas

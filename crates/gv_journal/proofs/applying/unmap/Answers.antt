@@ -4,7 +4,7 @@ use Rattle.gv_types.specs.declared.fault.Fault.{Fault}
 use Rattle.gv_types.specs.declared.fault.Fault.TheVariants.{OutOfMemory}
 use Rattle.gv_types.specs.declared.operation.PageOp.{PageOp}
 use Rattle.gv_journal.specs.Applying.{after_op}
-use Rattle.gv_journal.proofs.Unmapping.{in_pages-unmap_of, unmap_fault}
+use Rattle.gv_space.proofs.UnmappingLemmas.{in_pages-unmap_of, unmap_fault}
 use Rattle.gv_journal.proofs.applying.unmap.Goals as goal
 
 pub returns-clause-fault : goal.returns-clause-fault

@@ -1,6 +1,7 @@
 use Rattle.std.proofs.Common.{◌≡◌, ℕ, ◌+◌, ◌-◌, length, arith, ◌∙◌, subst}
+use Rattle.gv_space.proofs.UnmappingLemmas.{range_in_area}
 use Rattle.gv_journal.specs.Work.{HasRoom}
-use Rattle.gv_journal.proofs.Limits.{ranges_refused, lives_where_given, starved_is_refused, unmap_refused, range_in_area, ops_more, state_more, limits_more}
+use Rattle.gv_journal.proofs.Limits.{ranges_refused, lives_where_given, starved_is_refused, unmap_refused, ops_more, state_more, limits_more}
 use Rattle.gv_journal.proofs.applying.unmap_all.Goals as goal
 
 pub returns-in-Err-clause-err : goal.returns-in-Err-clause-err

@@ -6,7 +6,7 @@ use Rattle.gv_journal.specs.Undoing.{taken_by}
 use Rattle.gv_journal.specs.History.{kept_by, undos_of}
 use Rattle.gv_journal.specs.Shelf.{IsSpent}
 use Rattle.gv_journal.specs.declared.item.Item.{Item}
-use Rattle.gv_journal.proofs.Releases.{released-none}
+use Rattle.gv_space.proofs.ReleasedLemmas.{released-none}
 use Rattle.gv_journal.proofs.Histories.{released_without}
 use Rattle.gv_journal.proofs.Spending.{ahead_of, spent_behind, last_of, others_stay}
 use Rattle.gv_journal.proofs.settling.release_items.Goals as goal

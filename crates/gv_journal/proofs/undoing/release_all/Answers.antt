@@ -2,7 +2,7 @@ use Rattle.std.proofs.Common.{◌≡◌, List, [], reverse, sym, ◌∙◌, ap, 
 use Rattle.gv_space.specs.Undo.{UndoValue, released}
 use Rattle.gv_journal.specs.Undoing.{taken_by}
 use Rattle.gv_journal.proofs.Lists.{last_first}
-use Rattle.gv_journal.proofs.Releases.{released-none}
+use Rattle.gv_space.proofs.ReleasedLemmas.{released-none}
 use Rattle.gv_journal.proofs.Undoings.{first_of_all_held, others_kept, released_in_turn}
 use Rattle.gv_journal.proofs.undoing.release_all.Goals as goal
 

@@ -1,4 +1,4 @@
-use Rattle.std.proofs.Common.{ap, set, ◌+◌, ◌∙◌, List, drop}
+use Rattle.std.proofs.Common.{ap, set, ◌+◌, ◌∙◌, drop}
 use Rattle.gv_journal.specs.Note.{Note}
 use Rattle.gv_journal.specs.Shelf.{Shelved}
 use Rattle.gv_journal.proofs.Noted.{once_marked}

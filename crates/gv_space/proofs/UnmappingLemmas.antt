@@ -1,6 +1,9 @@
--- The unmaps that an unmap of a whole buffer stands for.
-use Rattle.std.proofs.Common.{◌≡◌, ℕ, ◌*◌, ◌/◌, ◌%◌, ◌<◌, ◌==◌, false, Option, None, refl, ap, ◌∙◌, arith}
+-- For callers: the unmaps that an unmap of a whole buffer stands for.
+use Rattle.std.proofs.Common.{◌≡◌, ℕ, ◌*◌, ◌/◌, ◌%◌, ◌<◌, ◌==◌, false, Option, None, refl, ap, ◌∙◌, arith, List, map, length, get_or, subst, sym}
 use Rattle.std.proofs.lemmas.Bool.Decides.{nat_tests}
+use Rattle.std.specs.List.{All}
+use Rattle.std.specs.Prelude.{filter}
+use Rattle.std.proofs.lemmas.List.Elements.{All-filter, All-map}
 use Rattle.gv_types.specs.Span.{Span}
 use Rattle.gv_types.specs.Bounds.{LieInArea}
 use Rattle.gv_types.specs.Operation.{in_pages, range_of}
@@ -9,9 +12,13 @@ use Rattle.gv_types.specs.declared.operation.Op.{Op}
 use Rattle.gv_types.specs.declared.operation.Op.TheVariants.{Unmap as ByteUnmap}
 use Rattle.gv_types.specs.declared.operation.PageOp.{PageOp}
 use Rattle.gv_types.specs.declared.operation.PageOp.TheVariants.{Unmap}
+use Rattle.gv_types.specs.declared.mapping.BufferId.{BufferId}
+use Rattle.gv_types.specs.declared.mapping.Mapping.{Mapping}
+use Rattle.gv_types.specs.Mapping.{is_of}
 use Rattle.gv_ranges.specs.Edit.{edited}
-use Rattle.gv_space.specs.State.{AddressSpace}
+use Rattle.gv_space.specs.State.{AddressSpace, IsSpace, IsPlaced}
 use Rattle.gv_space.specs.Refusal.{first_of, operation_fault, apply_fault, limit_fault}
+use Rattle.gv_space.specs.Counts.{ranges_of}
 
 -- an unmap of pages, in bytes
 abbrev pub unmap_of : Span → Op
@@ -40,3 +47,12 @@ pub unmap_fault : (s : AddressSpace) (r : Span) → 0 < r.count → LieInArea s.
 unmap_fault s r some lie =
     ap (λ (f : Option Fault). first_of f (limit_fault s (range_of (in_pages (unmap_of r))) (edited s.mappings (in_pages (unmap_of r))))) (no_fault s r some lie)
     ∙ ap (λ (op : PageOp). limit_fault s (range_of op) (edited s.mappings op)) (in_pages-unmap_of r)
+
+-- a range of a buffer lies in the area
+pub range_in_area : (s : AddressSpace) (id : BufferId) (ranges : List Span) (i : ℕ) (r : Span) → IsSpace s → ranges ≡ ranges_of id s.mappings → i < length ranges → r ≡ get_or ranges i r →
+    LieInArea s.area r
+range_in_area s id ranges i r space are below is =
+    let placed : All (IsPlaced s.area s.buffers) (filter (λ m. is_of id m.backing) s.mappings) = All-filter (λ m. is_of id m.backing) (IsPlaced s.area s.buffers) s.mappings space.placed in
+    let lie : All (LieInArea s.area) (map (λ (m : Mapping). m.range) (filter (λ m. is_of id m.backing) s.mappings)) =
+    All-map (LieInArea s.area) (λ (m : Mapping). m.range) _ (λ k d within. record { in_space = (placed k d within).in_space; off_region = (placed k d within).off_region }) in
+    subst (LieInArea s.area) (sym is) (subst (All (LieInArea s.area)) (sym are) lie i r below)
