@@ -5,3 +5,4 @@ pub mod Same
 pub mod Outcomes
 pub mod Sends
 pub mod SubmittersLemmas
+pub mod Puts

@@ -1,5 +1,5 @@
 -- Submitters that put more, one after the other, and an address space that told nothing yet.
-use Rattle.std.proofs.Common.{◌≡◌, ℕ, zero, suc, ◌+◌, ◌<◌, List, [], length, get_or, replicate, refl, sym, ap, ◌∙◌, subst, arith}
+use Rattle.std.proofs.Common.{◌≡◌, ℕ, zero, suc, ◌<◌, List, [], length, get_or, replicate, refl, sym, ap, ◌∙◌, subst}
 use Rattle.gv_types.specs.Bounds.{Area}
 use Rattle.gv_types.specs.Limits.{Caps}
 use Rattle.gv_vm.specs.Outcomes.{queues}

@@ -24,7 +24,7 @@ abbrev pub put_at : List PutEndState → ℕ → PutEndState
 put_at puts queue = slice_index_or puts queue no_put
 
 abbrev pub no_worker : WorkerEndState
-no_worker = record { queue = 0; taken = []; gave = []; left = [] }
+no_worker = record { queue = 0; taken = []; gave = []; left = []; halvings = 0 }
 
 abbrev pub worker_at : List WorkerEndState → ℕ → WorkerEndState
 worker_at workers queue = slice_index_or workers queue no_worker

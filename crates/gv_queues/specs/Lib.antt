@@ -4,3 +4,4 @@ pub mod Taking
 pub mod Paying
 pub mod Working
 pub mod Ending
+pub mod Counts

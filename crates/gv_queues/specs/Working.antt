@@ -9,17 +9,20 @@ use Rattle.gv_vm.specs.declared.outcome.Outcome.{Outcome}
 use Rattle.gv_vm.specs.declared.outcome.NotTold.{NotTold}
 use Rattle.gv_queues.specs.Paying.{all_owed, owed}
 
--- a worker that took nothing yet: its queue, and the timelines of its seat
+-- a worker that took nothing yet: its queue, the timelines of its seat, and the seat's share
 pub record WorkerState : Type 0 where
   pub queue : ℕ
   pub of : TableId
+  pub halvings : ℕ
 
--- what a worker that ended leaves: the requests that it took, the outcomes that it gave the first of them, and the others
+-- what a worker that ended leaves: the requests that it took, the outcomes that it gave the first of them, and the others; and
+-- the share of its seat
 pub record WorkerEndState : Type 0 where
   pub queue : ℕ
   pub taken : List Request
   pub gave : List Outcome
   pub left : List Request
+  pub halvings : ℕ
 
 -- those of the requests taken that got no outcome are left
 pub record AreLeft (taken : List Request) (gave : List Outcome) (left : List Request) : Type 0 where

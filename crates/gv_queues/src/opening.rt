@@ -1,5 +1,5 @@
 //! All that running queues takes, asked for before any of them starts.
-ghost use Rattle.std.specs.Prelude.{◌≡◌, ◌<◌, ◌≤◌, ℕ, [], IfOk, IfErr, vec_len, vec_capacity};
+ghost use Rattle.std.specs.Prelude.{◌≡◌, ◌<◌, ◌≤◌, ◌+◌, ℕ, [], IfOk, IfErr, vec_len, vec_capacity};
 ghost use Rattle.std.specs.List.{All};
 ghost use Rattle.gv_sync.specs.Seats.{IsSeatOf, count_of};
 ghost use Rattle.gv_types.specs.Limits.{IsFromOneTo};
@@ -69,6 +69,7 @@ pub fn open_all(
     requires depth { IsFromOneTo most_places depth }
     ensures own { IsSeatOf timelines.now seat.new }
     ensures marks { seat.new.marks ≡ seat.old.marks }
+    ensures share { IfOk result (λ _. seat.new.halvings ≡ seat.old.halvings + (count + 1)) }
     ensures seats { IfOk result (λ o. IsSeatOf timelines.now o.seat
         × All (λ w. w.of ≡ timelines.now) o.workers.items) }
     ensures opened { IfOk result (λ o. AreOpened limit depth (count_of timelines.now) o.submitters.items) }

@@ -1,5 +1,5 @@
 //! Queues that are opened, run and finished.
-ghost use Rattle.std.specs.Prelude.{◌≡◌, ◌<◌, ◌≤◌, ℕ, [], Err, IfOk, IfErr, vec_len};
+ghost use Rattle.std.specs.Prelude.{◌≡◌, ◌<◌, ◌≤◌, ◌+◌, ℕ, [], Err, IfOk, IfErr, vec_len};
 ghost use Rattle.gv_sync.specs.Seats.{IsSeatOf};
 ghost use Rattle.gv_types.specs.Limits.{IsFromOneTo};
 ghost use Rattle.gv_vm.specs.Outcomes.{queues};
@@ -11,7 +11,8 @@ use crate::driver::Driver;
 use crate::finishing::{QueueEnd, QueuesFault, finish};
 use crate::gate::Gate;
 use crate::opening::{make_rooms, open_all};
-use crate::running::{Ran, run_workers};
+use crate::running::{Around, Ran, run_workers};
+use crate::vm_lock::VmLock;
 use gv_sync::{Seat, Timelines};
 use gv_vm::Vm;
 use std::alloc::Global;
@@ -39,6 +40,7 @@ pub fn run_queues<G: Gate + Sync, D: Driver, R: Threads + Wait + Sync>(
     requires untold { IsUntold vm }
     ensures own { IsSeatOf timelines.now seat.new }
     ensures marks { seat.new.marks ≡ seat.old.marks }
+    ensures share { IfOk result.1 (λ _. seat.new.halvings ≡ seat.old.halvings + (count + 1)) }
     ensures sound { IsMachine result.0 }
     ensures not_made { result.1 ≡ Err QueuesFault.NotMade → result.0 ≡ vm }
     ensures not_run { IfErr result.1 (λ fault. HasNotRun fault → driver.new ≡ driver.old) }
@@ -58,7 +60,14 @@ pub fn run_queues<G: Gate + Sync, D: Driver, R: Threads + Wait + Sync>(
     let Ok(opened) = open_all(alloc, timelines, seat, count, depth, limit) else {
         return (vm, Err(QueuesFault::NotMade));
     };
-    let (vm, ran) = run_workers(rt, alloc, vm, timelines, gate, driver, opened, rooms);
+    let lock = VmLock::new(vm);
+    let around = Around {
+        lock: &lock,
+        timelines,
+        gate,
+    };
+    let ran = run_workers(rt, alloc, around, driver, opened, rooms);
+    let vm = lock.into_inner();
     // For the prover: what always holds of the machine.
     let _space = vm.space();
     let Ran {

@@ -14,7 +14,6 @@ use crate::vm_lock::{Locked, VmLock};
 use crate::worker::{Shared, work};
 use crate::worker_end::WorkerEnd;
 use gv_sync::{Seat, Timelines};
-use gv_vm::Vm;
 use std::alloc::Global;
 use std::sync::Wait;
 use std::thread;
@@ -88,21 +87,28 @@ fn join_all<R: Threads + Wait>(
     workers
 }
 
+/// What workers and their driver share: the lock round the address space, the timelines, and what workers ask while they
+/// wait.
+pub struct Around<'a, L, G> {
+    pub lock: &'a L,
+    pub timelines: &'a Timelines,
+    pub gate: &'a G,
+}
+
 /// Starts all workers, lets the driver run, closes the queues and joins the workers. Where a worker isn't started, the
 /// driver doesn't run.
-fn run_on<L: Locked + Sync, G: Gate + Sync, D: Driver, R: Threads + Wait + Sync>(
+pub fn run_workers<L: Locked + Sync, G: Gate + Sync, D: Driver, R: Threads + Wait + Sync>(
     rt: &R,
     alloc: Global,
-    lock: &L,
-    timelines: &Timelines,
-    gate: &G,
+    around: Around<'_, L, G>,
     driver: &mut D,
     opened: Opened,
     rooms: Rooms,
 ) -> Ran
-    requires own { IsSeatOf timelines.now opened.seat × All (λ w. w.of ≡ timelines.now) opened.workers.items }
+    requires own { IsSeatOf around.timelines.now opened.seat
+        × All (λ w. w.of ≡ around.timelines.now) opened.workers.items }
     requires opened { (limit : ℕ) × (depth : ℕ)
-        × AreOpened limit depth (count_of timelines.now) opened.submitters.items }
+        × AreOpened limit depth (count_of around.timelines.now) opened.submitters.items }
     requires order { AreInOrder (λ w. w.queue) opened.workers.items }
     requires even { vec_len opened.workers ≡ vec_len opened.submitters }
     requires none { (rooms.handles.items ≡ []) × (rooms.puts.items ≡ []) × (rooms.workers.items ≡ []) }
@@ -116,6 +122,11 @@ fn run_on<L: Locked + Sync, G: Gate + Sync, D: Driver, R: Threads + Wait + Sync>
     ensures refused { IfSome result.refused (λ queue. (queue < vec_len opened.submitters)
         × (driver.new ≡ driver.old)) }
 {
+    let Around {
+        lock,
+        timelines,
+        gate,
+    } = around;
     let Opened {
         submitters,
         workers,
@@ -195,36 +206,4 @@ fn run_on<L: Locked + Sync, G: Gate + Sync, D: Driver, R: Threads + Wait + Sync>
     );
     let _ = &*again;
     ran
-}
-
-/// Puts the address space under a lock, and takes it out of it when the workers have run.
-pub fn run_workers<G: Gate + Sync, D: Driver, R: Threads + Wait + Sync>(
-    rt: &R,
-    alloc: Global,
-    vm: Vm,
-    timelines: &Timelines,
-    gate: &G,
-    driver: &mut D,
-    opened: Opened,
-    rooms: Rooms,
-) -> (Vm, Ran)
-    requires own { IsSeatOf timelines.now opened.seat × All (λ w. w.of ≡ timelines.now) opened.workers.items }
-    requires opened { (limit : ℕ) × (depth : ℕ)
-        × AreOpened limit depth (count_of timelines.now) opened.submitters.items }
-    requires order { AreInOrder (λ w. w.queue) opened.workers.items }
-    requires even { vec_len opened.workers ≡ vec_len opened.submitters }
-    requires none { (rooms.handles.items ≡ []) × (rooms.puts.items ≡ []) × (rooms.workers.items ≡ []) }
-    requires room { (vec_len opened.workers ≤ vec_capacity rooms.handles)
-        × (vec_len opened.workers ≤ vec_capacity rooms.puts)
-        × (vec_len opened.workers ≤ vec_capacity rooms.workers) }
-    ensures order { AreInOrder (λ w. w.queue) result.1.workers.items }
-    ensures puts { IfNone result.1.refused (ArePuts (D.put_on driver.new) result.1.puts.items) }
-    ensures even { IfNone result.1.refused ((vec_len result.1.puts ≡ vec_len opened.submitters)
-        × (vec_len result.1.workers ≡ vec_len opened.submitters)) }
-    ensures refused { IfSome result.1.refused (λ queue. (queue < vec_len opened.submitters)
-        × (driver.new ≡ driver.old)) }
-{
-    let lock = VmLock::new(vm);
-    let ran = run_on(rt, alloc, &lock, timelines, gate, driver, opened, rooms);
-    (lock.into_inner(), ran)
 }

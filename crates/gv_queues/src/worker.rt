@@ -41,7 +41,7 @@ impl Model for Worker {
 
     ghost Value = { WorkerState };
 
-    ghost view = { λ w. record { queue = w.taker.queue; of = w.seat.of } };
+    ghost view = { λ w. record { queue = w.taker.queue; of = w.seat.of; halvings = w.seat.halvings } };
 
     ghost invariant = { λ w.
         (w.taker.taken ≡ [])
@@ -57,7 +57,7 @@ impl Worker {
         requires timelines { taker.timelines ≡ count_of seat.of }
         requires raised { (timeline : ℕ) → (mark_of seat timeline).raised ≡ 0 }
         requires left { (left.items ≡ []) × (0 < vec_capacity left) }
-        ensures { result ≡ record { queue = taker.queue; of = seat.of } }
+        ensures { result ≡ record { queue = taker.queue; of = seat.of; halvings = seat.halvings } }
     {
         Worker { taker, seat, left }
     }
@@ -119,7 +119,9 @@ pub fn work<G: Gate, R: Wait>(
     worker: Worker,
 ) -> WorkerEnd
     requires { worker.of ≡ shared.timelines.now }
-    ensures { result.queue ≡ worker.queue }
+    ensures queue { result.queue ≡ worker.queue }
+    // No seat was split off the worker's own, with which it could have raised unseen.
+    ensures share { result.halvings ≡ worker.halvings }
 {
     let Worker {
         mut taker,

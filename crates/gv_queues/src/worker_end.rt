@@ -30,6 +30,7 @@ impl Model for WorkerEnd {
       taken = e.taker.taken;
       gave = e.gave.items;
       left = e.left.items;
+      halvings = e.seat.halvings;
     } };
 
     ghost invariant = { λ e.
@@ -45,6 +46,7 @@ impl WorkerEnd {
           taken = taker.taken;
           gave = gave.items;
           left = left.items;
+          halvings = seat.halvings;
         } }
     {
         WorkerEnd {
@@ -73,6 +75,7 @@ impl WorkerEnd {
     pub(crate) fn drained<R: Wait>(self, rt: &R) -> WorkerEnd
         ensures queue { result.queue ≡ self.queue }
         ensures gave { result.gave ≡ self.gave }
+        ensures share { result.halvings ≡ self.halvings }
     {
         let Self {
             mut taker,

@@ -1,5 +1,5 @@
 -- How faults of scripts and queues are told, with the devices' flags.
-use Rattle.std.proofs.Common.{◌≡◌, ◌∙◌, ℕ, Bool, true, Result, Ok, Err, refl}
+use Rattle.std.proofs.Common.{◌≡◌, ◌∙◌, ℕ, Bool, Result, Err, refl}
 use Rattle.gv_queues.specs.Ending.{IsOfQueueBelow}
 use Rattle.gv_queues.specs.declared.finishing.QueuesFault.{QueuesFault}
 use Rattle.gv_queues.specs.declared.finishing.QueuesFault.TheVariants.{NotMade, NotStarted, Disagree}

@@ -1,7 +1,6 @@
 -- How a threads script ends.
 use Rattle.std.specs.Prelude.{◌≡◌, ℕ, ◌<◌, Bool, true, Result, Ok, Err}
 use Rattle.gv_queues.specs.declared.finishing.QueuesFault.TheVariants.{NotMade, NotStarted, Disagree}
-use Rattle.gv_text.specs.declared.fault.ScriptFault.{ScriptFault}
 use Rattle.gv_text.specs.declared.fault.ScriptFault.TheVariants.{BadLine, ScriptTooLong, ReadFault, WriteFault, OutOfMemory}
 use Rattle.gv_threads.specs.declared.fault.ThreadsFault.{ThreadsFault}
 use Rattle.gv_threads.specs.declared.fault.ThreadsFault.TheVariants.{Script, Queues}

@@ -1,7 +1,6 @@
 //! Scripts whose requests are put on running queues, run from their bytes to their replies.
 #![tactic(auto)]
 
-mod driver;
 mod ends;
 mod fault;
 mod gate;

@@ -1,5 +1,5 @@
 //! A threads script from its bytes to its replies.
-ghost use Rattle.std.specs.Prelude.{◌≡◌, Bool, IfErr};
+ghost use Rattle.std.specs.Prelude.{◌≡◌, Bool, Err, IfErr};
 ghost use Rattle.gv_types.specs.Limits.{IsFromOneTo};
 ghost use Rattle.gv_sync.specs.Seats.{IsSeatOf, count_of, most_timelines};
 ghost use Rattle.gv_vm.specs.Outcomes.{queues};
@@ -7,11 +7,10 @@ ghost use Rattle.gv_text.specs.Threads.{most_places};
 ghost use Rattle.gv_queues.specs.Ending.{IsOfQueueBelow, IsUntold};
 ghost use Rattle.gv_threads.specs.Ending.{HasNotBegun, RunsAs};
 
-use crate::driver::ScriptDriver;
 use crate::ends::write_ends;
 use crate::fault::ThreadsFault;
 use crate::gate::TurnLimit;
-use gv_queues::{QueueEnd, QueuesFault, run_queues};
+use gv_queues::{PutAll, QueueEnd, QueuesFault, run_queues};
 use gv_sync::{MAX_TIMELINES, Seat, Timelines};
 use gv_text::{ScriptFault, Sink, Source, ThreadsScript};
 use gv_vm::Vm;
@@ -46,35 +45,51 @@ pub fn run_threads<R: Threads + Wait + Sync, S: Source, K: Sink>(
         return Err(ThreadsFault::Queues(QueuesFault::NotMade));
     };
     match Vm::new(alloc, script.bounds(), script.limits()) {
-        Ok(vm) => run_on(
-            rt, alloc, script, vm, &timelines, seat, writer, count, turns,
-        ),
+        Ok(vm) => {
+            let made = Made {
+                vm,
+                timelines,
+                seat,
+            };
+            run_on(rt, alloc, script, made, writer, count, turns)
+        }
         Err(_) => Err(ThreadsFault::Script(ScriptFault::OutOfMemory)),
     }
 }
 
-/// Runs a script that was read on a new address space and its timelines, and closes the address space.
+/// What a script runs on: a new address space, and new timelines with their first seat.
+struct Made {
+    vm: Vm,
+    timelines: Timelines,
+    seat: Seat,
+}
+
+/// Runs a script that was read on what was made for it, and closes the address space.
 fn run_on<R: Threads + Wait + Sync, K: Sink>(
     rt: &R,
     alloc: Global,
     mut script: ThreadsScript,
-    mut vm: Vm,
-    timelines: &Timelines,
-    mut seat: Seat,
+    made: Made,
     writer: &mut K,
     count: u64,
     turns: u64,
 ) -> Result<(), ThreadsFault>
     requires queues { IsFromOneTo queues count }
-    requires own { IsSeatOf timelines.now seat }
-    requires all { count_of timelines.now ≡ most_timelines }
-    requires untold { IsUntold vm }
+    requires read { script.queues ≡ count }
+    requires own { IsSeatOf made.timelines made.seat }
+    requires all { count_of made.timelines ≡ most_timelines }
+    requires untold { IsUntold made.vm }
     requires depth { IsFromOneTo most_places script.depth }
     // The reader has nothing to do with it.
     ensures ends { (read : Bool) → RunsAs read read (K.failed writer.old) (K.failed writer.new) count result }
     ensures begun { IfErr result (λ fault. HasNotBegun fault → ⊥) }
 {
-    let requests = match script.begin(alloc, &mut vm, timelines, &mut seat, writer) {
+    let Made {
+        mut vm,
+        timelines,
+        mut seat,
+    } = made;
+    let requests = match script.begin(alloc, &mut vm, &timelines, &mut seat, writer) {
         Ok(requests) => requests,
         Err(fault) => {
             vm.close();
@@ -82,22 +97,20 @@ fn run_on<R: Threads + Wait + Sync, K: Sink>(
         }
     };
     let gate = TurnLimit::new(turns);
-    let mut driver = ScriptDriver::new(requests);
+    let mut driver = PutAll::new(requests);
     let depth = script.depth();
     let (vm, ran) = run_queues(
         rt,
         alloc,
         vm,
-        timelines,
+        &timelines,
         &mut seat,
         count,
         depth,
         &gate,
         &mut driver,
     );
-    let ended = end(
-        alloc, &script, ran, &vm, timelines, &mut seat, writer, count,
-    );
+    let ended = end(alloc, &script, ran, &vm, &timelines, &mut seat, writer);
     vm.close();
     ended
 }
@@ -111,12 +124,12 @@ fn end<K: Sink>(
     timelines: &Timelines,
     seat: &mut Seat,
     writer: &mut K,
-    count: u64,
 ) -> Result<(), ThreadsFault>
     requires own { IsSeatOf timelines.now seat.old }
     requires all { count_of timelines.now ≡ most_timelines }
-    requires queue { IfErr ran (IsOfQueueBelow count) }
-    ensures ends { (read : Bool) → RunsAs read read (K.failed writer.old) (K.failed writer.new) count result }
+    requires queue { IfErr ran (IsOfQueueBelow script.now.queues) }
+    ensures ran { IfErr ran (λ fault. result ≡ Err (ThreadsFault.Queues fault)) }
+    ensures ends { (read : Bool) → RunsAs read read (K.failed writer.old) (K.failed writer.new) script.now.queues result }
     ensures begun { IfErr result (λ fault. HasNotBegun fault → ⊥) }
 {
     let ends = match ran {

@@ -1,4 +1,4 @@
-use Rattle.std.proofs.Common.{rules, ◌≡◌, ◌∙◌, ℕ, length, vec_len, sym, ap}
+use Rattle.std.proofs.Common.{rules, ◌≡◌, ◌∙◌, ◌+◌, ℕ, length, vec_len, sym, ap, arith}
 use Rattle.gv_sync.specs.Seats.{SeatState, count_of, mark_of}
 use Rattle.gv_sync.proofs.LookLemmas.{split_raised}
 use Rattle.gv_queues.specs.Submitting.{IsOpened, SubmitterState}
@@ -17,22 +17,25 @@ loop-queue-preserved c =
     let long : vec_len c.loop-queue.submitters ≡ length c.loop-queue.submitters.items = search rules in
     let wide : vec_len c.loop-queue.workers ≡ length c.loop-queue.workers.items = search rules in
     let opened : IsOpened (length c.loop-queue.submitters.items) c.args.limit c.args.depth (count_of c.args.timelines.now) c.new.result = record {
-      queue = ap (λ (s : SubmitterState). s.queue) c.new.ensures ∙ (sym was.2 ∙ long);
+      queue = ap (λ (s : SubmitterState). s.queue) c.new.ensures ∙ (sym was.3 ∙ long);
       limit = ap (λ (s : SubmitterState). s.limit) c.new.ensures;
       depth = ap (λ (s : SubmitterState). s.depth) c.new.ensures ∙ search rules;
       timelines = ap (λ (s : SubmitterState). s.timelines) c.new.ensures ∙ c.count-named.ensures.count;
       none = ap (λ (s : SubmitterState). s.put) c.new.ensures;
     } in
+    let shared : c.split.new.seat.halvings ≡ c.args.seat.now.halvings + (c.loop-queue.queue + 1) =
+    let half = ap (λ (s : SeatState). s.halvings) c.split.ensures.kept in let so_far = was.2 in omega (arith, half, so_far) in
     let queue : c.new-in-loop-queue-2.result.queue ≡ length c.loop-queue.workers.items =
-    ap (λ (w : WorkerState). w.queue) c.new-in-loop-queue-2.ensures ∙ (ap (λ (t : TakerState). t.queue) c.new-in-loop-queue.ensures ∙ (sym was.3 ∙ wide)) in (
+    ap (λ (w : WorkerState). w.queue) c.new-in-loop-queue-2.ensures ∙ (ap (λ (t : TakerState). t.queue) c.new-in-loop-queue.ensures ∙ (sym was.4 ∙ wide)) in (
       search rules,
       search rules,
+      shared,
       search rules,
       search rules,
-      opened_more c.args.limit c.args.depth (count_of c.args.timelines.now) c.loop-queue.submitters.items c.push_reserved.new.self.items c.new.result c.push_reserved.ensures.items opened was.4,
-      in_order_more (λ (w : WorkerState). w.queue) c.loop-queue.workers.items c.push_reserved-in-loop-queue.new.self.items c.new-in-loop-queue-2.result was.5 queue c.push_reserved-in-loop-queue.ensures.items,
+      opened_more c.args.limit c.args.depth (count_of c.args.timelines.now) c.loop-queue.submitters.items c.push_reserved.new.self.items c.new.result c.push_reserved.ensures.items opened was.5,
+      in_order_more (λ (w : WorkerState). w.queue) c.loop-queue.workers.items c.push_reserved-in-loop-queue.new.self.items c.new-in-loop-queue-2.result was.6 queue c.push_reserved-in-loop-queue.ensures.items,
       each_more (λ (k : ℕ) (w : WorkerState). w.of ≡ c.args.timelines.now) c.loop-queue.workers.items c.push_reserved-in-loop-queue.new.self.items c.new-in-loop-queue-2.result
-          c.push_reserved-in-loop-queue.ensures.items (ap (λ (w : WorkerState). w.of) c.new-in-loop-queue-2.ensures ∙ c.in_ok-own.ensures.own_given) was.6,
+          c.push_reserved-in-loop-queue.ensures.items (ap (λ (w : WorkerState). w.of) c.new-in-loop-queue-2.ensures ∙ c.in_ok-own.ensures.own_given) was.7,
       search rules,
       search rules,
     )

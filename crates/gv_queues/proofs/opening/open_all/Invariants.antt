@@ -1,4 +1,4 @@
-use Rattle.std.proofs.Common.{◌≡◌, ◌≤◌, All, vec_len, vec_capacity}
+use Rattle.std.proofs.Common.{◌≡◌, ◌≤◌, ◌+◌, All, vec_len, vec_capacity}
 use Rattle.gv_sync.specs.Seats.{IsSeatOf, count_of}
 use Rattle.gv_queues.specs.Ending.{AreInOrder}
 use Rattle.gv_queues.specs.Submitting.{AreOpened}
@@ -9,6 +9,7 @@ abbrev pub invariant-loop-queue : goal.invariant-loop-queue
 invariant-loop-queue l =
     IsSeatOf l.timelines l.seat
     × (l.seat.marks ≡ l.fn.seat.marks)
+    × (l.seat.halvings ≡ l.fn.seat.halvings + l.queue)
     × (vec_len l.submitters ≡ l.queue)
     × (vec_len l.workers ≡ l.queue)
     × AreOpened l.fn.limit l.fn.depth (count_of l.timelines) l.submitters.items

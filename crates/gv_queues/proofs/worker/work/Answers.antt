@@ -30,6 +30,7 @@ loop-preserved g c =
       search rules,
       subst (λ (l : List Outcome). RaisedJustOwed l c.take.new.self.taken c.attend.new.seat) (sym grown)
           (subst (λ (l : List Request). RaisedJustOwed gave' l c.attend.new.seat) (sym longer) more),
+      c.in-Ok.ensures.raised.halvings ∙ was.7,
     )
 
 pub new-requires-clause-raised : goal.new-requires-clause-raised

@@ -12,3 +12,4 @@ invariant-loop g l =
     × (l.left.items ≡ [])
     × (0 < vec_capacity l.left)
     × RaisedJustOwed l.gave.items l.taker.taken l.seat
+    × (l.seat.halvings ≡ l.fn.worker.halvings)

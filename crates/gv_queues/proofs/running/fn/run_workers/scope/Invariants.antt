@@ -1,7 +1,7 @@
 use Rattle.std.proofs.Common.{◌≡◌, ◌≤◌, ◌+◌, ◌<◌, ℕ, None, vec_len, vec_capacity, get_or}
 use Rattle.std.specs.Vec.Iter.{into_iter_items, into_iter_len}
 use Rattle.gv_queues.specs.Ending.{AreInOrder}
-use Rattle.gv_queues.proofs.running.fn.run_on.scope.Given as goal
+use Rattle.gv_queues.proofs.running.fn.run_workers.scope.Given as goal
 
 abbrev pub invariant-loop-worker : goal.invariant-loop-worker
 invariant-loop-worker g l =

@@ -4,10 +4,10 @@ use Rattle.std.proofs.Common.{rules, true≢false, sym, ◌≡◌, ◌+◌, ◌�
 use Rattle.std.specs.declared.thread.PromisedHandle.{PromisedHandle}
 use Rattle.gv_queues.specs.declared.worker_end.WorkerEnd.{WorkerEnd}
 use Rattle.gv_queues.specs.declared.running.OfQueue.{OfQueue}
-use Rattle.gv_queues.proofs.running.fn.run_on.scope.Goals.{then-is_none, else-is_none, in-None, in-Some+in-Err}
+use Rattle.gv_queues.proofs.running.fn.run_workers.scope.Goals.{then-is_none, else-is_none, in-None, in-Some+in-Err}
 use Rattle.gv_queues.specs.Working.{WorkerState}
 use Rattle.gv_queues.proofs.Ends.{head_at, one_further, plus_none, tail_at, if_some_none, if_some_of, in_order_more}
-use Rattle.gv_queues.proofs.running.fn.run_on.scope.Goals as goal
+use Rattle.gv_queues.proofs.running.fn.run_workers.scope.Goals as goal
 
 pub loop-worker-preserved : goal.loop-worker-preserved
 loop-worker-preserved g c =

@@ -1,24 +1,28 @@
-//! What puts the requests of a script.
+//! A driver that puts requests in order.
 ghost use Rattle.std.specs.Prelude.{◌≡◌, length};
+ghost use Rattle.gv_queues.specs.Counts.{count_at};
 ghost use Rattle.gv_queues.specs.Submitting.{AreCounted, AreSameSubmitters};
-ghost use Rattle.gv_threads.specs.Counts.{count_at};
 
-use gv_queues::{Driver, Submitter, VmLock};
+use crate::driver::Driver;
+use crate::submitter::Submitter;
+use crate::vm_lock::VmLock;
 use gv_sync::{Seat, Timelines};
 use gv_types::Request;
 use gv_vm::QUEUES;
 use std::sync::Wait;
 
-/// Puts requests in order, each on its queue, and counts those that were put. One that is refused is not tried again.
+/// Puts requests in order, each on its queue, and counts those that were put. One that is refused is let go, and so is one of
+/// another queue or with another timeline than there are. It takes no memory.
 #[derive(Drop)]
-pub struct ScriptDriver {
+pub struct PutAll {
     requests: Option<Vec<(u64, Request)>>,
     counts: [u64; QUEUES],
 }
 
-impl ScriptDriver {
+impl PutAll {
+    /// Each request stands behind its queue.
     pub fn new(requests: Vec<(u64, Request)>) -> Self {
-        ScriptDriver {
+        PutAll {
             requests: Some(requests),
             counts: [0; QUEUES],
         }
@@ -66,8 +70,8 @@ fn put_all<R: Wait>(
     }
 }
 
-impl Driver for ScriptDriver {
-    ghost use Rattle.gv_threads.specs.Counts.{count_at};
+impl Driver for PutAll {
+    ghost use Rattle.gv_queues.specs.Counts.{count_at};
 
     ghost put_on = { λ d. count_at d.counts };
 

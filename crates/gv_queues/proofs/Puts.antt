@@ -1,11 +1,11 @@
 -- A submitter has put more, and its count with it.
-use Rattle.std.proofs.Common.{◌≡◌, ◌∙◌, ℕ, ◌<◌, List, [], ◌∷◌, ◌++◌, length, get_or, set, replicate, zero, suc, refl, sym, ap, subst, ⊎_elim, arith, Result, Ok, Err}
+use Rattle.std.proofs.Common.{◌≡◌, ◌∙◌, ℕ, ◌<◌, List, [], ◌∷◌, ◌++◌, length, set, replicate, zero, suc, refl, sym, ap, ⊎_elim, arith, Result, Ok, Err}
 use Rattle.std.specs.Prelude.{OnOk, OnErr}
 use Rattle.std.proofs.lemmas.List.{get_or-set_same, get_or-set_other, length-set}
 use Rattle.std.proofs.lemmas.Bool.{cases_eq}
 use Rattle.gv_types.specs.declared.request.Request.{Request}
 use Rattle.gv_queues.specs.Submitting.{AreCounted, AreOpened, AreSameSubmitters, IsSameSubmitter, SubmitterState, no_submitter, submitter_at}
-use Rattle.gv_threads.specs.Counts.{count_at}
+use Rattle.gv_queues.specs.Counts.{count_at}
 
 -- a put leaves its submitter the same
 pub same_after : {T E : Type 0} (r : Result T E) (old new : SubmitterState) (request : Request) → OnOk r (new ≡ record old { put = old.put ++ request ∷ [] }) →
@@ -44,15 +44,6 @@ all_counted counts after old new place s is counted inside kept each queue below
     let count : count_at (set counts place (length s.put)) queue ≡ count_at counts queue = get_or-set_other counts place queue (length s.put) 0 other in
     count ∙ (each queue low ∙ ap (λ (x : SubmitterState). length x.put) (sym at)))
     (cases_eq queue place))
-
-pub same_trans : (old mid new : List SubmitterState) → length mid ≡ length old → AreSameSubmitters old mid → AreSameSubmitters mid new → AreSameSubmitters old new
-same_trans old mid new even first second queue below =
-    let low : queue < length mid = omega (arith, below, even) in
-    let one = first queue below in let two = second queue low in
-    two ∙ ap (λ (s : SubmitterState). record s { put = (submitter_at new queue).put }) one
-
-pub same_at_first : (ss : List SubmitterState) → AreSameSubmitters ss ss
-same_at_first ss queue below = refl
 
 zero_counts : (n queue : ℕ) → count_at (replicate n 0) queue ≡ 0
 zero_counts zero queue = refl
