@@ -49,9 +49,10 @@ LAST ?= 120
 refuse-memory: vmbind
 	@RT="$(RT)" tools/refuse-memory $(LAST)
 
-# Times of edits and look-ups. The figures are of this machine.
+# Times of edits and look-ups, and of running queues. The figures are of this machine.
 measure:
 	cd crates/gv_bench && $(RT) run > /dev/null
+	cd crates/gv_queues_bench && $(RT) run > /dev/null
 
 clean:
 	rm -rf vmbind crates/*/out
