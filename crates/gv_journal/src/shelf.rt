@@ -1,5 +1,5 @@
 //! The items that a journal holds, in one slice that older items leave in front.
-ghost use Rattle.std.specs.Prelude.{◌≡◌, ◌++◌, ◌<◌, ◌≤◌, ◌-◌, ◌^◌, IfSome, [], ◌∷◌, List, length, take, drop, set, reverse, slice_index_or, option_to_list, vec_len, vec_capacity, MatchOption, OnOk};
+ghost use Rattle.std.specs.Prelude.{◌≡◌, ◌++◌, ◌<◌, ◌≤◌, ◌-◌, ◌^◌, IfSome, [], ◌∷◌, List, length, take, drop, set, reverse, slice_index_or, option_to_list, vec_len, vec_capacity, MatchOption, OnOk, OnErr, ◌⊎◌};
 ghost use Rattle.std.specs.List.{All};
 ghost use Rattle.gv_types.specs.declared.mapping.Mapping.{Mapping};
 ghost use Rattle.gv_space.specs.State.{AreKept};
@@ -74,11 +74,13 @@ impl Shelf {
         self.items.len() - self.spent
     }
 
-    /// Makes room for one item more. It grows only where less than half of what stands here is spent.
+    /// Makes room for one item more. It grows only where less than half of what stands here is spent, and `OutOfMemory` comes
+    /// only where room was missing.
     pub fn make_room(&mut self) -> Result<(), OutOfMemory>
         ensures items { self.new.items ≡ self.old.items }
         ensures notes { self.new.notes ≡ self.old.notes }
         ensures room { OnOk result (HasPlace self.new) }
+        ensures needed { OnErr result ((self.old.item_room ≡ 0) ⊎ (self.old.note_room ≡ 0)) }
     {
         let full = self.items.len() == self.items.capacity()
             || self.notes.len() == self.notes.capacity();

@@ -1,5 +1,5 @@
 //! The list of mappings with its page table.
-ghost use Rattle.std.specs.Prelude.{◌≡◌, ◌+◌, ◌≤◌, [], length, List, IfOk, IsOkUnless, OnOk};
+ghost use Rattle.std.specs.Prelude.{◌≡◌, ◌+◌, ◌<◌, ◌≤◌, [], length, List, IfOk, IsOkUnless, OnOk, OnErr};
 ghost use Rattle.std.specs.List.{splice};
 ghost use Rattle.gv_types.specs.Span.{end_of};
 ghost use Rattle.gv_types.specs.declared.mapping.Mapping.{Mapping};
@@ -80,6 +80,7 @@ impl ListWithTable {
     pub fn reserve(&mut self, more: usize) -> Result<(), OutOfMemory>
         ensures unchanged { IsUnchanged self.old self.new }
         ensures ok { OnOk result (length self.new.mappings + more ≤ self.new.room) }
+        ensures needed { OnErr result (self.old.room < length self.old.mappings + more) }
     {
         self.list.reserve(more)
     }
