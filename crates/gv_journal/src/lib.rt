@@ -17,6 +17,3 @@ mod undoing;
 pub use item::{Item, ItemKind};
 pub use journal::{Journal, MAX_OPS};
 pub use refusal::Refusal;
-
-#[cfg(test)]
-mod tests;

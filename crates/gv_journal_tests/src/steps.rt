@@ -1,6 +1,6 @@
 //! Steps and replies in short.
-use super::desk::{Reply, Step};
-use super::sight::{Piece, list_of};
+use crate::desk::{Reply, Step};
+use crate::sight::{Piece, list_of};
 use gv_types::Fault;
 
 pub fn map(first: u32, count: u32, buffer: usize, page: u32) -> Step {

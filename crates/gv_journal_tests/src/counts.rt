@@ -1,7 +1,8 @@
 //! Counts of mappings, by counting.
-use crate::{Item, ItemKind};
+use gv_journal::{Item, ItemKind};
+use gv_plain::{count_met, count_of, range_of};
 use gv_space::Space;
-use gv_types::{Backing, BufferId, Mapping, PageOp, PageRange};
+use gv_types::{BufferId, Mapping, PageRange};
 
 /// How many buffers a round has.
 pub const BUFFERS: usize = 3;
@@ -28,29 +29,12 @@ pub fn counts_of(space: &Space, buffers: &[BufferId]) -> Counts {
     counts
 }
 
-/// How many of these mappings are of a buffer and meet a range, or all of them.
-fn count_met(list: &[Mapping], id: BufferId, range: Option<PageRange>) -> u64 {
-    let mut count = 0u64;
-    for mapping in list {
-        let met = match range {
-            Some(range) => range.meets(mapping.range),
-            None => true,
-        };
-        let of_it = match mapping.backing {
-            Backing::Buffer { id: other, .. } => other == id,
-            Backing::Zero => false,
-        };
-        if met && of_it {
-            count = count.saturating_add(1);
-        }
-    }
-    count
-}
-
 /// Whether the list has as many mappings of each buffer as is said of it.
 pub fn uses_are_counted(space: &Space, buffers: &[BufferId], counts: &Counts) -> bool {
-    buffers.iter().zip(&counts.uses).all(|(id, uses)| count_met(space.mappings(), *id, None)
-        == *uses)
+    buffers
+        .iter()
+        .zip(&counts.uses)
+        .all(|(id, uses)| count_of(space.mappings(), id) == *uses)
 }
 
 /// The pages of the only operation that an item did, if it did only one.
@@ -59,7 +43,7 @@ fn only_range(item: &Item) -> Option<PageRange> {
         return None;
     };
     match done.as_slice() {
-        [PageOp::Map { range, .. }] | [PageOp::Unmap { range }] => Some(*range),
+        [op] => range_of(op),
         _ => None,
     }
 }
@@ -78,7 +62,7 @@ pub fn kept_is_counted(
     buffers.iter().zip(before.kept.iter().zip(&now.kept)).all(|(
         id,
         (before, now),
-    )| before.saturating_add(count_met(list, *id, Some(range))) == *now)
+    )| before.saturating_add(count_met(list, id, range)) == *now)
 }
 
 /// The counts without what was kept before.

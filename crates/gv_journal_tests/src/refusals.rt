@@ -5,9 +5,9 @@ ghost use Rattle.gv_types.specs.Limits.{greatest};
 ghost use Rattle.gv_space.specs.State.{new_space};
 ghost use Rattle.gv_journal.specs.State.{FitsSpace};
 
-use super::counts::{Counts, counts_of};
-use super::sight::{List, see};
-use crate::Journal;
+use crate::counts::{Counts, counts_of};
+use crate::sight::{List, see};
+use gv_journal::Journal;
 use gv_space::Space;
 use gv_types::{Bounds, BufferId, Fault, Flags, Limits, Op, PAGE_BYTES, Request};
 use std::alloc::Global;

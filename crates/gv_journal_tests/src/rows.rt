@@ -1,7 +1,7 @@
 //! Worked rows: steps, and what they answer.
-use super::desk::{Reply, Step, run};
-use super::sight::{of_buffer, of_zero};
-use super::steps::{
+use crate::desk::{Reply, Step, run};
+use crate::sight::{of_buffer, of_zero};
+use crate::steps::{
     accepted, count, counted, create, destroy, map, number, refused, refused_at, seen, settle,
     unmap, withdraw, zero,
 };

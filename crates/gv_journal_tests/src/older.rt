@@ -1,8 +1,8 @@
 //! Worked rows of older requests, withdrawn and settled.
-use super::desk::Step;
-use super::rows::{DONE, MANY, expect};
-use super::sight::{of_buffer, of_zero};
-use super::steps::{
+use crate::desk::Step;
+use crate::rows::{DONE, MANY, expect};
+use crate::sight::{of_buffer, of_zero};
+use crate::steps::{
     accepted, count, counted, create, destroy, map, number, refused, seen, settle, unmap, withdraw,
     zero,
 };

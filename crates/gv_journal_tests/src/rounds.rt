@@ -2,11 +2,12 @@
 //! in the history, page by page, a rewind gives the very list that was before, and mappings are counted.
 ghost use Rattle.gv_journal.specs.State.{FitsSpace};
 
-use super::counts::{Counts, counts_of, kept_is_counted, uses_are_counted, without_kept};
-use super::desk::{Desk, Reply, Step, play};
-use crate::{Item, ItemKind, Journal};
+use crate::counts::{Counts, counts_of, kept_is_counted, uses_are_counted, without_kept};
+use crate::desk::{Desk, Reply, Step, play};
+use gv_journal::{Item, ItemKind, Journal};
+use gv_plain::{Random, given};
 use gv_space::Space;
-use gv_types::{Backing, Bounds, Entry, Limits, Mapping, PageOp};
+use gv_types::{Backing, Bounds, Entry, Limits, Mapping};
 use std::alloc::Global;
 use std::test::Fail;
 
@@ -18,31 +19,6 @@ fn withdraws(item: &Item, number: u64) -> bool {
     match &item.kind {
         ItemKind::Bind { .. } => false,
         ItemKind::Withdrawal { of } => *of == number,
-    }
-}
-
-/// What an operation gives a page that it covers.
-fn given(op: &PageOp, page: u64) -> Option<Option<Entry>> {
-    match *op {
-        PageOp::Map {
-            range,
-            backing,
-            flags,
-        } => {
-            if !range.covers(page) {
-                return None;
-            }
-            let backing = match backing {
-                Backing::Buffer { id, page: start } => Backing::Buffer {
-                    id,
-                    page: start.saturating_add(page.saturating_sub(range.first())),
-                },
-                Backing::Zero => Backing::Zero,
-            };
-            Some(Some(Entry { backing, flags }))
-        }
-        PageOp::Unmap { range } => { if range.covers(page) { Some(None) } else { None } }
-        PageOp::UnmapBuffer { .. } => None,
     }
 }
 
@@ -119,19 +95,18 @@ fn settled(
 }
 
 /// A step by chance.
-fn step_of(number: u64, journal: &Journal) -> Step {
-    let first = ((number >> 8) % 10) as u32;
-    let count = ((number >> 16) % 3) as u32 + 1;
-    let buffer = ((number >> 24) % 3) as usize;
-    let entry = journal
-        .first()
-        .saturating_add((number >> 32) % (journal.items().len() as u64 + 1));
-    match number % 24 {
+fn step_of(random: &mut Random, journal: &Journal) -> Step {
+    let first = random.below(10) as u32;
+    let count = random.below(3) as u32 + 1;
+    let buffer = random.below(3) as usize;
+    let held = journal.items().len() as u64;
+    let entry = journal.first().saturating_add(random.below(held + 1));
+    match random.below(24) {
         0..=4 => Step::Map {
             first,
             count,
             buffer,
-            page: ((number >> 40) % 4) as u32,
+            page: random.below(4) as u32,
         },
         5..=6 => Step::Zero { first, count },
         7 => Step::Fixed { first, count },
@@ -249,12 +224,9 @@ fn round(
     let _first = play(alloc, space, journal, &mut desk, make)?;
     let _second = play(alloc, space, journal, &mut desk, make)?;
     let _third = play(alloc, space, journal, &mut desk, make)?;
-    let mut number = seed;
+    let mut random = Random::new(seed);
     for turn_number in 0..steps {
-        number = number
-            .wrapping_mul(6_364_136_223_846_793_005)
-            .wrapping_add(1_442_695_040_888_963_407);
-        let step = step_of(number >> 13, journal);
+        let step = step_of(&mut random, journal);
         if !turn(alloc, space, journal, &mut desk, &mut past, step)? {
             return Ok(false);
         }

@@ -1,8 +1,8 @@
 //! Steps played on a space and its journal.
 ghost use Rattle.gv_journal.specs.State.{FitsSpace};
 
-use super::sight::{List, see};
-use crate::Journal;
+use crate::sight::{List, see};
+use gv_journal::Journal;
 use gv_space::Space;
 use gv_types::{Bounds, BufferId, Fault, Flags, Limits, Op, PAGE_BYTES, Request};
 use std::alloc::Global;
