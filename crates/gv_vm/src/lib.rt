@@ -21,6 +21,3 @@ pub use places::{Place, Target};
 pub use told::QUEUES;
 pub use vm::Vm;
 pub use world::{Stopped, World};
-
-#[cfg(test)]
-mod tests;

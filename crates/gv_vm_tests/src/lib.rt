@@ -1,17 +1,31 @@
-//! Tests of the world against a model. They stand in a crate of their own, so that the machine isn't proved a second time with
-//! them.
+//! Tests of the machine and of the world: rows of calls, and random events against a model. They stand in a crate of their own, so
+//! that the machine isn't proved a second time with them.
 #![tactic(auto)]
 
 #[cfg(test)]
+mod calls;
+#[cfg(test)]
 mod chance;
+#[cfg(test)]
+mod entries;
+#[cfg(test)]
+mod events;
+#[cfg(test)]
+mod fixtures;
 #[cfg(test)]
 mod ground;
 #[cfg(test)]
 mod history;
 #[cfg(test)]
+mod jobs;
+#[cfg(test)]
+mod limits;
+#[cfg(test)]
 mod lines;
 #[cfg(test)]
 mod model;
+#[cfg(test)]
+mod refusals;
 #[cfg(test)]
 mod rounds;
 #[cfg(test)]
@@ -20,3 +34,5 @@ mod rows;
 mod running;
 #[cfg(test)]
 mod tally;
+#[cfg(test)]
+mod turns;

@@ -1,7 +1,7 @@
 //! Requests for memory that are refused. In a run where none is, each step is answered at once.
-use super::events::{turn_events, turn_replies};
-use crate::{Event, Outcome, Reply, World};
+use crate::events::{turn_events, turn_replies};
 use gv_types::{Bounds, Fault, Limits};
+use gv_vm::{Event, Outcome, Reply, World};
 use std::alloc::{AllocError, Global};
 use std::process::Abort;
 use std::test::Fail;

@@ -1,7 +1,7 @@
 //! Rows of calls on a world: entries withdrawn and settled, jobs, and what was told.
-use super::fixtures::{empty, map_run, read, request, write, zero};
-use crate::{Event, Outcome, Place, Reply, Stopped, Target, World};
+use crate::fixtures::{empty, map_run, read, request, write, zero};
 use gv_types::{Bounds, BufferId, Fault, Flags, Limits, Op};
+use gv_vm::{Event, Outcome, Place, Reply, Stopped, Target, World};
 use std::alloc::Global;
 use std::process::Abort;
 use std::test::Fail;

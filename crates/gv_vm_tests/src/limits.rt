@@ -1,7 +1,7 @@
 //! The greatest numbers of jobs and accesses.
-use super::fixtures::{bind, read, whole, zero};
-use crate::{Access, Job, MAX_ACCESSES, MAX_RUNNING, Outcome, Vm};
+use crate::fixtures::{bind, read, whole, zero};
 use gv_types::Fault;
+use gv_vm::{Access, Job, MAX_ACCESSES, MAX_RUNNING, Outcome, Vm};
 use std::alloc::Global;
 use std::process::Abort;
 use std::test::Fail;

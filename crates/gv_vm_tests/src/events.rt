@@ -1,7 +1,7 @@
 //! Rows of events, each with the replies that a world gives.
-use super::fixtures::{empty, map_run, read, request, timed, write, zero};
-use crate::{Event, Outcome, Place, Reply, Stopped, Target, World};
+use crate::fixtures::{empty, map_run, read, request, timed, write, zero};
 use gv_types::{Bounds, BufferId, Fault, Flags, Limits, Op, Point};
+use gv_vm::{Event, Outcome, Place, Reply, Stopped, Target, World};
 use std::alloc::{AllocError, Global};
 use std::process::Abort;
 use std::test::Fail;

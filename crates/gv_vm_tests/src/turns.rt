@@ -1,7 +1,7 @@
 //! Requests and their numbers.
-use super::fixtures::{bind, request, whole, zero};
-use crate::{NotTold, Outcome, Vm};
+use crate::fixtures::{bind, request, whole, zero};
 use gv_types::Fault;
+use gv_vm::{NotTold, Outcome, Vm};
 use std::alloc::Global;
 use std::process::Abort;
 use std::test::Fail;

@@ -1,7 +1,7 @@
 //! Jobs, and what they hold.
-use super::fixtures::{bind, map, read, whole, write, zero};
-use crate::{Job, Outcome, Place, Target, Vm};
+use crate::fixtures::{bind, map, read, whole, write, zero};
 use gv_types::{BufferId, Fault, Flags};
+use gv_vm::{Job, Outcome, Place, Target, Vm};
 use std::alloc::Global;
 use std::process::Abort;
 use std::test::Fail;

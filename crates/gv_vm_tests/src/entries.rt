@@ -1,7 +1,7 @@
 //! Entries taken back, withdrawn and settled.
-use super::fixtures::{bind, map_run, whole, zero};
-use crate::{Outcome, Place, Target, Vm};
+use crate::fixtures::{bind, map_run, whole, zero};
 use gv_types::{BufferId, Fault, Flags};
+use gv_vm::{Outcome, Place, Target, Vm};
 use std::alloc::Global;
 use std::process::Abort;
 use std::test::Fail;

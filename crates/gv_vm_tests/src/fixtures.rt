@@ -1,9 +1,9 @@
 //! What the tests are made of.
 ghost use Rattle.std.specs.Prelude.{◌≡◌, [], IfOk};
 
-use crate::{Access, NotTold, Outcome, Vm};
 use gv_buffers::Usage;
 use gv_types::{Bounds, BufferId, Fault, Flags, Limits, Op, PAGE_BYTES, Point, Request};
+use gv_vm::{Access, NotTold, Outcome, Vm};
 use std::alloc::{AllocError, Global};
 use std::test::Fail;
 
