@@ -1,5 +1,5 @@
 //! Queues that are opened, run and finished.
-ghost use Rattle.std.specs.Prelude.{◌≡◌, ◌<◌, ◌≤◌, ◌+◌, ℕ, [], Err, IfOk, IfErr, vec_len};
+ghost use Rattle.std.specs.Prelude.{◌≡◌, ◌≢◌, ◌<◌, ◌≤◌, ◌+◌, ℕ, [], Err, IfOk, IfErr, vec_len};
 ghost use Rattle.gv_sync.specs.Seats.{IsSeatOf};
 ghost use Rattle.gv_types.specs.Limits.{IsFromOneTo};
 ghost use Rattle.gv_vm.specs.Outcomes.{queues};
@@ -40,7 +40,7 @@ pub fn run_queues<G: Gate + Sync, D: Driver, R: Threads + Wait + Sync>(
     requires untold { IsUntold vm }
     ensures own { IsSeatOf timelines.now seat.new }
     ensures marks { seat.new.marks ≡ seat.old.marks }
-    ensures share { IfOk result.1 (λ _. seat.new.halvings ≡ seat.old.halvings + (count + 1)) }
+    ensures share { result.1 ≢ Err QueuesFault.NotMade → seat.new.halvings ≡ seat.old.halvings + (count + 1) }
     ensures sound { IsMachine result.0 }
     ensures not_made { result.1 ≡ Err QueuesFault.NotMade → result.0 ≡ vm }
     ensures not_run { IfErr result.1 (λ fault. HasNotRun fault → driver.new ≡ driver.old) }
