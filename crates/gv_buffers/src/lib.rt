@@ -12,6 +12,3 @@ mod users;
 
 pub use buffers::Buffers;
 pub use usage::{Usage, User};
-
-#[cfg(test)]
-mod tests;

@@ -25,6 +25,3 @@ pub use operation::Operation;
 pub use parse::parse_line;
 pub use point::NamedPoint;
 pub use words::split_once;
-
-#[cfg(test)]
-mod tests;

@@ -9,6 +9,3 @@ mod search;
 
 pub use range_list::RangeList;
 pub use rest::{next_rest, prev_rest};
-
-#[cfg(test)]
-mod tests;

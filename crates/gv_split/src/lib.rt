@@ -4,6 +4,3 @@
 mod step;
 
 pub use step::{Step, plan};
-
-#[cfg(test)]
-mod tests;

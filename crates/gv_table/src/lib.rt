@@ -18,6 +18,3 @@ mod wanted;
 
 pub use page_table::PageTable;
 pub use spares::Spares;
-
-#[cfg(test)]
-mod tests;

@@ -1,6 +1,6 @@
 use Rattle.std.proofs.Common.{◌≡◌}
 use Rattle.gv_table.specs.Table.{IsTree}
-use Rattle.gv_table.proofs.tests.tables_come_and_go.Given as goal
+use Rattle.gv_low_tests.proofs.table.play.Given as goal
 
 abbrev pub invariant-loop-is_map : goal.invariant-loop-is_map
 invariant-loop-is_map g l = record {

@@ -1,0 +1,22 @@
+//! Tests of the crates below the space: ranges, split, page table, buffers; and of the lines of the script language. They stand
+//! in a crate of their own, so that none of those is proved a second time with them.
+#![tactic(auto)]
+
+#[cfg(test)]
+mod buffers;
+#[cfg(test)]
+mod fixtures;
+#[cfg(test)]
+mod full_tables;
+#[cfg(test)]
+mod lines;
+#[cfg(test)]
+mod no_lines;
+#[cfg(test)]
+mod ranges;
+#[cfg(test)]
+mod requests;
+#[cfg(test)]
+mod split;
+#[cfg(test)]
+mod table;

@@ -1,0 +1,69 @@
+//! The list of mappings, and what is left of the mappings that a range meets.
+ghost use Rattle.gv_ranges.specs.Examples.{EditOfNothing, EditOfLastPage, HoleLeavesBothRests};
+ghost use Rattle.gv_ranges.specs.Examples.{MapOverThree, MapAtSamePages, UnmapOfNothing};
+ghost use Rattle.gv_ranges.specs.Examples.{RestsKeepFlags, RestsOfZeros, NeighboursStayApart};
+ghost use Rattle.gv_ranges.specs.Examples.{RestoreOfPieces};
+
+use crate::fixtures::{edit, entry, list_of, mapping, spread, unmap};
+use gv_ranges::{laws, next_rest, prev_rest};
+use std::test::Fail;
+
+/// What the definitions say of worked examples.
+fn examples()
+    ensures nothing { EditOfNothing }
+    ensures last_page { EditOfLastPage }
+    ensures hole { HoleLeavesBothRests }
+    ensures three { MapOverThree }
+    ensures same_pages { MapAtSamePages }
+    ensures unmap_nothing { UnmapOfNothing }
+    ensures flags { RestsKeepFlags }
+    ensures zeros { RestsOfZeros }
+    ensures neighbours { NeighboursStayApart }
+    ensures restore { RestoreOfPieces }
+{}
+
+#[test]
+fn definitions_hold(_rt: HostRuntime) {
+    examples();
+    laws::edits();
+    laws::restores();
+    laws::meetings();
+}
+
+#[test]
+fn edits_leave_rests(rt: HostRuntime) -> Result<(), Fail> {
+    let hole = unmap(2, 1)?;
+    let wanted = [
+        mapping(0, 1, 1, 0)?,
+        mapping(1, 1, 1, 100)?,
+        mapping(3, 2, 1, 102)?,
+        mapping(5, 1, 1, 5)?,
+    ];
+    let rows = [(0, 2, 1, 0), (2, 2, 1, 2), (4, 2, 1, 4), (1, 4, 1, 100)];
+    let mut list = list_of(rt.alloc(), &rows)?;
+    edit(rt.alloc(), &mut list, &hole)?;
+    assert_eq!(rt; list.mappings(), wanted.as_slice());
+    Ok(())
+}
+
+#[test]
+fn rests_of_one_mapping(rt: HostRuntime) -> Result<(), Fail> {
+    let run = [mapping(0, 4, 1, 7)?];
+    let before = mapping(0, 1, 1, 7)?;
+    let behind = mapping(3, 1, 1, 10)?;
+    assert_eq!(rt; prev_rest(&run, 1), Some(before));
+    assert_eq!(rt; next_rest(&run, 3), Some(behind));
+    Ok(())
+}
+
+#[test]
+fn a_thousand_mappings(rt: HostRuntime) -> Result<(), Fail> {
+    let list = spread(rt.alloc(), 1000, 2)?;
+    assert_eq!(rt; list.mappings().len(), 1000);
+    for k in 0..1000u32 {
+        let page = u64::from(k) * 2;
+        let found = [list.at(page), list.at(page + 1)];
+        assert!(rt; found == [Some(entry(k)), None], "at {page}");
+    }
+    Ok(())
+}
