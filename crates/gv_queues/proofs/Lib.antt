@@ -4,5 +4,3 @@ pub mod Ends
 pub mod Same
 pub mod Outcomes
 pub mod Sends
-pub mod SubmittersLemmas
-pub mod Puts

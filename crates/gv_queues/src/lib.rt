@@ -31,6 +31,3 @@ pub use submitter::{PutFault, Submitter};
 pub use taking::Taken;
 pub use vm_lock::VmLock;
 pub use worker_end::WorkerEnd;
-
-#[cfg(test)]
-mod tests;

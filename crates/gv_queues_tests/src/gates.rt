@@ -1,5 +1,5 @@
 //! Gates, each of which gives up or stops holding a worker after a stated number of turns.
-use crate::{Gate, Turn};
+use gv_queues::{Gate, Turn};
 use gv_sync::Lacking;
 use std::sync::atomic::Ordering::SeqCst;
 use std::sync::atomic::{AtomicBool, AtomicU64};

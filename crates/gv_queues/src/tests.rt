@@ -1,8 +1,0 @@
-mod ends;
-mod fixtures;
-mod gates;
-mod hostile;
-mod meeting;
-mod plan;
-mod refusals;
-mod waiting;

@@ -1,0 +1,201 @@
+//! Drivers that go past the limits, and one that takes entries back while queues run.
+use crate::gates::TURNS;
+use crate::row::{FIRST, FULL, Kept, NOTHING, NOUGHT, Sent, Setting, Step, WAITS, Wanted};
+use crate::rows::{Row, play};
+use gv_types::{Fault, PAGE_BYTES};
+use gv_vm::Outcome;
+use std::test::Fail;
+
+const ONE: Sent = Sent {
+    zeros: &[PAGE_BYTES],
+    ..NOTHING
+};
+
+const TWO: Sent = Sent {
+    zeros: &[2 * PAGE_BYTES],
+    ..NOTHING
+};
+
+const THREE: Sent = Sent {
+    zeros: &[3 * PAGE_BYTES],
+    ..NOTHING
+};
+
+const FOUR: Sent = Sent {
+    zeros: &[4 * PAGE_BYTES],
+    ..NOTHING
+};
+
+/// A request that waits is put, then, once its worker waits, two more on the one place of the queue; then the first is
+/// reached.
+const FILLED: Row = Row {
+    turns: TURNS,
+    holds: false,
+    setting: Setting {
+        limits: FULL,
+        count: 1,
+        depth: 1,
+        steps: &[
+            Step::Put(0, WAITS, Ok(0)),
+            Step::AwaitAsked,
+            Step::Put(0, ONE, Ok(1)),
+            Step::Put(0, TWO, Err(Fault::QueueFull)),
+            Step::Raise { point: FIRST },
+        ],
+    },
+    wanted: Wanted {
+        told: [
+            &[
+                Outcome::Accepted { entry: 0 },
+                Outcome::Accepted { entry: 1 },
+            ],
+            &[],
+        ],
+        entries: &[Kept(0, 0, WAITS), Kept(0, 1, ONE)],
+        mappings: 2,
+        zeros: &[0, PAGE_BYTES],
+        nowhere: &[2 * PAGE_BYTES],
+        numbers: [1, 0],
+    },
+};
+
+#[test]
+fn full_queue_hands_a_request_back(rt: HostRuntime) -> Result<(), Fail> {
+    play(&rt, rt.alloc(), &FILLED)
+}
+
+/// The same, and a further request is put when both are told.
+const FILLED_AGAIN: Row = Row {
+    turns: TURNS,
+    holds: false,
+    setting: Setting {
+        limits: FULL,
+        count: 1,
+        depth: 1,
+        steps: &[
+            Step::Put(0, WAITS, Ok(0)),
+            Step::AwaitAsked,
+            Step::Put(0, ONE, Ok(1)),
+            Step::Put(0, TWO, Err(Fault::QueueFull)),
+            Step::Raise { point: FIRST },
+            Step::AwaitTold { outcomes: 2 },
+            Step::Put(0, THREE, Ok(2)),
+        ],
+    },
+    wanted: Wanted {
+        told: [
+            &[
+                Outcome::Accepted { entry: 0 },
+                Outcome::Accepted { entry: 1 },
+                Outcome::Accepted { entry: 2 },
+            ],
+            &[],
+        ],
+        entries: &[Kept(0, 0, WAITS), Kept(0, 1, ONE), Kept(0, 2, THREE)],
+        mappings: 3,
+        zeros: &[0, PAGE_BYTES, 3 * PAGE_BYTES],
+        nowhere: &[2 * PAGE_BYTES],
+        numbers: [1, 0],
+    },
+};
+
+#[test]
+fn full_queue_takes_a_request_after_a_take(rt: HostRuntime) -> Result<(), Fail> {
+    play(&rt, rt.alloc(), &FILLED_AGAIN)
+}
+
+/// Two outcomes may be told, so the third put is refused, though the channel has room.
+const SPENT: Row = Row {
+    turns: 1,
+    holds: false,
+    setting: Setting {
+        limits: [1, 1, 1, 2],
+        count: 1,
+        depth: 3,
+        steps: &[
+            Step::Put(0, NOUGHT, Ok(0)),
+            Step::Put(0, ONE, Ok(1)),
+            Step::Put(0, TWO, Err(Fault::QueueSpent)),
+        ],
+    },
+    wanted: Wanted {
+        told: [
+            &[
+                Outcome::Accepted { entry: 0 },
+                Outcome::Refused {
+                    op: 0,
+                    fault: Fault::JournalFull,
+                },
+            ],
+            &[],
+        ],
+        entries: &[Kept(0, 0, NOUGHT)],
+        mappings: 1,
+        zeros: &[0],
+        nowhere: &[PAGE_BYTES, 2 * PAGE_BYTES],
+        numbers: [0, 0],
+    },
+};
+
+#[test]
+fn queue_is_spent_at_its_limit(rt: HostRuntime) -> Result<(), Fail> {
+    play(&rt, rt.alloc(), &SPENT)
+}
+
+/// Two requests are told, then the driver withdraws one, takes that back, and takes both back, under the lock of the workers.
+const TAKEN_BACK: Row = Row {
+    turns: 1,
+    holds: false,
+    setting: Setting {
+        limits: FULL,
+        count: 1,
+        depth: 2,
+        steps: &[
+            Step::Put(0, NOUGHT, Ok(0)),
+            Step::Put(0, FOUR, Ok(1)),
+            Step::AwaitTold { outcomes: 2 },
+            Step::Withdraw {
+                entry: 0,
+                number: Ok(2),
+            },
+            Step::Look {
+                addr: 0,
+                zeros: false,
+            },
+            Step::Look {
+                addr: 4 * PAGE_BYTES,
+                zeros: true,
+            },
+            Step::Rewind { number: Ok(2) },
+            Step::Look {
+                addr: 0,
+                zeros: true,
+            },
+            Step::Look {
+                addr: 4 * PAGE_BYTES,
+                zeros: true,
+            },
+            Step::Rewind { number: Ok(1) },
+            Step::Rewind { number: Ok(0) },
+        ],
+    },
+    wanted: Wanted {
+        told: [
+            &[
+                Outcome::Accepted { entry: 0 },
+                Outcome::Accepted { entry: 1 },
+            ],
+            &[],
+        ],
+        entries: &[],
+        mappings: 0,
+        zeros: &[],
+        nowhere: &[0, 4 * PAGE_BYTES],
+        numbers: [0, 0],
+    },
+};
+
+#[test]
+fn driver_takes_entries_back_meanwhile(rt: HostRuntime) -> Result<(), Fail> {
+    play(&rt, rt.alloc(), &TAKEN_BACK)
+}

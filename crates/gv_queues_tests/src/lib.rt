@@ -1,0 +1,21 @@
+//! Tests of running queues. They stand in a crate of their own, so that the queues aren't proved a second time with them.
+#![tactic(auto)]
+
+#[cfg(test)]
+mod counting;
+#[cfg(test)]
+mod gates;
+#[cfg(test)]
+mod hostile;
+#[cfg(test)]
+mod meeting;
+#[cfg(test)]
+mod plan;
+#[cfg(test)]
+mod row;
+#[cfg(test)]
+mod rows;
+#[cfg(test)]
+mod running;
+#[cfg(test)]
+mod waiting;

@@ -1,0 +1,147 @@
+//! Queues run on a new address space, and what is compared at the end.
+use crate::plan::{Plan, is_wanted};
+use crate::row::{Kept, Setting, Wanted};
+use gv_journal::{Item, ItemKind};
+use gv_queues::{Driver, Gate, QueueEnd, QueuesFault, run_queues};
+use gv_sync::Timelines;
+use gv_types::{Bounds, Limits};
+use gv_vm::{QUEUES, Vm};
+use std::alloc::Global;
+use std::process::Abort;
+use std::sync::Wait;
+use std::sync::atomic::AtomicBool;
+use std::test::Fail;
+use std::thread::Threads;
+
+/// How often a test of threads is run.
+pub const TIMES: u32 = 100;
+
+/// How many places a queue may have.
+const MOST_PLACES: usize = 65_536;
+
+/// What a run of queues left: the address space, the numbers of timelines 0 and 1, the driver, and what became of each queue.
+pub struct Ran<'a> {
+    vm: Vm,
+    numbers: [u64; 2],
+    plan: Plan<'a>,
+    ends: Result<Vec<QueueEnd>, QueuesFault>,
+}
+
+/// Runs queues with two new timelines. The gate tells by the flag that it was asked.
+pub fn run<'a, G: Gate + Sync, R: Threads + Wait + Sync>(
+    rt: &R,
+    alloc: Global,
+    setting: &Setting,
+    gate: &G,
+    asked: &'a AtomicBool,
+) -> Result<Ran<'a>, Fail> {
+    let [buffers, mappings, items, told] = setting.limits;
+    let limits = Limits::new(buffers, mappings, items, told).ok_or("limits")?;
+    let (count, depth) = (setting.count, setting.depth);
+    if count == 0 || count > QUEUES as u64 || depth == 0 || depth > MOST_PLACES {
+        return Err("queues".into());
+    }
+    let (timelines, mut seat) = Timelines::new(alloc, 2)?;
+    let mut plan = Plan::new(alloc, asked, setting.steps);
+    let vm = Vm::new(alloc, Bounds::whole(), limits)?;
+    let (vm, ends) = run_queues(
+        rt, alloc, vm, &timelines, &mut seat, count, depth, gate, &mut plan,
+    );
+    let first = timelines.value(&mut seat, 0);
+    let second = timelines.value(&mut seat, 1);
+    Ok(Ran {
+        vm,
+        numbers: [first, second],
+        plan,
+        ends,
+    })
+}
+
+impl Ran<'_> {
+    /// Asserts that each step was answered as wanted, and that the numbers of each of so many queues agree.
+    pub fn expect_ends(&self, rt: &impl Abort, count: u64) {
+        assert_eq!(rt; self.plan.other(), None);
+        match &self.ends {
+            Ok(ends) => {
+                assert!(rt; ends.len() as u64 == count);
+                assert!(rt; self.agree(ends.as_slice()));
+            }
+            Err(_) => assert!(rt; false),
+        }
+    }
+
+    fn agree(&self, ends: &[QueueEnd]) -> bool {
+        (0..QUEUES as u64)
+            .zip(ends)
+            .all(|(queue, end)| self.agrees_on(queue, end))
+    }
+
+    /// Whether what was put on a queue is what was told and what is left, is the driver's count and how many of its puts were
+    /// answered with a number, and whether what was told is what the address space tells.
+    fn agrees_on(&self, queue: u64, end: &QueueEnd) -> bool {
+        if queue >= QUEUES as u64 {
+            return false;
+        }
+        let told = self.vm.told(queue).len() as u64;
+        let put = self.plan.count(queue);
+        end.told == told
+            && end.put == put
+            && put == self.plan.put_well(queue)
+            && told <= put
+            && end.left.len() as u64 == put.saturating_sub(told)
+    }
+
+    /// How many entries there are.
+    pub fn entries(&self) -> usize {
+        self.vm.items().len()
+    }
+
+    /// Asserts that the address space and the timelines are as wanted.
+    pub fn expect(&self, rt: &impl Abort, wanted: &Wanted) {
+        let vm = &self.vm;
+        assert!(rt; vm.told(0) == wanted.told[0]);
+        assert!(rt; vm.told(1) == wanted.told[1]);
+        assert!(rt; has_entries(vm.items(), wanted.entries));
+        assert!(rt; vm.space().mappings().len() == wanted.mappings);
+        assert!(rt; leads(vm, wanted.zeros, true) && leads(vm, wanted.nowhere, false));
+        assert!(rt; self.numbers == wanted.numbers);
+    }
+
+    pub fn close(self) {
+        let Ran {
+            vm,
+            numbers: _,
+            plan: _,
+            ends: _,
+        } = self;
+        vm.close();
+    }
+}
+
+/// Whether all addresses lead to zeros, or all nowhere.
+fn leads(vm: &Vm, addresses: &[u64], zeros: bool) -> bool {
+    addresses
+        .iter()
+        .all(|addr| is_wanted(vm.translate(*addr), zeros))
+}
+
+/// Whether the items stand for these requests, in order.
+fn has_entries(items: &[Item], wanted: &[Kept]) -> bool {
+    items.len() == wanted.len()
+        && items
+            .iter()
+            .zip(wanted)
+            .all(|(item, kept)| is_kept(item, kept))
+}
+
+fn is_kept(item: &Item, kept: &Kept) -> bool {
+    match &item.kind {
+        ItemKind::Bind {
+            queue,
+            number,
+            request,
+            ..
+        } => *queue == kept.0 && *number == kept.1 && kept.2.is(request),
+        ItemKind::Withdrawal { .. } => false,
+    }
+}
