@@ -1,104 +1,119 @@
 //! The faults of operations, in their order.
-use crate::fixtures::{bind, has_list, map, mapping, unmap, whole_space};
-use gv_space::Space;
-use gv_split::Step;
-use gv_types::{Bounds, BufferId, Fault, Flags, Limits, Op, PAGE_BYTES};
-use std::alloc::Global;
-use std::process::Abort;
+use crate::desk::Step;
+use crate::query::{Change, Query};
+use crate::sight::Part;
+use crate::steps::{
+    DONE, changed, create, created, destroy, expect, expect_in, look, looked, map, of_buffer, plan,
+    planned, refused, unmap,
+};
+use gv_types::{Bounds, Fault, PAGE_BYTES};
 use std::test::Fail;
 
-/// Asserts that an operation is refused, planned and applied, and that the list stays as it is.
-fn expect(rt: &impl Abort, alloc: Global, space: &mut Space, op: &Op, fault: Fault) {
-    let before = space.mappings().len();
-    match space.plan(alloc, op) {
-        Ok(_) => assert!(rt; false, "planned"),
-        Err(told) => assert_eq!(rt; told, fault),
-    }
-    assert_eq!(rt; bind(alloc, space, op), Err(fault));
-    assert_eq!(rt; space.mappings().len(), before);
-}
+const SMALL: [u64; 5] = [1, 1, 1, 1, 1];
 
-/// A map of bytes to a buffer's bytes from `offset` on.
-fn map_bytes(addr: u64, len: u64, id: &BufferId, offset: u64) -> Op {
-    Op::Map {
+/// A byte past the end.
+const PAST: u64 = 300_000 * PAGE_BYTES;
+
+/// A map of bytes to a dead buffer's bytes from `offset` on.
+fn map_bytes(addr: u64, len: u64, offset: u64) -> Change {
+    Change::Map {
         addr,
         len,
-        buffer: *id,
+        buffer: 0,
         offset,
-        flags: Flags { read_only: false },
     }
+}
+
+/// Operations, each with its first fault, where buffer 0 is dead and buffer 1 has four pages.
+fn first_faults() -> [(Change, Fault); 9] {
+    [
+        (map_bytes(PAST, 0, 1), Fault::Unaligned),
+        (map_bytes(PAST, 4095, 0), Fault::Unaligned),
+        (map_bytes(1, 0, 0), Fault::Unaligned),
+        (map_bytes(PAST, 0, PAST), Fault::Empty),
+        (map(50_000, 150_001, 0, 9), Fault::OutOfSpace),
+        (map(0, 200_000, 0, 9), Fault::Reserved),
+        (map(1, 9, 0, 9), Fault::NoBuffer),
+        (map(1, 1, 1, 4), Fault::OutOfBuffer),
+        (map(10, 5, 1, 0), Fault::OutOfBuffer),
+    ]
 }
 
 #[test]
 fn first_fault_is_told(rt: HostRuntime) -> Result<(), Fail> {
     let bounds = Bounds::new(0, 200_000, 50_000, 1).ok_or("bounds")?;
-    let limits = Limits::new(2, 1, 1, 1).ok_or("limits")?;
-    let mut space = Space::new(rt.alloc(), bounds, limits)?;
-    let dead = &space.create(rt.alloc(), 1)?;
-    space.destroy(*dead)?;
-    let id = &space.create(rt.alloc(), 4)?;
-    bind(rt.alloc(), &mut space, &map(0, 4, id, 0))?;
-    let past = 300_000 * PAGE_BYTES;
-    for (op, fault) in [
-        (map_bytes(past, 0, dead, 1), Fault::Unaligned),
-        (map_bytes(past, 4095, dead, 0), Fault::Unaligned),
-        (map_bytes(1, 0, dead, 0), Fault::Unaligned),
-        (map_bytes(past, 0, dead, past), Fault::Empty),
-        (map(50_000, 150_001, dead, 9), Fault::OutOfSpace),
-        (map(0, 200_000, dead, 9), Fault::Reserved),
-        (map(1, 9, dead, 9), Fault::NoBuffer),
-        (map(1, 1, id, 4), Fault::OutOfBuffer),
-        (map(10, 5, id, 0), Fault::OutOfBuffer),
-    ] {
-        expect(&rt, rt.alloc(), &mut space, &op, fault);
+    for (change, fault) in first_faults() {
+        let steps = [
+            create(1),
+            destroy(0),
+            create(4),
+            Step::Bind(map(0, 4, 1, 0)),
+            plan(change),
+            Step::Bind(change),
+            look(1),
+        ];
+        let wanted = [
+            created(0),
+            DONE,
+            created(0),
+            changed(0, 4),
+            refused(fault),
+            refused(fault),
+            looked(&[of_buffer(0, 4, 1, 0)], 1, 0, SMALL),
+        ];
+        expect_in(&rt, rt.alloc(), bounds, (2, 1), &steps, &wanted)?;
     }
     Ok(())
 }
 
 #[test]
 fn list_has_a_limit(rt: HostRuntime) -> Result<(), Fail> {
-    let mut space = whole_space(rt.alloc(), 1, 2)?;
-    let id = &space.create(rt.alloc(), 9)?;
-    for op in [map(0, 4, id, 0), unmap(1, 1)] {
-        bind(rt.alloc(), &mut space, &op)?;
-    }
-    let hole = unmap(3, 1);
-    assert_eq!(rt;
-        bind(rt.alloc(), &mut space, &map(4, 1, id, 0)),
-        Err(Fault::TooManyMappings)
-    );
-    assert_eq!(rt;
-        bind(rt.alloc(), &mut space, &map(2, 1, id, 0)),
-        Err(Fault::TooManyMappings)
-    );
-    assert!(rt; has_list(&space, &[mapping(0, 1, id, 0), mapping(2, 2, id, 2)]));
-    assert_eq!(rt; space.uses(*id), Some(2));
-    assert_eq!(rt; space.kept(*id), Some(0));
-    for op in [hole, map(1, 2, id, 7)] {
-        bind(rt.alloc(), &mut space, &op)?;
-    }
-    assert!(rt; has_list(&space, &[mapping(0, 1, id, 0), mapping(1, 2, id, 7)]));
-    Ok(())
+    let steps = [
+        create(9),
+        Step::Bind(map(0, 4, 0, 0)),
+        Step::Bind(unmap(1, 1)),
+        Step::Bind(map(4, 1, 0, 0)),
+        Step::Bind(map(2, 1, 0, 0)),
+        look(0),
+        Step::Bind(unmap(3, 1)),
+        Step::Bind(map(1, 2, 0, 7)),
+        look(0),
+    ];
+    let wanted = [
+        created(0),
+        changed(0, 4),
+        changed(1, 2),
+        refused(Fault::TooManyMappings),
+        refused(Fault::TooManyMappings),
+        looked(&[of_buffer(0, 1, 0, 0), of_buffer(2, 4, 0, 2)], 2, 0, SMALL),
+        changed(3, 4),
+        changed(1, 3),
+        looked(&[of_buffer(0, 1, 0, 0), of_buffer(1, 3, 0, 7)], 2, 0, SMALL),
+    ];
+    expect(&rt, rt.alloc(), (1, 2), &steps, &wanted)
 }
 
 #[test]
 fn plan_asks_no_limit(rt: HostRuntime) -> Result<(), Fail> {
-    let mut space = whole_space(rt.alloc(), 1, 1)?;
-    let id = &space.create(rt.alloc(), 4)?;
-    bind(rt.alloc(), &mut space, &map(0, 4, id, 0))?;
-    let op = unmap(1, 1);
-    let steps = space.plan(rt.alloc(), &op)?;
-    let wanted = Step::Remap {
-        mapping: mapping(0, 4, id, 0).ok_or("mapping")?,
-        prev: mapping(0, 1, id, 0),
-        next: mapping(2, 2, id, 2),
+    let steps = [
+        create(4),
+        Step::Bind(map(0, 4, 0, 0)),
+        plan(unmap(1, 1)),
+        Step::Bind(unmap(1, 1)),
+        look(0),
+    ];
+    let part = Part::Remap {
+        piece: of_buffer(0, 4, 0, 0),
+        prev: Some(of_buffer(0, 1, 0, 0)),
+        next: Some(of_buffer(2, 4, 0, 2)),
         keep: false,
     };
-    assert_eq!(rt; steps.as_slice(), [wanted].as_slice());
-    assert_eq!(rt;
-        bind(rt.alloc(), &mut space, &op),
-        Err(Fault::TooManyMappings)
-    );
-    assert!(rt; has_list(&space, &[mapping(0, 4, id, 0)]));
-    Ok(())
+    let wanted = [
+        created(0),
+        changed(0, 4),
+        planned(&[part]),
+        refused(Fault::TooManyMappings),
+        looked(&[of_buffer(0, 4, 0, 0)], 1, 0, SMALL),
+    ];
+    expect(&rt, rt.alloc(), (1, 1), &steps, &wanted)
 }

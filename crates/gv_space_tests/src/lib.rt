@@ -4,19 +4,27 @@
 #[cfg(test)]
 mod buffers;
 #[cfg(test)]
-mod faults;
+mod changes;
 #[cfg(test)]
-mod fixtures;
+mod course;
+#[cfg(test)]
+mod desk;
+#[cfg(test)]
+mod faults;
 #[cfg(test)]
 mod model;
 #[cfg(test)]
-mod refusals;
+mod query;
 #[cfg(test)]
 mod restores;
 #[cfg(test)]
 mod rounds;
 #[cfg(test)]
 mod rows;
+#[cfg(test)]
+mod sight;
+#[cfg(test)]
+mod steps;
 #[cfg(test)]
 mod tables;
 #[cfg(test)]

@@ -1,6 +1,6 @@
 //! What operations come to by the definitions alone: each place by itself, and the list.
-use gv_plain::{at, changed, further};
-use gv_types::{Backing, BufferId, Entry, Mapping, Op, OutOfMemory, PAGE_BYTES, PageRange};
+use gv_plain::{at, changed, further, range_of};
+use gv_types::{Backing, BufferId, Entry, Mapping, OutOfMemory, PageOp, PageRange};
 use std::alloc::Global;
 use std::test::Fail;
 
@@ -70,9 +70,9 @@ impl Model {
     }
 
     /// The model after an operation.
-    pub fn applied(&self, alloc: Global, op: &Op) -> Result<Model, Fail> {
+    pub fn applied(&self, alloc: Global, op: &PageOp) -> Result<Model, Fail> {
         let range = range_of(op).ok_or("range")?;
-        let model = match put_by(op, range) {
+        let model = match op.own_mapping() {
             Some(own) => self.changed(alloc, range, &[own]),
             None => self.changed(alloc, range, &[]),
         };
@@ -98,36 +98,6 @@ impl Model {
             .filter(|slot| is_broken(&self.list, *slot))
             .count();
         [1, 1, 1, 1, broken as u64]
-    }
-}
-
-/// The pages of an operation.
-pub fn range_of(op: &Op) -> Option<PageRange> {
-    PageRange::new(op.addr() / PAGE_BYTES, op.len() / PAGE_BYTES)
-}
-
-/// What an operation puts in its range.
-fn put_by(op: &Op, range: PageRange) -> Option<Mapping> {
-    match *op {
-        Op::Map {
-            buffer,
-            offset,
-            flags,
-            ..
-        } => Some(Mapping {
-            range,
-            backing: Backing::Buffer {
-                id: buffer,
-                page: offset / PAGE_BYTES,
-            },
-            flags,
-        }),
-        Op::MapZero { flags, .. } => Some(Mapping {
-            range,
-            backing: Backing::Zero,
-            flags,
-        }),
-        Op::Unmap { .. } | Op::UnmapBuffer { .. } => None,
     }
 }
 

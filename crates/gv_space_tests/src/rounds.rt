@@ -1,265 +1,163 @@
 //! Random operations, each compared with the model.
-ghost use Rattle.std.specs.Prelude.{IfOk};
-ghost use Rattle.gv_space.specs.Undo.{CanRevert, AreAmongKept, released, reverted};
-
-use crate::fixtures::{apply, bind};
-use crate::model::{Model, PLACES, Setting, entry_behind, range_of};
+use crate::changes::{Stay, Watch, bring_back, nested};
+use crate::course::{Choice, Course, Held, State, Way, course_of, looks_of, way_of};
+use crate::model::{Model, PLACES, Setting, entry_behind};
 use gv_plain::{Random, count_of};
-use gv_space::{OpUndo, Space};
-use gv_types::{Bounds, Entry, Flags, Limits, Mapping, Op, PAGE_BYTES, PageRange};
+use gv_space::Space;
+use gv_types::{Backing, Bounds, BufferId, Entry, Fault, Limits, Mapping, PageOp};
 use std::alloc::Global;
-use std::process::Abort;
 use std::test::Fail;
 
 /// How many rounds are played on a setting.
 const ROUNDS: u64 = 250;
 
-/// An operation on a few places.
-fn chosen(random: &mut Random, setting: &Setting) -> Op {
-    let first = random.below(PLACES);
-    let count = 1 + random.below((PLACES - first).min(12));
-    let addr = setting.page(first).saturating_mul(PAGE_BYTES);
-    let len = count
-        .saturating_mul(setting.unit)
-        .saturating_mul(PAGE_BYTES);
-    let offset = random
-        .below(36)
-        .saturating_mul(setting.unit)
-        .saturating_mul(PAGE_BYTES);
-    let flags = Flags {
-        read_only: random.below(4) == 0,
-    };
-    match random.below(6) {
-        0 | 1 => Op::Map {
-            addr,
-            len,
-            buffer: setting.buffers[0],
-            offset,
-            flags,
-        },
-        2 | 3 => Op::Map {
-            addr,
-            len,
-            buffer: setting.buffers[1],
-            offset,
-            flags,
-        },
-        4 => Op::MapZero { addr, len, flags },
-        _ => Op::Unmap { addr, len },
-    }
+/// What a space and the model differ in.
+#[derive(Clone, Copy, Debug, PartialEq, Eq)]
+enum Miss {
+    List,
+    Tables,
+    Uses { buffer: BufferId },
+    Kept { buffer: BufferId },
+    Found { page: u64 },
+    Walked { page: u64 },
 }
 
-/// Asserts that a space is what the model says, and that undo values keep these mappings.
-fn expect(rt: &impl Abort, space: &Space, model: &Model, kept: &[Mapping]) {
-    assert!(rt; space.mappings() == model.list.as_slice());
-    assert_eq!(rt; space.tables(), model.tables());
-    for id in &model.setting.buffers {
-        assert_eq!(rt; space.uses(*id), Some(count_of(&model.list, id)));
-        assert_eq!(rt; space.kept(*id), Some(count_of(kept, id)));
+/// What is missed in a page that holds this.
+fn missed_at(space: &Space, page: u64, entry: &Option<Entry>) -> Option<Miss> {
+    if space.find(page) != *entry {
+        return Some(Miss::Found { page });
     }
-    expect_pages(rt, space, model);
+    if space.walk(page) != *entry {
+        return Some(Miss::Walked { page });
+    }
+    None
 }
 
-/// Asserts what the first and the last page of each place hold.
-fn expect_pages(rt: &impl Abort, space: &Space, model: &Model) {
+/// What is missed in the first and the last page of each place.
+fn missed_page(space: &Space, model: &Model) -> Option<Miss> {
     let last = model.setting.unit.saturating_sub(1);
     for (place, entry) in model.pages.iter().enumerate() {
         let page = model.setting.page(place as u64);
-        expect_page(rt, space, page, *entry);
         let at_last = entry_behind(*entry, last);
-        expect_page(rt, space, page.saturating_add(last), at_last);
+        let miss = missed_at(space, page, entry).or(missed_at(
+            space,
+            page.saturating_add(last),
+            &at_last,
+        ));
+        if miss.is_some() {
+            return miss;
+        }
     }
+    None
 }
 
-fn expect_page(rt: &impl Abort, space: &Space, page: u64, entry: Option<Entry>) {
-    assert_eq!(rt; space.find(page), entry, "found at {page}");
-    assert_eq!(rt; space.walk(page), entry, "walked to {page}");
+/// What is missed in a space that has to be what the model says, where undo values keep these mappings.
+fn missed(space: &Space, model: &Model, kept: &[Mapping]) -> Option<Miss> {
+    if space.mappings() != model.list.as_slice() {
+        return Some(Miss::List);
+    }
+    if space.tables() != model.tables() {
+        return Some(Miss::Tables);
+    }
+    for id in &model.setting.buffers {
+        if space.uses(*id) != Some(count_of(&model.list, id)) {
+            return Some(Miss::Uses { buffer: *id });
+        }
+        if space.kept(*id) != Some(count_of(kept, id)) {
+            return Some(Miss::Kept { buffer: *id });
+        }
+    }
+    missed_page(space, model)
 }
 
-/// What two operations come to, and then a restored range: the models after each, and what undo values keep where none
-/// but that of the second operation before a restore is given up.
+/// Compares a space with the models of a round.
 #[derive(Drop)]
-struct Course {
-    ops: [Op; 2],
-    range: PageRange,
-    one: Model,
-    two: Model,
-    restored: Model,
-    kept_by_first: Vec<Mapping>,
-    kept_by_both: Vec<Mapping>,
-    kept_by_restore: Vec<Mapping>,
+struct Judge {
+    course: Course,
+    looks: &'static [(State, Held)],
+    seen: usize,
+    miss: Option<Miss>,
 }
 
-impl Course {
-    /// The model at the end, where a restored range stays or not.
-    fn at_last(self, stays: bool) -> Model {
-        if stays { self.restored } else { self.two }
+impl Watch for Judge {
+    fn see(&mut self, _alloc: Global, space: &Space) -> Result<(), Fault> {
+        if let (Some((state, held)), None) = (self.looks.get(self.seen), self.miss) {
+            let model = self.course.model(*state);
+            self.miss = missed(space, model, self.course.kept(*held));
+        }
+        self.seen = self.seen.saturating_add(1);
+        Ok(())
     }
 }
 
-fn course_of(alloc: Global, model: &Model, random: &mut Random) -> Result<Course, Fail> {
-    let setting = &model.setting;
-    let ops = [chosen(random, setting), chosen(random, setting)];
-    let first = range_of(&ops[0]).ok_or("first")?;
-    let second = range_of(&ops[1]).ok_or("second")?;
-    let range = range_of(&chosen(random, setting)).ok_or("range")?;
-    let one = model.applied(alloc, &ops[0])?;
-    let two = one.applied(alloc, &ops[1])?;
-    let mut kept_by_first = Vec::new(alloc);
-    model.push_met(first, &mut kept_by_first)?;
-    let mut kept_by_both = kept_by_first.clone()?;
-    one.push_met(second, &mut kept_by_both)?;
-    let mut kept_by_restore = kept_by_first.clone()?;
-    two.push_met(range, &mut kept_by_restore)?;
-    let restored = two.changed(alloc, range, &kept_by_first)?;
-    Ok(Course {
-        ops,
-        range,
-        one,
-        two,
-        restored,
-        kept_by_first,
-        kept_by_both,
-        kept_by_restore,
-    })
-}
-
-/// Applies both operations.
-fn apply_both(
-    rt: &impl Abort,
+/// Plays a round on a space. What was missed.
+fn round(
     alloc: Global,
     space: &mut Space,
-    course: &Course,
-) -> Result<(OpUndo, OpUndo), Fail>
-    ensures second { IfOk result (λ undos. CanRevert space.new undos.1) }
-    ensures first { IfOk result (λ undos. CanRevert (reverted space.new undos.1) undos.0) }
-    ensures held { IfOk result (λ undos.
-        AreAmongKept (released space.new undos.1.change.taken) undos.0.change.taken) }
-{
-    let first = apply(alloc, space, &course.ops[0])?;
-    expect(rt, space, &course.one, &course.kept_by_first);
-    match apply(alloc, space, &course.ops[1]) {
-        Ok(second) => {
-            expect(rt, space, &course.two, &course.kept_by_both);
-            Ok((first, second))
+    judge: &mut Judge,
+    choice: &Choice,
+    way: Way,
+) -> Result<Option<Miss>, Fault> {
+    let ops = choice.ops();
+    match way {
+        Way::TakeBack => {
+            nested(alloc, space, judge, &ops, Stay::Neither)?;
         }
-        Err(fault) => {
-            space.release(first);
-            Err(fault.into())
+        Way::GiveUp => {
+            nested(alloc, space, judge, &ops, Stay::Both)?;
+        }
+        Way::BringBack { stays } => {
+            bring_back(alloc, space, judge, &ops, &[choice.range], stays)?;
         }
     }
+    judge.see(alloc, space)?;
+    Ok(judge.miss)
 }
 
-/// Both changes are taken back, the newest first.
-fn take_back(
-    rt: &impl Abort,
-    alloc: Global,
-    space: &mut Space,
-    model: Model,
-    course: &Course,
-) -> Result<Model, Fail> {
-    let (first, second) = apply_both(rt, alloc, space, course)?;
-    space.revert(second);
-    expect(rt, space, &course.one, &course.kept_by_first);
-    space.revert(first);
-    Ok(model)
-}
-
-/// Both changes stay.
-fn give_up(
-    rt: &impl Abort,
-    alloc: Global,
-    space: &mut Space,
-    course: Course,
-) -> Result<Model, Fail> {
-    let (first, second) = apply_both(rt, alloc, space, &course)?;
-    space.release(second);
-    expect(rt, space, &course.two, &course.kept_by_first);
-    space.release(first);
-    Ok(course.two)
-}
-
-/// The range is restored from the first change once the second was made; then that is taken back, or stays.
-fn restore_after(
-    rt: &impl Abort,
-    alloc: Global,
-    space: &mut Space,
-    saved: &OpUndo,
-    course: &Course,
-    stays: bool,
-) -> Result<(), Fail>
-    requires { AreAmongKept space.old saved.now.change.taken }
-    ensures { AreAmongKept space.new saved.now.change.taken }
-{
-    expect(rt, space, &course.one, &course.kept_by_first);
-    bind(alloc, space, &course.ops[1])?;
-    let undo = space.restore(alloc, course.range, saved)?;
-    expect(rt, space, &course.restored, &course.kept_by_restore);
-    if stays {
-        space.release(undo);
-        return Ok(());
-    }
-    space.revert(undo);
-    expect(rt, space, &course.two, &course.kept_by_first);
-    Ok(())
-}
-
-/// Both changes stay, and between them and the end a range is restored from the first.
-fn bring_back(
-    rt: &impl Abort,
-    alloc: Global,
-    space: &mut Space,
-    course: Course,
-    stays: bool,
-) -> Result<Model, Fail> {
-    let saved = apply(alloc, space, &course.ops[0])?;
-    let outcome = restore_after(rt, alloc, space, &saved, &course, stays);
-    space.release(saved);
-    outcome?;
-    Ok(course.at_last(stays))
-}
-
-/// Plays rounds on places of `unit` pages each, from the page `first` on.
-fn play(rt: &impl Abort, alloc: Global, first: u64, unit: u64) -> Result<(), Fail> {
+/// Plays rounds on places of `unit` pages each, from the page `first` on. How many were played, up to the first in which
+/// something was missed, and what that is.
+fn play(alloc: Global, first: u64, unit: u64) -> Result<(u64, Option<Miss>), Fail> {
+    // The borrow checker proves this only where the function names the types inside the models and the operations.
+    let _backing = Backing::Zero;
+    let _op: Option<PageOp> = None;
     let pages = unit.saturating_mul(PLACES);
     let bounds = Bounds::new(first, pages, 0, 0).ok_or("bounds")?;
     let limits = Limits::new(2, 1_000, 1, 1).ok_or("limits")?;
     let mut space = Space::new(alloc, bounds, limits)?;
     let size = unit.saturating_mul(100);
     let buffers = [space.create(alloc, size)?, space.create(alloc, size)?];
-    let mut model = Model::new(
-        alloc,
-        Setting {
-            first,
-            unit,
-            buffers,
-        },
-    )?;
+    let setting = Setting {
+        first,
+        unit,
+        buffers,
+    };
+    let mut model = Model::new(alloc, setting)?;
     let mut random = Random::new(1);
-    for round in 0..ROUNDS {
-        let course = course_of(alloc, &model, &mut random)?;
-        model = match round % 4 {
-            0 => take_back(rt, alloc, &mut space, model, &course)?,
-            1 => give_up(rt, alloc, &mut space, course)?,
-            2 => bring_back(rt, alloc, &mut space, course, false)?,
-            _ => bring_back(rt, alloc, &mut space, course, true)?,
+    for number in 0..ROUNDS {
+        let way = way_of(number);
+        let looks = looks_of(way);
+        let choice = Choice::new(&mut random, &setting)?;
+        let course = course_of(alloc, model, &choice)?;
+        let mut judge = Judge {
+            course,
+            looks,
+            seen: 0,
+            miss: None,
         };
-        expect(rt, &space, &model, &[]);
+        let miss = round(alloc, &mut space, &mut judge, &choice, way)?;
+        if miss.is_some() || judge.seen != looks.len() {
+            return Ok((number, miss));
+        }
+        model = judge.course.at_last(way);
+    }
+    Ok((ROUNDS, None))
+}
+
+#[test]
+fn places_agree_with_the_model(rt: HostRuntime) -> Result<(), Fail> {
+    // Places of a page; on both sides of a table; of a quarter of a leaf.
+    for (first, unit) in [(0, 1), (480, 1), (384, 128)] {
+        assert_eq!(rt; play(rt.alloc(), first, unit)?, (ROUNDS, None));
     }
     Ok(())
-}
-
-#[test]
-fn places_of_a_page(rt: HostRuntime) -> Result<(), Fail> {
-    play(&rt, rt.alloc(), 0, 1)
-}
-
-#[test]
-fn places_on_both_sides_of_a_table(rt: HostRuntime) -> Result<(), Fail> {
-    play(&rt, rt.alloc(), 480, 1)
-}
-
-#[test]
-fn places_of_a_quarter_of_a_leaf(rt: HostRuntime) -> Result<(), Fail> {
-    play(&rt, rt.alloc(), 384, 128)
 }

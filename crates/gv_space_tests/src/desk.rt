@@ -1,0 +1,234 @@
+//! Steps played on a space.
+use crate::changes::{Stay, Watch, bring_back, nested, refused_there, there, there_and_back};
+use crate::query::{Change, Query, Reply, ask, id_of, op_of};
+use gv_buffers::Usage;
+use gv_plain::push;
+use gv_space::Space;
+use gv_types::{Bounds, BufferId, Fault, Limits, Op, PageRange};
+use std::alloc::Global;
+
+/// One step. It answers what its query is answered where it looks, and then what it came to.
+#[derive(Clone, Copy)]
+pub enum Step {
+    Create {
+        pages: u64,
+    },
+    Destroy {
+        buffer: usize,
+    },
+    Join {
+        buffer: usize,
+        job: u64,
+        usage: Usage,
+    },
+    Leave {
+        job: u64,
+    },
+    Ask(Query),
+    /// An operation for good.
+    Bind(Change),
+    /// An operation that is taken back. It looks before and after that.
+    Back {
+        change: Change,
+        query: Query,
+    },
+    /// Why the buffer can't be destroyed while the operation's undo value keeps mappings of it. The operation stays, or is
+    /// taken back.
+    DestroyKept {
+        buffer: usize,
+        change: Change,
+        stays: bool,
+    },
+    /// Two operations. It looks after each, and once the second's undo value is spent.
+    Nested {
+        changes: [Change; 2],
+        stay: Stay,
+        query: Query,
+    },
+    /// Two operations, and then ranges, each a page and a count of pages, restored from the undo value of the first, for good
+    /// or not. It looks after the first operation, and before and after each other undo value is spent.
+    Restore {
+        changes: [Change; 2],
+        ranges: &'static [(u64, u64)],
+        stays: bool,
+        query: Query,
+    },
+}
+
+/// The buffers made so far, what was answered, and what is asked at each look.
+#[derive(Drop)]
+pub struct Desk {
+    buffers: Vec<BufferId>,
+    replies: Vec<Reply>,
+    query: Option<Query>,
+}
+
+impl Desk {
+    fn id(&self, buffer: usize) -> BufferId {
+        id_of(self.buffers.as_slice(), buffer)
+    }
+
+    fn op(&self, change: Change) -> Op {
+        op_of(self.buffers.as_slice(), change)
+    }
+
+    fn ops(&self, changes: [Change; 2]) -> [Op; 2] {
+        [self.op(changes[0]), self.op(changes[1])]
+    }
+}
+
+impl Watch for Desk {
+    fn see(&mut self, alloc: Global, space: &Space) -> Result<(), Fault> {
+        if let Some(query) = self.query {
+            let reply = ask(alloc, space, self.buffers.as_slice(), query);
+            push(&mut self.replies, reply)?;
+        }
+        Ok(())
+    }
+}
+
+/// What is asked at the looks of a step.
+fn query_of(step: Step) -> Option<Query> {
+    match step {
+        Step::Back { query, .. } | Step::Nested { query, .. } | Step::Restore { query, .. } => {
+            Some(query)
+        }
+        _ => None,
+    }
+}
+
+fn changed(outcome: Result<PageRange, Fault>) -> Reply {
+    match outcome {
+        Ok(range) => Reply::Changed {
+            first: range.first(),
+            end: range.end(),
+        },
+        Err(fault) => Reply::Refused { fault },
+    }
+}
+
+fn done(outcome: Result<(), Fault>) -> Reply {
+    match outcome {
+        Ok(()) => Reply::Done,
+        Err(fault) => Reply::Refused { fault },
+    }
+}
+
+/// Makes a buffer.
+fn create(alloc: Global, space: &mut Space, desk: &mut Desk, pages: u64) -> Result<Reply, Fault> {
+    match space.create(alloc, pages) {
+        Ok(id) => {
+            let index = id.index;
+            push(&mut desk.buffers, id)?;
+            Ok(Reply::Created { index })
+        }
+        Err(fault) => Ok(Reply::Refused { fault }),
+    }
+}
+
+/// The ranges of these first pages and counts of pages.
+fn ranges_of(alloc: Global, numbers: &[(u64, u64)]) -> Result<Vec<PageRange>, Fault> {
+    let mut ranges = Vec::new(alloc);
+    for number in numbers {
+        let range = PageRange::new(number.0, number.1).ok_or(Fault::OutOfSpace)?;
+        push(&mut ranges, range)?;
+    }
+    Ok(ranges)
+}
+
+/// Restores ranges.
+fn restore(
+    alloc: Global,
+    space: &mut Space,
+    desk: &mut Desk,
+    changes: [Change; 2],
+    numbers: &[(u64, u64)],
+    stays: bool,
+) -> Result<(), Fault> {
+    let ops = desk.ops(changes);
+    let ranges = ranges_of(alloc, numbers)?;
+    bring_back(alloc, space, desk, &ops, ranges.as_slice(), stays)
+}
+
+/// Tries to destroy a buffer that the undo value of an operation keeps.
+fn destroy_kept(
+    alloc: Global,
+    space: &mut Space,
+    desk: &Desk,
+    buffer: usize,
+    change: Change,
+    stays: bool,
+) -> Reply {
+    match refused_there(alloc, space, &desk.op(change), &desk.id(buffer), stays) {
+        Ok(Some(fault)) | Err(fault) => Reply::Refused { fault },
+        Ok(None) => Reply::Done,
+    }
+}
+
+/// Plays a step that applies operations.
+fn play_change(alloc: Global, space: &mut Space, desk: &mut Desk, step: Step) -> Reply {
+    match step {
+        Step::Bind(change) => {
+            let op = desk.op(change);
+            changed(there(alloc, space, desk, &op))
+        }
+        Step::Back { change, .. } => {
+            let op = desk.op(change);
+            changed(there_and_back(alloc, space, desk, &op))
+        }
+        Step::DestroyKept {
+            buffer,
+            change,
+            stays,
+        } => destroy_kept(alloc, space, desk, buffer, change, stays),
+        Step::Nested { changes, stay, .. } => {
+            let ops = desk.ops(changes);
+            changed(nested(alloc, space, desk, &ops, stay))
+        }
+        Step::Restore {
+            changes,
+            ranges,
+            stays,
+            ..
+        } => done(restore(alloc, space, desk, changes, ranges, stays)),
+        _ => Reply::Done,
+    }
+}
+
+/// Plays a step.
+fn play(alloc: Global, space: &mut Space, desk: &mut Desk, step: Step) -> Result<(), Fault> {
+    desk.query = query_of(step);
+    let reply = match step {
+        Step::Create { pages } => create(alloc, space, desk, pages)?,
+        Step::Destroy { buffer } => done(space.destroy(desk.id(buffer))),
+        Step::Join { buffer, job, usage } => {
+            done(space.join(alloc, desk.id(buffer), job, usage))
+        }
+        Step::Leave { job } => {
+            space.leave(job);
+            Reply::Done
+        }
+        Step::Ask(query) => ask(alloc, space, desk.buffers.as_slice(), query),
+        _ => play_change(alloc, space, desk, step),
+    };
+    Ok(push(&mut desk.replies, reply)?)
+}
+
+/// Plays steps in turn on a new space, and answers what they answered.
+pub fn run(
+    alloc: Global,
+    bounds: Bounds,
+    limits: Limits,
+    steps: &[Step],
+) -> Result<Vec<Reply>, Fault> {
+    let mut space = Space::new(alloc, bounds, limits)?;
+    let mut desk = Desk {
+        buffers: Vec::new(alloc),
+        replies: Vec::new(alloc),
+        query: None,
+    };
+    for step in steps {
+        play(alloc, &mut space, &mut desk, *step)?;
+    }
+    Ok(desk.replies)
+}
