@@ -8,8 +8,6 @@ mod desk;
 #[cfg(test)]
 mod older;
 #[cfg(test)]
-mod refusals;
-#[cfg(test)]
 mod rounds;
 #[cfg(test)]
 mod rows;

@@ -2,23 +2,36 @@
 //!
 //! `gv_refusals` plays the rows with nothing refused. `gv_refusals ROW DUMMIES` plays one of them, and
 //! `gv_refusals script DUMMIES` the script on its standard input, behind so many requests for memory that nobody needs: in runs
-//! in each of which the same request counted from the start is refused, the refused one so moves through the row.
+//! in each of which the same request counted from the start is refused, the refused one so moves through the row. Beside the
+//! rows of events on a world there are `space`, `journal` and `queues`, which call these by themselves.
 #![tactic(auto)]
 
 mod act;
 mod fold;
+mod journal;
 mod play;
+mod queues;
 mod rows;
 mod scripts;
 mod sight;
+mod space;
+mod watch;
 
-use play::play;
-use rows::{ROWS, Row};
+use play::{Wrong, play};
+use rows::{ROW_COUNT, ROWS, Row};
 use std::alloc::Global;
 use std::io::Read;
 use std::process::ExitCode;
 use std::rt::Env;
+use std::sync::Wait;
+use std::thread::Threads;
 use std::{env, io};
+
+/// The rows of calls on a space, on a journal and on running queues.
+const APART: [&str; 3] = ["space", "journal", "queues"];
+
+/// More requests for memory than stand before the one that is refused.
+const PAST_THE_REFUSED: u32 = 1_000;
 
 /// How a run came out.
 #[derive(Clone, Copy, PartialEq, Eq)]
@@ -47,50 +60,90 @@ fn main(rt: HostRuntime) -> io::Result<ExitCode> {
 }
 
 /// Plays all rows with nothing refused.
-fn all<R: Print + AllocGlobal>(rt: &R) -> io::Result<ExitCode> {
-    let mut passed: u32 = 0;
-    let mut failed: u32 = 0;
-    for row in &ROWS {
-        if of_row(rt.alloc(), row) == Verdict::NothingRefused {
-            passed = passed.saturating_add(1);
-        } else {
-            failed = failed.saturating_add(1);
-        }
-    }
+fn all<R: Print + AllocGlobal + Threads + Wait + Sync>(rt: &R) -> io::Result<ExitCode> {
+    let passed = worlds_passed(rt.alloc()).saturating_add(calls_passed(rt, rt.alloc()));
+    let failed = (ROW_COUNT + APART.len()).saturating_sub(passed);
     println!(rt; "{passed} passed, {failed} failed")?;
     Ok(ExitCode::from(u8::from(failed > 0)))
 }
 
+/// How many rows of events come to what they may.
+fn worlds_passed(alloc: Global) -> usize {
+    ROWS.iter()
+        .filter(|row| of_row(alloc, row) == Verdict::NothingRefused)
+        .count()
+}
+
+/// How many rows of calls do.
+fn calls_passed<R: Threads + Wait + Sync>(rt: &R, alloc: Global) -> usize {
+    APART
+        .iter()
+        .filter(|name| apart(rt, alloc, name).is_ok())
+        .count()
+}
+
 /// Plays a row, or the script, behind so many requests for memory.
-fn one<R: Input + AllocGlobal>(rt: &R, name: &str, dummies: u32) -> io::Result<Verdict> {
+fn one<R: Input + AllocGlobal + Threads + Wait + Sync>(
+    rt: &R,
+    name: &str,
+    dummies: u32,
+) -> io::Result<Verdict> {
     if name == "script" {
-        let mut script = Vec::new(rt.alloc());
-        rt.reader().read_to_end(&mut script)?;
-        ask_for_nothing(rt.alloc(), dummies);
-        let held = match scripts::holds(rt.alloc(), &script) {
-            Ok(held) => held,
-            // Memory for a comparison.
-            Err(_) => Some(scripts::holds(rt.alloc(), &script)?.is_none()),
-        };
-        return Ok(match held {
-            None => Verdict::NothingRefused,
-            Some(true) => Verdict::AsWanted,
-            Some(false) => Verdict::Otherwise,
-        });
+        return of_script(rt, dummies);
     }
-    match ROWS.iter().find(|row| row.name == name) {
-        Some(row) => {
-            ask_for_nothing(rt.alloc(), dummies);
-            Ok(of_row(rt.alloc(), row))
+    ask_for_nothing(rt.alloc(), dummies);
+    Ok(match ROWS.iter().find(|row| row.name == name) {
+        Some(row) => of_row(rt.alloc(), row),
+        None => of_apart(rt, rt.alloc(), name),
+    })
+}
+
+/// Plays the script, behind so many requests for memory.
+fn of_script<R: Input + AllocGlobal>(rt: &R, dummies: u32) -> io::Result<Verdict> {
+    let mut script = Vec::new(rt.alloc());
+    rt.reader().read_to_end(&mut script)?;
+    ask_for_nothing(rt.alloc(), dummies);
+    let held = match scripts::holds(rt.alloc(), &script) {
+        Ok(held) => held,
+        // Memory for a comparison.
+        Err(_) => Some(scripts::holds(rt.alloc(), &script)?.is_none()),
+    };
+    Ok(match held {
+        None => Verdict::NothingRefused,
+        Some(true) => Verdict::AsWanted,
+        Some(false) => Verdict::Otherwise,
+    })
+}
+
+/// So many requests for memory, which is given back: whether one of them was refused.
+fn ask_for_nothing(alloc: Global, count: u32) -> bool {
+    let mut is_refused = false;
+    for _ in 0..count {
+        if Box::new(alloc, 0u8).is_err() {
+            is_refused = true;
         }
-        None => Ok(Verdict::Otherwise),
+    }
+    is_refused
+}
+
+/// Plays a row of calls by this name.
+fn apart<R: Threads + Wait + Sync>(rt: &R, alloc: Global, name: &str) -> Result<(), Wrong> {
+    match name {
+        "space" => space::play(alloc),
+        "journal" => journal::play(alloc),
+        "queues" => queues::play(rt, alloc),
+        _ => Err(Wrong::NoRow),
     }
 }
 
-/// So many requests for memory, which is given back.
-fn ask_for_nothing(alloc: Global, count: u32) {
-    for _ in 0..count {
-        let _given = Box::new(alloc, 0u8);
+/// Plays a row of calls. It met the request that is refused, where that does not come behind it.
+fn of_apart<R: Threads + Wait + Sync>(rt: &R, alloc: Global, name: &str) -> Verdict {
+    if apart(rt, alloc, name).is_err() {
+        Verdict::Otherwise
+    } else if ask_for_nothing(alloc, PAST_THE_REFUSED) {
+        Verdict::NothingRefused
+    } else {
+        Verdict::AsWanted
     }
 }
 

@@ -2,7 +2,8 @@
 use crate::act::{Act, Ask, BUFFERS, Ids, event_of, may_grow, request_of};
 use crate::fold::Fold;
 use crate::sight::{Sight, sight_of, take_reply};
-use gv_types::{Bounds, Fault, Limits};
+use gv_sync::SyncFault;
+use gv_types::{Bounds, Fault, Limits, OutOfMemory};
 use gv_vm::{Event, Outcome, Reply, World};
 use std::alloc::{AllocError, Global};
 
@@ -17,6 +18,8 @@ pub enum Wrong {
     Twice,
     /// A buffer that nothing should name any more can't be destroyed.
     Held,
+    /// There is no such row.
+    NoRow,
 }
 
 /// What a row came to: its replies and the state after each act, and how often memory was wanting.
@@ -29,6 +32,27 @@ pub struct Course {
 impl From<AllocError> for Wrong {
     fn from(_error: AllocError) -> Wrong {
         Wrong::Twice
+    }
+}
+
+impl From<OutOfMemory> for Wrong {
+    fn from(_error: OutOfMemory) -> Wrong {
+        Wrong::Twice
+    }
+}
+
+impl From<SyncFault> for Wrong {
+    fn from(_fault: SyncFault) -> Wrong {
+        Wrong::Twice
+    }
+}
+
+impl From<Fault> for Wrong {
+    fn from(fault: Fault) -> Wrong {
+        match fault {
+            Fault::OutOfMemory => Wrong::Twice,
+            _ => Wrong::Changed,
+        }
     }
 }
 

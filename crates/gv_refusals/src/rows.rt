@@ -234,8 +234,11 @@ const BROKEN: &[Act] = &[
     Act::Destroy { buffer: 0 },
 ];
 
+/// How many rows there are.
+pub const ROW_COUNT: usize = 6;
+
 /// All rows.
-pub const ROWS: [Row; 6] = [
+pub const ROWS: [Row; ROW_COUNT] = [
     Row {
         name: "split",
         acts: SPLIT,

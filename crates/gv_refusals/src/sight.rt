@@ -1,8 +1,9 @@
-//! What is seen of a world, without memory.
+//! What is seen of an address space and of a world, without memory.
 use crate::act::Ids;
 use crate::fold::Fold;
 use gv_journal::{Item, ItemKind};
-use gv_types::{Backing, Fault, Mapping};
+use gv_space::Space;
+use gv_types::{Backing, BufferId, Fault, Mapping};
 use gv_vm::{Outcome, Reply, Vm, World};
 
 /// How many pages are looked up in the page table.
@@ -18,20 +19,32 @@ pub struct Sight {
 /// All that is seen of a world and of these buffers.
 pub fn sight_of(world: &World, ids: &Ids) -> Sight {
     let vm = world.vm();
-    let mut state = Fold::new();
-    for mapping in vm.space().mappings() {
-        take_mapping(&mut state, mapping);
-    }
-    for count in vm.space().tables() {
-        state.take(count);
-    }
-    take_walks(&mut state, vm);
-    take_counts(&mut state, vm, ids);
+    let mut state = fold_of(vm.space(), ids);
     take_items(&mut state, vm);
     Sight {
         state,
         told: told_in(vm),
     }
+}
+
+/// The list, the page table and the counts of an address space whose buffers are these.
+pub fn fold_of(space: &Space, ids: &[Option<BufferId>]) -> Fold {
+    let mut fold = list_of(space);
+    for count in space.tables() {
+        fold.take(count);
+    }
+    take_walks(&mut fold, space);
+    take_counts(&mut fold, space, ids);
+    fold
+}
+
+/// The list of an address space.
+pub fn list_of(space: &Space) -> Fold {
+    let mut fold = Fold::new();
+    for mapping in space.mappings() {
+        take_mapping(&mut fold, mapping);
+    }
+    fold
 }
 
 fn take_backing(fold: &mut Fold, backing: Backing) {
@@ -52,17 +65,17 @@ fn take_mapping(fold: &mut Fold, mapping: &Mapping) {
 }
 
 /// The list and the page table say the same of each page.
-fn take_walks(fold: &mut Fold, vm: &Vm) {
+fn take_walks(fold: &mut Fold, space: &Space) {
     for page in 0..PAGES {
-        let is_same = vm.space().walk(page) == vm.space().find(page);
+        let is_same = space.walk(page) == space.find(page);
         fold.take(u64::from(is_same));
     }
 }
 
-fn take_counts(fold: &mut Fold, vm: &Vm, ids: &Ids) {
+fn take_counts(fold: &mut Fold, space: &Space, ids: &[Option<BufferId>]) {
     for id in ids.iter().flatten() {
-        fold.take(vm.space().uses(*id).unwrap_or(u64::MAX));
-        fold.take(vm.space().kept(*id).unwrap_or(u64::MAX));
+        fold.take(space.uses(*id).unwrap_or(u64::MAX));
+        fold.take(space.kept(*id).unwrap_or(u64::MAX));
     }
 }
 

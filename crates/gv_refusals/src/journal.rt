@@ -1,0 +1,213 @@
+//! A journal by itself. A call whose memory is refused has changed nothing, and is done again.
+ghost use Rattle.std.specs.Prelude.{◌≡◌, IfOk};
+ghost use Rattle.gv_types.specs.Bounds.{whole_area};
+ghost use Rattle.gv_types.specs.Limits.{greatest};
+ghost use Rattle.gv_space.specs.State.{new_space};
+ghost use Rattle.gv_journal.specs.State.{FitsSpace};
+
+use crate::act::{BUFFERS, Change, Ids, op_of};
+use crate::fold::Fold;
+use crate::play::Wrong;
+use crate::sight::{fold_of, list_of};
+use crate::watch::Watch;
+use gv_journal::Journal;
+use gv_space::Space;
+use gv_types::{Bounds, Fault, Limits, Op, Request};
+use std::alloc::{AllocError, Global};
+
+/// All that is seen of a space and its journal; of it the list, and the counts of the buffer.
+#[derive(Clone, Copy, Debug, PartialEq, Eq)]
+struct Sight {
+    all: Fold,
+    list: Fold,
+    uses: Option<u64>,
+    kept: Option<u64>,
+    next: u64,
+}
+
+fn sight_of(space: &Space, journal: &Journal, ids: &Ids) -> Sight {
+    let mut all = fold_of(space, ids);
+    all.take(journal.first());
+    all.take(journal.next());
+    let (uses, kept) = match &ids[0] {
+        Some(id) => (space.uses(*id), space.kept(*id)),
+        None => (None, None),
+    };
+    Sight {
+        all,
+        list: list_of(space),
+        uses,
+        kept,
+        next: journal.next(),
+    }
+}
+
+/// A space of all pages. Where memory is refused, it is made again.
+fn space_at_last(alloc: Global) -> Result<Space, Fault>
+    ensures { IfOk result (λ s. s ≡ new_space whole_area greatest) }
+{
+    let limits = Limits::full();
+    match Space::new(alloc, Bounds::whole(), limits) {
+        Ok(space) => Ok(space),
+        Err(_) => Space::new(alloc, Bounds::whole(), limits),
+    }
+}
+
+/// A buffer of eight pages. Where memory is refused, it is made again.
+fn create_at_last(alloc: Global, space: &mut Space, journal: &Journal) -> Result<Ids, Fault>
+    requires { FitsSpace space.old journal.now }
+    ensures { FitsSpace space.new journal.now }
+{
+    let mut ids: Ids = [None; BUFFERS];
+    ids[0] = match space.create(alloc, 8) {
+        Ok(id) => Some(id),
+        Err(_) => Some(space.create(alloc, 8)?),
+    };
+    Ok(ids)
+}
+
+fn ops_of(alloc: Global, ids: &Ids, changes: &[Change]) -> Result<Vec<Op>, AllocError> {
+    let mut ops = Vec::new(alloc);
+    for change in changes {
+        if let Some(op) = op_of(ids, *change) {
+            ops.push(op)?;
+        }
+    }
+    Ok(ops)
+}
+
+/// A request of these changes. Where memory is refused, it is made again.
+fn request_at_last(alloc: Global, ids: &Ids, changes: &[Change]) -> Result<Request, AllocError> {
+    let ops = match ops_of(alloc, ids, changes) {
+        Ok(ops) => ops,
+        Err(_) => ops_of(alloc, ids, changes)?,
+    };
+    Ok(Request {
+        ops,
+        waits: Vec::new(alloc),
+        signals: Vec::new(alloc),
+    })
+}
+
+/// Binds a request. Where memory is refused, nothing has changed, and it is bound again.
+fn bind_at_last(
+    watch: &mut Watch,
+    alloc: Global,
+    space: &mut Space,
+    journal: &mut Journal,
+    ids: &Ids,
+    changes: &[Change],
+) -> Result<(), Wrong>
+    requires { FitsSpace space.old journal.old }
+    ensures { FitsSpace space.new journal.new }
+{
+    let before = sight_of(space, journal, ids);
+    let request = request_at_last(alloc, ids, changes)?;
+    match journal.bind(alloc, space, 0, 0, request, Vec::new(alloc)) {
+        Ok(entry) => {
+            watch.expect(entry == before.next);
+            return Ok(());
+        }
+        Err(refusal) => watch.expect(refusal.fault == Fault::OutOfMemory),
+    }
+    watch.expect(sight_of(space, journal, ids) == before);
+    let request = request_at_last(alloc, ids, changes)?;
+    let bound = journal.bind(alloc, space, 0, 0, request, Vec::new(alloc));
+    watch.expect(bound.is_ok());
+    Ok(())
+}
+
+/// Withdraws an item. Where memory is refused, nothing has changed, and it is withdrawn again.
+fn withdraw_at_last(
+    watch: &mut Watch,
+    alloc: Global,
+    space: &mut Space,
+    journal: &mut Journal,
+    ids: &Ids,
+    entry: u64,
+)
+    requires { FitsSpace space.old journal.old }
+    ensures { FitsSpace space.new journal.new }
+{
+    let before = sight_of(space, journal, ids);
+    match journal.withdraw(alloc, space, entry) {
+        Ok(_) => return,
+        Err(fault) => watch.expect(fault == Fault::OutOfMemory),
+    }
+    watch.expect(sight_of(space, journal, ids) == before);
+    let withdrawn = journal.withdraw(alloc, space, entry);
+    watch.expect(withdrawn.is_ok());
+}
+
+/// So many pages of the buffer from its page `page` on.
+const fn map(first: u32, count: u32, page: u32) -> Change {
+    Change::Map {
+        first,
+        count,
+        buffer: 0,
+        page,
+        read_only: false,
+    }
+}
+
+const fn unmap(first: u32, count: u32) -> Change {
+    Change::Unmap { first, count }
+}
+
+/// A bind of three operations, another three, and an unmap of the whole buffer: what is seen before each and behind all.
+fn bind_all(
+    watch: &mut Watch,
+    alloc: Global,
+    space: &mut Space,
+    journal: &mut Journal,
+    ids: &Ids,
+) -> Result<[Sight; 4], Wrong>
+    requires { FitsSpace space.old journal.old }
+    ensures { FitsSpace space.new journal.new }
+{
+    let empty = sight_of(space, journal, ids);
+    let changes = [map(0, 4, 0), map(5, 1, 5), map(7, 1, 7)];
+    bind_at_last(watch, alloc, space, journal, ids, &changes)?;
+    let first = sight_of(space, journal, ids);
+    let changes = [unmap(0, 1), map(1, 2, 4), unmap(2, 2)];
+    bind_at_last(watch, alloc, space, journal, ids, &changes)?;
+    let second = sight_of(space, journal, ids);
+    let all = [Change::UnmapAll { buffer: 0 }];
+    bind_at_last(watch, alloc, space, journal, ids, &all)?;
+    Ok([empty, first, second, sight_of(space, journal, ids)])
+}
+
+/// The binds, a withdrawal of the last one, and all of them taken back.
+fn there_and_back(
+    watch: &mut Watch,
+    alloc: Global,
+    space: &mut Space,
+    journal: &mut Journal,
+) -> Result<(), Wrong>
+    requires { FitsSpace space.old journal.old }
+    ensures { FitsSpace space.new journal.new }
+{
+    let ids = &create_at_last(alloc, space, journal)?;
+    let [empty, first, second, third] = bind_all(watch, alloc, space, journal, ids)?;
+    watch.expect((second.uses, second.kept) == (Some(3), Some(4)));
+    watch.expect((third.uses, third.kept) == (Some(0), Some(7)));
+    withdraw_at_last(watch, alloc, space, journal, ids, 2);
+    watch.expect(list_of(space) == second.list);
+    for wanted in [third, second, first, empty] {
+        let rewound = journal.rewind(space);
+        watch.expect(rewound == Ok(wanted.next));
+        watch.expect(sight_of(space, journal, ids) == wanted);
+    }
+    Ok(())
+}
+
+/// Plays the row.
+pub fn play(alloc: Global) -> Result<(), Wrong> {
+    let mut watch = Watch::new();
+    let mut space = space_at_last(alloc)?;
+    let mut journal = Journal::new(alloc, 8);
+    let outcome = there_and_back(&mut watch, alloc, &mut space, &mut journal);
+    journal.close(&mut space);
+    outcome?;
+    watch.end()
+}
