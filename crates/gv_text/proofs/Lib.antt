@@ -1,6 +1,7 @@
 pub mod Front
 pub mod Servings
 pub mod Lines
+pub mod NumberedLemmas
 pub mod AlikeTexts
 pub mod AlikeReplies
 pub mod AlikeAnswers

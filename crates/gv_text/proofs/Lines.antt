@@ -1,7 +1,6 @@
 -- What single lines do.
 use Rattle.std.proofs.Common.{◌≡◌, ◌≢◌, ℕ, List, [], ◌∷◌, ◌++◌, true, false, Option, Some, None, is_some, Result, Ok, Err, MatchOption, IsOkUnless, String, string_bytes, refl, sym, ap, ◌∙◌, subst, append-nil, append_assoc, add-zero, ◌+◌, ◌<◌, length, take, get_or, nat_lt, arith, codes, decimal}
 use Rattle.std.proofs.lemmas.Bool.Decides.{nat_tests}
-use Rattle.std.proofs.lemmas.List.{take_more, length-take-le}
 use Rattle.std.specs.List.{flat_map, list_any}
 use Rattle.std.specs.declared.alloc.Global.{Global}
 use Rattle.gv_types.specs.declared.fault.Fault.{Fault}
@@ -14,7 +13,7 @@ use Rattle.gv_vm.specs.declared.event.Event.{Event}
 use Rattle.gv_vm.specs.declared.event.Reply.{Reply}
 use Rattle.gv_text.specs.State.{State, begun}
 use Rattle.gv_text.specs.Events.{once, IsCarriedOut, Steps}
-use Rattle.gv_text.specs.Reply.{reply, outcome_text, outcome_lines}
+use Rattle.gv_text.specs.Reply.{reply}
 use Rattle.gv_text.specs.Said.{is_lacking}
 use Rattle.gv_text.specs.Line.{Written, plain, Does, Of}
 use Rattle.gv_text.specs.Serving.{nothing, Wrote}
@@ -63,25 +62,3 @@ none_of (Some x) none = absurd cc
 -- a job with more accesses than any job may have
 pub too_many : (r : Running) (count : ℕ) → most_accesses < count → many_fault r count ≡ Some TooManyAccesses
 too_many r count many = let test : nat_lt most_accesses count ≡ true = grind (arith, nat_tests) in rw test refl
-
--- outcomes on their lines, and some more
-outcome_lines-append : (timelines : List (List ℕ)) (number : ℕ) (xs ys : List Outcome) →
-    outcome_lines timelines number (xs ++ ys) ≡ outcome_lines timelines number xs ++ outcome_lines timelines (number + length xs) ys
-outcome_lines-append timelines number [] ys = ap (λ (n : ℕ). outcome_lines timelines n ys) (sym (add-zero number))
-outcome_lines-append timelines number (x ∷ xs) ys =
-    let here : List ℕ = reply (decimal number ∷ codes " " ∷ outcome_text timelines x ∷ []) in
-    let count : number + 1 + length xs ≡ number + length (x ∷ xs) = omega arith in
-    ap (λ (bytes : List ℕ). here ++ bytes) (outcome_lines-append timelines (number + 1) xs ys)
-    ∙ sym (append_assoc here (outcome_lines timelines (number + 1) xs) (outcome_lines timelines (number + 1 + length xs) ys))
-    ∙ ap (λ (n : ℕ). (here ++ outcome_lines timelines (number + 1) xs) ++ outcome_lines timelines n ys) count
-
-pub outcome_lines-more : (timelines : List (List ℕ)) (k : ℕ) (outcomes : List Outcome) (d : Outcome) → k < length outcomes →
-    outcome_lines timelines 0 (take (k + 1) outcomes)
-    ≡ outcome_lines timelines 0 (take k outcomes) ++ reply (decimal k ∷ codes " " ∷ outcome_text timelines (get_or outcomes k d) ∷ [])
-outcome_lines-more timelines k outcomes d below =
-    let taken : length (take k outcomes) ≡ k = length-take-le k outcomes (omega arith) in
-    let count : 0 + length (take k outcomes) ≡ k = omega (arith, taken) in
-    ap (outcome_lines timelines 0) (take_more outcomes k d below)
-    ∙ outcome_lines-append timelines 0 (take k outcomes) (get_or outcomes k d ∷ [])
-    ∙ ap (λ (n : ℕ). outcome_lines timelines 0 (take k outcomes) ++ outcome_lines timelines n (get_or outcomes k d ∷ [])) count
-    ∙ ap (λ (bytes : List ℕ). outcome_lines timelines 0 (take k outcomes) ++ bytes) (append-nil _)

@@ -119,16 +119,19 @@ outcome_text timelines (NotReady point have) = joined (
     codes "notready " ∷ timeline_text timelines point.timeline ∷ codes " " ∷ decimal point.value
     ∷ codes " have " ∷ decimal have ∷ [])
 
--- outcomes on lines of their own, the first of which has this number
-abbrev pub outcome_lines : List (List ℕ) → ℕ → List Outcome → List ℕ
-outcome_lines timelines number [] = []
-outcome_lines timelines number (outcome ∷ outcomes) =
-    reply (decimal number ∷ codes " " ∷ outcome_text timelines outcome ∷ []) ++ outcome_lines timelines (number + 1) outcomes
+-- a line for each, of its number and itself, of which the first has this number
+abbrev pub numbered_lines : {X : Type 0} → (ℕ → X → List ℕ) → ℕ → List X → List ℕ
+numbered_lines line number [] = []
+numbered_lines line number (x ∷ xs) = line number x ++ numbered_lines line (number + 1) xs
+
+-- an outcome with its number
+abbrev pub outcome_line : List (List ℕ) → ℕ → Outcome → List ℕ
+outcome_line timelines number outcome = reply (decimal number ∷ codes " " ∷ outcome_text timelines outcome ∷ [])
 
 -- what a queue was told, or the word empty
 abbrev pub told_reply : List (List ℕ) → List Outcome → List ℕ
 told_reply timelines [] = reply (codes "empty" ∷ [])
-told_reply timelines (outcome ∷ outcomes) = outcome_lines timelines 0 (outcome ∷ outcomes)
+told_reply timelines (outcome ∷ outcomes) = numbered_lines (outcome_line timelines) 0 (outcome ∷ outcomes)
 
 abbrev pub liveness_text : Bool → List ℕ
 liveness_text true = codes "withdrawn"

@@ -3,7 +3,7 @@ ghost use Rattle.std.specs.Prelude.{◌≡◌, ◌+◌, ◌++◌, ◌∷◌, [],
 ghost use Rattle.std.specs.List.{flat_map};
 ghost use Rattle.gv_types.specs.Fault.{fault_text};
 ghost use Rattle.gv_text.specs.State.{texts};
-ghost use Rattle.gv_text.specs.Reply.{reply, place_text, begun_reply, refused_reply, outcome_text, outcome_lines, told_reply};
+ghost use Rattle.gv_text.specs.Reply.{reply, place_text, begun_reply, refused_reply, outcome_text, outcome_line, told_reply};
 ghost use Rattle.gv_text.specs.Reply.{timeline_text, number_reply, counted_reply, withdrawn_reply};
 ghost use Rattle.gv_text.specs.Said.{said, said_of_withdrawal, told};
 
@@ -130,8 +130,8 @@ fn write_numbered(
     number: usize,
     outcome: &Outcome,
 ) -> Result<(), AllocError>
-    ensures { OnOk result (string_bytes out.new ≡ string_bytes out.old
-        ++ reply (decimal number ∷ codes " " ∷ outcome_text timelines.now.names outcome.now ∷ [])) }
+    ensures { OnOk result (string_bytes out.new
+        ≡ string_bytes out.old ++ outcome_line timelines.now.names number outcome.now) }
 {
     write!(out, "{number} ")?;
     write_outcome_line(out, timelines, outcome)

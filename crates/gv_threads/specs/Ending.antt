@@ -1,9 +1,21 @@
--- How a threads script ends.
-use Rattle.std.specs.Prelude.{◌≡◌, ℕ, ◌<◌, Bool, true, Result, Ok, Err}
+-- How a threads script ends, and what it says of its queues.
+use Rattle.std.specs.Prelude.{◌≡◌, ℕ, ◌<◌, ◌++◌, Bool, true, List, length, Result, Ok, Err, codes, decimal}
+use Rattle.gv_queues.specs.declared.finishing.QueueEnd.{QueueEnd}
 use Rattle.gv_queues.specs.declared.finishing.QueuesFault.TheVariants.{NotMade, NotStarted, Disagree}
 use Rattle.gv_text.specs.declared.fault.ScriptFault.TheVariants.{BadLine, ScriptTooLong, ReadFault, WriteFault, OutOfMemory}
 use Rattle.gv_threads.specs.declared.fault.ThreadsFault.{ThreadsFault}
 use Rattle.gv_threads.specs.declared.fault.ThreadsFault.TheVariants.{Script, Queues}
+use Rattle.gv_text.specs.Reply.{numbered_lines}
+
+-- the line of what a queue came to: how many requests were put, how many outcomes were told, how many requests are left
+abbrev pub end_line : ℕ → QueueEnd → List ℕ
+end_line queue end =
+    codes "queue " ++ (decimal queue ++ (codes " put " ++ (decimal end.put ++ (codes " told " ++ (decimal end.told
+    ++ (codes " left " ++ (decimal (length end.left.items) ++ codes "\n")))))))
+
+-- a line for each queue, in order
+abbrev pub end_lines : List QueueEnd → List ℕ
+end_lines = numbered_lines end_line 0
 
 -- A script of so many queues ends so: a device's fault is the answer exactly where the device's flag goes up, of which the reader's
 -- and the writer's are given before and after, and a queue that is named is one of them.

@@ -1,7 +1,7 @@
 use Rattle.std.proofs.Common.{◌≡◌, ◌++◌, take, string_bytes}
-use Rattle.gv_text.specs.Reply.{outcome_lines}
+use Rattle.gv_text.specs.Reply.{numbered_lines, outcome_line}
 use Rattle.gv_text.proofs.said.write_told.Given as goal
 
 abbrev pub invariant-loop-number : goal.invariant-loop-number
 invariant-loop-number l =
-    string_bytes l.out ≡ string_bytes l.initial.out ++ outcome_lines l.timelines.names 0 (take l.number l.outcomes)
+    string_bytes l.out ≡ string_bytes l.initial.out ++ numbered_lines (outcome_line l.timelines.names) 0 (take l.number l.outcomes)
