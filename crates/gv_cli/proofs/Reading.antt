@@ -1,5 +1,5 @@
 -- From what clap says of the words to what the program says.
-use Rattle.std.proofs.Common.{◌≡◌, ℕ, List, [], ◌∷◌, true, Option, Some, None, option_map, Result, Ok, Err, refl, sym, subst, codes, inl, inr, ap, ◌∙◌, arith}
+use Rattle.std.proofs.Common.{◌≡◌, ◌≢◌, ℕ, List, [], ◌∷◌, true, Option, Some, None, option_map, Result, Ok, Err, refl, sym, subst, codes, inl, inr, ap, ◌∙◌, arith}
 use Rattle.std.specs.Prelude.{IsErrAnd}
 use Rattle.clap.specs.Kinds.{Kinds, HasKind, IsAmong}
 use Rattle.clap.specs.Simple.{App, HasMatchesOf, is_simple, subcommand_of, subcommand_rows_of}
@@ -13,7 +13,9 @@ use Rattle.clap.specs.Values.{kind_of}
 use Rattle.clap.proofs.OnLiterals.{clap_on_literals}
 use Rattle.clap.specs.declared.error.Error.{Error}
 use Rattle.clap.specs.declared.error.kind.ErrorKind.TheVariants as kind
-use Rattle.gv_cli.specs.CommandLine.{IsFaultOf, ReadsBy, command_line}
+use Rattle.gv_cli.specs.CommandLine.{IsEntered, IsFaultOf, ReadsBy, command_line, entered}
+use Rattle.gv_cli.specs.declared.words.Task.{Task}
+use Rattle.gv_cli.specs.declared.words.Task.TheVariants.{Run, Threads}
 use Rattle.gv_cli.specs.declared.words.WordsFault.{WordsFault}
 use Rattle.gv_cli.specs.declared.words.WordsFault.TheVariants.{Printed, OutOfMemory}
 
@@ -81,7 +83,7 @@ map_twice : {A B C : Type 0} (f : A → B) (g : B → C) (o : Option A) → opti
 map_twice f g None = refl
 map_twice f g (Some x) = refl
 
-entered_run : (name : List ℕ) → option_map (λ (p : Text × List Row). p.0) (subcommand_of command_line (name ∷ codes "run" ∷ [])) ≡ Some (codes "run")
+entered_run : (name : List ℕ) → entered (name ∷ codes "run" ∷ []) ≡ Some (codes "run")
 unfolding clap_on_literals
 entered_run name = refl
 
@@ -93,11 +95,20 @@ run_apart : Some (codes "threads") ≡ Some (codes "run") → ⊥
 unfolding clap_on_literals
 run_apart same = let bad : ◌≡◌ {A = ℕ} 116 114 = ap begins_with same in omega (arith, bad)
 
+-- what was found is found of the subcommand that clap enters
+pub entered_by : (app : App) (words : List (List ℕ)) (m : ArgMatches) → app ≡ command_line
+    → HasMatchesOf app words m → subcommand_name_of m ≡ entered words
+entered_by app words m e has =
+    let rows : subcommand_rows_of m ≡ subcommand_of app words = (has (ap is_simple e ∙ is_exact_simple)).1 in
+    sym (map_twice _ (λ (p : Text × List Row). p.0) (out-ArgMatches m).subcommand)
+    ∙ ap (option_map (λ (p : Text × List Row). p.0)) (rows ∙ ap (λ (a : App). subcommand_of a words) e)
+
+pub entered_threads : (name : Option (List ℕ)) (task : Task) → name ≡ Some (codes "threads") → task ≢ Run → IsEntered name task
+entered_threads name Run is other = absurd (other refl)
+entered_threads name (Threads asked turns) is other = is
+
 -- of the word `run` clap enters `run`, and not `threads`
 pub run_is_not_threads : (app : App) (words : List (List ℕ)) (name : List ℕ) (m : ArgMatches) → app ≡ command_line → words ≡ name ∷ codes "run" ∷ []
     → HasMatchesOf app words m → subcommand_name_of m ≡ Some (codes "threads") → ⊥
 run_is_not_threads app words name m e f has is =
-    let rows : subcommand_rows_of m ≡ subcommand_of app words = (has (ap is_simple e ∙ is_exact_simple)).1 in
-    let run : subcommand_name_of m ≡ Some (codes "run") =
-    sym (map_twice _ (λ (p : Text × List Row). p.0) (out-ArgMatches m).subcommand) ∙ ap (option_map (λ (p : Text × List Row). p.0)) (rows ∙ rw (e, f) refl) ∙ entered_run name in
-    run_apart (sym is ∙ run)
+    run_apart (sym is ∙ entered_by app words m e has ∙ rw f (entered_run name))

@@ -1,8 +1,8 @@
 -- The command line of the program.
-use Rattle.std.specs.Prelude.{◌≡◌, ◌≢◌, ◌⊎◌, List, [], ◌∷◌, ℕ, map, true, codes, Some, Result, Ok, Err, String, string_bytes}
+use Rattle.std.specs.Prelude.{◌≡◌, ◌≢◌, ◌⊎◌, List, [], ◌∷◌, ℕ, map, option_map, true, codes, Option, Some, Result, Ok, Err, String, string_bytes}
 use Rattle.std.specs.declared.alloc.Global.{Global}
 use Rattle.clap.specs.Kinds.{Kinds, IsAmong}
-use Rattle.clap.specs.Simple.{App, new_app, new_rule, new_shape, on_top, with_rule, with_subcommand}
+use Rattle.clap.specs.Simple.{App, new_app, new_rule, new_shape, on_top, subcommand_of, with_rule, with_subcommand}
 use Rattle.clap.specs.Walk.{Rule}
 use Rattle.clap.specs.Values.{kind_of}
 use Rattle.clap.specs.declared.builder.value_parser.ValueParser.TheVariants.{Unsigned}
@@ -56,6 +56,15 @@ command_line = with_subcommand
 abbrev pub IsTask : Task → Type 0
 IsTask Run = Unit {0}
 IsTask (Threads asked turns) = IsFromOneTo most_queues asked × IsFromOneTo most_turns turns
+
+-- the subcommand that clap enters on these words
+abbrev pub entered : List (List ℕ) → Option (List ℕ)
+entered words = option_map (λ found. found.0) (subcommand_of command_line words)
+
+-- the task is that of `threads` exactly where clap enters that subcommand
+abbrev pub IsEntered : Option (List ℕ) → Task → Type 0
+IsEntered name Run = name ≢ Some (codes "threads")
+IsEntered name (Threads asked turns) = name ≡ Some (codes "threads")
 
 -- nothing is refused: help is asked for, or the version
 abbrev pub AskForText : Kinds → Type 0

@@ -1,7 +1,7 @@
 //! The words of the command line.
-ghost use Rattle.std.specs.Prelude.{◌≡◌, ◌⊎◌, ◌∷◌, [], ℕ, List, IfOk, Ok, Err, codes, false};
+ghost use Rattle.std.specs.Prelude.{◌≡◌, ◌≢◌, ◌⊎◌, ◌∷◌, [], ℕ, List, IfOk, Ok, Err, codes, false};
 ghost use Rattle.clap.specs.Words.{app_of, fault_of, kind_of, rule_of};
-ghost use Rattle.gv_cli.specs.CommandLine.{IsFaultOf, IsTask, ReadsBy, command_line, queues_rule, texts, turns_rule};
+ghost use Rattle.gv_cli.specs.CommandLine.{IsEntered, IsFaultOf, IsTask, ReadsBy, command_line, entered, queues_rule, texts, turns_rule};
 ghost use Rattle.gv_cli.specs.declared.words.WordsFault.TheVariants as words;
 
 use crate::help;
@@ -59,6 +59,7 @@ pub fn read_words<'a>(alloc: Global, words: &'a [String]) -> Result<Task, WordsF
     ensures kinds { ReadsBy (fault_of command_line (texts words.entry.now)) result }
     ensures run { (name : List ℕ) → texts words.entry.now ≡ name ∷ codes "run" ∷ []
         → (result ≡ Ok Task.Run) ⊎ (result ≡ Err WordsFault.OutOfMemory) }
+    ensures entered { IfOk result (IsEntered (entered (texts words.entry.now))) }
     ensures task { IfOk result IsTask }
 {
     let command = command(alloc)?;
@@ -71,7 +72,8 @@ pub fn read_words<'a>(alloc: Global, words: &'a [String]) -> Result<Task, WordsF
 
 /// The numbers of `threads`. Each was read, in its range: none other is taken by the command line.
 fn threads_of(given: &ArgMatches<'_>) -> Task
-    ensures { IsTask result }
+    ensures threads { result ≢ Task.Run }
+    ensures task { IsTask result }
 {
     let queues = given.get_one::<u64>("queues").unwrap_or(1);
     let turns = given.get_one::<u64>("turns").unwrap_or(MAX_TURNS);

@@ -1,7 +1,7 @@
-use Rattle.std.proofs.Common.{◌≡◌, [], inr, ap, is_some}
+use Rattle.std.proofs.Common.{◌≡◌, ◌∙◌, [], inr, ap, is_some, sym}
 use Rattle.clap.specs.Kinds.{HasKind}
 use Rattle.gv_cli.specs.CommandLine.{texts}
-use Rattle.gv_cli.proofs.Reading.{at_command_line, no_memory_of, reads_by, run_is_not_threads, run_passes}
+use Rattle.gv_cli.proofs.Reading.{at_command_line, entered_by, entered_threads, no_memory_of, reads_by, run_is_not_threads, run_passes}
 use Rattle.gv_cli.proofs.words.read_words.Goals as goal
 
 pub returns-in_err-matches-clause-kinds : goal.returns-in_err-matches-clause-kinds
@@ -30,3 +30,16 @@ returns-clause-kinds c = at_command_line (λ kinds. kinds ≡ []) (texts c.args.
 pub returns-in-Some-clause-run : goal.returns-in-Some-clause-run
 returns-in-Some-clause-run c = λ name given.
     absurd (run_is_not_threads _ _ name c.in_ok-matches.matches c.in_ok-command.ensures given c.in_ok-matches.ensures.matches (c.subcommand_matches.ensures.found.0 (ap is_some c.in-Some.is)))
+
+pub returns-in-Some-clause-entered : goal.returns-in-Some-clause-entered
+returns-in-Some-clause-entered c = entered_threads _ c.threads_of.result
+    (sym (entered_by _ (texts c.args.words.now) c.in_ok-matches.matches c.in_ok-command.ensures c.in_ok-matches.ensures.matches)
+    ∙ c.subcommand_matches.ensures.found.0 (ap is_some c.in-Some.is))
+    c.threads_of.ensures.threads
+
+pub returns-clause-entered : goal.returns-clause-entered
+returns-clause-entered c = λ is.
+    let none = ap is_some c.in-None.is in
+    let some = c.subcommand_matches.ensures.found.1
+    (entered_by _ (texts c.args.words.now) c.in_ok-matches.matches c.in_ok-command.ensures c.in_ok-matches.ensures.matches ∙ is) in
+    absurd cc
