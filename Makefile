@@ -31,9 +31,12 @@ run: vmbind
 
 # The gate: every proof from nothing, the must-fail edits, the tests and the programs. Before it, what no contract can
 # say: that the functions of the timelines wait for nobody. A function may wait only under a bound of that name.
+# So many parts of it run at once: one a core, but no more than have 3 GiB of free memory each, since a part holds less. Where
+# these can't be read, the toolchain chooses.
+LANES = $(shell awk -v cores="$$(nproc)" '/^MemAvailable:/ { n = int($$2 / 3145728); print (n < 1 ? 1 : (n < cores ? n : cores)) }' /proc/meminfo 2>/dev/null)
 test:
 	@! grep -rnw Wait crates/gv_sync/src
-	$(RT) ci
+	RT_JOBS=$(LANES) $(RT) ci
 
 # Scripts by chance, from a seed on and for so many seconds, each run by the program's own call and by a model that is written
 # from the definitions. What differs is shrunk and printed; the last line is 'N passed, M failed'. The gate runs a few.
