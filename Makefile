@@ -31,9 +31,9 @@ run: vmbind
 
 # The gate: every proof from nothing, the must-fail edits, the tests and the programs. Before it, what no contract can
 # say: that the functions of the timelines wait for nobody. A function may wait only under a bound of that name.
-# So many parts of it run at once: one a core, but no more than have 3 GiB of free memory each, since a part holds less. Where
+# So many parts of it run at once: one a core, but no more than have 4 GiB of free memory each, which no part was seen to hold. Where
 # these can't be read, the toolchain chooses.
-LANES = $(shell awk -v cores="$$(nproc)" '/^MemAvailable:/ { n = int($$2 / 3145728); print (n < 1 ? 1 : (n < cores ? n : cores)) }' /proc/meminfo 2>/dev/null)
+LANES = $(shell awk -v cores="$$(nproc)" '/^MemAvailable:/ { n = int($$2 / 4194304); print (n < 1 ? 1 : (n < cores ? n : cores)) }' /proc/meminfo 2>/dev/null)
 test:
 	@! grep -rnw Wait crates/gv_sync/src
 	RT_JOBS=$(LANES) $(RT) ci
