@@ -1,4 +1,6 @@
 //! A whole address space used as a library: requests that wait for a point of a timeline, and a withdrawal.
+#![tactic(auto)]
+
 ghost use Rattle.std.specs.Prelude.{◌<◌, length};
 
 use gv_sync::Clock;
