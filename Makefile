@@ -31,9 +31,9 @@ run: vmbind
 
 # The gate: every proof from nothing, the must-fail edits, the tests and the programs. Before it, what no contract can
 # say: that the functions of the timelines wait for nobody. A function may wait only under a bound of that name.
-# So many parts of it run at once: one a core, but no more than have 4 GiB of free memory each, which no part was seen to hold. Where
-# these can't be read, the toolchain chooses.
-LANES = $(shell awk -v cores="$$(nproc)" '/^MemAvailable:/ { n = int($$2 / 4194304); print (n < 1 ? 1 : (n < cores ? n : cores)) }' /proc/meminfo 2>/dev/null)
+# Where each core has 4 GiB of free memory, which no part was seen to hold, as many parts run at once as there are cores; else
+# the toolchain chooses, which reckons up to 7.4 GB for a part.
+LANES = $(shell awk -v cores="$$(nproc)" '/^MemAvailable:/ && $$2 >= cores * 4194304 { print cores }' /proc/meminfo 2>/dev/null)
 test:
 	@! grep -rnw Wait crates/gv_sync/src
 	RT_JOBS=$(LANES) $(RT) ci
