@@ -1,13 +1,12 @@
 //! A request applied: its operations in turn, until one is refused.
 ghost use Rattle.std.specs.Prelude.{◌≡◌, ℕ, List, ◌+◌, ◌<◌, ◌≤◌, ◌++◌, [], ◌∷◌, IsTrue, reverse, vec_len, vec_capacity, length};
 ghost use Rattle.std.specs.Prelude.{IfOk, IfErr, OnOk, OnErr, IsOkUnless, MatchOption};
-ghost use Rattle.gv_types.specs.Bounds.{LieInArea};
-ghost use Rattle.gv_types.specs.Operation.{has_range, in_pages};
+ghost use Rattle.std.specs.List.{All};
+ghost use Rattle.gv_types.specs.Operation.{has_range, in_pages, own_mapping, range_of, IsPageOp};
 ghost use Rattle.gv_types.specs.declared.mapping.Mapping.{Mapping};
-ghost use Rattle.gv_types.specs.declared.operation.PageOp.TheVariants.{Unmap as UnmapPages};
 ghost use Rattle.gv_types.specs.declared.operation.Op.TheVariants.{UnmapBuffer};
 ghost use Rattle.gv_ranges.specs.Edit.{edited};
-ghost use Rattle.gv_space.specs.State.{AddressSpace, AreKept, IsUnchanged};
+ghost use Rattle.gv_space.specs.State.{AddressSpace, AreKept, IsPlaced, IsUnchanged};
 ghost use Rattle.gv_space.specs.Refusal.{apply_fault, limit_fault};
 ghost use Rattle.gv_space.specs.Undo.{AreAmongKept};
 ghost use Rattle.gv_journal.specs.Undoing.{taken_by, reverted_by, AreRevertible};
@@ -18,7 +17,7 @@ ghost use Rattle.gv_journal.specs.Work.{HasRoom, Continues, IsTurnRefused, IsRef
 use crate::refusal::Refusal;
 use crate::undoing::revert_all;
 use gv_space::{OpUndo, Space};
-use gv_types::{BufferId, Fault, Op, OutOfMemory, PAGE_BYTES, PageOp, PageRange};
+use gv_types::{BufferId, Fault, Op, OutOfMemory, PageOp};
 use std::alloc::Global;
 
 /// What a request has done so far: operations in pages, and as many undo values.
@@ -48,7 +47,30 @@ fn reserve(work: &mut Work, more: usize) -> Result<(), OutOfMemory>
     Ok(())
 }
 
-/// Applies an operation that names its pages.
+/// Applies an operation in pages, which has passed the checks, and notes it beside its undo value.
+fn apply_pages(alloc: Global, space: &mut Space, work: &mut Work, op: &PageOp) -> Result<(), Fault>
+    requires pages { IsPageOp op.now }
+    requires placed { All (IsPlaced space.old.area space.old.buffers) (own_mapping op.now) }
+    requires room { HasRoom 1 work.old }
+    ensures fault { MatchOption (limit_fault space.old (range_of op.now) (edited space.old.mappings op.now))
+        (IsOkUnless result Fault.OutOfMemory) (λ fault. result ≡ Err fault) }
+    ensures continues { Continues space.old space.new work.old work.new }
+    ensures ops { OnOk result (work.new.ops.items ≡ work.old.ops.items ++ op.now ∷ []) }
+    ensures state { OnOk result
+        (space.new ≡ record (after_op space.old op.now) { room = space.new.room }) }
+    ensures room { OnOk result ((left : ℕ) → HasRoom (1 + left) work.old → HasRoom left work.new) }
+{
+    match space.apply_pages(alloc, op) {
+        Ok(undo) => {
+            work.ops.push_reserved(*op);
+            work.undos.push_reserved(undo);
+            Ok(())
+        }
+        Err(fault) => Err(fault),
+    }
+}
+
+/// Checks an operation that names its pages, and applies it.
 fn apply_ranged(alloc: Global, space: &mut Space, work: &mut Work, op: &Op) -> Result<(), Fault>
     requires ranged { IsTrue (has_range op.now) }
     requires room { HasRoom 1 work.old }
@@ -58,41 +80,13 @@ fn apply_ranged(alloc: Global, space: &mut Space, work: &mut Work, op: &Op) -> R
     ensures ops { OnOk result (work.new.ops.items ≡ work.old.ops.items ++ in_pages op.now ∷ []) }
     ensures state { OnOk result
         (space.new ≡ record (after_op space.old (in_pages op.now)) { room = space.new.room }) }
-    ensures area { space.new.area ≡ space.old.area }
     ensures room { OnOk result ((left : ℕ) → HasRoom (1 + left) work.old → HasRoom left work.new) }
 {
-    let done = match space.bounds().check(op) {
-        Ok(done) => done,
+    let op = match space.check(op) {
+        Ok(op) => op,
         Err(fault) => return Err(fault),
     };
-    match space.apply(alloc, op) {
-        Ok(undo) => {
-            work.ops.push_reserved(done);
-            work.undos.push_reserved(undo);
-            Ok(())
-        }
-        Err(fault) => Err(fault),
-    }
-}
-
-/// Unmaps the pages of a mapping.
-fn unmap(alloc: Global, space: &mut Space, work: &mut Work, range: PageRange) -> Result<(), Fault>
-    requires in_area { LieInArea space.old.area range }
-    requires room { HasRoom 1 work.old }
-    ensures fault { MatchOption (limit_fault space.old range (edited space.old.mappings (UnmapPages range)))
-        (IsOkUnless result Fault.OutOfMemory) (λ fault. result ≡ Err fault) }
-    ensures continues { Continues space.old space.new work.old work.new }
-    ensures ops { OnOk result (work.new.ops.items ≡ work.old.ops.items ++ UnmapPages range ∷ []) }
-    ensures state { OnOk result
-        (space.new ≡ record (after_op space.old (UnmapPages range)) { room = space.new.room }) }
-    ensures area { space.new.area ≡ space.old.area }
-    ensures room { OnOk result ((left : ℕ) → HasRoom (1 + left) work.old → HasRoom left work.new) }
-{
-    let op = Op::Unmap {
-        addr: range.first() * PAGE_BYTES,
-        len: range.count() * PAGE_BYTES,
-    };
-    apply_ranged(alloc, space, work, &op)
+    apply_pages(alloc, space, work, &op)
 }
 
 /// Unmaps each mapping of a buffer, in ascending order, and leaves room for `left` operations more.
@@ -113,8 +107,6 @@ fn unmap_all(
         ≡ record (after_all (reverse (does space.old.mappings (UnmapBuffer id))) space.old) { room = space.new.room }) }
     ensures room { OnOk result (HasRoom left work.new) }
 {
-    // For the prover: what always holds of the space.
-    let _mappings = space.mappings();
     let ranges = match space.buffer_ranges(alloc, id) {
         Ok(ranges) => ranges,
         Err(fault) => return Err(fault),
@@ -123,7 +115,7 @@ fn unmap_all(
         return Err(Fault::OutOfMemory);
     }
     for range in &ranges {
-        match unmap(alloc, space, work, *range) {
+        match apply_pages(alloc, space, work, &PageOp::Unmap { range: *range }) {
             Ok(()) => {}
             Err(fault) => return Err(fault),
         }

@@ -1,5 +1,5 @@
 pub mod Clips
-pub mod Faults
+pub mod FaultLemmas
 pub mod Lengths
 pub mod Limits
 pub mod Placed
@@ -21,4 +21,4 @@ pub mod UnchangedLemmas
 pub mod UsesFound
 pub mod RenamingLemmas
 pub mod ReleasedLemmas
-pub mod UnmappingLemmas
+pub mod BufferRanges

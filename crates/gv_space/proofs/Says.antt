@@ -1,5 +1,5 @@
 -- What a space says of a page after an operation.
-use Rattle.std.proofs.Common.{◌≡◌, ℕ, List, length, arith, refl, subst, ap, ◌∙◌}
+use Rattle.std.proofs.Common.{◌≡◌, ℕ, List, length, arith, refl, ap, ◌∙◌}
 use Rattle.gv_types.specs.Page.{IsPage}
 use Rattle.gv_types.specs.Span.{Span, end_of}
 use Rattle.gv_types.specs.Operation.{range_of, own_mapping, after, IsPageOp}
@@ -31,14 +31,11 @@ clipped-own (UnmapBuffer buffer) is = refl
 pub restored-own : (ms : List Mapping) (op : PageOp) → IsPageOp op → restored ms (range_of op) (own_mapping op) ≡ edited ms op
 restored-own ms op is = ap (λ (own : List Mapping). replaced ms (range_of op) own) (clipped-own op is)
 
-module _ (old new : AddressSpace) (op asked : PageOp) (range : Span) (own : List Mapping) (u : UndoValue) (is : IsPageOp op) (same : op ≡ asked) (range_is : range ≡ range_of op) (own_is : own ≡ own_mapping op) where
-  edits : restored old.mappings range own ≡ edited old.mappings asked
-  edits = rw (range_is, own_is, ← same) (restored-own old.mappings op is)
+module _ (old new : AddressSpace) (op : PageOp) (range : Span) (own : List Mapping) (u : UndoValue) (is : IsPageOp op) (range_is : range ≡ range_of op) (own_is : own ≡ own_mapping op) where
+  edits : restored old.mappings range own ≡ edited old.mappings op
+  edits = rw (range_is, own_is) (restored-own old.mappings op is)
 
-  pub edited_by : IsChanged old new (restored old.mappings range own) u → IsChanged old new (edited old.mappings asked) u
-  edited_by changed = subst (λ (ms : List Mapping). IsChanged old new ms u) edits changed
-
-  pub says_after : IsChanged old new (restored old.mappings range own) u → (page : ℕ) → IsPage page → at new.mappings page ≡ after asked (at old.mappings) page
+  pub says_after : IsChanged old new (restored old.mappings range own) u → (page : ℕ) → IsPage page → at new.mappings page ≡ after op (at old.mappings) page
   says_after changed page in_space =
-      let now : new.mappings ≡ edited old.mappings asked = ap (λ (s : AddressSpace). s.mappings) changed.state ∙ edits in
-      rw now (at-edited old.mappings asked page in_space)
+      let now : new.mappings ≡ edited old.mappings op = ap (λ (s : AddressSpace). s.mappings) changed.state ∙ edits in
+      rw now (at-edited old.mappings op page in_space)

@@ -4,7 +4,7 @@ ghost use Rattle.std.specs.Prelude.{IfOk, IsOk, IsOkUnless, OnOk, OnErr, MatchOp
 ghost use Rattle.std.specs.List.{All, splice};
 ghost use Rattle.gv_types.specs.Page.{IsPage};
 ghost use Rattle.gv_types.specs.Span.{covers};
-ghost use Rattle.gv_types.specs.Operation.{has_range, in_pages, own_mapping, range_of, after, IsChecked};
+ghost use Rattle.gv_types.specs.Operation.{has_range, in_pages, own_mapping, range_of, after, IsPageOp};
 ghost use Rattle.gv_types.specs.declared.mapping.Mapping.{Mapping};
 
 use crate::list_with_table::ListWithTable;
@@ -149,10 +149,8 @@ impl Space {
     }
 
     /// Applies an operation, given in bytes, that names its pages: an unmap of a whole buffer is applied as an unmap of
-    /// each of `buffer_ranges`. The mappings that meet its range give way to their rests, and a map's mapping
-    /// is added; nothing is joined. The faults are the first of `check`, then `NoBuffer`, `OutOfBuffer` (the offset plus the
-    /// length is past the buffer's end), `TooManyMappings` (the list would pass its limit, or undo values would hold over
-    /// 2^62 mappings), then `OutOfMemory`. All growth comes before the first change.
+    /// each of `buffer_ranges`. It is `check`, and then `apply_pages`: the faults are the first of `check`, then `NoBuffer`,
+    /// `OutOfBuffer` (the offset plus the length is past the buffer's end), then those of `apply_pages`.
     pub fn apply(&mut self, alloc: Global, op: &Op) -> Result<OpUndo, Fault>
         requires { IsTrue (has_range op.now) }
         ensures fault { MatchOption (apply_fault self.old op.now)
@@ -170,6 +168,26 @@ impl Space {
             Ok(op) => op,
             Err(fault) => return Err(fault),
         };
+        self.apply_pages(alloc, &op)
+    }
+
+    /// Applies an operation in pages that names them, and that `check` let through. The mappings that meet its range give way
+    /// to their rests, and a map's mapping is added; nothing is joined. `TooManyMappings` where the list would pass its limit,
+    /// or undo values would hold over 2^62 mappings, then `OutOfMemory`. All growth comes before the first change.
+    pub fn apply_pages(&mut self, alloc: Global, op: &PageOp) -> Result<OpUndo, Fault>
+        requires pages { IsPageOp op.now }
+        requires placed { All (IsPlaced self.old.area self.old.buffers) (own_mapping op.now) }
+        ensures fault { MatchOption (limit_fault self.old (range_of op.now) (edited self.old.mappings op.now))
+            (IsOkUnless result Fault.OutOfMemory) (λ fault. result ≡ Err fault) }
+        ensures changed { IfOk result (λ undo.
+            IsChanged self.old self.new (edited self.old.mappings op.now) undo) }
+        ensures range { IfOk result (λ undo. undo.range ≡ range_of op.now) }
+        ensures says { IfOk result (λ _. (page : ℕ) → IsPage page
+            → at self.new.mappings page ≡ after op.now (at self.old.mappings) page) }
+        ensures taken { IfOk result (TookWhatWas self.old.mappings) }
+        ensures undone { IfOk result (λ undo. undone self.new.mappings undo.change ≡ self.old.mappings) }
+        ensures unchanged { OnErr result (IsUnchanged self.old self.new) }
+    {
         match op.own_mapping() {
             Some(own) => self.change(alloc, op.range(), &[own]),
             None => self.change(alloc, op.range(), &[]),

@@ -36,6 +36,19 @@ fn apply(alloc: Global, space: &mut Space, op: &Op) -> Result<OpUndo, Fault>
     space.apply(alloc, op)
 }
 
+/// The same by its two halves: the check, and the operation in pages.
+fn apply_checked(alloc: Global, space: &mut Space, op: &Op) -> Result<OpUndo, Fault>
+    ensures changed { IfOk result (λ undo.
+        IsChanged space.old space.new (edited space.old.mappings (in_pages op.now)) undo) }
+    ensures unchanged { OnErr result (IsUnchanged space.old space.new) }
+{
+    if !op.has_range() {
+        return Err(Fault::Unmapped { access: 0 });
+    }
+    let checked = space.check(op)?;
+    space.apply_pages(alloc, &checked)
+}
+
 /// Looks, takes a change back, and looks again. The pages that were changed.
 fn take_back<W: Watch>(
     alloc: Global,
@@ -82,7 +95,7 @@ pub fn there_and_back<W: Watch>(
 ) -> Result<PageRange, Fault>
     ensures { IsUnchanged space.old space.new }
 {
-    let undo = apply(alloc, space, op)?;
+    let undo = apply_checked(alloc, space, op)?;
     take_back(alloc, space, watch, undo)
 }
 

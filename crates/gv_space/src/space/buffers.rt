@@ -1,6 +1,8 @@
 //! The buffers of an address space, and the jobs that use them.
 ghost use Rattle.std.specs.Prelude.{◌≡◌, ◌<◌, List};
 ghost use Rattle.std.specs.Prelude.{IfOk, IsOk, IsOkUnless, OnOk, OnErr, MatchOption};
+ghost use Rattle.std.specs.List.{All};
+ghost use Rattle.gv_types.specs.Span.{IsInSpace};
 ghost use Rattle.gv_types.specs.declared.mapping.Mapping.{Mapping};
 ghost use Rattle.gv_buffers.specs.Table.{uses, kept, pages, create_fault, destroy_fault, join_fault};
 ghost use Rattle.gv_buffers.specs.Table.{without, changed, joined_by, left_everywhere, IsCreated};
@@ -43,6 +45,7 @@ impl Space {
         ensures fault { MatchOption (dead_fault (pages self.now.buffers id))
             (IsOkUnless result Fault.OutOfMemory) (λ fault. result ≡ Err fault) }
         ensures ranges { IfOk result (λ list. list.items ≡ ranges_of id self.now.mappings) }
+        ensures in_space { IfOk result (λ list. All IsInSpace list.items) }
         ensures some { result ≡ Err Fault.OutOfMemory → 0 < count_of id self.now.mappings }
     {
         let Some(count) = self.buffers.uses(id) else {

@@ -20,8 +20,9 @@ use gv_types::{Backing, BufferId, Fault, Mapping, Op, PageOp, PageRange};
 const MAX_KEPT: u64 = 1 << 62;
 
 impl Space {
-    /// The operation in pages, or its first fault: those of `check` in their order, then of its buffer.
-    pub(super) fn check(&self, op: &Op) -> Result<PageOp, Fault>
+    /// The operation in pages, or its first fault: those of `Bounds::check` in their order, then `NoBuffer` and `OutOfBuffer`. It
+    /// takes no memory.
+    pub fn check(&self, op: &Op) -> Result<PageOp, Fault>
         ensures fault { MatchOption (operation_fault self.now op.now) (IsOk result) (λ fault. result ≡ Err fault) }
         ensures same { IfOk result (λ p. p ≡ in_pages op.now) }
         ensures allowed { IfOk result (IsAllowed self.now.area) }

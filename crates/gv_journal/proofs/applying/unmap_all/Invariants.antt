@@ -11,6 +11,5 @@ invariant-loop-range l = record {
   ops : l.work.ops.items ≡ l.fn.work.ops.items ++ map Unmap (take l.range-index l.range-items);
   state : l.space ≡ record (after_all (reverse (map Unmap (take l.range-index l.range-items))) l.fn.space) { room = l.space.room };
   limits : limits_fault l.fn.space (map Unmap l.range-items) ≡ limits_fault l.space (map Unmap (drop l.range-index l.range-items));
-  area : l.space.area ≡ l.fn.space.area;
   room : HasRoom (length l.range-items - l.range-index + l.left) l.work;
 }

@@ -1,6 +1,9 @@
 use Rattle.std.proofs.Common.{◌≡◌, ℕ, ◌<◌, List, sym, ◌∙◌, ap, subst}
 use Rattle.gv_types.specs.declared.mapping.Mapping.{Mapping}
-use Rattle.gv_space.specs.Counts.{count_of}
+use Rattle.std.specs.List.{All}
+use Rattle.gv_types.specs.Span.{IsInSpace}
+use Rattle.gv_space.specs.Counts.{count_of, ranges_of}
+use Rattle.gv_space.proofs.BufferRanges.{ranges_in_space}
 use Rattle.gv_space.specs.Inside.{space_of}
 use Rattle.gv_space.specs.State.{AddressSpace}
 use Rattle.gv_space.proofs.UsesFound.{uses_found}
@@ -20,3 +23,8 @@ returns-in_err-ranges_of-clause-some c = λ _.
     uses_found s.buffers c.args.id s.mappings c.in-Some.count c.self.invariant.used (sym c.uses.ensures.value ∙ c.in-Some.is)
     ∙ ap (λ (t : AddressSpace). count_of c.args.id t.mappings) c.self.view_is in
     subst (λ (n : ℕ). 0 < n) counted c.in_err-ranges_of.ensures.some
+
+pub returns-clause-in_space : goal.returns-clause-in_space
+returns-clause-in_space c =
+    let are : c.in_ok-ranges_of.field-0.items ≡ ranges_of c.args.id c.mappings.result.now = c.in_ok-ranges_of.ensures.ranges in
+    subst (All IsInSpace) (sym are) (ranges_in_space c.args.id c.mappings.result.now (rw c.mappings.ensures.value c.mappings.ensures.space.laid_out))

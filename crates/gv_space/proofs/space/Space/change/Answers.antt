@@ -1,15 +1,12 @@
-use Rattle.std.proofs.Common.{◌≡◌, ◌+◌, ◌-◌, ◌≤◌, ◌++◌, List, None, length, arith, sym, subst, ◌∙◌}
-use Rattle.std.specs.List.{All}
-use Rattle.std.specs.Option.{option_to_list}
+use Rattle.std.proofs.Common.{◌≡◌, List, arith, sym, subst, ◌∙◌}
 use Rattle.gv_types.specs.declared.mapping.Mapping.{Mapping}
-use Rattle.gv_ranges.specs.List.{IsLaidOut, Ranges, run}
+use Rattle.gv_ranges.specs.List.{IsLaidOut, Ranges}
 use Rattle.gv_ranges.specs.Edit.{restored}
-use Rattle.gv_space.specs.State.{AddressSpace, IsPlaced}
+use Rattle.gv_space.specs.State.{AddressSpace}
 use Rattle.gv_space.specs.Change.{IsChanged}
-use Rattle.gv_space.specs.Ready.{IsOverlap, IsReady}
-use Rattle.gv_space.specs.Refusal.{limit_fault}
+use Rattle.gv_space.specs.Ready.{IsReady}
 use Rattle.gv_space.specs.Inside.{space_of}
-use Rattle.gv_space.proofs.Faults.{no_fault}
+use Rattle.gv_space.proofs.FaultLemmas.{no_fault}
 use Rattle.gv_space.proofs.Readying.{inside, inside_sorted, made_ready, changed_before}
 use Rattle.gv_space.proofs.space.Space.change.Goals as goal
 

@@ -4,7 +4,7 @@ use Rattle.gv_types.specs.Operation.{in_pages}
 use Rattle.gv_space.specs.Refusal.{operation_fault, buffer_fault}
 use Rattle.gv_space.specs.Inside.{space_of}
 use Rattle.gv_space.specs.State.{AddressSpace}
-use Rattle.gv_space.proofs.Faults.{first_refused}
+use Rattle.gv_space.proofs.FaultLemmas.{first_refused}
 use Rattle.gv_space.proofs.space.Space.check.Goals as goal
 
 pub returns-in-Err-clause-fault : goal.returns-in-Err-clause-fault

@@ -6,7 +6,7 @@ use Rattle.gv_buffers.specs.Table.{Table, without, destroy_fault}
 use Rattle.gv_types.specs.declared.mapping.Mapping.{Mapping}
 use Rattle.gv_space.specs.State.{AddressSpace, AreKept, IsSpace}
 use Rattle.gv_space.specs.Inside.{space_of}
-use Rattle.gv_space.proofs.Faults.{no_fault}
+use Rattle.gv_space.proofs.FaultLemmas.{no_fault}
 use Rattle.gv_space.proofs.LivesLemmas.{AreKept-destroyed}
 use Rattle.gv_space.proofs.Spaces.{IsSpace-destroyed}
 use Rattle.gv_space.proofs.space.Space.destroy.Goals as goal

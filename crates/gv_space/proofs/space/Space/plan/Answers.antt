@@ -1,5 +1,5 @@
 use Rattle.std.proofs.Common.{refl}
-use Rattle.gv_space.proofs.Faults.{passed_on}
+use Rattle.gv_space.proofs.FaultLemmas.{passed_on}
 use Rattle.gv_space.proofs.space.Space.plan.Goals as goal
 
 pub returns-in-Err-clause-fault : goal.returns-in-Err-clause-fault

@@ -2,7 +2,6 @@ use Rattle.std.proofs.Common.{◌≡◌, ◌+◌, ◌-◌, ◌++◌, List, lengt
 use Rattle.gv_types.specs.declared.mapping.Mapping.{Mapping}
 use Rattle.gv_ranges.specs.List.{Ranges}
 use Rattle.gv_ranges.specs.Edit.{undone}
-use Rattle.gv_space.specs.Counts.{by_count, more_used, less_used, less_kept}
 use Rattle.gv_space.specs.State.{AddressSpace, IsSpace, AreKept}
 use Rattle.gv_space.specs.Undo.{UndoValue, CanRevert, reverted}
 use Rattle.gv_space.specs.Inside.{space_of}

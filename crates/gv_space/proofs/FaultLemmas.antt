@@ -1,4 +1,4 @@
--- Faults that a call answers for one that it made.
+-- For callers: faults that a call answers for one that it made.
 use Rattle.std.proofs.Common.{◌≡◌, Option, Some, None, Result, Ok, Err, refl, ◌∙◌, true, false}
 use Rattle.std.specs.Prelude.{IsOk, MatchOption}
 use Rattle.gv_types.specs.declared.fault.Fault.{Fault}
