@@ -27,7 +27,7 @@ use std::time::CpuClock;
 use workload::Workload;
 
 /// How many mappings the lists have.
-const SIZES: [u32; 4] = [100, 1_000, 10_000, 100_000];
+const SIZES: [u32; 5] = [100, 1_000, 10_000, 100_000, 1_000_000];
 
 fn main(rt: HostRuntime) -> ExitCode {
     match measure_all(&rt) {

@@ -10,6 +10,10 @@ use std::alloc::{AllocError, Global};
 /// How many operations a workload has.
 pub const OPERATIONS: u32 = 2_000;
 
+/// How many it has on a list of so many mappings or more, of which each operation may cost a thousand times as much.
+const FEW_OPERATIONS: u32 = 300;
+const LARGE: u32 = 1_000_000;
+
 /// From the start of one mapping to the next, in units, before the operations.
 const STRIDE: u64 = 16;
 
@@ -74,11 +78,21 @@ impl Plan {
     /// The operations.
     pub fn edits(&self, alloc: Global) -> Result<Vec<Edit>, AllocError> {
         let mut random = Random::new(u64::from(self.size));
-        let mut ops = Vec::with_capacity(alloc, OPERATIONS as usize)?;
-        for turn in 0..OPERATIONS {
+        let count = self.operations();
+        let mut ops = Vec::with_capacity(alloc, count as usize)?;
+        for turn in 0..count {
             ops.push(Edit::new(self.operation(&mut random, turn)))?;
         }
         Ok(ops)
+    }
+
+    /// How many operations there are.
+    fn operations(&self) -> u32 {
+        if self.size < LARGE {
+            OPERATIONS
+        } else {
+            FEW_OPERATIONS
+        }
     }
 
     /// Pages to look up, spread over the list.
