@@ -1,6 +1,5 @@
 -- How many places of a slot may need a table, part by part.
-use Rattle.std.proofs.Common.{◌≡◌, ℕ, zero, suc, ◌+◌, ◌-◌, ◌*◌, ◌<◌, ◌≤◌, inl, inr, Bool, true, false, not, ◌&&◌, ◌||◌, List, refl, arith, ap}
-use Rattle.std.proofs.lemmas.Bool.{cases_lt}
+use Rattle.std.proofs.Common.{◌≡◌, ℕ, zero, suc, ◌+◌, ◌-◌, ◌*◌, ◌<◌, ◌≤◌, Bool, true, false, not, ◌&&◌, ◌||◌, List, refl, arith, sym, ap, ◌∙◌}
 use Rattle.gv_types.specs.Span.{Span, meets, lies_in}
 use Rattle.gv_types.specs.declared.mapping.Mapping.{Mapping}
 use Rattle.gv_table.specs.declared.slot.Slot.{Slot}
@@ -9,7 +8,7 @@ use Rattle.gv_table.specs.Sums.{sum_below}
 use Rattle.gv_table.specs.Wanted.{wanted, is_divided}
 use Rattle.gv_table.specs.Tree.{is_table, child}
 use Rattle.gv_table.specs.Counts.{needed, may_divide, one_if_not}
-use Rattle.gv_table.proofs.PagesOf.{rows-rise}
+use Rattle.std.proofs.Math.Nat.{add-mul}
 
 pub needed-zero : (pieces : List Mapping) (range : Span) (first : ℕ) (slot : Slot) → needed pieces range 0 first slot ≡ 0
 unfolding needed
@@ -54,13 +53,11 @@ one_if_not-small false = omega arith
 pub product-up : (n p : ℕ) → 0 < p → n ≤ n * p
 product-up n p some = grind arith
 
--- the parts of a slot and the slot itself are fewer than its pages
-pub bound-all : (total one high p n : ℕ) → one ≤ 1 → total + high ≤ one + high * p → high ≤ 512 → 0 < p → n ≡ 512 * p → total + 1 ≤ n
-bound-all total one zero p n small bound few some e = omega (arith, bound, e)
-bound-all total one (suc high) p n small bound few some e =
-    elim (cases_lt (suc high) 512) [
-      | inl less ↦ (let up = rows-rise (suc high) 512 p less in omega (arith, up, bound, e))
-      | inr all ↦ (let same : suc high ≡ 512 = omega arith in
-          let product = ap (λ (m : ℕ). m * p) same in
-          omega (arith, product, bound, e))
-    ]
+-- a table has as many parts that need nothing themselves as it has slots
+pub rest-bound : (total high p : ℕ) → total + high ≤ high * p → high ≤ 512 → 0 < p → total + 512 ≤ 512 * p
+rest-bound total high p bound few some =
+    let rest : ℕ = 512 - high in
+    let all : high + rest ≡ 512 = omega arith in
+    let up = product-up rest p some in
+    let product : 512 * p ≡ high * p + rest * p = ap (λ (m : ℕ). m * p) (sym all) ∙ add-mul high rest p in
+    omega (arith, up, product, bound, all)

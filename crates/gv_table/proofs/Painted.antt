@@ -1,12 +1,12 @@
 -- One more slot of a row is painted.
-use Rattle.std.proofs.Common.{◌≡◌, ◌≢◌, ℕ, ◌+◌, ◌*◌, ◌<◌, ◌≤◌, List, slice_index_or, arith, sym, ap, ◌∙◌, subst, ◌⊎◌, inl, inr, refl}
+use Rattle.std.proofs.Common.{◌≡◌, ◌≢◌, ℕ, ◌+◌, ◌*◌, ◌<◌, ◌≤◌, List, slice_index_or, Box, Global, arith, sym, ap, ◌∙◌, subst, ◌⊎◌, inl, inr, refl}
 use Rattle.std.proofs.lemmas.Bool.{cases_lt}
 use Rattle.gv_types.specs.Page.{PAGES}
 use Rattle.gv_types.specs.Span.{Span, end_of}
 use Rattle.gv_types.specs.declared.mapping.Mapping.{Mapping}
 use Rattle.gv_ranges.specs.List.{IsLaidOut}
 use Rattle.gv_table.specs.declared.slot.Slot.{Slot}
-use Rattle.gv_table.specs.declared.slot.Slot.TheVariants.{Empty}
+use Rattle.gv_table.specs.declared.slot.Slot.TheVariants.{Empty, Table}
 use Rattle.gv_table.specs.Levels.{pages_of, slot_pages}
 use Rattle.gv_table.specs.Sums.{sum_below}
 use Rattle.gv_table.specs.Tree.{IsTreeOf, IsTreeOutside, child}
@@ -14,6 +14,7 @@ use Rattle.gv_table.specs.Counts.{gained, lost, row_gained, row_lost, tables_at,
 use Rattle.gv_table.proofs.Counts.{gained-same, lost-same}
 use Rattle.gv_table.proofs.Sums.{sum_below-change, sum_below-same, sum_below-zeros}
 use Rattle.gv_table.proofs.PagesOf.{part-within}
+use Rattle.gv_table.proofs.Slots.{child-Table}
 use Rattle.gv_table.proofs.Spans.{meets-after}
 use Rattle.gv_table.proofs.Trees.{outside-apart}
 use Rattle.gv_table.proofs.Matches.{tree-match, gained-match, lost-match}
@@ -113,20 +114,26 @@ row_tables_at-pages target level row is =
     sum_below-zeros 512 (λ k. tables_at target level (slice_index_or row k Empty))
     (λ k below. ap (λ (n : ℕ). tables_at target n (slice_index_or row k Empty)) is ∙ tables_at-page target (slice_index_or row k Empty))
 
--- the parts of a divided slot gain and lose what the slot's did
-module _ (ms : List Mapping) (level first : ℕ) (slot old : Slot) (divided row : List Slot)
-    (old_is : old ≡ slot) (row_is : row ≡ divided) (tables : (k : ℕ) → k < 512 → HasSameTables (child old k) (slice_index_or divided k Empty)) where
-  first-of : (k : ℕ) → slice_index_or row k Empty ≡ slice_index_or divided k Empty
-  first-of k = ap (λ (l : List Slot). slice_index_or l k Empty) row_is
+-- the row of a slot that is a table has the slot's parts
+pub table-row : (slot : Slot) (slots : Box (List Slot) Global) (row : List Slot) → slot ≡ Table slots → row ≡ slots.value →
+    (k : ℕ) → slice_index_or row k Empty ≡ child slot k
+table-row slot slots row is same k =
+    ap (λ (l : List Slot). slice_index_or l k Empty) same ∙ sym (ap (λ (s : Slot). child s k) is ∙ child-Table slots k)
 
+-- so it has the tables that the parts of the slot before had
+pub row-tables : (old slot : Slot) (row : List Slot) → ((k : ℕ) → slice_index_or row k Empty ≡ child slot k) →
+    ((k : ℕ) → k < 512 → HasSameTables (child old k) (child slot k)) → (k : ℕ) → k < 512 → HasSameTables (child old k) (slice_index_or row k Empty)
+row-tables old slot row same tables k below = subst (λ (s : Slot). HasSameTables (child old k) s) (sym (same k)) (tables k below)
+
+-- the parts of a divided slot gain and lose what the slot's did
+module _ (ms : List Mapping) (level first : ℕ) (slot : Slot) (row : List Slot)
+    (tables : (k : ℕ) → k < 512 → HasSameTables (child slot k) (slice_index_or row k Empty)) where
   pub lost-divided : row_lost ms level first row ≡ sum_below 512 (λ k. lost ms level (first + k * pages_of level) (child slot k))
   lost-divided =
       sum_below-same 512 (λ k. lost ms level (first + k * pages_of level) (slice_index_or row k Empty)) (λ k. lost ms level (first + k * pages_of level) (child slot k))
-      (λ k below. ap (λ (s : Slot). lost ms level (first + k * pages_of level) s) (first-of k) ∙ sym (lost-same ms level (first + k * pages_of level) _ _ (tables k below)) ∙
-      ap (λ (s : Slot). lost ms level (first + k * pages_of level) (child s k)) old_is)
+      (λ k below. sym (lost-same ms level (first + k * pages_of level) _ _ (tables k below)))
 
   pub gained-divided : row_gained ms level first row ≡ sum_below 512 (λ k. gained ms level (first + k * pages_of level) (child slot k))
   gained-divided =
       sum_below-same 512 (λ k. gained ms level (first + k * pages_of level) (slice_index_or row k Empty)) (λ k. gained ms level (first + k * pages_of level) (child slot k))
-      (λ k below. ap (λ (s : Slot). gained ms level (first + k * pages_of level) s) (first-of k) ∙ sym (gained-same ms level (first + k * pages_of level) _ _ (tables k below)) ∙
-      ap (λ (s : Slot). gained ms level (first + k * pages_of level) (child s k)) old_is)
+      (λ k below. sym (gained-same ms level (first + k * pages_of level) _ _ (tables k below)))

@@ -1,5 +1,5 @@
 //! A tree made that of a list, inside a range.
-ghost use Rattle.std.specs.Prelude.{◌≡◌, ◌+◌, ◌-◌, ◌*◌, ◌<◌, ◌≤◌, ℕ, false, IsTrue};
+ghost use Rattle.std.specs.Prelude.{◌≡◌, ◌+◌, ◌-◌, ◌*◌, ◌<◌, ◌≤◌, ℕ, true, false, IsTrue};
 ghost use Rattle.std.specs.Prelude.{List, None, IfSome, slice_index_or};
 ghost use Rattle.gv_table.specs.Chain.{AreEmpty};
 ghost use Rattle.gv_types.specs.Page.{PAGES};
@@ -19,13 +19,12 @@ ghost use Rattle.gv_types.specs.Mapping.{entry_advanced, HasSmallPages};
 use crate::levels::{SLOTS, pages_of, slots_met};
 use crate::pages::paint_pages;
 use crate::place::advance;
-use crate::release::release;
+use crate::release::clear;
 use crate::slot::{Slot, overwrite};
 use crate::spares::Spares;
 use crate::table_counts::TableCounts;
 use crate::wanted::{Wanted, slot_wanted};
 use gv_types::{Entry, Mapping, PageRange};
-use std::mem;
 
 /// Makes the slots the parts of a leaf, each of `pages` pages.
 fn spread(slots: &mut [Slot; SLOTS], entry: &Entry, pages: u64)
@@ -60,42 +59,55 @@ fn filled(entry: Option<Entry>, pages: u64, spares: &mut Spares) -> Box<[Slot; S
     slots
 }
 
-/// The table of a slot, or a spare one with the parts of what the slot held, which the counts then
-/// count.
+/// Makes a slot that is no table one: a spare table, with the parts of what the slot held, which the
+/// counts then count.
+#[cold]
 #[inline(never)]
-fn divide(
-    slot: Slot,
-    level: usize,
-    spares: &mut Spares,
-    counts: &mut TableCounts,
-) -> Box<[Slot; SLOTS]>
+fn divide(slot: &mut Slot, level: usize, spares: &mut Spares, counts: &mut TableCounts)
     requires some { 0 < level }
     requires known { level ≤ top_level }
-    requires enough { one_if_not (is_table slot) ≤ spares.old }
-    requires part { IsPartOf counts.old level slot }
-    ensures parts { (ms : List Mapping) (first : ℕ) → IsLaidOut ms → IsTreeOf ms level first slot
+    requires other { is_table slot.old ≡ false }
+    requires enough { 0 < spares.old }
+    requires part { IsPartOf counts.old level slot.old }
+    ensures table { is_table slot.new ≡ true }
+    ensures parts { (ms : List Mapping) (first : ℕ) → IsLaidOut ms → IsTreeOf ms level first slot.old
         → (k : ℕ) → k < slots_per_table
-        → IsTreeOf ms (level - 1) (first + k * pages_of (level - 1))
-        (slice_index_or result.value k Empty) }
-    ensures tables { (k : ℕ) → k < slots_per_table
-        → HasSameTables (child slot k) (slice_index_or result.value k Empty) }
-    ensures taken { spares.new + one_if_not (is_table slot) ≡ spares.old }
+        → IsTreeOf ms (level - 1) (first + k * pages_of (level - 1)) (child slot.new k) }
+    ensures tables { (k : ℕ) → k < slots_per_table → HasSameTables (child slot.old k) (child slot.new k) }
+    ensures taken { spares.new + 1 ≡ spares.old }
     ensures counted { (target : ℕ) → count_at counts.new target
-        ≡ count_at counts.old target + one_if_new target (level - 1) (is_table slot) }
+        ≡ count_at counts.old target + one_if_new target (level - 1) false }
 {
-    let entry = slot.entry();
-    match slot {
-        Slot::Table(slots) => slots,
-        Slot::Empty | Slot::Zero { .. } | Slot::Buffer { .. } => {
-            counts.raise(level - 1);
-            filled(entry, pages_of(level - 1), spares)
-        }
+    counts.raise(level - 1);
+    let slots = filled(slot.entry(), pages_of(level - 1), spares);
+    overwrite(slot, Slot::Table(slots));
+}
+
+/// A table stays as it is, and another slot is divided.
+#[inline(always)]
+fn make_table(slot: &mut Slot, level: usize, spares: &mut Spares, counts: &mut TableCounts)
+    requires some { 0 < level }
+    requires known { level ≤ top_level }
+    requires enough { one_if_not (is_table slot.old) ≤ spares.old }
+    requires part { IsPartOf counts.old level slot.old }
+    ensures table { is_table slot.new ≡ true }
+    ensures parts { (ms : List Mapping) (first : ℕ) → IsLaidOut ms → IsTreeOf ms level first slot.old
+        → (k : ℕ) → k < slots_per_table
+        → IsTreeOf ms (level - 1) (first + k * pages_of (level - 1)) (child slot.new k) }
+    ensures tables { (k : ℕ) → k < slots_per_table → HasSameTables (child slot.old k) (child slot.new k) }
+    ensures taken { spares.new + one_if_not (is_table slot.old) ≡ spares.old }
+    ensures counted { (target : ℕ) → count_at counts.new target
+        ≡ count_at counts.old target + one_if_new target (level - 1) (is_table slot.old) }
+{
+    if !slot.is_table() {
+        divide(slot, level, spares, counts);
     }
 }
 
 /// Makes a slot that meets the range that of the list's tree, given that it fits outside the range:
 /// how many tables it lost.
 #[cycle(paint)]
+#[inline(always)]
 pub fn paint_slot(
     slot: &mut Slot,
     level: usize,
@@ -122,27 +134,27 @@ pub fn paint_slot(
         ≡ count_at counts.old target + tables_at target level slot.new }
 {
     match slot_wanted(mappings, range, place, level, first) {
-        Wanted::Nothing => release(slot, level, spares, counts),
+        Wanted::Nothing => clear(slot, level, spares, counts),
         Wanted::Entry(entry) => {
-            let lost = release(slot, level, spares, counts);
+            let lost = clear(slot, level, spares, counts);
             overwrite(slot, Slot::leaf(entry));
             lost
         }
         Wanted::Table => {
-            let old = mem::replace(slot, Slot::Empty);
-            let mut slots = divide(old, level, spares, counts);
-            let lost = paint_row(
-                &mut slots,
-                level - 1,
-                first,
-                mappings,
-                range,
-                place,
-                spares,
-                counts,
-            );
-            overwrite(slot, Slot::Table(slots));
-            lost
+            make_table(slot, level, spares, counts);
+            match slot {
+                Slot::Table(slots) => paint_row(
+                    slots,
+                    level - 1,
+                    first,
+                    mappings,
+                    range,
+                    place,
+                    spares,
+                    counts,
+                ),
+                Slot::Empty | Slot::Zero { .. } | Slot::Buffer { .. } => unreachable!(),
+            }
         }
     }
 }

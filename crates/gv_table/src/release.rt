@@ -5,13 +5,32 @@ ghost use Rattle.gv_table.specs.Levels.{top_level};
 ghost use Rattle.gv_table.specs.Counts.{tables_in, tables_at, count_at};
 
 use crate::levels::SLOTS;
-use crate::slot::Slot;
+use crate::slot::{Slot, overwrite};
 use crate::spares::Spares;
 use crate::table_counts::TableCounts;
 use std::mem;
 
 /// Empties a slot, takes its tables off the counts, and puts them to the spares: how many they were.
-pub fn release(slot: &mut Slot, level: usize, spares: &mut Spares, counts: &mut TableCounts) -> u64
+#[inline(always)]
+pub fn clear(slot: &mut Slot, level: usize, spares: &mut Spares, counts: &mut TableCounts) -> u64
+    requires known { level ≤ top_level }
+    requires counted { (target : ℕ) → tables_at target level slot.old ≤ count_at counts.old target }
+    ensures count { result ≡ tables_in level slot.old }
+    ensures emptied { slot.new ≡ Empty }
+    ensures put { spares.new ≡ spares.old + tables_in level slot.old }
+    ensures counted { (target : ℕ) → count_at counts.new target + tables_at target level slot.old
+        ≡ count_at counts.old target }
+{
+    if slot.is_table() {
+        return release(slot, level, spares, counts);
+    }
+    overwrite(slot, Slot::Empty);
+    0
+}
+
+/// The same, with the slots of its table.
+#[inline(never)]
+fn release(slot: &mut Slot, level: usize, spares: &mut Spares, counts: &mut TableCounts) -> u64
     requires known { level ≤ top_level }
     requires counted { (target : ℕ) → tables_at target level slot.old ≤ count_at counts.old target }
     ensures count { result ≡ tables_in level slot.old }

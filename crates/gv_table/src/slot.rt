@@ -26,7 +26,7 @@ const _: () = prove!(size_of::<Slot>() == 24);
 
 impl Slot {
     ghost use Rattle.std.specs.Prelude.{◌≡◌, MatchOption};
-    ghost use Rattle.gv_table.specs.Tree.{leaf, HasNoEntry};
+    ghost use Rattle.gv_table.specs.Tree.{leaf, is_table, HasNoEntry};
 
     /// The leaf of an entry.
     pub fn leaf(entry: Entry) -> Slot
@@ -36,6 +36,17 @@ impl Slot {
         match entry.backing {
             Backing::Zero => Slot::Zero { flags },
             Backing::Buffer { id, page } => Slot::Buffer { flags, id, page },
+        }
+    }
+
+    /// Whether the slot is a table.
+    #[inline(always)]
+    pub fn is_table(&self) -> bool
+        ensures { result ≡ is_table self.now }
+    {
+        match self {
+            Slot::Table(_) => true,
+            Slot::Empty | Slot::Zero { .. } | Slot::Buffer { .. } => false,
         }
     }
 
@@ -67,7 +78,9 @@ pub fn overwrite(slot: &mut Slot, new: Slot)
     }
 }
 
+/// Gives a table's memory back.
+#[cold]
 #[inline(never)]
-fn give_back(slots: Box<[Slot; SLOTS]>) {
+pub fn give_back(slots: Box<[Slot; SLOTS]>) {
     drop(slots);
 }

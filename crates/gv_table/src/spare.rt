@@ -1,10 +1,11 @@
 //! How many tables a paint may need.
-ghost use Rattle.std.specs.Prelude.{◌≡◌, ◌+◌, ◌≤◌, ◌<◌, IsTrue};
+ghost use Rattle.std.specs.Prelude.{◌≡◌, ◌+◌, ◌*◌, ◌≤◌, ◌<◌, IsTrue};
 ghost use Rattle.gv_types.specs.Page.{PAGES};
-ghost use Rattle.gv_types.specs.Span.{end_of};
-ghost use Rattle.gv_ranges.specs.List.{IsLaidOut, IsPlaceOf};
+ghost use Rattle.gv_types.specs.Span.{span, meets, end_of};
+ghost use Rattle.gv_ranges.specs.List.{IsLaidOut, IsPlaceOf, AreEnded};
 ghost use Rattle.gv_table.specs.declared.slot.Slot.TheVariants.{Empty};
-ghost use Rattle.gv_table.specs.Levels.{top_level, slots_per_table, pages_of, slot_pages, entered};
+ghost use Rattle.gv_table.specs.Levels.{top_level, root_level, slots_per_table, pages_of, slot_pages, entered};
+ghost use Rattle.gv_table.specs.Sums.{sum_below};
 ghost use Rattle.gv_table.specs.Tree.{is_table, child};
 ghost use Rattle.gv_table.specs.Counts.{needed, may_divide, one_if_not};
 
@@ -66,6 +67,8 @@ fn may_be_table(
 }
 
 /// How many places of a slot may need a table where it has none.
+#[cycle(spare)]
+#[inline(always)]
 pub fn needed_in(
     slot: &Slot,
     level: usize,
@@ -84,19 +87,42 @@ pub fn needed_in(
     if level == 0 || !may_be_table(pieces, range, place, level, first) {
         return 0;
     }
-    let mut total = one_if_not_table(slot);
+    let one = one_if_not_table(slot);
     if level == 1 {
-        return total;
+        return one;
     }
-    let pages = pages_of(level - 1);
+    one + needed_below(slot, level - 1, first, pieces, range, place)
+}
+
+/// The same for the slots of its table, which are at the level.
+#[cycle(spare)]
+fn needed_below(
+    slot: &Slot,
+    level: usize,
+    first: u64,
+    pieces: &[Mapping],
+    range: PageRange,
+    place: usize,
+) -> u64
+    requires known { level ≤ root_level }
+    requires in_space { first + slots_per_table * pages_of level ≤ PAGES }
+    requires laid_out { IsLaidOut pieces.now }
+    requires place { AreEnded pieces.now (entered range first) place }
+    requires met { IsTrue (meets (span first (slots_per_table * pages_of level)) range) }
+    ensures count { result ≡ sum_below slots_per_table
+        (λ k. needed pieces.now range level (first + k * pages_of level) (child slot.now k)) }
+    ensures bound { result + slots_per_table ≤ slots_per_table * pages_of level }
+{
+    let pages = pages_of(level);
     let empty = Slot::Empty;
     let mut place = place;
-    let (low, high) = slots_met(level - 1, first, range);
+    let mut total = 0;
+    let (low, high) = slots_met(level, first, range);
     for index in low..high {
         let part = child_of(slot, index, &empty);
         let start = first + index as u64 * pages;
         place = advance(pieces, place, start.max(range.first()));
-        total += needed_in(part, level - 1, start, pieces, range, place);
+        total += needed_in(part, level, start, pieces, range, place);
     }
     total
 }

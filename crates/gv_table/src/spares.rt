@@ -3,7 +3,7 @@ ghost use Rattle.std.specs.Prelude.{◌≡◌, ◌+◌, ◌<◌, ◌≤◌, OnOk
 ghost use Rattle.gv_table.specs.Chain.{AreEmpty};
 
 use crate::levels::SLOTS;
-use crate::slot::Slot;
+use crate::slot::{Slot, give_back};
 use std::alloc::{AllocError, Global};
 use std::marker::Model;
 use std::mem;
@@ -30,6 +30,7 @@ impl Drop for Spares {
         let Spares { first: mut slot } = self;
         while let Slot::Table(mut slots) = slot {
             slot = mem::replace(&mut slots[0], Slot::Empty);
+            give_back(slots);
         }
     }
 }
@@ -79,7 +80,9 @@ impl Spares {
         }
     }
 
-    /// Makes one more empty table.
+    /// Makes one more empty table. The table is made in a frame of its own, which is as large as it.
+    #[cold]
+    #[inline(never)]
     pub(crate) fn grow(&mut self, alloc: Global) -> Result<(), AllocError>
         ensures grown { OnOk result (self.new ≡ self.old + 1) }
         ensures unchanged { OnErr result (self.new ≡ self.old) }

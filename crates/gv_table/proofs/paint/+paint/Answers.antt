@@ -1,21 +1,23 @@
-use Rattle.std.proofs.Common.{rules, arith, ◌≡◌, ◌≢◌, ◌+◌, ◌*◌, ◌<◌, ◌≤◌, ◌-◌, ℕ, true, false, length, slice_index_or, slice_set, List, refl, sym, ap, ◌∙◌, subst}
+use Rattle.std.proofs.Common.{rules, arith, ◌≡◌, ◌≢◌, ◌+◌, ◌*◌, ◌<◌, ◌≤◌, ◌-◌, ℕ, true, false, length, slice_index_or, slice_set, List, Box, Global, refl, sym, ap, ◌∙◌, subst}
 use Rattle.std.proofs.lemmas.List.{get_or_default}
+use borrow.Enum.Total.{values_o_at}
+use Rattle.gv_table.specs.contracts.slot.Slot.{enum}
 use Rattle.gv_types.specs.Span.{span, meets}
 use Rattle.gv_table.specs.declared.slot.Slot.{Slot}
 use Rattle.gv_table.specs.declared.slot.Slot.TheVariants.{Empty}
 use Rattle.gv_ranges.specs.List.{IsPlaceOf}
 use Rattle.gv_table.specs.Levels.{pages_of, slot_pages, entered}
 use Rattle.gv_table.specs.Wanted.{is_divided}
-use Rattle.gv_table.specs.Tree.{IsTreeOf, IsTreeOutside, is_table, child}
-use Rattle.gv_table.specs.Counts.{gained, lost, one_if_not, one_if_new, tables_at, count_at, IsPartOf}
+use Rattle.gv_table.specs.Tree.{IsTreeOf, IsTreeOutside, is_table}
+use Rattle.gv_table.specs.Counts.{gained, lost, tables_at, IsPartOf}
 use Rattle.gv_table.proofs.Counts.{gained-parts, lost-parts, tables_at-other, tables_at-same}
 use Rattle.gv_table.proofs.Fewness.{row_lost-few}
 use Rattle.gv_table.proofs.Matches.{lost-whole, gained-none}
 use Rattle.gv_table.proofs.PagesOf.{pages_of-below, part-within, one-more-part}
-use Rattle.gv_table.proofs.Painted.{painted-below, painted-above, painted-gained, painted-lost, row-tree, row_gained-zero, row_lost-zero, gained-divided, lost-divided, row_gained-pages, row_lost-pages, row_tables_at-pages}
+use Rattle.gv_table.proofs.Painted.{table-row, row-tables, painted-below, painted-above, painted-gained, painted-lost, row-tree, row_gained-zero, row_lost-zero, gained-divided, lost-divided, row_gained-pages, row_lost-pages, row_tables_at-pages}
 use Rattle.gv_table.proofs.Places.{ended-later, place-ended}
 use Rattle.gv_table.proofs.Rows.{row-other, row-here}
-use Rattle.gv_table.proofs.Slots.{is_table-Empty, is_table-leaf}
+use Rattle.gv_table.proofs.Slots.{is_table-Empty, is_table-leaf, no-table}
 use Rattle.gv_table.proofs.Counting.{divided-row, divided-counted, row-part, row-counted}
 use Rattle.gv_table.proofs.Spans.{meets-before}
 use Rattle.gv_table.proofs.Sums.{sum_below-at}
@@ -184,33 +186,77 @@ paint_row-returns-clause-exchanged t c =
     let l = row_lost-zero c.args.mappings.now c.args.level c.args.first c.loop-index.slots c.requires.laid_out tree in
     omega (arith, g, l, c.loop-index.invariant.exchanged)
 
-pub paint_slot-divide-slots-requires-clause-some : goal.paint_slot-divide-slots-requires-clause-some
-paint_slot-divide-slots-requires-clause-some t c = table-above _ c.args.level c.args.first (sym c.slot_wanted.ensures ∙ c.in-Table.is)
-
-pub paint_slot-divide-slots-requires-clause-enough : goal.paint_slot-divide-slots-requires-clause-enough
-paint_slot-divide-slots-requires-clause-enough t c =
-    let want = sym c.slot_wanted.ensures ∙ c.in-Table.is in
-    let e = gained-parts c.args.mappings.now c.args.level c.args.first c.args.slot.now (table-above _ c.args.level c.args.first want) want in
-    let o = ap (λ (s : Slot). one_if_not (is_table s)) c.replace-old.ensures.value in
-    omega (arith, e, o, c.requires.enough)
-
 pub paint_slot-overflow_sub-level : goal.paint_slot-overflow_sub-level
 paint_slot-overflow_sub-level t c =
     let some = table-above _ c.args.level c.args.first (sym c.slot_wanted.ensures ∙ c.in-Table.is) in omega (arith, some)
 
-pub paint_slot-paint_row-lost-requires : goal.paint_slot-paint_row-lost-requires
-paint_slot-paint_row-lost-requires t c =
+pub paint_slot-returns-in-Nothing-clause-tree : goal.paint_slot-returns-in-Nothing-clause-tree
+paint_slot-returns-in-Nothing-clause-tree t c = IsTreeOf-nothing _ c.args.level c.args.first _ (sym c.slot_wanted.ensures ∙ c.in-Nothing.is) c.clear.ensures.emptied
+
+pub paint_slot-returns-in-Nothing-clause-lost : goal.paint_slot-returns-in-Nothing-clause-lost
+paint_slot-returns-in-Nothing-clause-lost t c =
+    let none : is_divided _ ≡ false = ap is_divided (sym c.slot_wanted.ensures ∙ c.in-Nothing.is) in
+    c.clear.ensures.count ∙ sym (lost-whole c.args.mappings.now c.args.level c.args.first c.args.slot.now c.requires.laid_out none)
+
+pub paint_slot-returns-in-Nothing-clause-counted : goal.paint_slot-returns-in-Nothing-clause-counted
+paint_slot-returns-in-Nothing-clause-counted t c = λ target.
+    let none = tables_at-other target c.args.level c.clear.new.slot (ap is_table c.clear.ensures.emptied ∙ is_table-Empty) in
+    let given = c.clear.ensures.counted target in
+    omega (arith, none, given)
+
+pub paint_slot-returns-in-Entry-clause-counted : goal.paint_slot-returns-in-Entry-clause-counted
+paint_slot-returns-in-Entry-clause-counted t c = λ target.
+    let none = tables_at-other target c.args.level c.overwrite.new.slot (ap is_table (c.overwrite.ensures ∙ c.leaf.ensures) ∙ is_table-leaf c.in-Entry.entry) in
+    let given = c.clear-lost.ensures.counted target in
+    omega (arith, none, given)
+
+pub paint_slot-returns-in-Nothing-clause-exchanged : goal.paint_slot-returns-in-Nothing-clause-exchanged
+paint_slot-returns-in-Nothing-clause-exchanged t c =
+    let none : is_divided _ ≡ false = ap is_divided (sym c.slot_wanted.ensures ∙ c.in-Nothing.is) in
+    let g = gained-none c.args.mappings.now c.args.level c.args.first c.args.slot.now none in
+    let l = lost-whole c.args.mappings.now c.args.level c.args.first c.args.slot.now c.requires.laid_out none in
+    omega (arith, g, l, c.clear.ensures.put)
+
+pub paint_slot-returns-in-Entry-clause-tree : goal.paint_slot-returns-in-Entry-clause-tree
+paint_slot-returns-in-Entry-clause-tree t c = IsTreeOf-leaf _ c.args.level c.args.first c.in-Entry.entry _ (sym c.slot_wanted.ensures ∙ c.in-Entry.is) (c.overwrite.ensures ∙ c.leaf.ensures)
+
+pub paint_slot-returns-in-Entry-clause-lost : goal.paint_slot-returns-in-Entry-clause-lost
+paint_slot-returns-in-Entry-clause-lost t c =
+    let none : is_divided _ ≡ false = ap is_divided (sym c.slot_wanted.ensures ∙ c.in-Entry.is) in
+    c.clear-lost.ensures.count ∙ sym (lost-whole c.args.mappings.now c.args.level c.args.first c.args.slot.now c.requires.laid_out none)
+
+pub paint_slot-returns-in-Entry-clause-exchanged : goal.paint_slot-returns-in-Entry-clause-exchanged
+paint_slot-returns-in-Entry-clause-exchanged t c =
+    let none : is_divided _ ≡ false = ap is_divided (sym c.slot_wanted.ensures ∙ c.in-Entry.is) in
+    let g = gained-none c.args.mappings.now c.args.level c.args.first c.args.slot.now none in
+    let l = lost-whole c.args.mappings.now c.args.level c.args.first c.args.slot.now c.requires.laid_out none in
+    omega (arith, g, l, c.clear-lost.ensures.put)
+
+pub paint_row-advance-place-requires-clause-ended : goal.paint_row-advance-place-requires-clause-ended
+paint_row-advance-place-requires-clause-ended t c =
+    let same = ap (λ (n : ℕ). c.loop-index.index * n) c.pages_of-pages.ensures.pages in
+    ended-later c.args.mappings.now _ c.max.result c.loop-index.place (omega (arith, same)) c.loop-index.invariant.place
+
+pub paint_slot-make_table-requires-clause-some : goal.paint_slot-make_table-requires-clause-some
+paint_slot-make_table-requires-clause-some t c = table-above _ c.args.level c.args.first (sym c.slot_wanted.ensures ∙ c.in-Table.is)
+
+pub paint_slot-make_table-requires-clause-enough : goal.paint_slot-make_table-requires-clause-enough
+paint_slot-make_table-requires-clause-enough t c =
+    let want = sym c.slot_wanted.ensures ∙ c.in-Table.is in
+    let e = gained-parts c.args.mappings.now c.args.level c.args.first c.args.slot.now (table-above _ c.args.level c.args.first want) want in
+    omega (arith, e, c.requires.enough)
+
+pub paint_slot-paint_row-requires : goal.paint_slot-paint_row-requires
+paint_slot-paint_row-requires t c =
     let ms = c.args.mappings.now in
     let want = sym c.slot_wanted.ensures ∙ c.in-Table.is in
     let some = table-above ms c.args.level c.args.first want in
+    let row-is : c.deref_mut.result.now ≡ c.in-Table-slot.slots.value = c.deref_mut.ensures.value ∙ ap (λ (b : Box (List Slot) Global). b.value) c.in-Table-slot.slots-is in
+    let parts = table-row c.make_table.new.slot c.in-Table-slot.slots c.deref_mut.result.now c.in-Table-slot.is row-is in
+    let tables = row-tables c.args.slot.now c.make_table.new.slot c.deref_mut.result.now parts c.make_table.ensures.tables in
     let below-of = pages_of-below c.args.level some in
-    let first-of : (k : ℕ) → slice_index_or c.deref_mut.result.now k Empty ≡ slice_index_or c.divide-slots.result.value k Empty =
-    λ k. ap (λ (l : List Slot). slice_index_or l k Empty) c.deref_mut.ensures.value in
-    let old = c.replace-old.ensures.value in
-    let gains = gained-divided ms (c.args.level - 1) c.args.first c.args.slot.now _ c.divide-slots.result.value c.deref_mut.result.now old c.deref_mut.ensures.value c.divide-slots.ensures.tables in
-    let gain = gained-parts ms c.args.level c.args.first c.args.slot.now some want in
-    let one = ap (λ (s : Slot). one_if_not (is_table s)) old in
-    let tree = subst (λ (s : Slot). IsTreeOf c.requires.outside.earlier c.args.level c.args.first s) (sym old) c.requires.outside.tree in (
+    let gains = gained-divided ms (c.args.level - 1) c.args.first c.args.slot.now c.deref_mut.result.now tables in
+    let gain = gained-parts ms c.args.level c.args.first c.args.slot.now some want in (
       omega (arith, some),
       (
         omega (arith, c.requires.known),
@@ -219,7 +265,7 @@ paint_slot-paint_row-lost-requires t c =
           (
             c.requires.laid_out,
             (
-              place-ended c.args.mappings.now (entered c.args.range c.args.first) (entered c.args.range c.args.first) c.args.place (omega arith) c.requires.place,
+              place-ended ms (entered c.args.range c.args.first) (entered c.args.range c.args.first) c.args.place (omega arith) c.requires.place,
               (
                 subst (λ (n : ℕ). meets (span c.args.first n) c.args.range ≡ true) below-of c.requires.met,
                 (
@@ -227,17 +273,14 @@ paint_slot-paint_row-lost-requires t c =
                     earlier = c.requires.outside.earlier;
                     laid_out = c.requires.outside.laid_out;
                     alike = c.requires.outside.alike;
-                    tree = subst (λ (s : Slot). IsTreeOf c.requires.outside.earlier (c.args.level - 1) (c.args.first + k * pages_of (c.args.level - 1)) s) (sym (first-of k))
-                        (c.divide-slots.ensures.parts c.requires.outside.earlier c.args.first c.requires.outside.laid_out tree k below);
+                    tree = subst (λ (s : Slot). IsTreeOf c.requires.outside.earlier (c.args.level - 1) (c.args.first + k * pages_of (c.args.level - 1)) s) (sym (parts k))
+                        (c.make_table.ensures.parts c.requires.outside.earlier c.args.first c.requires.outside.laid_out c.requires.outside.tree k below);
                   },
                   (
-                    omega (arith, gains, gain, one, c.divide-slots.ensures.taken, c.requires.enough),
-                    divided-row c.args.counts.now c.divide-slots.new.counts c.args.level c.args.slot.now c.deref_mut.result.now some c.requires.part
-                        (λ target. c.divide-slots.ensures.counted target ∙
-                        ap (λ (s : Slot). count_at c.args.counts.now target + one_if_new target (c.args.level - 1) (is_table s)) old)
-                        (λ target k below. ap (λ (s : Slot). tables_at target (c.args.level - 1) s) (first-of k) ∙
-                        sym (tables_at-same target (c.args.level - 1) _ _ (c.divide-slots.ensures.tables k below)) ∙
-                        ap (λ (s : Slot). tables_at target (c.args.level - 1) (child s k)) old),
+                    omega (arith, gains, gain, c.make_table.ensures.taken, c.requires.enough),
+                    divided-row c.args.counts.now c.make_table.new.counts c.args.level c.args.slot.now c.deref_mut.result.now some c.requires.part
+                        c.make_table.ensures.counted
+                        (λ target k below. sym (tables_at-same target (c.args.level - 1) _ _ (tables k below))),
                   ),
                 ),
               ),
@@ -247,92 +290,51 @@ paint_slot-paint_row-lost-requires t c =
       ),
     )
 
-pub paint_slot-returns-in-Nothing-clause-tree : goal.paint_slot-returns-in-Nothing-clause-tree
-paint_slot-returns-in-Nothing-clause-tree t c = IsTreeOf-nothing _ c.args.level c.args.first _ (sym c.slot_wanted.ensures ∙ c.in-Nothing.is) c.release.ensures.emptied
+pub paint_slot-unreachable-requires : goal.paint_slot-unreachable-requires
+paint_slot-unreachable-requires t c =
+    let bad : true ≡ false = sym c.make_table.ensures.table ∙ no-table _ c.in-Empty.is in cc
 
-pub paint_slot-returns-in-Nothing-clause-lost : goal.paint_slot-returns-in-Nothing-clause-lost
-paint_slot-returns-in-Nothing-clause-lost t c =
-    let none : is_divided _ ≡ false = ap is_divided (sym c.slot_wanted.ensures ∙ c.in-Nothing.is) in
-    c.release.ensures.count ∙ sym (lost-whole c.args.mappings.now c.args.level c.args.first c.args.slot.now c.requires.laid_out none)
-
-pub paint_slot-returns-in-Nothing-clause-counted : goal.paint_slot-returns-in-Nothing-clause-counted
-paint_slot-returns-in-Nothing-clause-counted t c = λ target.
-    let none = tables_at-other target c.args.level c.release.new.slot (ap is_table c.release.ensures.emptied ∙ is_table-Empty) in
-    let given = c.release.ensures.counted target in
-    omega (arith, none, given)
-
-pub paint_slot-returns-in-Entry-clause-counted : goal.paint_slot-returns-in-Entry-clause-counted
-paint_slot-returns-in-Entry-clause-counted t c = λ target.
-    let none = tables_at-other target c.args.level c.overwrite.new.slot (ap is_table (c.overwrite.ensures ∙ c.leaf.ensures) ∙ is_table-leaf c.in-Entry.entry) in
-    let given = c.release-lost.ensures.counted target in
-    omega (arith, none, given)
-
-pub paint_slot-returns-in-Table-clause-counted : goal.paint_slot-returns-in-Table-clause-counted
-paint_slot-returns-in-Table-clause-counted t c =
-    let want = sym c.slot_wanted.ensures ∙ c.in-Table.is in
-    let some = table-above c.args.mappings.now c.args.level c.args.first want in
-    let first-of : (k : ℕ) → slice_index_or c.deref_mut.result.now k Empty ≡ slice_index_or c.divide-slots.result.value k Empty =
-    λ k. ap (λ (l : List Slot). slice_index_or l k Empty) c.deref_mut.ensures.value in
-    let old = c.replace-old.ensures.value in
-    rw c.overwrite-in-Table.ensures (divided-counted c.args.counts.now c.divide-slots.new.counts c.paint_row-lost.new.counts c.args.level c.args.slot.now c.deref_mut.result.now _ some
-    (λ target. c.divide-slots.ensures.counted target ∙
-    ap (λ (s : Slot). count_at c.args.counts.now target + one_if_new target (c.args.level - 1) (is_table s)) old)
-    (λ target k below. ap (λ (s : Slot). tables_at target (c.args.level - 1) s) (first-of k) ∙
-    sym (tables_at-same target (c.args.level - 1) _ _ (c.divide-slots.ensures.tables k below)) ∙
-    ap (λ (s : Slot). tables_at target (c.args.level - 1) (child s k)) old)
-    c.paint_row-lost.ensures.counted)
-
-pub paint_slot-returns-in-Nothing-clause-exchanged : goal.paint_slot-returns-in-Nothing-clause-exchanged
-paint_slot-returns-in-Nothing-clause-exchanged t c =
-    let none : is_divided _ ≡ false = ap is_divided (sym c.slot_wanted.ensures ∙ c.in-Nothing.is) in
-    let g = gained-none c.args.mappings.now c.args.level c.args.first c.args.slot.now none in
-    let l = lost-whole c.args.mappings.now c.args.level c.args.first c.args.slot.now c.requires.laid_out none in
-    omega (arith, g, l, c.release.ensures.put)
-
-pub paint_slot-returns-in-Entry-clause-tree : goal.paint_slot-returns-in-Entry-clause-tree
-paint_slot-returns-in-Entry-clause-tree t c = IsTreeOf-leaf _ c.args.level c.args.first c.in-Entry.entry _ (sym c.slot_wanted.ensures ∙ c.in-Entry.is) (c.overwrite.ensures ∙ c.leaf.ensures)
-
-pub paint_slot-returns-in-Entry-clause-lost : goal.paint_slot-returns-in-Entry-clause-lost
-paint_slot-returns-in-Entry-clause-lost t c =
-    let none : is_divided _ ≡ false = ap is_divided (sym c.slot_wanted.ensures ∙ c.in-Entry.is) in
-    c.release-lost.ensures.count ∙ sym (lost-whole c.args.mappings.now c.args.level c.args.first c.args.slot.now c.requires.laid_out none)
-
-pub paint_slot-returns-in-Entry-clause-exchanged : goal.paint_slot-returns-in-Entry-clause-exchanged
-paint_slot-returns-in-Entry-clause-exchanged t c =
-    let none : is_divided _ ≡ false = ap is_divided (sym c.slot_wanted.ensures ∙ c.in-Entry.is) in
-    let g = gained-none c.args.mappings.now c.args.level c.args.first c.args.slot.now none in
-    let l = lost-whole c.args.mappings.now c.args.level c.args.first c.args.slot.now c.requires.laid_out none in
-    omega (arith, g, l, c.release-lost.ensures.put)
-
-pub paint_slot-returns-in-Table-clause-tree : goal.paint_slot-returns-in-Table-clause-tree
-paint_slot-returns-in-Table-clause-tree t c =
-    let want = sym c.slot_wanted.ensures ∙ c.in-Table.is in
-    rw c.overwrite-in-Table.ensures (IsTreeOf-table _ c.args.level c.args.first _ (table-above _ c.args.level c.args.first want) want c.paint_row-lost.ensures.tree)
-
-pub paint_slot-returns-in-Table-clause-lost : goal.paint_slot-returns-in-Table-clause-lost
-paint_slot-returns-in-Table-clause-lost t c =
+pub paint_slot-returns-in-Table-slot-clause-lost : goal.paint_slot-returns-in-Table-slot-clause-lost
+paint_slot-returns-in-Table-slot-clause-lost t c =
     let ms = c.args.mappings.now in
     let want = sym c.slot_wanted.ensures ∙ c.in-Table.is in
     let some = table-above ms c.args.level c.args.first want in
-    let old = c.replace-old.ensures.value in
-    let losses = lost-divided ms (c.args.level - 1) c.args.first c.args.slot.now _ c.divide-slots.result.value c.deref_mut.result.now old c.deref_mut.ensures.value c.divide-slots.ensures.tables in
+    let row-is : c.deref_mut.result.now ≡ c.in-Table-slot.slots.value = c.deref_mut.ensures.value ∙ ap (λ (b : Box (List Slot) Global). b.value) c.in-Table-slot.slots-is in
+    let parts = table-row c.make_table.new.slot c.in-Table-slot.slots c.deref_mut.result.now c.in-Table-slot.is row-is in
+    let tables = row-tables c.args.slot.now c.make_table.new.slot c.deref_mut.result.now parts c.make_table.ensures.tables in
+    let losses = lost-divided ms (c.args.level - 1) c.args.first c.args.slot.now c.deref_mut.result.now tables in
     let loss = lost-parts ms c.args.level c.args.first c.args.slot.now some want in
-    omega (arith, losses, loss, c.paint_row-lost.ensures.lost)
+    omega (arith, losses, loss, c.paint_row.ensures.lost)
 
-pub paint_slot-returns-in-Table-clause-exchanged : goal.paint_slot-returns-in-Table-clause-exchanged
-paint_slot-returns-in-Table-clause-exchanged t c =
+pub paint_slot-returns-in-Table-slot-clause-tree : goal.paint_slot-returns-in-Table-slot-clause-tree
+paint_slot-returns-in-Table-slot-clause-tree t c =
+    let want = sym c.slot_wanted.ensures ∙ c.in-Table.is in
+    let held = values_o_at enum 3 (c.in-Table-slot.slots, tt) in
+    rw (c.in-Table-slot.is, held)
+    (IsTreeOf-table _ c.args.level c.args.first _ (table-above _ c.args.level c.args.first want) want c.paint_row.ensures.tree)
+
+pub paint_slot-returns-in-Table-slot-clause-exchanged : goal.paint_slot-returns-in-Table-slot-clause-exchanged
+paint_slot-returns-in-Table-slot-clause-exchanged t c =
     let ms = c.args.mappings.now in
     let want = sym c.slot_wanted.ensures ∙ c.in-Table.is in
     let some = table-above ms c.args.level c.args.first want in
-    let old = c.replace-old.ensures.value in
-    let gains = gained-divided ms (c.args.level - 1) c.args.first c.args.slot.now _ c.divide-slots.result.value c.deref_mut.result.now old c.deref_mut.ensures.value c.divide-slots.ensures.tables in
-    let losses = lost-divided ms (c.args.level - 1) c.args.first c.args.slot.now _ c.divide-slots.result.value c.deref_mut.result.now old c.deref_mut.ensures.value c.divide-slots.ensures.tables in
+    let row-is : c.deref_mut.result.now ≡ c.in-Table-slot.slots.value = c.deref_mut.ensures.value ∙ ap (λ (b : Box (List Slot) Global). b.value) c.in-Table-slot.slots-is in
+    let parts = table-row c.make_table.new.slot c.in-Table-slot.slots c.deref_mut.result.now c.in-Table-slot.is row-is in
+    let tables = row-tables c.args.slot.now c.make_table.new.slot c.deref_mut.result.now parts c.make_table.ensures.tables in
+    let gains = gained-divided ms (c.args.level - 1) c.args.first c.args.slot.now c.deref_mut.result.now tables in
     let gain = gained-parts ms c.args.level c.args.first c.args.slot.now some want in
+    let losses = lost-divided ms (c.args.level - 1) c.args.first c.args.slot.now c.deref_mut.result.now tables in
     let loss = lost-parts ms c.args.level c.args.first c.args.slot.now some want in
-    let one = ap (λ (s : Slot). one_if_not (is_table s)) old in
-    omega (arith, gains, losses, gain, loss, one, c.divide-slots.ensures.taken, c.paint_row-lost.ensures.exchanged)
+    omega (arith, gains, losses, gain, loss, c.make_table.ensures.taken, c.paint_row.ensures.exchanged)
 
-pub paint_row-advance-place-requires-clause-ended : goal.paint_row-advance-place-requires-clause-ended
-paint_row-advance-place-requires-clause-ended t c =
-    let same = ap (λ (n : ℕ). c.loop-index.index * n) c.pages_of-pages.ensures.pages in
-    ended-later c.args.mappings.now _ c.max.result c.loop-index.place (omega (arith, same)) c.loop-index.invariant.place
+pub paint_slot-returns-in-Table-slot-clause-counted : goal.paint_slot-returns-in-Table-slot-clause-counted
+paint_slot-returns-in-Table-slot-clause-counted t c =
+    let ms = c.args.mappings.now in
+    let want = sym c.slot_wanted.ensures ∙ c.in-Table.is in
+    let some = table-above ms c.args.level c.args.first want in
+    let row-is : c.deref_mut.result.now ≡ c.in-Table-slot.slots.value = c.deref_mut.ensures.value ∙ ap (λ (b : Box (List Slot) Global). b.value) c.in-Table-slot.slots-is in
+    let parts = table-row c.make_table.new.slot c.in-Table-slot.slots c.deref_mut.result.now c.in-Table-slot.is row-is in
+    let tables = row-tables c.args.slot.now c.make_table.new.slot c.deref_mut.result.now parts c.make_table.ensures.tables in
+    let held = values_o_at enum 3 (c.in-Table-slot.slots, tt) in
+    rw (c.in-Table-slot.is, held) (divided-counted c.args.counts.now c.make_table.new.counts c.paint_row.new.counts c.args.level c.args.slot.now c.deref_mut.result.now _ some
+    c.make_table.ensures.counted (λ target k below. sym (tables_at-same target (c.args.level - 1) _ _ (tables k below))) c.paint_row.ensures.counted)

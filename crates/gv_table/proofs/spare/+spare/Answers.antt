@@ -1,0 +1,127 @@
+use Rattle.std.proofs.Common.{arith, ◌≡◌, ◌≤◌, ◌+◌, ◌-◌, ◌*◌, ℕ, true, sym, ap, ◌∙◌, subst}
+use Rattle.gv_types.specs.Span.{span, meets}
+use Rattle.gv_table.specs.declared.slot.Slot.{Slot}
+use Rattle.gv_table.specs.Levels.{pages_of, slot_pages}
+use Rattle.gv_table.specs.Tree.{child, is_table}
+use Rattle.gv_table.specs.Counts.{needed, may_divide}
+use Rattle.gv_table.proofs.Needs.{needed-zero, needed-none, needed-apart, may-met, needed-parts, one_if_not-small, product-up, rest-bound}
+use Rattle.gv_table.proofs.PagesOf.{pages_of-some, pages_of-below, pages_of-bound, one-more-part}
+use Rattle.gv_table.proofs.Places.{ended-later, place-ended}
+use Rattle.gv_table.proofs.Spans.{meets-before, meets-after}
+use Rattle.gv_table.proofs.Sums.{sum_below-zeros, sum_below-more, sum_below-rest}
+use Rattle.gv_table.proofs.spare.+spare.Goals as goal
+use Rattle.gv_table.proofs.spare.+spare.Goals.{needed_in-then-level-eq0-via-then-level-eq0, needed_in-then-level-eq0-via-else-level-eq0+then-not-may_be_table}
+
+pub needed_in-returns-then-level-eq0-clause-count : goal.needed_in-returns-then-level-eq0-clause-count
+needed_in-returns-then-level-eq0-clause-count t c =
+    elim c.then-level-eq0.branch [
+      | needed_in-then-level-eq0-via-then-level-eq0 w ↦
+          sym (ap (λ (n : ℕ). needed c.args.pieces.now c.args.range n c.args.first c.args.slot.now) w.if-level-eq0.true ∙ needed-zero c.args.pieces.now c.args.range c.args.first c.args.slot.now)
+      | needed_in-then-level-eq0-via-else-level-eq0+then-not-may_be_table w ↦
+          sym (needed-none c.args.pieces.now c.args.range c.args.level c.args.first c.args.slot.now (sym w.may_be_table.ensures ∙ w.if-not-may_be_table.true))
+    ]
+
+pub needed_in-returns-then-level-eq0-clause-bound : goal.needed_in-returns-then-level-eq0-clause-bound
+needed_in-returns-then-level-eq0-clause-bound t c = pages_of-some c.args.level
+
+pub needed_in-returns-then-level-eq1-clause-count : goal.needed_in-returns-then-level-eq1-clause-count
+needed_in-returns-then-level-eq1-clause-count t c =
+    let f = λ (k : ℕ). needed c.args.pieces.now c.args.range (c.args.level - 1) (c.args.first + k * pages_of (c.args.level - 1)) (child c.args.slot.now k) in
+    let low : c.args.level - 1 ≡ 0 = omega arith in
+    let may : may_divide c.args.pieces.now c.args.range c.args.level c.args.first ≡ true = sym c.may_be_table.ensures ∙ c.if-not-may_be_table.false in
+    let whole = needed-parts c.args.pieces.now c.args.range c.args.level c.args.first c.args.slot.now (omega arith) may in
+    let none = sum_below-zeros 512 f (λ k below.
+    ap (λ (n : ℕ). needed c.args.pieces.now c.args.range n (c.args.first + k * pages_of (c.args.level - 1)) (child c.args.slot.now k)) low ∙
+    needed-zero c.args.pieces.now c.args.range (c.args.first + k * pages_of (c.args.level - 1)) (child c.args.slot.now k)) in
+    omega (arith, whole, none, c.one_if_not_table-one.ensures)
+
+pub needed_in-returns-then-level-eq1-clause-bound : goal.needed_in-returns-then-level-eq1-clause-bound
+needed_in-returns-then-level-eq1-clause-bound t c =
+    let small = one_if_not-small (is_table c.args.slot.now) in
+    let below-of = pages_of-below c.args.level (omega arith) in
+    let some = pages_of-some (c.args.level - 1) in
+    omega (arith, small, below-of, some, c.one_if_not_table-one.ensures)
+
+pub needed_in-needed_below-requires : goal.needed_in-needed_below-requires
+needed_in-needed_below-requires t c =
+    let below-of = pages_of-below c.args.level (omega arith) in
+    let may : may_divide c.args.pieces.now c.args.range c.args.level c.args.first ≡ true = sym c.may_be_table.ensures ∙ c.if-not-may_be_table.false in (
+      omega arith,
+      (
+        omega (arith, c.requires.known),
+        (
+          omega (arith, below-of, c.requires.in_space),
+          (
+            c.requires.laid_out,
+            (
+              place-ended c.args.pieces.now _ _ c.args.place (omega arith) c.requires.place,
+              subst (λ (n : ℕ). meets (span c.args.first n) c.args.range ≡ true) below-of (may-met c.args.pieces.now c.args.range c.args.level c.args.first may),
+            ),
+          ),
+        ),
+      ),
+    )
+
+pub needed_in-overflow_add-result : goal.needed_in-overflow_add-result
+needed_in-overflow_add-result t c =
+    let small = one_if_not-small (is_table c.args.slot.now) in
+    let below-of = pages_of-below c.args.level (omega arith) in
+    let all = pages_of-bound c.args.level c.requires.known in
+    omega (arith, small, below-of, all, c.one_if_not_table-one.ensures, c.needed_below.ensures.bound)
+
+pub needed_in-returns-clause-count : goal.needed_in-returns-clause-count
+needed_in-returns-clause-count t c =
+    let may : may_divide c.args.pieces.now c.args.range c.args.level c.args.first ≡ true = sym c.may_be_table.ensures ∙ c.if-not-may_be_table.false in
+    let whole = needed-parts c.args.pieces.now c.args.range c.args.level c.args.first c.args.slot.now (omega arith) may in
+    omega (arith, whole, c.one_if_not_table-one.ensures, c.needed_below.ensures.count)
+
+pub needed_in-returns-clause-bound : goal.needed_in-returns-clause-bound
+needed_in-returns-clause-bound t c =
+    let small = one_if_not-small (is_table c.args.slot.now) in
+    let below-of = pages_of-below c.args.level (omega arith) in
+    omega (arith, small, below-of, c.one_if_not_table-one.ensures, c.needed_below.ensures.bound)
+
+pub needed_below-loop-index-init : goal.needed_below-loop-index-init
+needed_below-loop-index-init t c =
+    let f = λ (k : ℕ). needed c.args.pieces.now c.args.range c.args.level (c.args.first + k * pages_of c.args.level) (child c.args.slot.now k) in
+    let z = sum_below-zeros c.slots_met-low.result.0 f (λ k below.
+    needed-apart c.args.pieces.now c.args.range c.args.level (c.args.first + k * pages_of c.args.level) (child c.args.slot.now k)
+    (meets-before (slot_pages c.args.level (c.args.first + k * pages_of c.args.level)) c.args.range (c.slots_met-low.ensures.before k below))) in
+    let up = product-up c.slots_met-low.result.0 (pages_of c.args.level) (pages_of-some c.args.level) in
+    record {
+      place = ended-later c.args.pieces.now _ _ c.args.place (omega arith) c.requires.place;
+      counted = omega (arith, z);
+      bound = omega (arith, up);
+    }
+
+pub needed_below-loop-index-preserved : goal.needed_below-loop-index-preserved
+needed_below-loop-index-preserved t c =
+    let f = λ (k : ℕ). needed c.args.pieces.now c.args.range c.args.level (c.args.first + k * pages_of c.args.level) (child c.args.slot.now k) in
+    let more = sum_below-more c.loop-index.index f in
+    let start : c.args.first + c.loop-index.index * c.pages_of-pages.result ≡ c.args.first + c.loop-index.index * pages_of c.args.level =
+    ap (λ (n : ℕ). c.args.first + c.loop-index.index * n) c.pages_of-pages.ensures.pages in
+    let here : c.needed_in-total.result ≡ f c.loop-index.index =
+    c.needed_in-total.ensures.count ∙
+    ap (λ (n : ℕ). needed c.args.pieces.now c.args.range c.args.level n c.child_of-part.result.now) start ∙
+    ap (λ (s : Slot). needed c.args.pieces.now c.args.range c.args.level (c.args.first + c.loop-index.index * pages_of c.args.level) s) c.child_of-part.ensures in
+    let product = one-more-part c.loop-index.index (pages_of c.args.level) in
+    record {
+      place = place-ended c.args.pieces.now c.max.result _ c.advance-place.result (omega (arith, start, product)) c.advance-place.ensures;
+      counted = omega (arith, more, here, c.loop-index.invariant.counted);
+      bound = omega (arith, product, c.loop-index.invariant.bound, c.needed_in-total.ensures.bound);
+    }
+
+pub needed_below-returns-clause-count : goal.needed_below-returns-clause-count
+needed_below-returns-clause-count t c =
+    let f = λ (k : ℕ). needed c.args.pieces.now c.args.range c.args.level (c.args.first + k * pages_of c.args.level) (child c.args.slot.now k) in
+    let last : c.loop-index.index ≤ c.slots_met-low.result.1 = c.loop-index.auto.index-end c.slots_met-low.ensures.ordered in
+    let rest = sum_below-rest 512 f c.loop-index.index (omega (arith, last, c.slots_met-low.ensures.within)) (λ k from below.
+    needed-apart c.args.pieces.now c.args.range c.args.level (c.args.first + k * pages_of c.args.level) (child c.args.slot.now k)
+    (meets-after (slot_pages c.args.level (c.args.first + k * pages_of c.args.level)) c.args.range
+    (c.slots_met-low.ensures.beyond k (omega (arith, c.loop-index-test.false)) below))) in
+    omega (arith, rest, c.loop-index.invariant.counted)
+
+pub needed_below-returns-clause-bound : goal.needed_below-returns-clause-bound
+needed_below-returns-clause-bound t c =
+    let last : c.loop-index.index ≤ c.slots_met-low.result.1 = c.loop-index.auto.index-end c.slots_met-low.ensures.ordered in
+    rest-bound c.loop-index.total c.loop-index.index (pages_of c.args.level) c.loop-index.invariant.bound (omega (arith, last, c.slots_met-low.ensures.within)) (pages_of-some c.args.level)

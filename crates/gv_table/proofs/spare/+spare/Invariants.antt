@@ -1,0 +1,20 @@
+use Rattle.std.proofs.Common.{◌≡◌, ◌≤◌, ◌+◌, ◌*◌}
+use Rattle.gv_ranges.specs.List.{AreEnded}
+use Rattle.gv_table.specs.Levels.{pages_of, entered}
+use Rattle.gv_table.specs.Sums.{sum_below}
+use Rattle.gv_table.specs.Tree.{child}
+use Rattle.gv_table.specs.Counts.{needed}
+use Rattle.gv_table.proofs.spare.+spare.Given as goal
+
+abbrev pub decreases-needed_in : goal.decreases-needed_in
+decreases-needed_in l = 2 * l.level
+
+abbrev pub decreases-needed_below : goal.decreases-needed_below
+decreases-needed_below l = 2 * l.level + 1
+
+abbrev pub invariant-needed_below-loop-index : goal.invariant-needed_below-loop-index
+invariant-needed_below-loop-index l = record {
+  place : AreEnded l.pieces (entered l.range (l.first + l.index * pages_of l.level)) l.place;
+  counted : l.total ≡ sum_below l.index (λ k. needed l.pieces l.range l.level (l.first + k * pages_of l.level) (child l.slot k));
+  bound : l.total + l.index ≤ l.index * pages_of l.level;
+}
