@@ -46,7 +46,7 @@ laid_out-clipped low high from start (m ∷ ms) laid up =
     (cases_lt (max low m.range.first) (min high (end_of m.range)))
 
 -- it ends at `high`
-ends-clipped : (low high : ℕ) (ms : List Mapping) → All (λ m. end_of m.range ≤ high) (clipped low high ms)
+pub ends-clipped : (low high : ℕ) (ms : List Mapping) → All (λ m. end_of m.range ≤ high) (clipped low high ms)
 ends-clipped low high ms =
     All-clipped (λ m. end_of m.range ≤ high) low high ms
     (λ k d below n is. let h = clip_is_piece low high (get_or ms k d) n is in rw h.1 (omega (arith, h.0)))

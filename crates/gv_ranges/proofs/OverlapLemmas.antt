@@ -11,14 +11,14 @@ use Rattle.gv_ranges.specs.List.{IsOverlappingRun, run}
 use Rattle.gv_ranges.specs.Edit.{clipped}
 use Rattle.gv_ranges.proofs.ReplacedLemmas.{clipped_none, split_at_run}
 
-filter_all : {X : Type 0} (p : X → Bool) (xs : List X) → All (λ x. p x ≡ true) xs → filter p xs ≡ xs
+pub filter_all : {X : Type 0} (p : X → Bool) (xs : List X) → All (λ x. p x ≡ true) xs → filter p xs ≡ xs
 filter_all p [] all = refl
 filter_all p (x ∷ xs) all =
     let here : p x ≡ true = All-head (λ x. p x ≡ true) x xs all in
     let rest : filter p xs ≡ xs = filter_all p xs (All-tail (λ x. p x ≡ true) x xs all) in
     rw (here, rest) refl
 
-filter_none : {X : Type 0} (p : X → Bool) (xs : List X) → All (λ x. p x ≡ false) xs → filter p xs ≡ []
+pub filter_none : {X : Type 0} (p : X → Bool) (xs : List X) → All (λ x. p x ≡ false) xs → filter p xs ≡ []
 filter_none p [] all = refl
 filter_none p (x ∷ xs) all =
     let here : p x ≡ false = All-head (λ x. p x ≡ false) x xs all in

@@ -70,13 +70,13 @@ pub all_mappings : (ms : List Mapping) (low : ℕ) → IsLaidOutFrom low ms → 
 all_mappings [] low laid = All-nil IsMapping
 all_mappings (m ∷ ms) low laid = All-cons IsMapping m ms laid.1 (all_mappings ms (end_of m.range) laid.2)
 
-abbrev LiesBetween : ℕ → ℕ → Mapping → Type 0
+abbrev pub LiesBetween : ℕ → ℕ → Mapping → Type 0
 LiesBetween low high m = IsMapping m × (low ≤ m.range.first) × (end_of m.range ≤ high)
 
 abbrev pub LiesOutside : ℕ → ℕ → Mapping → Type 0
 LiesOutside low high m = (end_of m.range ≤ low) ⊎ (high ≤ m.range.first)
 
-clipped_whole : (low high : ℕ) (ms : List Mapping) → All (LiesBetween low high) ms → clipped low high ms ≡ ms
+pub clipped_whole : (low high : ℕ) (ms : List Mapping) → All (LiesBetween low high) ms → clipped low high ms ≡ ms
 clipped_whole low high [] all = refl
 clipped_whole low high (m ∷ ms) all =
     let here : LiesBetween low high m = All-head (LiesBetween low high) m ms all in
