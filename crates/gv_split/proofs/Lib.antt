@@ -1,1 +1,3 @@
+pub mod CarriedOutLemmas
+pub mod WithoutBuffer
 pub mod RenamingLemmas

@@ -7,6 +7,7 @@ use Rattle.gv_types.specs.Span.{span}
 use Rattle.gv_types.specs.declared.operation.PageOp.TheVariants.{Map as MapOp, UnmapBuffer}
 use Rattle.gv_split.specs.declared.step.Step.TheVariants.{Unmap, Remap, Map}
 use Rattle.gv_split.specs.Steps.{steps}
+use Rattle.gv_split.specs.CarriedOut.{carried_out}
 
 -- a hole in a mapping leaves both rests, the second further on in the buffer
 abbrev pub HoleLeavesBothRests : Type 0
@@ -46,3 +47,41 @@ UnmapOfBuffer =
     (steps (of 0 2 (a 0) ∷ of 2 2 (b 0) ∷ fixed 4 1 (a 9) ∷ of 6 1 Zero ∷ []) (UnmapBuffer (buffer_id 0 0))
     ≡ Unmap (of 0 2 (a 0)) false ∷ Unmap (fixed 4 1 (a 9)) false ∷ [])
     × (steps (of 0 2 (a 0) ∷ []) (UnmapBuffer (buffer_id 0 1)) ≡ [])
+
+-- carried out, a hole's one step puts both rests in the mapping's place, between its neighbours
+abbrev pub HoleCarriedOut : Type 0
+HoleCarriedOut =
+    carried_out (Remap (of 2 4 (b 0)) (Some (of 2 1 (b 0))) (Some (of 4 2 (b 2))) false ∷ []) (of 0 2 (a 0) ∷ of 2 4 (b 0) ∷ of 6 1 (a 2) ∷ [])
+    ≡ of 0 2 (a 0) ∷ of 2 1 (b 0) ∷ of 4 2 (b 2) ∷ of 6 1 (a 2) ∷ []
+
+-- a map over three mappings, step by step, ends with its own mapping between the rests of the outer two
+abbrev pub MapOverThreeCarriedOut : Type 0
+MapOverThreeCarriedOut =
+    (carried_out (Remap (of 0 2 (a 0)) (Some (of 0 1 (a 0))) None false ∷ []) (of 0 2 (a 0) ∷ of 2 2 (a 2) ∷ of 4 2 (a 4) ∷ [])
+    ≡ of 0 1 (a 0) ∷ of 2 2 (a 2) ∷ of 4 2 (a 4) ∷ [])
+    × (carried_out
+    (Remap (of 0 2 (a 0)) (Some (of 0 1 (a 0))) None false
+    ∷ Unmap (of 2 2 (a 2)) false
+    ∷ Remap (of 4 2 (a 4)) None (Some (of 5 1 (a 5))) false
+    ∷ Map (of 1 4 (b 0)) ∷ [])
+    (of 0 2 (a 0) ∷ of 2 2 (a 2) ∷ of 4 2 (a 4) ∷ [])
+    ≡ of 0 1 (a 0) ∷ of 1 4 (b 0) ∷ of 5 1 (a 5) ∷ [])
+
+-- a map at the very pages of a mapping takes it out, kept or not, and puts its own in there
+abbrev pub SameMapCarriedOut : Type 0
+SameMapCarriedOut =
+    carried_out (Unmap (of 2 2 (b 0)) true ∷ Map (of 2 2 (b 0)) ∷ []) (of 0 2 (a 0) ∷ of 2 2 (b 0) ∷ of 4 2 (a 2) ∷ [])
+    ≡ of 0 2 (a 0) ∷ of 2 2 (b 0) ∷ of 4 2 (a 2) ∷ []
+
+-- an unmap of a whole buffer leaves the others as they are
+abbrev pub UnmapOfBufferCarriedOut : Type 0
+UnmapOfBufferCarriedOut =
+    carried_out (Unmap (of 0 2 (a 0)) false ∷ Unmap (fixed 4 1 (a 9)) false ∷ []) (of 0 2 (a 0) ∷ of 2 2 (b 0) ∷ fixed 4 1 (a 9) ∷ of 6 1 Zero ∷ [])
+    ≡ of 2 2 (b 0) ∷ of 6 1 Zero ∷ []
+
+-- an unmap of pages that hold nothing has no step, and a map there puts its own mapping in between
+abbrev pub NothingToUnmap : Type 0
+NothingToUnmap =
+    (steps (of 0 2 (a 0) ∷ of 6 2 (a 2) ∷ []) (unmap_at 2 4) ≡ [])
+    × (carried_out [] (of 0 2 (a 0) ∷ of 6 2 (a 2) ∷ []) ≡ of 0 2 (a 0) ∷ of 6 2 (a 2) ∷ [])
+    × (carried_out (Map (of 2 4 (b 0)) ∷ []) (of 0 2 (a 0) ∷ of 6 2 (a 2) ∷ []) ≡ of 0 2 (a 0) ∷ of 2 4 (b 0) ∷ of 6 2 (a 2) ∷ [])

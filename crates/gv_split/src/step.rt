@@ -40,6 +40,7 @@ ghost use Rattle.gv_types.specs.Mapping.{is_of, IsMapping};
 ghost use Rattle.gv_types.specs.Operation.{own_mapping, range_of, IsPageOp, IsChecked};
 ghost use Rattle.gv_types.specs.Span.{meets};
 ghost use Rattle.gv_split.specs.Steps.{continues_mapping, step_in, steps};
+ghost use Rattle.gv_split.specs.CarriedOut.{carried_out, ArePresent, list_after};
 
 /// Whether the operation maps the pages of the mapping's buffer again where they were, with equal
 /// flags.
@@ -143,16 +144,21 @@ fn steps_of_buffer(
     Ok(answer)
 }
 
-/// The steps by which the operation changes the list, in ascending order. `OutOfMemory` where the
-/// system refuses the memory for them, so only where there are steps.
+/// The steps by which the operation changes the list, in ascending order. Carried out one after
+/// another they make the list that the operation makes, and each finds its mapping there at its
+/// turn. `OutOfMemory` where the system refuses the memory for them, so only where there are steps.
 pub fn plan(alloc: Global, list: &RangeList, op: &PageOp) -> Result<Vec<Step>, Fault>
     requires { IsChecked op.now }
     ensures ok { IfOk result (λ answer. answer.items ≡ steps list.now.mappings op.now) }
+    ensures carried_out { IfOk result (λ answer.
+        carried_out answer.items list.now.mappings ≡ list_after list.now.mappings op.now) }
+    ensures present { IfOk result (λ answer. ArePresent answer.items list.now.mappings) }
     ensures err { IfErr result (λ fault. fault ≡ Fault.OutOfMemory) }
     ensures some { OnErr result (0 < length (steps list.now.mappings op.now)) }
 {
+    let mappings = list.mappings();
     match *op {
-        PageOp::UnmapBuffer { buffer } => steps_of_buffer(alloc, list.mappings(), buffer),
+        PageOp::UnmapBuffer { buffer } => steps_of_buffer(alloc, mappings, buffer),
         PageOp::Map { .. } | PageOp::Unmap { .. } => plan_range(alloc, list, op),
     }
 }
