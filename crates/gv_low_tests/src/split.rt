@@ -2,7 +2,8 @@
 ghost use Rattle.gv_types.specs.Operation.{IsChecked};
 ghost use Rattle.gv_split.specs.Examples.{HoleLeavesBothRests, MapOverThree, SameMapIsKept};
 ghost use Rattle.gv_split.specs.Examples.{PartOfMapIsKept, ZerosAreNotKept};
-ghost use Rattle.gv_split.specs.Examples.{UnmapOfBuffer};
+ghost use Rattle.gv_split.specs.Examples.{UnmapOfBuffer, HoleCarriedOut, MapOverThreeCarriedOut};
+ghost use Rattle.gv_split.specs.Examples.{SameMapCarriedOut, UnmapOfBufferCarriedOut, NothingToUnmap};
 
 use crate::fixtures::{Pages, list_of, map, mapping, unmap};
 use gv_split::{Step, plan};
@@ -18,6 +19,11 @@ fn examples()
     ensures part_kept { PartOfMapIsKept }
     ensures zeros { ZerosAreNotKept }
     ensures buffer { UnmapOfBuffer }
+    ensures hole_carried_out { HoleCarriedOut }
+    ensures three_carried_out { MapOverThreeCarriedOut }
+    ensures same_carried_out { SameMapCarriedOut }
+    ensures buffer_carried_out { UnmapOfBufferCarriedOut }
+    ensures nothing { NothingToUnmap }
 {}
 
 /// Asserts that an operation has these steps on the list of these pages.

@@ -49,6 +49,7 @@ impl Space {
     ghost use Rattle.gv_ranges.specs.List.{at, IsLaidOut};
     ghost use Rattle.gv_ranges.specs.Edit.{edited, restored, undone};
     ghost use Rattle.gv_split.specs.Steps.{steps};
+    ghost use Rattle.gv_split.specs.CarriedOut.{carried_out, ArePresent, list_after};
     ghost use Rattle.gv_buffers.specs.Table.{uses, kept, pages, create_fault, destroy_fault, join_fault};
     ghost use Rattle.gv_buffers.specs.Table.{without, changed, joined_by, left_everywhere, IsCreated};
     ghost use Rattle.gv_table.specs.Table.{tables_of, IsTree, IsHeldAt};
@@ -129,12 +130,16 @@ impl Space {
     }
 
     /// The split steps of an operation, as DRM GPUVM plans them; nothing changes. An unmap of a whole buffer has a step
-    /// for each of its mappings. The faults are the first of `check`, then `NoBuffer` and `OutOfBuffer`, then
+    /// for each of its mappings. Carried out one after another the steps make the list that the operation makes, and each
+    /// finds its mapping there at its turn. The faults are the first of `check`, then `NoBuffer` and `OutOfBuffer`, then
     /// `OutOfMemory`, only where there are steps. The limit of mappings is not asked.
     pub fn plan(&self, alloc: Global, op: &Op) -> Result<Vec<Step>, Fault>
         ensures fault { MatchOption (operation_fault self.now op.now)
             (IsOkUnless result Fault.OutOfMemory) (λ fault. result ≡ Err fault) }
         ensures steps { IfOk result (λ list. list.items ≡ steps self.now.mappings (in_pages op.now)) }
+        ensures carried_out { IfOk result (λ list.
+            carried_out list.items self.now.mappings ≡ list_after self.now.mappings (in_pages op.now)) }
+        ensures present { IfOk result (λ list. ArePresent list.items self.now.mappings) }
         ensures some { result ≡ Err Fault.OutOfMemory → 0 < length (steps self.now.mappings (in_pages op.now)) }
         ensures placed { IfOk result (λ _.
             All (IsPlaced self.now.area self.now.buffers) (own_mapping (in_pages op.now))) }
