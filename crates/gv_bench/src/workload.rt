@@ -12,6 +12,7 @@ pub const OPERATIONS: u32 = 2_000;
 
 /// How many it has on a list of so many mappings or more, of which each operation may cost a thousand times as much.
 const FEW_OPERATIONS: u32 = 300;
+
 const LARGE: u32 = 1_000_000;
 
 /// From the start of one mapping to the next, in units, before the operations.
