@@ -4,6 +4,7 @@ ghost use Rattle.gv_split.specs.Examples.{HoleLeavesBothRests, MapOverThree, Sam
 ghost use Rattle.gv_split.specs.Examples.{PartOfMapIsKept, ZerosAreNotKept};
 ghost use Rattle.gv_split.specs.Examples.{UnmapOfBuffer, HoleCarriedOut, MapOverThreeCarriedOut};
 ghost use Rattle.gv_split.specs.Examples.{SameMapCarriedOut, UnmapOfBufferCarriedOut, NothingToUnmap};
+ghost use Rattle.gv_split.specs.Examples.{MapFindsPagesFree};
 
 use crate::fixtures::{Pages, list_of, map, mapping, unmap};
 use gv_split::{Step, plan};
@@ -24,6 +25,7 @@ fn examples()
     ensures same_carried_out { SameMapCarriedOut }
     ensures buffer_carried_out { UnmapOfBufferCarriedOut }
     ensures nothing { NothingToUnmap }
+    ensures free { MapFindsPagesFree }
 {}
 
 /// Asserts that an operation has these steps on the list of these pages.

@@ -7,7 +7,7 @@ use Rattle.gv_types.specs.Span.{span}
 use Rattle.gv_types.specs.declared.operation.PageOp.TheVariants.{Map as MapOp, UnmapBuffer}
 use Rattle.gv_split.specs.declared.step.Step.TheVariants.{Unmap, Remap, Map}
 use Rattle.gv_split.specs.Steps.{steps}
-use Rattle.gv_split.specs.CarriedOut.{carried_out}
+use Rattle.gv_split.specs.CarriedOut.{carried_out, ArePresent}
 
 -- a hole in a mapping leaves both rests, the second further on in the buffer
 abbrev pub HoleLeavesBothRests : Type 0
@@ -85,3 +85,9 @@ NothingToUnmap =
     (steps (of 0 2 (a 0) ∷ of 6 2 (a 2) ∷ []) (unmap_at 2 4) ≡ [])
     × (carried_out [] (of 0 2 (a 0) ∷ of 6 2 (a 2) ∷ []) ≡ of 0 2 (a 0) ∷ of 6 2 (a 2) ∷ [])
     × (carried_out (Map (of 2 4 (b 0)) ∷ []) (of 0 2 (a 0) ∷ of 6 2 (a 2) ∷ []) ≡ of 0 2 (a 0) ∷ of 2 4 (b 0) ∷ of 6 2 (a 2) ∷ [])
+
+-- a map at the very pages of a mapping finds them free once that one went, and not before
+abbrev pub MapFindsPagesFree : Type 0
+MapFindsPagesFree =
+    ArePresent (Unmap (of 2 2 (b 0)) true ∷ Map (of 2 2 (b 0)) ∷ []) (of 0 2 (a 0) ∷ of 2 2 (b 0) ∷ [])
+    × (ArePresent (Map (of 2 2 (b 0)) ∷ []) (of 0 2 (a 0) ∷ of 2 2 (b 0) ∷ []) → ⊥)
