@@ -4,7 +4,7 @@ use Rattle.std.proofs.lemmas.List.Elements.{All-nil, All-cons}
 use Rattle.std.specs.List.{All}
 use Rattle.gv_types.specs.Span.{span, meets}
 use Rattle.gv_types.specs.declared.mapping.Mapping.{Mapping}
-use Rattle.gv_ranges.specs.Examples.{a, b, of}
+use Rattle.gv_ranges.specs.Examples.{a, of}
 use Rattle.gv_low_tests.proofs.split.examples.Goals as goal
 
 pub returns-clause-free : goal.returns-clause-free
