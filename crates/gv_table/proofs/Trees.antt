@@ -32,6 +32,11 @@ IsTreeOf-nothing ms zero first slot want e =
     rw nothing e
 IsTreeOf-nothing ms (suc level) first slot want e = rw want e
 
+-- the slot of a page
+pub IsTreeOf-page : (ms : List Mapping) (page : ℕ) (entry : Option Entry) (slot : Slot) → at ms page ≡ entry → slot ≡ page_slot entry → IsTreeOf ms 0 page slot
+unfolding IsTreeOf
+IsTreeOf-page ms page entry slot held e = rw held e
+
 pub IsTreeOf-leaf : (ms : List Mapping) (level first : ℕ) (entry : Entry) (slot : Slot) → wanted ms level first ≡ variant.Entry entry → slot ≡ leaf entry →
     IsTreeOf ms level first slot
 unfolding IsTreeOf

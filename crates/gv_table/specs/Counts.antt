@@ -1,14 +1,15 @@
 -- How many tables a slot holds, gains and loses.
-use Rattle.std.specs.Prelude.{◌≡◌, ◌⊎◌, ℕ, zero, suc, ◌+◌, ◌*◌, ◌≤◌, Bool, true, false, not, ◌&&◌, ◌||◌, nat_eq, List, slice_index_or, if◌then◌else◌}
+use Rattle.std.specs.Prelude.{◌≡◌, ◌⊎◌, ℕ, zero, suc, ◌+◌, ◌-◌, ◌*◌, ◌<◌, ◌≤◌, Bool, true, false, not, ◌&&◌, ◌||◌, nat_eq, List, slice_index_or, if◌then◌else◌}
 use Rattle.gv_types.specs.Span.{Span, meets, lies_in}
 use Rattle.gv_types.specs.declared.mapping.Mapping.{Mapping}
 use Rattle.gv_types.specs.Page.{PAGES}
+use Rattle.gv_ranges.specs.List.{IsLaidOut}
 use Rattle.gv_table.specs.declared.table_counts.TableCounts.{TableCounts}
 use Rattle.gv_table.specs.declared.slot.Slot.{Slot}
 use Rattle.gv_table.specs.declared.slot.Slot.TheVariants.{Empty}
 use Rattle.gv_table.specs.Levels.{slots_per_table, pages_of, slot_pages}
 use Rattle.gv_table.specs.Sums.{sum_below}
-use Rattle.gv_table.specs.Tree.{is_table, child}
+use Rattle.gv_table.specs.Tree.{is_table, child, IsTreeOf}
 use Rattle.gv_table.specs.Wanted.{wanted, is_divided}
 
 abbrev pub one_if : Bool → ℕ
@@ -111,3 +112,10 @@ needed pieces range (suc level) first slot =
 -- two slots are the same, or neither is a table
 abbrev pub HasSameTables : Slot → Slot → Type 0
 HasSameTables one other = (one ≡ other) ⊎ ((is_table one ≡ false) × (is_table other ≡ false))
+
+-- a slot that was made a table: it holds what it held, part by part, and has its tables
+pub record IsDivided (level : ℕ) (old new : Slot) : Type 0 where
+  pub table : is_table new ≡ true
+  pub parts : (ms : List Mapping) (first : ℕ) → IsLaidOut ms → IsTreeOf ms level first old →
+      (k : ℕ) → k < slots_per_table → IsTreeOf ms (level - 1) (first + k * pages_of (level - 1)) (child new k)
+  pub tables : (k : ℕ) → k < slots_per_table → HasSameTables (child old k) (child new k)

@@ -10,22 +10,23 @@ ghost use Rattle.gv_table.specs.Tree.{IsTreeOf, IsTreeOutside};
 use crate::levels::{SLOTS, slots_met};
 use crate::place::advance;
 use crate::slot::Slot;
-use crate::wanted::{Wanted, slot_wanted};
 use gv_types::{Mapping, PageRange};
 
-/// The slot of a page of the range, given the place of the first mapping that ends past it. Of one page no table is wanted.
-fn page_slot(mappings: &[Mapping], range: PageRange, place: usize, page: u64) -> Slot
-    requires in_space { end_of (slot_pages 0 page) ≤ PAGES }
+/// The slot of a page, given the place of the first mapping that ends past it.
+#[inline(always)]
+fn page_slot(mappings: &[Mapping], place: usize, page: u64) -> Slot
     requires laid_out { IsLaidOut mappings.now }
-    requires place { IsPlaceOf mappings.now (entered range page) place }
-    requires met { IsTrue (meets (slot_pages 0 page) range) }
+    requires place { IsPlaceOf mappings.now page place }
     ensures { IsTreeOf mappings.now 0 page result }
 {
-    match slot_wanted(mappings, range, place, 0, page) {
-        Wanted::Entry(entry) => Slot::leaf(entry),
-        Wanted::Nothing => Slot::Empty,
-        Wanted::Table => Slot::Empty,
+    if place == mappings.len() {
+        return Slot::Empty;
     }
+    let m = &mappings[place];
+    if page < m.range.first() {
+        return Slot::Empty;
+    }
+    Slot::leaf(m.part(page))
 }
 
 /// Makes the slots of a table of pages those of the list's tree, given that they fit outside the range. Those are visited
@@ -51,6 +52,6 @@ pub fn paint_pages(
     for index in low..high {
         let page = first + index as u64;
         place = advance(mappings, place, page);
-        slots[index] = page_slot(mappings, range, place, page);
+        slots[index] = page_slot(mappings, place, page);
     }
 }

@@ -9,9 +9,9 @@ ghost use Rattle.gv_ranges.specs.List.{IsLaidOut, IsPlaceOf, AreEnded};
 ghost use Rattle.gv_table.specs.declared.slot.Slot.TheVariants.{Empty};
 ghost use Rattle.gv_table.specs.Levels.{top_level, root_level, slots_per_table, pages_of};
 ghost use Rattle.gv_table.specs.Levels.{slot_pages, entered};
-ghost use Rattle.gv_table.specs.Tree.{IsTreeOf, IsTreeOutside, is_table, child, leaf};
+ghost use Rattle.gv_table.specs.Tree.{IsTreeOf, IsTreeOutside, is_table, leaf};
 ghost use Rattle.gv_table.specs.Counts.{gained, lost, row_gained, row_lost};
-ghost use Rattle.gv_table.specs.Counts.{one_if_not, one_if_new, HasSameTables};
+ghost use Rattle.gv_table.specs.Counts.{one_if_not, one_if_new, IsDivided};
 ghost use Rattle.gv_table.specs.Counts.{tables_at, row_tables_at, count_at};
 ghost use Rattle.gv_table.specs.Counts.{IsPartOf, IsRowOf};
 ghost use Rattle.gv_types.specs.Mapping.{entry_advanced, HasSmallPages};
@@ -69,11 +69,7 @@ fn divide(slot: &mut Slot, level: usize, spares: &mut Spares, counts: &mut Table
     requires other { is_table slot.old ≡ false }
     requires enough { 0 < spares.old }
     requires part { IsPartOf counts.old level slot.old }
-    ensures table { is_table slot.new ≡ true }
-    ensures parts { (ms : List Mapping) (first : ℕ) → IsLaidOut ms → IsTreeOf ms level first slot.old
-        → (k : ℕ) → k < slots_per_table
-        → IsTreeOf ms (level - 1) (first + k * pages_of (level - 1)) (child slot.new k) }
-    ensures tables { (k : ℕ) → k < slots_per_table → HasSameTables (child slot.old k) (child slot.new k) }
+    ensures divided { IsDivided level slot.old slot.new }
     ensures taken { spares.new + 1 ≡ spares.old }
     ensures counted { (target : ℕ) → count_at counts.new target
         ≡ count_at counts.old target + one_if_new target (level - 1) false }
@@ -90,11 +86,7 @@ fn make_table(slot: &mut Slot, level: usize, spares: &mut Spares, counts: &mut T
     requires known { level ≤ top_level }
     requires enough { one_if_not (is_table slot.old) ≤ spares.old }
     requires part { IsPartOf counts.old level slot.old }
-    ensures table { is_table slot.new ≡ true }
-    ensures parts { (ms : List Mapping) (first : ℕ) → IsLaidOut ms → IsTreeOf ms level first slot.old
-        → (k : ℕ) → k < slots_per_table
-        → IsTreeOf ms (level - 1) (first + k * pages_of (level - 1)) (child slot.new k) }
-    ensures tables { (k : ℕ) → k < slots_per_table → HasSameTables (child slot.old k) (child slot.new k) }
+    ensures divided { IsDivided level slot.old slot.new }
     ensures taken { spares.new + one_if_not (is_table slot.old) ≡ spares.old }
     ensures counted { (target : ℕ) → count_at counts.new target
         ≡ count_at counts.old target + one_if_new target (level - 1) (is_table slot.old) }

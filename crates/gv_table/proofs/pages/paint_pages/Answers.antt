@@ -1,6 +1,4 @@
-use Rattle.std.proofs.Common.{rules, arith, ◌≡◌, ◌≢◌, ◌+◌, ◌*◌, ◌<◌, ◌≤◌, ℕ, true, length, slice_index_or, slice_set, List, refl, sym, subst}
-use Rattle.gv_types.specs.Span.{meets}
-use Rattle.gv_ranges.specs.List.{IsPlaceOf}
+use Rattle.std.proofs.Common.{rules, arith, ◌≡◌, ◌≢◌, ◌+◌, ◌*◌, ◌<◌, ◌≤◌, ℕ, length, slice_index_or, slice_set, List, refl, sym, subst}
 use Rattle.gv_table.specs.declared.slot.Slot.{Slot}
 use Rattle.gv_table.specs.declared.slot.Slot.TheVariants.{Empty}
 use Rattle.gv_table.specs.Levels.{pages_of, slot_pages, entered}
@@ -30,25 +28,6 @@ advance-place-requires-clause-ended c =
     let from : c.slots_met-low.result.0 ≤ c.loop-index.index = c.loop-index.auto.index in
     let in_range = meets-bounds (slot_pages 0 (c.args.first + c.loop-index.index * pages_of 0)) c.args.range (c.slots_met-low.ensures.met c.loop-index.index from c.loop-index-test.true) in
     ended-later c.args.mappings.now _ (c.args.first + c.loop-index.index) c.loop-index.place (omega (arith, in_range, slots-of-one-page c.loop-index.index, pages_of-zero)) c.loop-index.invariant.place
-
-pub page_slot-requires-clause-in_space : goal.page_slot-requires-clause-in_space
-page_slot-requires-clause-in_space c =
-    let below : c.loop-index.index < 512 = omega (arith, c.loop-index-test.true, c.slots_met-low.ensures.within) in
-    let fits = part-within c.loop-index.index (512 * pages_of 0) (pages_of 0) below refl in
-    omega (arith, fits, slots-of-one-page c.loop-index.index, pages_of-zero, c.requires.in_space)
-
-pub page_slot-requires-clause-place : goal.page_slot-requires-clause-place
-page_slot-requires-clause-place c =
-    let from : c.slots_met-low.result.0 ≤ c.loop-index.index = c.loop-index.auto.index in
-    let in_range = meets-bounds (slot_pages 0 (c.args.first + c.loop-index.index * pages_of 0)) c.args.range (c.slots_met-low.ensures.met c.loop-index.index from c.loop-index-test.true) in
-    let page : c.args.first + c.loop-index.index ≡ entered c.args.range (c.args.first + c.loop-index.index) = omega (arith, in_range, slots-of-one-page c.loop-index.index, pages_of-zero) in
-    subst (λ (n : ℕ). IsPlaceOf c.args.mappings.now n c.advance-place.result) page c.advance-place.ensures
-
-pub page_slot-requires-clause-met : goal.page_slot-requires-clause-met
-page_slot-requires-clause-met c =
-    let from : c.slots_met-low.result.0 ≤ c.loop-index.index = c.loop-index.auto.index in
-    let page : c.args.first + c.loop-index.index * pages_of 0 ≡ c.args.first + c.loop-index.index = omega (arith, slots-of-one-page c.loop-index.index) in
-    subst (λ (n : ℕ). meets (slot_pages 0 n) c.args.range ≡ true) page (c.slots_met-low.ensures.met c.loop-index.index from c.loop-index-test.true)
 
 pub loop-index-preserved : goal.loop-index-preserved
 loop-index-preserved c =

@@ -7,7 +7,7 @@ use Rattle.gv_table.proofs.pages.paint_pages.Given as goal
 
 abbrev pub invariant-loop-index : goal.invariant-loop-index
 invariant-loop-index l = record {
-  place : AreEnded l.mappings (entered l.range (l.first + l.index * pages_of 0)) l.place;
+  place : AreEnded l.mappings (entered l.fn.range (l.first + l.index * pages_of 0)) l.place;
   painted : (k : ℕ) → k < l.index → IsTreeOf l.mappings 0 (l.first + k * pages_of 0) (slice_index_or l.slots k Empty);
   untouched : (k : ℕ) → l.index ≤ k → slice_index_or l.slots k Empty ≡ slice_index_or l.initial.slots k Empty;
 }

@@ -253,7 +253,7 @@ paint_slot-paint_row-requires t c =
     let some = table-above ms c.args.level c.args.first want in
     let row-is : c.deref_mut.result.now ≡ c.in-Table-slot.slots.value = c.deref_mut.ensures.value ∙ ap (λ (b : Box (List Slot) Global). b.value) c.in-Table-slot.slots-is in
     let parts = table-row c.make_table.new.slot c.in-Table-slot.slots c.deref_mut.result.now c.in-Table-slot.is row-is in
-    let tables = row-tables c.args.slot.now c.make_table.new.slot c.deref_mut.result.now parts c.make_table.ensures.tables in
+    let tables = row-tables c.args.slot.now c.make_table.new.slot c.deref_mut.result.now parts c.make_table.ensures.divided.tables in
     let below-of = pages_of-below c.args.level some in
     let gains = gained-divided ms (c.args.level - 1) c.args.first c.args.slot.now c.deref_mut.result.now tables in
     let gain = gained-parts ms c.args.level c.args.first c.args.slot.now some want in (
@@ -274,7 +274,7 @@ paint_slot-paint_row-requires t c =
                     laid_out = c.requires.outside.laid_out;
                     alike = c.requires.outside.alike;
                     tree = subst (λ (s : Slot). IsTreeOf c.requires.outside.earlier (c.args.level - 1) (c.args.first + k * pages_of (c.args.level - 1)) s) (sym (parts k))
-                        (c.make_table.ensures.parts c.requires.outside.earlier c.args.first c.requires.outside.laid_out c.requires.outside.tree k below);
+                        (c.make_table.ensures.divided.parts c.requires.outside.earlier c.args.first c.requires.outside.laid_out c.requires.outside.tree k below);
                   },
                   (
                     omega (arith, gains, gain, c.make_table.ensures.taken, c.requires.enough),
@@ -292,7 +292,7 @@ paint_slot-paint_row-requires t c =
 
 pub paint_slot-unreachable-requires : goal.paint_slot-unreachable-requires
 paint_slot-unreachable-requires t c =
-    let bad : true ≡ false = sym c.make_table.ensures.table ∙ no-table _ c.in-Empty.is in cc
+    let bad : true ≡ false = sym c.make_table.ensures.divided.table ∙ no-table _ c.in-Empty.is in cc
 
 pub paint_slot-returns-in-Table-slot-clause-lost : goal.paint_slot-returns-in-Table-slot-clause-lost
 paint_slot-returns-in-Table-slot-clause-lost t c =
@@ -301,7 +301,7 @@ paint_slot-returns-in-Table-slot-clause-lost t c =
     let some = table-above ms c.args.level c.args.first want in
     let row-is : c.deref_mut.result.now ≡ c.in-Table-slot.slots.value = c.deref_mut.ensures.value ∙ ap (λ (b : Box (List Slot) Global). b.value) c.in-Table-slot.slots-is in
     let parts = table-row c.make_table.new.slot c.in-Table-slot.slots c.deref_mut.result.now c.in-Table-slot.is row-is in
-    let tables = row-tables c.args.slot.now c.make_table.new.slot c.deref_mut.result.now parts c.make_table.ensures.tables in
+    let tables = row-tables c.args.slot.now c.make_table.new.slot c.deref_mut.result.now parts c.make_table.ensures.divided.tables in
     let losses = lost-divided ms (c.args.level - 1) c.args.first c.args.slot.now c.deref_mut.result.now tables in
     let loss = lost-parts ms c.args.level c.args.first c.args.slot.now some want in
     omega (arith, losses, loss, c.paint_row.ensures.lost)
@@ -320,7 +320,7 @@ paint_slot-returns-in-Table-slot-clause-exchanged t c =
     let some = table-above ms c.args.level c.args.first want in
     let row-is : c.deref_mut.result.now ≡ c.in-Table-slot.slots.value = c.deref_mut.ensures.value ∙ ap (λ (b : Box (List Slot) Global). b.value) c.in-Table-slot.slots-is in
     let parts = table-row c.make_table.new.slot c.in-Table-slot.slots c.deref_mut.result.now c.in-Table-slot.is row-is in
-    let tables = row-tables c.args.slot.now c.make_table.new.slot c.deref_mut.result.now parts c.make_table.ensures.tables in
+    let tables = row-tables c.args.slot.now c.make_table.new.slot c.deref_mut.result.now parts c.make_table.ensures.divided.tables in
     let gains = gained-divided ms (c.args.level - 1) c.args.first c.args.slot.now c.deref_mut.result.now tables in
     let gain = gained-parts ms c.args.level c.args.first c.args.slot.now some want in
     let losses = lost-divided ms (c.args.level - 1) c.args.first c.args.slot.now c.deref_mut.result.now tables in
@@ -334,7 +334,7 @@ paint_slot-returns-in-Table-slot-clause-counted t c =
     let some = table-above ms c.args.level c.args.first want in
     let row-is : c.deref_mut.result.now ≡ c.in-Table-slot.slots.value = c.deref_mut.ensures.value ∙ ap (λ (b : Box (List Slot) Global). b.value) c.in-Table-slot.slots-is in
     let parts = table-row c.make_table.new.slot c.in-Table-slot.slots c.deref_mut.result.now c.in-Table-slot.is row-is in
-    let tables = row-tables c.args.slot.now c.make_table.new.slot c.deref_mut.result.now parts c.make_table.ensures.tables in
+    let tables = row-tables c.args.slot.now c.make_table.new.slot c.deref_mut.result.now parts c.make_table.ensures.divided.tables in
     let held = values_o_at enum 3 (c.in-Table-slot.slots, tt) in
     rw (c.in-Table-slot.is, held) (divided-counted c.args.counts.now c.make_table.new.counts c.paint_row.new.counts c.args.level c.args.slot.now c.deref_mut.result.now _ some
     c.make_table.ensures.counted (λ target k below. sym (tables_at-same target (c.args.level - 1) _ _ (tables k below))) c.paint_row.ensures.counted)

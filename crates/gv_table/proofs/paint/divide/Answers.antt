@@ -30,12 +30,14 @@ returns c =
     let same : (k : ℕ) → child c.overwrite.new.slot k ≡ slice_index_or c.filled-slots.result.value k Empty =
     λ k. ap (λ (s : Slot). child s k) c.overwrite.ensures ∙ child-Table c.filled-slots.result k in
     record {
-      table = ap is_table c.overwrite.ensures ∙ is_table-Table c.filled-slots.result;
-      parts = λ ms first laid tree k below.
-          subst (λ (s : Slot). IsTreeOf ms (c.args.level - 1) (first + k * pages_of (c.args.level - 1)) s) (sym (same k))
-          (divided-parts c.entry.result c.args.slot.now c.filled-slots.result.value ms c.args.level first c.pages_of.result c.entry.ensures other
-          c.filled-slots.ensures.empty c.filled-slots.ensures.entries laid c.requires.some c.pages_of.ensures.pages tree k below);
-      tables = λ k below. inr (ap is_table (child-other c.args.slot.now k other) ∙ is_table-Empty, ap is_table (same k) ∙ c.filled-slots.ensures.leaves k below);
+      divided = record {
+        table = ap is_table c.overwrite.ensures ∙ is_table-Table c.filled-slots.result;
+        parts = λ ms first laid tree k below.
+            subst (λ (s : Slot). IsTreeOf ms (c.args.level - 1) (first + k * pages_of (c.args.level - 1)) s) (sym (same k))
+            (divided-parts c.entry.result c.args.slot.now c.filled-slots.result.value ms c.args.level first c.pages_of.result c.entry.ensures other
+            c.filled-slots.ensures.empty c.filled-slots.ensures.entries laid c.requires.some c.pages_of.ensures.pages tree k below);
+        tables = λ k below. inr (ap is_table (child-other c.args.slot.now k other) ∙ is_table-Empty, ap is_table (same k) ∙ c.filled-slots.ensures.leaves k below);
+      };
       taken = c.filled-slots.ensures.taken;
       counted = c.raise.ensures;
     }
