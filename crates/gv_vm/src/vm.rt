@@ -1,8 +1,8 @@
 //! One address space with its journal, its running jobs and what its queues were told.
-ghost use Rattle.std.specs.Prelude.{◌≡◌, ◌<◌, ◌+◌, [], ℕ, None, reverse, map, IfOk, Contains, IfErr, IsOk, IsOkUnless, OnOk, OnErr, IsErrAnd, MatchOption};
+ghost use Rattle.std.specs.Prelude.{◌≡◌, ◌<◌, ◌+◌, [], ℕ, None, reverse, map, length, IfOk, Contains, IfErr, IsOk, IsOkUnless, OnOk, OnErr, IsErrAnd, MatchOption};
 ghost use Rattle.gv_types.specs.Operation.{in_pages};
-ghost use Rattle.gv_buffers.specs.Table.{create_fault, destroy_fault, without, IsCreated};
 ghost use Rattle.gv_split.specs.Steps.{steps};
+ghost use Rattle.gv_split.specs.CarriedOut.{carried_out, ArePresent, list_after};
 ghost use Rattle.gv_space.specs.Refusal.{operation_fault};
 ghost use Rattle.gv_space.specs.State.{TableMatchesList};
 ghost use Rattle.gv_vm.specs.Places.{place_at};
@@ -14,16 +14,16 @@ use crate::jobs::{Access, Job, Jobs};
 use crate::outcome::{NotTold, Outcome};
 use crate::places::{Place, translate};
 use crate::told::{Told, nothing_told, prepare, tell};
-use gv_buffers::laws;
 use gv_journal::{Item, Journal};
 use gv_space::Space;
 use gv_split::Step;
 use gv_sync::{Lacking, Reached};
 use gv_table::PageTable;
-use gv_types::{Backing, Bounds, BufferId, Fault, Limits, Op, OutOfMemory, Request};
+use gv_types::{Backing, Bounds, Fault, Limits, Op, OutOfMemory, Request};
 use std::alloc::Global;
 use std::marker::Model;
 
+mod buffers;
 mod entries;
 
 /// One GPU address space, of which each accepted request is an entry that can be taken back. It owns undo values, so it is
@@ -50,7 +50,7 @@ impl Vm {
     ghost use Rattle.gv_journal.specs.Items.{next};
     ghost use Rattle.gv_journal.specs.History.{back};
     ghost use Rattle.gv_journal.specs.Binding.{IsRewound};
-    ghost use Rattle.gv_vm.specs.State.{new_machine, IsMachine, HasOtherBuffers, HasOtherJobs};
+    ghost use Rattle.gv_vm.specs.State.{new_machine, IsMachine, HasOtherJobs};
     ghost use Rattle.gv_vm.specs.Jobs.{begin_fault, end_fault, IsBegun, IsEnded, IsBeginRefused};
 
     /// A machine of no mapping, no buffer, no entry and no job. `OutOfMemory` where the system refuses its first room.
@@ -136,42 +136,14 @@ impl Vm {
         ensures fault { MatchOption (operation_fault self.now.space op.now)
             (IsOkUnless result Fault.OutOfMemory) (λ fault. result ≡ Err fault) }
         ensures steps { IfOk result (λ list. list.items ≡ steps self.now.space.mappings (in_pages op.now)) }
+        ensures carried_out { IfOk result (λ list.
+            carried_out list.items self.now.space.mappings ≡ list_after self.now.space.mappings (in_pages op.now)) }
+        ensures present { IfOk result (λ list. ArePresent list.items self.now.space.mappings) }
+        ensures some { result ≡ Err Fault.OutOfMemory → 0 < length (steps self.now.space.mappings (in_pages op.now)) }
     {
         // The borrow checker proves the call only where the function names the types inside the steps.
         let _backing = Backing::Zero;
         self.space.plan(alloc, op)
-    }
-
-    /// Makes a buffer of `pages` pages. `BadSize` at 0 pages or over 2^36, then `TooManyBuffers` where the limit's buffers are
-    /// alive or 2^64 - 1 were made, then `OutOfMemory`.
-    pub fn create(&mut self, alloc: Global, pages: u64) -> Result<BufferId, Fault>
-        ensures fault { MatchOption (create_fault self.old.space.buffers pages)
-            (IsOkUnless result Fault.OutOfMemory) (λ fault. result ≡ Err fault) }
-        ensures ok { IfOk result (λ id. IsCreated self.old.space.buffers self.new.space.buffers id pages) }
-        ensures rest { HasOtherBuffers self.old self.new }
-        ensures err { OnErr result (self.new ≡ self.old) }
-    {
-        laws::lookups();
-        let created = self.space.create(alloc, pages);
-        // For the prover: what always holds of the space.
-        let _mappings = self.space.mappings();
-        created
-    }
-
-    /// Destroys a buffer that nothing names. `NoBuffer` where the id is dead, then `Mapped` where mappings of it are in the
-    /// list, `Kept` where they are in undo values, and `InUse` where jobs use it. It takes no memory.
-    pub fn destroy(&mut self, id: BufferId) -> Result<(), Fault>
-        ensures fault { MatchOption (destroy_fault self.old.space.buffers id)
-            (IsOk result) (λ fault. result ≡ Err fault) }
-        ensures ok { OnOk result (self.new.space.buffers ≡ without id self.old.space.buffers) }
-        ensures rest { HasOtherBuffers self.old self.new }
-        ensures err { OnErr result (self.new ≡ self.old) }
-    {
-        laws::lookups();
-        let destroyed = self.space.destroy(id);
-        // For the prover: what always holds of the space.
-        let _mappings = self.space.mappings();
-        destroyed
     }
 
     /// Begins a job: each access in turn finds its place, and the buffer behind it is held for the job until it ends.
