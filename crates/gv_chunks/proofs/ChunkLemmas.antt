@@ -1,0 +1,126 @@
+-- Chunks joined: parts of them, one of them changed, and those that hold nothing.
+use Rattle.std.proofs.Common.{◌≡◌, ℕ, ◌+◌, ◌-◌, ◌*◌, ◌<◌, ◌≤◌, List, [], ◌∷◌, ◌++◌, length, take, drop, slice_index_or, slice_set, vec_capacity, arith, refl, ◌∙◌, ap, sym, lit<, add-one}
+use Rattle.std.proofs.Math.ListN.{length-set}
+use Rattle.std.proofs.Math.Seq.{take-append-add, drop-append-add}
+use Rattle.std.proofs.lemmas.List.{drop_more, take_more_set, take_more, take_all, append-nil, append_assoc, take-append-drop, take-append-le, drop-append-le, drop_at, length-drop, get_or_append_left, get_or-drop}
+use Rattle.std.proofs.lemmas.List.Elements.{All-append, All-set, All-take, All-drop}
+use Rattle.std.proofs.lemmas.List.Concat.{flat_map-append}
+use Rattle.std.specs.Global.{Vec}
+use Rattle.gv_types.specs.declared.mapping.Mapping.{Mapping}
+use Rattle.gv_chunks.specs.Chunks.{joined, AreChunks}
+use Rattle.gv_chunks.specs.declared.TheConstants.{CHUNK}
+
+-- chunks behind chunks
+pub joined-append : (xs ys : List (Vec Mapping)) → joined (xs ++ ys) ≡ joined xs ++ joined ys
+joined-append xs ys = flat_map-append (λ chunk. chunk.items) xs ys
+
+-- the chunks before a place and those behind it are all of them
+pub joined_parts : (xs : List (Vec Mapping)) (i : ℕ) → joined xs ≡ joined (take i xs) ++ joined (drop i xs)
+joined_parts xs i = ap joined (sym (take-append-drop i xs)) ∙ joined-append (take i xs) (drop i xs)
+
+-- one chunk more
+pub joined_more : (xs : List (Vec Mapping)) (i : ℕ) (v : Vec Mapping) → i < length xs → v ≡ slice_index_or xs i v →
+    joined (take (i + 1) xs) ≡ joined (take i xs) ++ v.items
+joined_more xs i v within is =
+    ap joined (take_more xs i v within)
+    ∙ (joined-append (take i xs) (slice_index_or xs i v ∷ [])
+    ∙ ap (λ ms. joined (take i xs) ++ ms) (append-nil (slice_index_or xs i v).items ∙ ap (λ (w : Vec Mapping). w.items) (sym is)))
+
+pub nil_front : (xs ys : List Mapping) → xs ++ ys ≡ [] → xs ≡ []
+nil_front [] ys h = refl
+nil_front (x ∷ xs) ys h = cc
+
+pub nil_back : (xs ys : List Mapping) → xs ++ ys ≡ [] → ys ≡ []
+nil_back [] ys h = h
+nil_back (x ∷ xs) ys h = cc
+
+-- the first of chunks that hold nothing holds nothing, and so do the others
+pub nothing_at : (xs : List (Vec Mapping)) (i : ℕ) (d : Vec Mapping) → i < length xs → joined (drop i xs) ≡ [] → (slice_index_or xs i d).items ≡ []
+nothing_at xs i d within none =
+    let all : (slice_index_or xs i d).items ++ joined (drop (i + 1) xs) ≡ [] = sym (ap joined (drop_more xs i d within)) ∙ none in
+    nil_front _ _ all
+
+pub nothing_later : (xs : List (Vec Mapping)) (i : ℕ) (d : Vec Mapping) → i < length xs → joined (drop i xs) ≡ [] → joined (drop (i + 1) xs) ≡ []
+nothing_later xs i d within none =
+    let all : (slice_index_or xs i d).items ++ joined (drop (i + 1) xs) ≡ [] = sym (ap joined (drop_more xs i d within)) ∙ none in
+    nil_back (slice_index_or xs i d).items _ all
+
+-- pieces put into the first of chunks that hold nothing
+pub filled_more : (xs : List (Vec Mapping)) (i : ℕ) (d w : Vec Mapping) (now later rest pieces : List Mapping) → i < length xs →
+    joined (drop i xs) ≡ [] → w.items ≡ (slice_index_or xs i d).items ++ now → now ++ later ≡ rest → joined (take i xs) ++ rest ≡ pieces →
+    joined (take (i + 1) (slice_set xs i w)) ++ later ≡ pieces
+filled_more xs i d w now later rest pieces within none put parts whole =
+    let held : w.items ≡ now = put ∙ ap (λ ms. ms ++ now) (nothing_at xs i d within none) in
+    let front : joined (take (i + 1) (slice_set xs i w)) ≡ joined (take i xs) ++ now =
+    ap joined (take_more_set xs i w within) ∙ (joined-append (take i xs) (w ∷ []) ∙ ap (λ ms. joined (take i xs) ++ ms) (append-nil w.items ∙ held)) in
+    rw (front, append_assoc (joined (take i xs)) now later, parts) whole
+
+-- all chunks, around the last of the front
+joined_around : (f b : List (Vec Mapping)) (n : ℕ) (d : Vec Mapping) → length f ≡ n + 1 →
+    joined (f ++ b) ≡ joined (take n f) ++ ((slice_index_or f n d).items ++ joined b)
+joined_around f b n d size =
+    let all : take (n + 1) f ≡ f = take_all (n + 1) f (omega arith) in
+    let front : joined f ≡ joined (take n f) ++ (slice_index_or f n d).items =
+    ap joined (sym all ∙ take_more f n d (omega arith)) ∙ (joined-append (take n f) (slice_index_or f n d ∷ []) ∙ ap (λ ms. joined (take n f) ++ ms) (append-nil (slice_index_or f n d).items)) in
+    joined-append f b ∙ (ap (λ ms. ms ++ joined b) front ∙ append_assoc (joined (take n f)) (slice_index_or f n d).items (joined b))
+
+-- the first chunk held nothing, and was filled
+first_filled : (bs : List (Vec Mapping)) (e w : Vec Mapping) → 0 < length bs → (slice_index_or bs 0 e).items ≡ [] → joined (slice_set bs 0 w) ≡ w.items ++ joined bs
+first_filled [] e w some_left none = absurd (omega arith)
+first_filled (x ∷ bs) e w some_left none = ap (λ ms. w.items ++ (ms ++ joined bs)) (sym none)
+
+-- the end of the last chunk of the front cut off
+pub cut_front : (f b bs : List (Vec Mapping)) (n left : ℕ) (d w : Vec Mapping) → length f ≡ n + 1 → left ≤ length (slice_index_or f n d).items →
+    w.items ≡ take left (slice_index_or f n d).items →
+    joined (take (n + 1) (slice_set f n w ++ bs)) ≡ take (length (joined (take n (f ++ b))) + left) (joined (f ++ b))
+cut_front f b bs n left d w size fits is =
+    let within : n < length f = omega arith in
+    let now : joined (take (n + 1) (slice_set f n w ++ bs)) ≡ joined (take n f) ++ take left (slice_index_or f n d).items =
+    ap joined (take-append-le (n + 1) (slice_set f n w) bs (omega (arith, length-set f n w)) ∙ take_more_set f n w within)
+    ∙ (joined-append (take n f) (w ∷ []) ∙ ap (λ ms. joined (take n f) ++ ms) (append-nil w.items ∙ is)) in
+    let whole : joined (f ++ b) ≡ joined (take n f) ++ ((slice_index_or f n d).items ++ joined b) = joined_around f b n d size in
+    let old : take n (f ++ b) ≡ take n f = take-append-le n f b (omega arith) in
+    rw (now, old, whole, take-append-add (joined (take n f)) ((slice_index_or f n d).items ++ joined b) left, take-append-le left (slice_index_or f n d).items (joined b) fits) refl
+
+-- what was cut off stands in a chunk that held nothing
+pub cut_back : (f b bs fs : List (Vec Mapping)) (n left : ℕ) (d e w : Vec Mapping) → length f ≡ n + 1 → length fs ≡ n + 1 → left ≤ length (slice_index_or f n d).items →
+    0 < length bs → joined bs ≡ joined b → (slice_index_or bs 0 e).items ≡ [] →
+    w.items ≡ (slice_index_or bs 0 e).items ++ drop left (slice_index_or f n d).items →
+    joined (drop (n + 1) (fs ++ slice_set bs 0 w)) ≡ drop (length (joined (take n (f ++ b))) + left) (joined (f ++ b))
+cut_back f b bs fs n left d e w size same fits some_left turned none is =
+    let held : w.items ≡ drop left (slice_index_or f n d).items = is ∙ ap (λ ms. ms ++ drop left (slice_index_or f n d).items) none in
+    let now : joined (drop (n + 1) (fs ++ slice_set bs 0 w)) ≡ drop left (slice_index_or f n d).items ++ joined b =
+    ap joined (drop_at fs (slice_set bs 0 w) (n + 1) same) ∙ (first_filled bs e w some_left none ∙ (ap (λ ms. ms ++ joined bs) held ∙ ap (λ ms. drop left (slice_index_or f n d).items ++ ms) turned)) in
+    let whole : joined (f ++ b) ≡ joined (take n f) ++ ((slice_index_or f n d).items ++ joined b) = joined_around f b n d size in
+    let old : take n (f ++ b) ≡ take n f = take-append-le n f b (omega arith) in
+    rw (now, old, whole, drop-append-add (joined (take n f)) ((slice_index_or f n d).items ++ joined b) left, drop-append-le left (slice_index_or f n d).items (joined b) fits) refl
+
+-- chunks turned, so that the last ones, which hold nothing, come first
+pub turned_joined : (b : List (Vec Mapping)) (m : ℕ) → joined (drop m b) ≡ [] → joined (drop m b ++ take m b) ≡ joined b
+turned_joined b m none =
+    joined-append (drop m b) (take m b) ∙ (ap (λ ms. ms ++ joined (take m b)) none
+    ∙ sym (joined_parts b m ∙ (ap (λ ms. joined (take m b) ++ ms) none ∙ append-nil (joined (take m b)))))
+
+-- and the first of them holds nothing
+pub turned_first : (b : List (Vec Mapping)) (m : ℕ) (d : Vec Mapping) → m < length b → joined (drop m b) ≡ [] → (slice_index_or (drop m b ++ take m b) 0 d).items ≡ []
+turned_first b m d within none =
+    let front : slice_index_or (drop m b ++ take m b) 0 d ≡ slice_index_or b m d =
+    get_or_append_left (drop m b) (take m b) d 0 (omega (arith, length-drop m b)) ∙ get_or-drop m b 0 d ∙ ap (λ k. slice_index_or b k d) (omega arith) in
+    ap (λ (v : Vec Mapping). v.items) front ∙ nothing_at b m d within none
+
+-- parts of chunks, chunks behind chunks and a chunk changed are chunks again
+pub taken_chunks : (n : ℕ) (xs : List (Vec Mapping)) → AreChunks xs → AreChunks (take n xs)
+taken_chunks n xs all = All-take (λ chunk. vec_capacity chunk ≡ CHUNK) n xs all
+
+pub dropped_chunks : (n : ℕ) (xs : List (Vec Mapping)) → AreChunks xs → AreChunks (drop n xs)
+dropped_chunks n xs all = All-drop (λ chunk. vec_capacity chunk ≡ CHUNK) n xs all
+
+pub appended_chunks : (xs ys : List (Vec Mapping)) → AreChunks xs → AreChunks ys → AreChunks (xs ++ ys)
+appended_chunks xs ys front back = All-append (λ chunk. vec_capacity chunk ≡ CHUNK) xs ys front back
+
+pub changed_chunks : (xs : List (Vec Mapping)) (i : ℕ) (w : Vec Mapping) → vec_capacity w ≡ CHUNK → AreChunks xs → AreChunks (slice_set xs i w)
+changed_chunks xs i w room all = All-set (λ chunk. vec_capacity chunk ≡ CHUNK) xs i w room all
+
+-- chunks turned are chunks
+pub turned_chunks : (xs ys : List (Vec Mapping)) (m : ℕ) → ys ≡ drop m xs ++ take m xs → AreChunks xs → AreChunks ys
+turned_chunks xs ys m is all = rw is (appended_chunks (drop m xs) (take m xs) (dropped_chunks m xs all) (taken_chunks m xs all))

@@ -1,0 +1,71 @@
+use Rattle.std.proofs.Common.{◌≡◌, ℕ, ◌+◌, ◌-◌, ◌∙◌, ◌<◌, ◌≤◌, ◌++◌, [], List, ap, sym, take, drop, arith, vec_len, vec_capacity, length, slice_index_or, slice_set, refl}
+use Rattle.std.proofs.lemmas.List.{length-set, drop-drop, length-append, length-drop, length-take, get_or-take, take_rest}
+use Rattle.std.specs.Global.{Vec}
+use Rattle.gv_types.specs.declared.mapping.Mapping.{Mapping}
+use Rattle.gv_chunks.specs.Chunks.{joined, AreChunks}
+use Rattle.gv_chunks.specs.declared.TheConstants.{CHUNK}
+use Rattle.gv_chunks.proofs.ChunkLemmas.{taken_chunks, dropped_chunks, appended_chunks, changed_chunks, turned_chunks, cut_front, cut_back, turned_joined, turned_first}
+use Rattle.gv_chunks.proofs.cut.divide.Goals as goal
+
+-- the last of the chunks behind a place is the last of all
+spare_behind : (xs b : List (Vec Mapping)) (n : ℕ) → b ≡ drop n xs → length b + n ≡ length xs → 0 < length b → joined (drop (length xs - 1) xs) ≡ [] →
+    joined (drop (length b - 1) b) ≡ []
+spare_behind xs b n is size some_left none =
+    ap joined (ap (drop (length b - 1)) is ∙ (drop-drop (length b - 1) n xs ∙ ap (λ k. drop k xs) (omega arith))) ∙ none
+
+-- the rest of a chunk fits into one that holds nothing
+rest_fits : (v w : Vec Mapping) (left : ℕ) (now : List Mapping) → now ≡ v.items → vec_capacity v ≡ CHUNK → vec_capacity w ≡ CHUNK → w.items ≡ [] →
+    vec_len w + length (take (length now - left) (drop left now)) ≤ vec_capacity w
+rest_fits v w left now is room same none =
+    let empty : vec_len w ≡ 0 = w.ok.0 ∙ ap length none in
+    omega (arith, v.ok, w.ok, ap length is, length-take (length now - left) (drop left now), length-drop left now)
+
+pub append-requires : goal.append-requires
+append-requires c =
+    let some_left : 0 < length c.split_at_mut-front.result.1.now = omega arith in
+    let in_front : c.args.chunk < length c.split_at_mut-front.result.0.now = omega arith in
+    let in_back : 0 < length c.rotate_right.new.self = omega arith in
+    let front : AreChunks c.split_at_mut-front.result.0.now = rw c.split_at_mut-front.ensures.front (taken_chunks (c.args.chunk + 1) c.args.chunks.now c.requires.chunks) in
+    let back : AreChunks c.split_at_mut-front.result.1.now = rw c.split_at_mut-front.ensures.back (dropped_chunks (c.args.chunk + 1) c.args.chunks.now c.requires.chunks) in
+    let turned : AreChunks c.rotate_right.new.self = turned_chunks c.split_at_mut-front.result.1.now c.rotate_right.new.self (length c.split_at_mut-front.result.1.now - 1) c.rotate_right.ensures.after back in
+    let spare : joined (drop (length c.split_at_mut-front.result.1.now - 1) c.split_at_mut-front.result.1.now) ≡ [] =
+    spare_behind c.args.chunks.now c.split_at_mut-front.result.1.now (c.args.chunk + 1) c.split_at_mut-front.ensures.back c.split_at_mut-front.ensures.back_len some_left c.requires.spare in
+    let none : (slice_index_or c.rotate_right.new.self 0 c.index-back-0.result).items ≡ [] =
+    rw c.rotate_right.ensures.after (turned_first c.split_at_mut-front.result.1.now (length c.split_at_mut-front.result.1.now - 1) c.index-back-0.result (omega arith) spare) in
+    rest_fits (slice_index_or c.split_at_mut-front.result.0.now c.args.chunk c.index-front-chunk.result) (slice_index_or c.rotate_right.new.self 0 c.index-back-0.result)
+    c.args.left c.deref.result.now c.deref.ensures.value
+    (front c.args.chunk c.index-front-chunk.result in_front) (turned 0 c.index-back-0.result in_back) none
+
+pub returns : goal.returns
+returns c =
+    let some_left : 0 < length c.split_at_mut-front.result.1.now = omega arith in
+    let in_front : c.args.chunk < length c.split_at_mut-front.result.0.now = omega arith in
+    let in_back : 0 < length c.rotate_right.new.self = omega arith in
+    let size : length c.split_at_mut-front.result.0.now ≡ c.args.chunk + 1 = c.split_at_mut-front.ensures.front_len in
+    let front : AreChunks c.split_at_mut-front.result.0.now = rw c.split_at_mut-front.ensures.front (taken_chunks (c.args.chunk + 1) c.args.chunks.now c.requires.chunks) in
+    let back : AreChunks c.split_at_mut-front.result.1.now = rw c.split_at_mut-front.ensures.back (dropped_chunks (c.args.chunk + 1) c.args.chunks.now c.requires.chunks) in
+    let turned : AreChunks c.rotate_right.new.self = turned_chunks c.split_at_mut-front.result.1.now c.rotate_right.new.self (length c.split_at_mut-front.result.1.now - 1) c.rotate_right.ensures.after back in
+    let spare : joined (drop (length c.split_at_mut-front.result.1.now - 1) c.split_at_mut-front.result.1.now) ≡ [] =
+    spare_behind c.args.chunks.now c.split_at_mut-front.result.1.now (c.args.chunk + 1) c.split_at_mut-front.ensures.back c.split_at_mut-front.ensures.back_len some_left c.requires.spare in
+    let none : (slice_index_or c.rotate_right.new.self 0 c.index-back-0.result).items ≡ [] =
+    rw c.rotate_right.ensures.after (turned_first c.split_at_mut-front.result.1.now (length c.split_at_mut-front.result.1.now - 1) c.index-back-0.result (omega arith) spare) in
+    let same : joined c.rotate_right.new.self ≡ joined c.split_at_mut-front.result.1.now =
+    rw c.rotate_right.ensures.after (turned_joined c.split_at_mut-front.result.1.now (length c.split_at_mut-front.result.1.now - 1) spare) in
+    let source : vec_capacity c.truncate.new.self ≡ CHUNK = c.truncate.ensures.capacity ∙ front c.args.chunk c.index-front-chunk.result in_front in
+    let target : vec_capacity c.append.new.items ≡ CHUNK = c.append.ensures.room ∙ turned 0 c.index-back-0.result in_back in
+    let at : slice_index_or c.split_at_mut-front.result.0.now c.args.chunk c.index-front-chunk.result ≡ slice_index_or c.args.chunks.now c.args.chunk c.index-front-chunk.result =
+    rw c.split_at_mut-front.ensures.front (get_or-take (c.args.chunk + 1) c.args.chunks.now c.args.chunk c.index-front-chunk.result (omega arith)) in
+    let length_at : length (slice_index_or c.split_at_mut-front.result.0.now c.args.chunk c.index-front-chunk.result).items ≡ vec_len (slice_index_or c.args.chunks.now c.args.chunk c.index-front-chunk.result) =
+    sym (slice_index_or c.split_at_mut-front.result.0.now c.args.chunk c.index-front-chunk.result).ok.0 ∙ ap vec_len at in
+    let fits : c.args.left ≤ length (slice_index_or c.split_at_mut-front.result.0.now c.args.chunk c.index-front-chunk.result).items =
+    rw length_at (c.requires.left c.index-front-chunk.result) in
+    let moved : c.append.new.items.items ≡ (slice_index_or c.rotate_right.new.self 0 c.index-back-0.result).items
+    ++ drop c.args.left (slice_index_or c.split_at_mut-front.result.0.now c.args.chunk c.index-front-chunk.result).items =
+    c.append.ensures.items ∙ ap (λ ms. (slice_index_or c.rotate_right.new.self 0 c.index-back-0.result).items ++ ms) (take_rest c.deref.result.now c.args.left ∙ ap (drop c.args.left) c.deref.ensures.value) in
+    record {
+      before = rw c.split_at_mut-front.ensures.value (cut_front c.split_at_mut-front.result.0.now c.split_at_mut-front.result.1.now (slice_set c.rotate_right.new.self 0 c.append.new.items) c.args.chunk c.args.left c.index-front-chunk.result c.truncate.new.self size fits c.truncate.ensures.items);
+      behind = rw c.split_at_mut-front.ensures.value (cut_back c.split_at_mut-front.result.0.now c.split_at_mut-front.result.1.now c.rotate_right.new.self (slice_set c.split_at_mut-front.result.0.now c.args.chunk c.truncate.new.self) c.args.chunk c.args.left c.index-front-chunk.result c.index-back-0.result c.append.new.items size
+          (omega (arith, length-set c.split_at_mut-front.result.0.now c.args.chunk c.truncate.new.self)) fits in_back same none moved);
+      chunks = appended_chunks (slice_set c.split_at_mut-front.result.0.now c.args.chunk c.truncate.new.self) (slice_set c.rotate_right.new.self 0 c.append.new.items)
+          (changed_chunks c.split_at_mut-front.result.0.now c.args.chunk c.truncate.new.self source front) (changed_chunks c.rotate_right.new.self 0 c.append.new.items target turned);
+    }

@@ -1,0 +1,12 @@
+use Rattle.std.proofs.Common.{◌≡◌, ◌+◌, ◌-◌, ◌<◌, ◌≤◌, take, length}
+use Rattle.gv_chunks.specs.Chunks.{joined}
+use Rattle.gv_chunks.proofs.walk.place_in.Given as goal
+
+abbrev pub invariant-loop-chunk : goal.invariant-loop-chunk
+invariant-loop-chunk l = record {
+  within : l.chunk < length l.chunks;
+  before : l.place ≡ length (joined (take l.chunk l.chunks)) + l.left;
+}
+
+abbrev pub decreases-loop-chunk : goal.decreases-loop-chunk
+decreases-loop-chunk l = length l.chunks - l.chunk

@@ -1,0 +1,75 @@
+//! A list of chunks cut at a place, and chunks filled.
+ghost use Rattle.std.specs.Prelude.{◌≡◌, ◌+◌, ◌-◌, ◌*◌, ◌<◌, ◌≤◌, [], length, take, drop, slice_index_or, vec_len};
+ghost use Rattle.std.specs.Global.{Vec};
+ghost use Rattle.gv_types.specs.declared.mapping.Mapping.{Mapping};
+ghost use Rattle.gv_chunks.specs.Chunks.{joined, AreChunks};
+
+use crate::CHUNK;
+use crate::replace::append;
+use crate::walk::place_in;
+use gv_types::Mapping;
+
+/// Cuts the list before `place`, and answers how many chunks stand before the cut. The last chunk has to be empty: it
+/// takes what stands behind the place in its chunk.
+pub fn cut(chunks: &mut [Vec<Mapping>], place: usize) -> usize
+    requires some { 1 < length chunks.old }
+    requires spare { joined (drop (length chunks.old - 1) chunks.old) ≡ [] }
+    requires within { place ≤ length (joined chunks.old) }
+    requires chunks { AreChunks chunks.old }
+    ensures some { 0 < result }
+    ensures within { result < length chunks.new }
+    ensures before { joined (take result chunks.new) ≡ take place (joined chunks.old) }
+    ensures behind { joined (drop result chunks.new) ≡ drop place (joined chunks.old) }
+    ensures chunks { AreChunks chunks.new }
+{
+    let last = chunks.len() - 1;
+    let (chunk, left) = place_in(&chunks[..last], place);
+    divide(chunks, chunk, left);
+    chunk + 1
+}
+
+/// Moves what a chunk holds from `left` on into the last chunk, which holds nothing, and puts that behind it.
+fn divide(chunks: &mut [Vec<Mapping>], chunk: usize, left: usize)
+    requires within { chunk + 1 < length chunks.old }
+    requires spare { joined (drop (length chunks.old - 1) chunks.old) ≡ [] }
+    requires left { (d : Vec Mapping) → left ≤ vec_len (slice_index_or chunks.old chunk d) }
+    requires chunks { AreChunks chunks.old }
+    ensures before { joined (take (chunk + 1) chunks.new)
+        ≡ take (length (joined (take chunk chunks.old)) + left) (joined chunks.old) }
+    ensures behind { joined (drop (chunk + 1) chunks.new)
+        ≡ drop (length (joined (take chunk chunks.old)) + left) (joined chunks.old) }
+    ensures chunks { AreChunks chunks.new }
+{
+    let (front, back) = chunks.split_at_mut(chunk + 1);
+    back.rotate_right(1);
+    let source = &mut front[chunk];
+    append(&mut back[0], &source[left..]);
+    source.truncate(left);
+}
+
+/// Takes the mappings out of each chunk.
+pub fn clear(chunks: &mut [Vec<Mapping>])
+    requires { AreChunks chunks.old }
+    ensures items { joined chunks.new ≡ [] }
+    ensures chunks { AreChunks chunks.new }
+{
+    for i in 0..chunks.len() {
+        chunks[i].truncate(0);
+    }
+}
+
+/// Puts the pieces into the chunks, which are empty and have room for them.
+pub fn fill(chunks: &mut [Vec<Mapping>], pieces: &[Mapping])
+    requires room { length pieces.now ≤ CHUNK * length chunks.old }
+    requires empty { joined chunks.old ≡ [] }
+    requires chunks { AreChunks chunks.old }
+    ensures items { joined chunks.new ≡ pieces.now }
+    ensures chunks { AreChunks chunks.new }
+{
+    let mut rest = pieces;
+    for i in 0..chunks.len() {
+        let (now, later) = rest.split_at(rest.len().min(CHUNK));
+        append(&mut chunks[i], now);
+        rest = later;
+    }
+}

@@ -1,0 +1,9 @@
+//! Mappings in chunks, so that an edit of a long list moves what lies near it and not all that stands behind.
+#![tactic(auto)]
+
+pub mod cut;
+pub mod replace;
+pub mod walk;
+
+/// How many mappings a chunk has room for.
+pub const CHUNK: usize = 128;
