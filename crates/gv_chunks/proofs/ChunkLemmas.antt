@@ -1,10 +1,11 @@
 -- Chunks joined: parts of them, one of them changed, and those that hold nothing.
-use Rattle.std.proofs.Common.{◌≡◌, ℕ, ◌+◌, ◌-◌, ◌*◌, ◌<◌, ◌≤◌, List, [], ◌∷◌, ◌++◌, length, take, drop, slice_index_or, slice_set, vec_capacity, arith, refl, ◌∙◌, ap, sym, lit<, add-one}
+use Rattle.std.proofs.Common.{◌≡◌, ℕ, ◌+◌, ◌<◌, ◌≤◌, List, [], ◌∷◌, ◌++◌, length, take, drop, slice_index_or, slice_set, vec_capacity, arith, refl, ◌∙◌, ap, sym, add-one, suc}
 use Rattle.std.proofs.Math.ListN.{length-set}
 use Rattle.std.proofs.Math.Seq.{take-append-add, drop-append-add}
-use Rattle.std.proofs.lemmas.List.{drop_more, take_more_set, take_more, take_all, append-nil, append_assoc, take-append-drop, take-append-le, drop-append-le, drop_at, length-drop, get_or_append_left, get_or-drop}
+use Rattle.std.proofs.lemmas.List.{drop_more, take_more_set, take_more, take_all, append-nil, append_assoc, take-append-drop, take-append-le, drop-append-le, drop_at, take_at, set_split, length-drop, get_or_append_left, get_or-drop}
 use Rattle.std.proofs.lemmas.List.Elements.{All-append, All-set, All-take, All-drop}
 use Rattle.std.proofs.lemmas.List.Concat.{flat_map-append}
+use Rattle.std.specs.List.{splice}
 use Rattle.std.specs.Global.{Vec}
 use Rattle.gv_types.specs.declared.mapping.Mapping.{Mapping}
 use Rattle.gv_chunks.specs.Chunks.{joined, AreChunks}
@@ -56,7 +57,7 @@ filled_more xs i d w now later rest pieces within none put parts whole =
     rw (front, append_assoc (joined (take i xs)) now later, parts) whole
 
 -- all chunks, around the last of the front
-joined_around : (f b : List (Vec Mapping)) (n : ℕ) (d : Vec Mapping) → length f ≡ n + 1 →
+pub joined_around : (f b : List (Vec Mapping)) (n : ℕ) (d : Vec Mapping) → length f ≡ n + 1 →
     joined (f ++ b) ≡ joined (take n f) ++ ((slice_index_or f n d).items ++ joined b)
 joined_around f b n d size =
     let all : take (n + 1) f ≡ f = take_all (n + 1) f (omega arith) in
@@ -65,7 +66,7 @@ joined_around f b n d size =
     joined-append f b ∙ (ap (λ ms. ms ++ joined b) front ∙ append_assoc (joined (take n f)) (slice_index_or f n d).items (joined b))
 
 -- the first chunk held nothing, and was filled
-first_filled : (bs : List (Vec Mapping)) (e w : Vec Mapping) → 0 < length bs → (slice_index_or bs 0 e).items ≡ [] → joined (slice_set bs 0 w) ≡ w.items ++ joined bs
+pub first_filled : (bs : List (Vec Mapping)) (e w : Vec Mapping) → 0 < length bs → (slice_index_or bs 0 e).items ≡ [] → joined (slice_set bs 0 w) ≡ w.items ++ joined bs
 first_filled [] e w some_left none = absurd (omega arith)
 first_filled (x ∷ bs) e w some_left none = ap (λ ms. w.items ++ (ms ++ joined bs)) (sym none)
 
@@ -124,3 +125,50 @@ changed_chunks xs i w room all = All-set (λ chunk. vec_capacity chunk ≡ CHUNK
 -- chunks turned are chunks
 pub turned_chunks : (xs ys : List (Vec Mapping)) (m : ℕ) → ys ≡ drop m xs ++ take m xs → AreChunks xs → AreChunks ys
 turned_chunks xs ys m is all = rw is (appended_chunks (drop m xs) (take m xs) (dropped_chunks m xs all) (taken_chunks m xs all))
+
+-- all chunks, around one of them
+pub joined_at : (xs : List (Vec Mapping)) (i : ℕ) (d : Vec Mapping) → i < length xs →
+    joined xs ≡ joined (take i xs) ++ ((slice_index_or xs i d).items ++ joined (drop (i + 1) xs))
+joined_at xs i d within = joined_parts xs i ∙ ap (λ ms. joined (take i xs) ++ ms) (ap joined (drop_more xs i d within))
+
+-- the list around a chunk that was changed
+pub joined_set : (xs : List (Vec Mapping)) (i : ℕ) (w : Vec Mapping) → i < length xs → joined (slice_set xs i w) ≡ joined (take i xs) ++ (w.items ++ joined (drop (i + 1) xs))
+joined_set xs i w within =
+    ap joined (set_split xs i w within) ∙ (joined-append (take i xs) (w ∷ drop (suc i) xs) ∙ ap (λ k. joined (take i xs) ++ (w.items ++ joined (drop k xs))) (sym (add-one i)))
+
+-- a list with a run of its middle replaced
+pub spliced : (front v back w pieces : List Mapping) (left count : ℕ) (old new : List Mapping) → old ≡ front ++ (v ++ back) → new ≡ front ++ (w ++ back) →
+    w ≡ splice v left (left + count) pieces → take (length front + left) (front ++ (v ++ back)) ≡ front ++ take left v →
+    drop (length front + left + count) (front ++ (v ++ back)) ≡ drop (left + count) v ++ back →
+    new ≡ splice old (length front + left) (length front + left + count) pieces
+spliced front v back w pieces left count old new whole now is before behind =
+    rw (now, is, whole, before, behind) (
+      ap (λ ms. front ++ ms) (append_assoc (take left v) (pieces ++ drop (left + count) v) back ∙ ap (λ ms. take left v ++ ms) (append_assoc pieces (drop (left + count) v) back))
+      ∙ sym (append_assoc front (take left v) (pieces ++ (drop (left + count) v ++ back)))
+    )
+
+-- a run replaced within a chunk is replaced in the list
+pub replaced_at : (xs : List (Vec Mapping)) (i left count : ℕ) (d w : Vec Mapping) (pieces : List Mapping) → i < length xs →
+    left + count ≤ length (slice_index_or xs i d).items → w.items ≡ splice (slice_index_or xs i d).items left (left + count) pieces →
+    joined (slice_set xs i w) ≡ splice (joined xs) (length (joined (take i xs)) + left) (length (joined (take i xs)) + left + count) pieces
+replaced_at xs i left count d w pieces within fits is =
+    let v : List Mapping = (slice_index_or xs i d).items in
+    let front : List Mapping = joined (take i xs) in
+    let back : List Mapping = joined (drop (i + 1) xs) in
+    let whole : joined xs ≡ front ++ (v ++ back) = joined_at xs i d within in
+    let now : joined (slice_set xs i w) ≡ front ++ (w.items ++ back) = joined_set xs i w within in
+    let before : take (length front + left) (front ++ (v ++ back)) ≡ front ++ take left v =
+    take-append-add front (v ++ back) left ∙ ap (λ ms. front ++ ms) (take-append-le left v back (omega arith)) in
+    let behind : drop (length front + left + count) (front ++ (v ++ back)) ≡ drop (left + count) v ++ back =
+    ap (λ k. drop k (front ++ (v ++ back))) (omega arith) ∙ (drop-append-add front (v ++ back) (left + count) ∙ drop-append-le (left + count) v back fits) in
+    spliced front v back w.items pieces left count (joined xs) (joined (slice_set xs i w)) whole now is before behind
+
+-- what a chunk holds from a place on is what the list holds there
+pub piece_at : (xs : List (Vec Mapping)) (i left : ℕ) (d : Vec Mapping) (piece : List Mapping) → i < length xs → left ≤ length (slice_index_or xs i d).items →
+    piece ≡ drop left (slice_index_or xs i d).items → piece ≡ take (length piece) (drop (length (joined (take i xs)) + left) (joined xs))
+piece_at xs i left d piece within fits is =
+    let behind : drop (length (joined (take i xs)) + left) (joined xs) ≡ piece ++ joined (drop (i + 1) xs) =
+    ap (drop (length (joined (take i xs)) + left)) (joined_at xs i d within)
+    ∙ (drop-append-add (joined (take i xs)) ((slice_index_or xs i d).items ++ joined (drop (i + 1) xs)) left
+    ∙ (drop-append-le left (slice_index_or xs i d).items (joined (drop (i + 1) xs)) fits ∙ ap (λ ms. ms ++ joined (drop (i + 1) xs)) (sym is))) in
+    rw behind (sym (take_at piece (joined (drop (i + 1) xs)) (length piece) refl))

@@ -1,2 +1,3 @@
 pub mod Splices
 pub mod ChunkLemmas
+pub mod JoinLemmas

@@ -2,6 +2,8 @@
 #![tactic(auto)]
 
 pub mod cut;
+pub mod edit;
+pub mod join;
 pub mod replace;
 pub mod walk;
 

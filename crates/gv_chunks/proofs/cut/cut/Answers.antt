@@ -1,4 +1,4 @@
-use Rattle.std.proofs.Common.{◌≡◌, ◌++◌, ◌-◌, ◌≤◌, ◌∙◌, length, take, ap, arith}
+use Rattle.std.proofs.Common.{◌≡◌, ◌++◌, ◌-◌, ◌∙◌, length, take, ap}
 use Rattle.std.proofs.lemmas.List.{append-nil}
 use Rattle.gv_chunks.specs.Chunks.{joined}
 use Rattle.gv_chunks.proofs.ChunkLemmas.{joined_parts}

@@ -1,5 +1,5 @@
-use Rattle.std.proofs.Common.{◌≡◌, ℕ, ◌+◌, ◌-◌, ◌∙◌, ◌<◌, ◌≤◌, ◌++◌, [], List, ap, sym, take, drop, arith, vec_len, vec_capacity, length, slice_index_or, slice_set, refl}
-use Rattle.std.proofs.lemmas.List.{length-set, drop-drop, length-append, length-drop, length-take, get_or-take, take_rest}
+use Rattle.std.proofs.Common.{◌≡◌, ℕ, ◌+◌, ◌-◌, ◌∙◌, ◌<◌, ◌≤◌, ◌++◌, [], List, ap, sym, take, drop, arith, vec_len, vec_capacity, length, slice_index_or, slice_set}
+use Rattle.std.proofs.lemmas.List.{length-set, drop-drop, length-drop, length-take, get_or-take, take_rest}
 use Rattle.std.specs.Global.{Vec}
 use Rattle.gv_types.specs.declared.mapping.Mapping.{Mapping}
 use Rattle.gv_chunks.specs.Chunks.{joined, AreChunks}

@@ -1,4 +1,4 @@
-use Rattle.std.proofs.Common.{◌≡◌, ◌+◌, ◌-◌, ◌<◌, ◌≤◌, take, length}
+use Rattle.std.proofs.Common.{◌≡◌, ◌+◌, ◌-◌, ◌<◌, take, length}
 use Rattle.gv_chunks.specs.Chunks.{joined}
 use Rattle.gv_chunks.proofs.walk.place_in.Given as goal
 
