@@ -143,8 +143,8 @@ pub spliced : (front v back w pieces : List Mapping) (left count : ℕ) (old new
     new ≡ splice old (length front + left) (length front + left + count) pieces
 spliced front v back w pieces left count old new whole now is before behind =
     rw (now, is, whole, before, behind) (
-      ap (λ ms. front ++ ms) (append_assoc (take left v) (pieces ++ drop (left + count) v) back ∙ ap (λ ms. take left v ++ ms) (append_assoc pieces (drop (left + count) v) back))
-      ∙ sym (append_assoc front (take left v) (pieces ++ (drop (left + count) v ++ back)))
+    ap (λ ms. front ++ ms) (append_assoc (take left v) (pieces ++ drop (left + count) v) back ∙ ap (λ ms. take left v ++ ms) (append_assoc pieces (drop (left + count) v) back))
+    ∙ sym (append_assoc front (take left v) (pieces ++ (drop (left + count) v ++ back)))
     )
 
 -- a run replaced within a chunk is replaced in the list

@@ -9,7 +9,13 @@ use crate::replace::replace_run;
 use gv_types::Mapping;
 
 /// Replaces `count` mappings of a chunk, from its place `left` on, by pieces for which the chunk has room.
-pub fn replace_in_chunk(chunks: &mut [Vec<Mapping>], chunk: usize, left: usize, count: usize, pieces: &[Mapping])
+pub fn replace_in_chunk(
+    chunks: &mut [Vec<Mapping>],
+    chunk: usize,
+    left: usize,
+    count: usize,
+    pieces: &[Mapping],
+)
     requires chunk { chunk < length chunks.old }
     requires within { (d : Vec Mapping) → left + count ≤ vec_len (slice_index_or chunks.old chunk d) }
     requires room { (d : Vec Mapping) → vec_len (slice_index_or chunks.old chunk d) + length pieces.now

@@ -7,4 +7,4 @@ returns-clause-items c =
     let fits : c.args.left + c.args.count ≤ length (slice_index_or c.args.chunks.now c.args.chunk c.index-chunks-chunk.result).items =
     rw (← (slice_index_or c.args.chunks.now c.args.chunk c.index-chunks-chunk.result).ok.0) (c.requires.within c.index-chunks-chunk.result) in
     replaced_at c.args.chunks.now c.args.chunk c.args.left c.args.count c.index-chunks-chunk.result c.replace_run.new.items c.args.pieces.now
-      c.requires.chunk fits c.replace_run.ensures.items
+    c.requires.chunk fits c.replace_run.ensures.items
