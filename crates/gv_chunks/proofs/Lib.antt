@@ -1,3 +1,3 @@
-pub mod Splices
+pub mod SpliceLemmas
 pub mod ChunkLemmas
 pub mod JoinLemmas

@@ -1,5 +1,4 @@
 pub mod PartLemmas
-pub mod Splices
 pub mod LookupLemmas
 pub mod Places
 pub mod ClipLemmas

@@ -12,7 +12,7 @@ use Rattle.gv_types.specs.declared.mapping.Mapping.{Mapping}
 use Rattle.gv_ranges.specs.List.{at, IsLaidOut, IsLaidOutFrom, IsOverlappingRun, run}
 use Rattle.gv_ranges.specs.Edit.{clipped, replaced, LieIn, undone}
 use Rattle.gv_ranges.proofs.ClipLemmas.{at-clipped, at-clipped_out, at-append_none, at-append_left, clip_whole, clip_none}
-use Rattle.gv_ranges.proofs.Splices.{drop-splice}
+use Rattle.gv_chunks.proofs.SpliceLemmas.{drop-splice}
 
 -- the ends of a run that lies in another
 pub lies_in_bounds : (s t : Span) → IsTrue (lies_in s t) → (t.first ≤ s.first) × (end_of s ≤ end_of t)

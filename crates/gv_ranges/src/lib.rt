@@ -3,7 +3,6 @@
 
 pub mod laws;
 mod range_list;
-mod replace;
 mod rest;
 mod search;
 

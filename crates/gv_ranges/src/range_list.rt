@@ -1,8 +1,8 @@
 //! The list of mappings of an address space, sorted and disjoint.
 ghost use Rattle.std.specs.Prelude.{◌≡◌, ◌+◌, ◌*◌, ◌<◌, ◌≤◌, [], length, max, OnOk, OnErr};
 
-use crate::replace::replace_run;
 use crate::search::{entry_at, overlapping_run};
+use gv_chunks::replace::replace_run;
 use gv_types::{Entry, Mapping, OutOfMemory, PageRange};
 use std::alloc::Global;
 use std::marker::Model;

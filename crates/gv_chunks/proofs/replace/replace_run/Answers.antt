@@ -1,7 +1,7 @@
 use Rattle.std.proofs.Common.{arith, length, ◌≡◌, ◌-◌, ◌+◌, ◌≤◌, take, drop}
 use Rattle.std.proofs.lemmas.List.{take_all, length-take-le, take_rest}
 use Rattle.std.specs.List.{splice}
-use Rattle.gv_chunks.proofs.Splices.{overwritten_then_cut, overwritten_then_filled}
+use Rattle.gv_chunks.proofs.SpliceLemmas.{overwritten_then_cut, overwritten_then_filled}
 use Rattle.gv_chunks.proofs.replace.replace_run.Goals as goal
 
 pub returns-then-common-count-clause-items : goal.returns-then-common-count-clause-items

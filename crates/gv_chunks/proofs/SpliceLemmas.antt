@@ -1,4 +1,4 @@
--- A run replaced in two steps.
+-- For callers: A run replaced in two steps.
 use Rattle.std.proofs.Common.{◌≡◌, ℕ, ◌+◌, ◌-◌, ◌≤◌, length, take, drop, ◌++◌, List, arith, refl, ◌∙◌, ap}
 use Rattle.std.proofs.lemmas.List.{take_at, drop_at, length-take-le, append_assoc, take-append-drop, drop-drop, length-append}
 use Rattle.std.specs.List.{splice}
