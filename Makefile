@@ -10,7 +10,7 @@ SOURCES := crates.txt HANDLES $(shell find crates -type f \( -name '*.rt' -o -na
 build: vmbind
 
 vmbind: $(SOURCES)
-	@echo 'Proves the program and the thirteen crates below it, then builds it: 56 minutes of processor time, half an hour on four cores, less where'
+	@echo 'Proves the program and the fourteen crates below it, then builds it: 56 minutes of processor time, half an hour on four cores, less where'
 	@echo 'an earlier run has left its proofs. "make try" runs it before any proof.'
 	cd $(PROGRAM) && $(RT) run -- --help > /dev/null
 	cp $(PROGRAM)/out/gv_cli vmbind
