@@ -1,3 +1,4 @@
 pub mod SpliceLemmas
 pub mod ChunkLemmas
 pub mod JoinLemmas
+pub mod PackedLemmas

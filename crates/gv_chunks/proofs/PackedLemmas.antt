@@ -1,0 +1,96 @@
+-- Chunks of which no two neighbours fit into one: how few they are, and how a join keeps them so.
+use Rattle.std.proofs.Common.{◌≡◌, ℕ, ◌+◌, ◌-◌, ◌*◌, ◌<◌, ◌≤◌, List, [], ◌∷◌, ◌++◌, length, take, drop, slice_index_or, vec_len, arith, ◌∙◌, ap, sym, suc, inl, inr}
+use Rattle.std.proofs.lemmas.List.{append-nil, get_or-take, get_or-drop, get_or_append_left, length-append, length-drop, length-take-le, drop-drop, drop-append-le, take-append-drop}
+use Rattle.std.proofs.lemmas.Bool.{cases_lt}
+use Rattle.std.specs.Global.{Vec}
+use Rattle.gv_types.specs.declared.mapping.Mapping.{Mapping}
+use Rattle.gv_chunks.specs.Chunks.{joined, Packed, PackedFrom}
+use Rattle.gv_chunks.specs.declared.TheConstants.{CHUNK}
+use Rattle.gv_chunks.proofs.ChunkLemmas.{joined-append, joined_parts}
+
+-- the chunks behind the first are packed too
+pub packed_rest : (c : Vec Mapping) (cs : List (Vec Mapping)) → Packed (c ∷ cs) → Packed cs
+packed_rest c cs packed k d low within =
+    let held = packed (suc k) d (omega arith) (omega arith) in
+    let next : suc k + 1 ≡ suc (k + 1) = omega arith in
+    rw next at held
+
+-- how few packed chunks are, by what the first holds
+pub few_behind : (c : Vec Mapping) (cs : List (Vec Mapping)) → Packed (c ∷ cs) → CHUNK * length cs + vec_len c ≤ 2 * length (joined (c ∷ cs))
+few_behind c [] packed = omega (arith, c.ok, length-append c.items [])
+few_behind c (d ∷ cs) packed =
+    let behind : CHUNK * length cs + vec_len d ≤ 2 * length (joined (d ∷ cs)) = few_behind d cs (packed_rest c (d ∷ cs) packed) in
+    let pair : CHUNK < vec_len c + vec_len d = packed 0 c (omega arith) (omega arith) in
+    omega (arith, c.ok, length-append c.items (joined (d ∷ cs)))
+
+-- as many as that
+pub few_packed : (cs : List (Vec Mapping)) → Packed cs → CHUNK * length cs ≤ 2 * length (joined cs) + CHUNK
+few_packed [] packed = omega arith
+few_packed (c ∷ cs) packed = omega (arith, few_behind c cs packed)
+
+-- the first chunks hold all that the list holds, where the others hold nothing
+pub joined_front : (xs : List (Vec Mapping)) (n : ℕ) → joined (drop n xs) ≡ [] → joined (take n xs) ≡ joined xs
+joined_front xs n none = sym (joined_parts xs n ∙ (ap (λ ms. joined (take n xs) ++ ms) none ∙ append-nil (joined (take n xs))))
+
+-- so they are few where they are packed
+pub few_standing : (xs : List (Vec Mapping)) (n : ℕ) → n ≤ length xs → joined (drop n xs) ≡ [] → Packed (take n xs) → CHUNK * n ≤ 2 * length (joined xs) + CHUNK
+few_standing xs n within none packed =
+    let few : CHUNK * length (take n xs) ≤ 2 * length (joined (take n xs)) + CHUNK = few_packed (take n xs) packed in
+    rw (length-take-le n xs within, joined_front xs n none) at few
+
+-- what stands behind two chunks that were joined
+pub behind_joined : (old new : List (Vec Mapping)) (i : ℕ) → i + 1 < length old → length new ≡ length old →
+    take (length old - (i + 2)) (drop (i + 1) new) ≡ drop (i + 2) old → drop (i + 1) new ≡ drop (i + 2) old ++ drop (length old - 1) new
+behind_joined old new i within same behind =
+    let last : drop (length old - (i + 2)) (drop (i + 1) new) ≡ drop (length old - 1) new = drop-drop (length old - (i + 2)) (i + 1) new ∙ ap (λ n. drop n new) (omega arith) in
+    sym (take-append-drop (length old - (i + 2)) (drop (i + 1) new)) ∙ (ap (λ xs. xs ++ drop (length old - (i + 2)) (drop (i + 1) new)) behind ∙ ap (λ xs. drop (i + 2) old ++ xs) last)
+
+-- one more of them holds nothing
+pub spare_joined : (old new : List (Vec Mapping)) (i n : ℕ) → i + 1 < n → n ≤ length old → drop (i + 1) new ≡ drop (i + 2) old ++ drop (length old - 1) new →
+    joined (drop n old) ≡ [] → joined (drop (length old - 1) new) ≡ [] → joined (drop (n - 1) new) ≡ []
+spare_joined old new i n within room behind none last =
+    let there : drop (n - 1) new ≡ drop (n - (i + 2)) (drop (i + 1) new) = ap (λ k. drop k new) (omega arith) ∙ sym (drop-drop (n - (i + 2)) (i + 1) new) in
+    let back : drop (n - (i + 2)) (drop (i + 2) old) ≡ drop n old = drop-drop (n - (i + 2)) (i + 2) old ∙ ap (λ k. drop k old) (omega arith) in
+    let parts : drop (n - (i + 2)) (drop (i + 2) old ++ drop (length old - 1) new) ≡ drop (n - (i + 2)) (drop (i + 2) old) ++ drop (length old - 1) new =
+    drop-append-le (n - (i + 2)) (drop (i + 2) old) (drop (length old - 1) new) (omega (arith, length-drop (i + 2) old)) in
+    ap joined (there ∙ (ap (drop (n - (i + 2))) behind ∙ (parts ∙ ap (λ xs. xs ++ drop (length old - 1) new) back)))
+    ∙ (joined-append (drop n old) (drop (length old - 1) new) ∙ (ap (λ ms. ms ++ joined (drop (length old - 1) new)) none ∙ last))
+
+-- the chunks behind have moved up by one
+pub moved_up : (old new : List (Vec Mapping)) (i j : ℕ) (d : Vec Mapping) → i < j → j + 1 < length old → drop (i + 1) new ≡ drop (i + 2) old ++ drop (length old - 1) new →
+    slice_index_or new j d ≡ slice_index_or old (j + 1) d
+moved_up old new i j d behind_it within behind =
+    let there : slice_index_or (drop (i + 1) new) (j - (i + 1)) d ≡ slice_index_or new j d = get_or-drop (i + 1) new (j - (i + 1)) d ∙ ap (λ k. slice_index_or new k d) (omega arith) in
+    let back : slice_index_or (drop (i + 2) old) (j - (i + 1)) d ≡ slice_index_or old (j + 1) d = get_or-drop (i + 2) old (j - (i + 1)) d ∙ ap (λ k. slice_index_or old k d) (omega arith) in
+    sym there ∙ (ap (λ xs. slice_index_or xs (j - (i + 1)) d) behind
+    ∙ (get_or_append_left (drop (i + 2) old) (drop (length old - 1) new) d (j - (i + 1)) (omega (arith, length-drop (i + 2) old)) ∙ back))
+
+-- a chunk that was joined, or has moved up, holds no less than the one behind it held
+grown : (old new : List (Vec Mapping)) (i k : ℕ) (d : Vec Mapping) → i ≤ k → k + 1 < length old → drop (i + 1) new ≡ drop (i + 2) old ++ drop (length old - 1) new →
+    ((d : Vec Mapping) → (slice_index_or new i d).items ≡ (slice_index_or old i d).items ++ (slice_index_or old (i + 1) d).items) →
+    vec_len (slice_index_or old (k + 1) d) ≤ vec_len (slice_index_or new k d)
+grown old new i k d low within behind joint =
+    elim (cases_lt i k) [
+      | inl later ↦ rw (moved_up old new i k d later within behind) (omega arith)
+      | inr none_later ↦
+          let at : k ≡ i = omega arith in
+          let sizes : length (slice_index_or new i d).items ≡ length ((slice_index_or old i d).items ++ (slice_index_or old (i + 1) d).items) = ap length (joint d) in
+          rw at (omega (arith, (slice_index_or new i d).ok, (slice_index_or old (i + 1) d).ok, length-append (slice_index_or old i d).items (slice_index_or old (i + 1) d).items))
+    ]
+
+-- a join leaves what is packed behind it packed
+pub packed_joined : (old new : List (Vec Mapping)) (i n : ℕ) → i + 1 < n → n ≤ length old → length new ≡ length old → drop (i + 1) new ≡ drop (i + 2) old ++ drop (length old - 1) new →
+    ((d : Vec Mapping) → (slice_index_or new i d).items ≡ (slice_index_or old i d).items ++ (slice_index_or old (i + 1) d).items) →
+    PackedFrom (i + 1) (take n old) → PackedFrom i (take (n - 1) new)
+packed_joined old new i n within room same behind joint packed k d low pair =
+    let size : length (take (n - 1) new) ≡ n - 1 = length-take-le (n - 1) new (omega arith) in
+    let before : length (take n old) ≡ n = length-take-le n old room in
+    let first : slice_index_or (take (n - 1) new) k d ≡ slice_index_or new k d = get_or-take (n - 1) new k d (omega arith) in
+    let second : slice_index_or (take (n - 1) new) (k + 1) d ≡ slice_index_or old (k + 2) d =
+    get_or-take (n - 1) new (k + 1) d (omega arith) ∙ (moved_up old new i (k + 1) d (omega arith) (omega arith) behind ∙ ap (λ j. slice_index_or old j d) (omega arith)) in
+    let held : CHUNK < vec_len (slice_index_or (take n old) (k + 1) d) + vec_len (slice_index_or (take n old) (k + 1 + 1) d) = packed (k + 1) d (omega arith) (omega arith) in
+    let one : slice_index_or (take n old) (k + 1) d ≡ slice_index_or old (k + 1) d = get_or-take n old (k + 1) d (omega arith) in
+    let two : slice_index_or (take n old) (k + 1 + 1) d ≡ slice_index_or old (k + 2) d = get_or-take n old (k + 1 + 1) d (omega arith) ∙ ap (λ j. slice_index_or old j d) (omega arith) in
+    let kept : CHUNK < vec_len (slice_index_or old (k + 1) d) + vec_len (slice_index_or old (k + 2) d) = rw (one, two) at held in
+    let larger : vec_len (slice_index_or old (k + 1) d) ≤ vec_len (slice_index_or new k d) = grown old new i k d low (omega arith) behind joint in
+    rw (first, second) (omega arith)

@@ -1,0 +1,33 @@
+//! Neighbours that fit into one chunk joined, all along a list of chunks.
+ghost use Rattle.std.specs.Prelude.{◌≡◌, ◌+◌, ◌*◌, ◌<◌, ◌≤◌, [], length, take, drop};
+ghost use Rattle.std.specs.Global.{Vec};
+ghost use Rattle.gv_types.specs.declared.mapping.Mapping.{Mapping};
+ghost use Rattle.gv_chunks.specs.Chunks.{joined, AreChunks, Packed};
+
+use crate::CHUNK;
+use crate::join::join;
+use gv_types::Mapping;
+
+/// Joins neighbours that fit into one chunk, from the last pair of the first `used` chunks down, and answers how many
+/// chunks stand now. Those behind them hold nothing, before and after.
+pub fn settle(chunks: &mut [Vec<Mapping>], used: usize) -> usize
+    requires within { used ≤ length chunks.old }
+    requires spare { joined (drop used chunks.old) ≡ [] }
+    requires chunks { AreChunks chunks.old }
+    ensures items { joined chunks.new ≡ joined chunks.old }
+    ensures fewer { result ≤ used }
+    ensures some { 0 < used → 0 < result }
+    ensures spare { joined (drop result chunks.new) ≡ [] }
+    ensures packed { Packed (take result chunks.new) }
+    ensures few { CHUNK * result ≤ 2 * length (joined chunks.new) + CHUNK }
+    ensures chunks { AreChunks chunks.new }
+{
+    let mut standing = used;
+    for k in (1..used).rev() {
+        if chunks[k - 1].len() + chunks[k].len() <= CHUNK {
+            join(chunks, k - 1);
+            standing -= 1;
+        }
+    }
+    standing
+}
