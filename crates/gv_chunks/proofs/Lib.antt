@@ -2,3 +2,4 @@ pub mod SpliceLemmas
 pub mod ChunkLemmas
 pub mod JoinLemmas
 pub mod PackedLemmas
+pub mod PutLemmas

@@ -5,6 +5,7 @@ pub mod cut;
 pub mod edit;
 pub mod join;
 pub mod laws;
+pub mod put;
 pub mod replace;
 pub mod settle;
 pub mod walk;

@@ -1,0 +1,27 @@
+//! Mappings put in before all others.
+ghost use Rattle.std.specs.Prelude.{◌≡◌, ◌+◌, ◌*◌, ◌≤◌, ◌++◌, [], length, drop};
+ghost use Rattle.std.specs.Global.{Vec};
+ghost use Rattle.gv_types.specs.declared.mapping.Mapping.{Mapping};
+ghost use Rattle.gv_chunks.specs.Chunks.{joined, AreChunks};
+
+use crate::CHUNK;
+use crate::cut::fill;
+use gv_types::Mapping;
+
+/// Puts the pieces before all that the first `standing` chunks hold, in chunks from behind them, which hold nothing. Answers how
+/// many chunks stand now.
+pub fn put_first(chunks: &mut [Vec<Mapping>], standing: usize, pieces: &[Mapping]) -> usize
+    requires room { length pieces.now + CHUNK * standing ≤ CHUNK * length chunks.old }
+    requires spare { joined (drop standing chunks.old) ≡ [] }
+    requires chunks { AreChunks chunks.old }
+    ensures items { joined chunks.new ≡ pieces.now ++ joined chunks.old }
+    ensures within { result ≤ length chunks.new }
+    ensures spare { joined (drop result chunks.new) ≡ [] }
+    ensures chunks { AreChunks chunks.new }
+{
+    let count = pieces.len().div_ceil(CHUNK);
+    chunks.rotate_right(count);
+    let (front, _) = chunks.split_at_mut(count);
+    fill(front, pieces);
+    standing + count
+}
