@@ -1,5 +1,5 @@
 -- A list of mappings: what it says of a page, when it is in order, and where a range meets it.
-use Rattle.std.specs.Prelude.{ℕ, ◌≡◌, ◌+◌, ◌<◌, ◌≤◌, IsTrue, if◌then◌else◌, Option, Some, None, List, [], ◌∷◌, take, drop, length}
+use Rattle.std.specs.Prelude.{ℕ, ◌≡◌, ◌+◌, ◌-◌, ◌<◌, ◌≤◌, IsTrue, if◌then◌else◌, Option, Some, None, List, [], ◌∷◌, take, drop, length}
 use Rattle.std.specs.List.{All}
 use Rattle.gv_types.specs.Span.{Span, end_of, covers, meets}
 use Rattle.gv_types.specs.Mapping.{part, IsMapping}
@@ -33,6 +33,12 @@ pub record IsUnchanged (old new : Ranges) : Type 0 where
 -- the run of a list from `place` on
 abbrev pub run : List Mapping → ℕ → ℕ → List Mapping
 run ms place count = take count (drop place ms)
+
+-- the last `left` of a list's first `end` mappings are still to come, and the block is of those, and of what is behind them
+pub record IsRunAhead (ms : List Mapping) (end left : ℕ) (block : List Mapping) : Type 0 where
+  pub within : end ≤ length ms
+  pub begun : left ≤ end
+  pub ahead : block ≡ take (length block) (drop (end - left) ms)
 
 -- the mappings that meet a range are the `count` from `place` on
 pub record IsOverlappingRun (ms : List Mapping) (range : Span) (place count : ℕ) : Type 0 where

@@ -4,7 +4,9 @@
 pub mod laws;
 mod range_list;
 mod rest;
+mod run;
 mod search;
 
 pub use range_list::RangeList;
 pub use rest::{next_rest, prev_rest};
+pub use run::Run;

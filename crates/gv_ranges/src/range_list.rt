@@ -1,6 +1,9 @@
 //! The list of mappings of an address space, sorted and disjoint.
-ghost use Rattle.std.specs.Prelude.{◌≡◌, ◌+◌, ◌*◌, ◌<◌, ◌≤◌, [], length, max, OnOk, OnErr};
+ghost use Rattle.std.specs.Prelude.{◌≡◌, ◌+◌, ◌*◌, ◌<◌, ◌≤◌, [], length, take, drop, slice_index_or};
+ghost use Rattle.std.specs.Prelude.{max, OnOk, OnErr};
+ghost use Rattle.gv_types.specs.declared.mapping.Mapping.{Mapping};
 
+use crate::run::Run;
 use crate::search::{entry_at, overlapping_run};
 use gv_chunks::replace::replace_run;
 use gv_types::{Entry, Mapping, OutOfMemory, PageRange};
@@ -27,7 +30,7 @@ impl Model for RangeList {
 
 impl RangeList {
     ghost use Rattle.std.specs.List.{splice};
-    ghost use Rattle.gv_ranges.specs.List.{at, IsLaidOut, IsOverlappingRun, IsUnchanged};
+    ghost use Rattle.gv_ranges.specs.List.{at, run, IsLaidOut, IsOverlappingRun, IsUnchanged};
 
     /// A list of no mapping, which takes no memory.
     pub fn new(alloc: Global) -> RangeList
@@ -45,6 +48,48 @@ impl RangeList {
         ensures laid_out { IsLaidOut self.now.mappings }
     {
         self.mappings.as_slice()
+    }
+
+    /// How many mappings there are.
+    pub fn len(&self) -> usize
+        ensures len { result ≡ length self.now.mappings }
+        ensures laid_out { IsLaidOut self.now.mappings }
+    {
+        self.mappings.len()
+    }
+
+    /// The mapping at a place.
+    #[inline(always)]
+    pub fn get(&self, place: usize) -> &Mapping
+        requires { place < length self.now.mappings }
+        ensures { (d : Mapping) → result.now ≡ slice_index_or self.now.mappings place d }
+    {
+        &self.mappings[place]
+    }
+
+    /// The mappings from a place on that stand in one block of memory with the one at it.
+    #[inline(always)]
+    pub fn piece(&self, place: usize) -> &[Mapping]
+        requires { place ≤ length self.now.mappings }
+        ensures value { result.now ≡ take (length result.now) (drop place self.now.mappings) }
+        ensures some { place < length self.now.mappings → 0 < length result.now }
+    {
+        &self.mappings[place..]
+    }
+
+    /// The `count` mappings from a place on, one after another.
+    pub fn run(&self, place: usize, count: usize) -> Run<'_>
+        requires { place + count ≤ length self.now.mappings }
+        ensures { result ≡ run self.now.mappings place count }
+    {
+        Run::new(self, place, count)
+    }
+
+    /// All mappings, in ascending order.
+    pub fn iter(&self) -> Run<'_>
+        ensures { result ≡ self.now.mappings }
+    {
+        Run::new(self, 0, self.len())
     }
 
     /// Makes room for `more` mappings beside those in the list. Where the room has to grow it at

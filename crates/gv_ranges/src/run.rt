@@ -1,0 +1,92 @@
+//! A run of a list, walked.
+ghost use Rattle.std.specs.Prelude.{◌≡◌, ◌+◌, ◌<◌, ◌≤◌, length, take, drop};
+ghost use Rattle.std.specs.Iterator.{YieldsFirstRef, item_count};
+ghost use Rattle.gv_ranges.specs.List.{run};
+
+use crate::RangeList;
+use gv_types::Mapping;
+use std::iter::FusedIterator;
+use std::marker::Model;
+
+/// The mappings of a run of a list that are left, one after another. It goes through the list block by block.
+#[derive(Drop)]
+pub struct Run<'a> {
+    list: &'a RangeList,
+    end: usize,
+    left: usize,
+    // Those that come next, as far as they were looked up: they may go beyond the run.
+    block: &'a [Mapping],
+}
+
+impl<'a> Model for Run<'a> {
+    ghost use Rattle.std.specs.Prelude.{List, ◌-◌};
+    ghost use Rattle.gv_types.specs.declared.mapping.Mapping.{Mapping};
+    ghost use Rattle.gv_ranges.specs.List.{run, IsRunAhead};
+
+    ghost Value = { List Mapping };
+
+    ghost view = { λ r. run r.list.now.mappings (r.end - r.left) r.left };
+
+    ghost invariant = { λ r. IsRunAhead r.list.now.mappings r.end r.left r.block.now };
+}
+
+impl<'a> Run<'a> {
+    /// The `count` mappings of a list from a place on.
+    pub(crate) fn new(list: &'a RangeList, place: usize, count: usize) -> Run<'a>
+        requires { place + count ≤ length list.now.mappings }
+        ensures { result ≡ run list.now.mappings place count }
+    {
+        // Tells that places are numbers of a machine.
+        let _len = list.len();
+        Run {
+            list,
+            end: place + count,
+            left: count,
+            block: &[],
+        }
+    }
+}
+
+/// The mappings from a place on: those of a block, where it has any.
+fn block_at<'a>(list: &'a RangeList, place: usize, block: &'a [Mapping]) -> &'a [Mapping]
+    requires within { place < length list.now.mappings }
+    requires ahead { block.now ≡ take (length block.now) (drop place list.now.mappings) }
+    ensures ahead { result.now ≡ take (length result.now) (drop place list.now.mappings) }
+    ensures some { 0 < length result.now }
+{
+    if block.is_empty() {
+        list.piece(place)
+    } else {
+        block
+    }
+}
+
+impl<'a> Iterator for Run<'a> {
+    type Item = &'a Mapping;
+
+    ghost next_gives = { YieldsFirstRef (λ rest. rest) };
+
+    ghost remaining = { item_count (λ rest. rest) };
+
+    fn next(&mut self) -> Option<&'a Mapping> {
+        if self.left == 0 {
+            return None;
+        }
+        let block = block_at(self.list, self.end - self.left, self.block);
+        self.block = &block[1..];
+        self.left -= 1;
+        Some(&block[0])
+    }
+
+    fn size_hint(&self) -> (usize, Option<usize>) {
+        (self.left, Some(self.left))
+    }
+}
+
+impl<'a> ExactSizeIterator for Run<'a> {
+    fn len(&self) -> usize {
+        self.left
+    }
+}
+
+impl<'a> FusedIterator for Run<'a> {}
