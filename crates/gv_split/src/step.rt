@@ -2,7 +2,7 @@
 ghost use Rattle.std.specs.Prelude.{◌≡◌, false, ◌+◌, ◌<◌, ◌++◌, map, filter, length, IfOk, IfErr, OnErr};
 ghost use Rattle.std.specs.List.{All};
 
-use gv_ranges::RangeList;
+use gv_ranges::{RangeList, Run};
 use gv_types::{Backing, BufferId, Fault, Mapping, PageOp, SPACE_PAGES};
 use std::alloc::Global;
 
@@ -93,16 +93,20 @@ fn step_in(op: &PageOp, mapping: &Mapping) -> Step
 }
 
 /// The steps for a run of mappings that meet the operation's range, and for its own mapping.
-fn steps_of_run(alloc: Global, run: &[Mapping], op: &PageOp) -> Result<Vec<Step>, Fault>
-    requires mappings { All IsMapping run.now }
+fn steps_of_run(alloc: Global, run: Run<'_>, op: &PageOp) -> Result<Vec<Step>, Fault>
+    requires mappings { All IsMapping run }
     requires op { IsPageOp op.now }
     ensures ok { IfOk result (λ answer.
-        answer.items ≡ map (step_in op.now) run.now ++ map Step.Map (own_mapping op.now)) }
+        answer.items ≡ map (step_in op.now) run.entry ++ map Step.Map (own_mapping op.now)) }
     ensures err { IfErr result (λ fault. fault ≡ Fault.OutOfMemory) }
-    ensures some { OnErr result (0 < length run.now + length (own_mapping op.now)) }
+    ensures some { OnErr result (0 < length run.entry + length (own_mapping op.now)) }
 {
     let own = op.own_mapping();
-    let mut answer = Vec::with_capacity(alloc, run.len() + usize::from(own.is_some()))?;
+    let count = run
+        .len()
+        .checked_add(usize::from(own.is_some()))
+        .ok_or(Fault::OutOfMemory)?;
+    let mut answer = Vec::with_capacity(alloc, count)?;
     for mapping in run {
         answer.push_reserved(step_in(op, mapping));
     }
@@ -113,27 +117,23 @@ fn steps_of_run(alloc: Global, run: &[Mapping], op: &PageOp) -> Result<Vec<Step>
 }
 
 /// How many of the mappings are of the buffer.
-fn count_of_buffer(mappings: &[Mapping], buffer: BufferId) -> usize
-    ensures { result ≡ length (filter (λ m. is_of buffer m.backing) mappings.now) }
+fn count_of_buffer(list: &RangeList, buffer: BufferId) -> usize
+    ensures { result ≡ length (filter (λ m. is_of buffer m.backing) list.now.mappings) }
 {
-    mappings.iter().filter(|m| m.backing.is_of(buffer)).count()
+    list.iter().filter(|m| m.backing.is_of(buffer)).count()
 }
 
 /// The steps for the mappings of a buffer, all of which go.
-fn steps_of_buffer(
-    alloc: Global,
-    mappings: &[Mapping],
-    buffer: BufferId,
-) -> Result<Vec<Step>, Fault>
+fn steps_of_buffer(alloc: Global, list: &RangeList, buffer: BufferId) -> Result<Vec<Step>, Fault>
     ensures ok { IfOk result (λ answer.
-        answer.items ≡ map (λ m. Step.Unmap m false) (filter (λ m. is_of buffer m.backing) mappings.now)) }
+        answer.items ≡ map (λ m. Step.Unmap m false) (filter (λ m. is_of buffer m.backing) list.now.mappings)) }
     ensures err { IfErr result (λ fault. fault ≡ Fault.OutOfMemory) }
-    ensures some { OnErr result (0 < length (filter (λ m. is_of buffer m.backing) mappings.now)) }
+    ensures some { OnErr result (0 < length (filter (λ m. is_of buffer m.backing) list.now.mappings)) }
 {
-    if count_of_buffer(mappings, buffer) == 0 {
+    if count_of_buffer(list, buffer) == 0 {
         return Ok(Vec::new(alloc));
     }
-    let answer = mappings
+    let answer = list
         .iter()
         .filter(|m| m.backing.is_of(buffer))
         .map(|m| Step::Unmap {
@@ -156,9 +156,10 @@ pub fn plan(alloc: Global, list: &RangeList, op: &PageOp) -> Result<Vec<Step>, F
     ensures err { IfErr result (λ fault. fault ≡ Fault.OutOfMemory) }
     ensures some { OnErr result (0 < length (steps list.now.mappings op.now)) }
 {
-    let mappings = list.mappings();
+    // Tells that the list is laid out.
+    let _len = list.len();
     match *op {
-        PageOp::UnmapBuffer { buffer } => steps_of_buffer(alloc, mappings, buffer),
+        PageOp::UnmapBuffer { buffer } => steps_of_buffer(alloc, list, buffer),
         PageOp::Map { .. } | PageOp::Unmap { .. } => plan_range(alloc, list, op),
     }
 }
@@ -174,6 +175,7 @@ fn plan_range(alloc: Global, list: &RangeList, op: &PageOp) -> Result<Vec<Step>,
         + length (own_mapping op.now)) }
 {
     let (place, count) = list.overlapping(op.range());
-    let run = &list.mappings()[place..place + count];
-    steps_of_run(alloc, run, op)
+    // Tells that the list is laid out.
+    let _len = list.len();
+    steps_of_run(alloc, list.run(place, count), op)
 }

@@ -25,13 +25,13 @@ steps-buffer answer ms mappings op buffer is same are =
 pub returns-in-UnmapBuffer-clause-carried_out : goal.returns-in-UnmapBuffer-clause-carried_out
 returns-in-UnmapBuffer-clause-carried_out c =
     IfOk-weaker c.steps_of_buffer.result _ _ (λ answer are. plan_makes_the_list answer.items _ _
-    (steps-buffer answer.items _ _ _ c.in-UnmapBuffer.buffer c.in-UnmapBuffer.is c.mappings-mappings.ensures.value are) c.mappings-mappings.ensures.laid_out c.requires)
+    (steps-buffer answer.items _ _ _ c.in-UnmapBuffer.buffer c.in-UnmapBuffer.is refl are) c.len-len.ensures.laid_out c.requires)
     c.steps_of_buffer.ensures.ok
 
 pub returns-in-UnmapBuffer-clause-present : goal.returns-in-UnmapBuffer-clause-present
 returns-in-UnmapBuffer-clause-present c =
     IfOk-weaker c.steps_of_buffer.result _ _ (λ answer are. plan_is_present answer.items _ _
-    (steps-buffer answer.items _ _ _ c.in-UnmapBuffer.buffer c.in-UnmapBuffer.is c.mappings-mappings.ensures.value are) c.mappings-mappings.ensures.laid_out c.requires)
+    (steps-buffer answer.items _ _ _ c.in-UnmapBuffer.buffer c.in-UnmapBuffer.is refl are) c.len-len.ensures.laid_out c.requires)
     c.steps_of_buffer.ensures.ok
 
 -- how many steps there are
@@ -48,7 +48,7 @@ returns-in-Map c =
     ⊎_elim (λ is. rw is.3 refl) (λ is. rw is.1 refl) c.in-Map.is in
     let count : length (filter (λ m. meets m.range (range_of op)) ms) + length (own_mapping op) ≡ length (steps ms op) =
     length-steps (step_in op) (filter (λ m. meets m.range (range_of op)) ms) (own_mapping op) ∙ ap length (sym same) in
-    let laid : IsLaidOut ms = c.mappings-mappings.ensures.laid_out in
+    let laid : IsLaidOut ms = c.len-len.ensures.laid_out in
     record {
       ok = IfOk-weaker c.plan_range.result _ _ (λ answer are. are ∙ sym same) c.plan_range.ensures.ok;
       carried_out = IfOk-weaker c.plan_range.result _ _ (λ answer are. plan_makes_the_list answer.items ms op (are ∙ sym same) laid c.requires) c.plan_range.ensures.ok;
