@@ -1,17 +1,17 @@
 -- What is left of a run that meets a range.
-use Rattle.std.proofs.Common.{◌≡◌, ℕ, zero, suc, ◌-◌, ◌≤◌, ◌<◌, length, take, drop, List, [], ◌∷◌, arith, refl, sym, ◌∙◌, ap, get_or, inl, inr, Option, Some, None}
+use Rattle.std.proofs.Common.{◌≡◌, ℕ, zero, suc, ◌+◌, ◌-◌, ◌≤◌, ◌<◌, length, take, drop, List, [], ◌∷◌, arith, refl, ◌∙◌, ap, get_or, inl, inr, Option, Some, None}
 use Rattle.std.specs.List.{All, cons_option}
 use Rattle.std.specs.Prelude.{slice_get}
 use Rattle.std.specs.Option.{option_to_list}
-use Rattle.std.proofs.lemmas.List.Elements.{All-head, All-get_or}
-use Rattle.std.proofs.lemmas.Option.{get_or_from_slice_get}
+use Rattle.std.proofs.lemmas.List.Elements.{All-get_or}
+use Rattle.std.proofs.lemmas.List.{get_or-take, get_or-drop, length-take, length-drop}
 use Rattle.gv_types.specs.Span.{end_of}
-use Rattle.gv_types.specs.Mapping.{clip, IsMapping}
+use Rattle.gv_types.specs.Mapping.{clip}
 use Rattle.gv_types.specs.declared.mapping.Mapping.{Mapping}
-use Rattle.gv_ranges.specs.List.{IsLaidOut, IsLaidOutFrom}
+use Rattle.gv_ranges.specs.List.{IsLaidOut, IsLaidOutFrom, run}
 use Rattle.gv_ranges.specs.Edit.{clipped}
 use Rattle.gv_ranges.proofs.ClipLemmas.{clip_none}
-use Rattle.gv_ranges.proofs.LookupLemmas.{first_above, is_mapping}
+use Rattle.gv_ranges.proofs.LookupLemmas.{first_above}
 use Rattle.gv_ranges.proofs.ReplacedLemmas.{LiesOutside, clipped_none}
 
 -- an order from a later page is one from an earlier page
@@ -41,6 +41,11 @@ clipped_first m ms low bound laid past =
     λ k d below. inr (let h : end_of m.range ≤ (get_or ms k d).range.first = first_above ms (end_of m.range) k d laid.2 below in omega arith) in
     rw (clipped_none 0 bound ms out) (cons_option-nil (clip 0 bound m))
 
+clipped_at_first : (ms : List Mapping) (bound : ℕ) (d : Mapping) → 0 < length ms → IsLaidOut ms → bound ≤ end_of (get_or ms 0 d).range →
+    clipped 0 bound ms ≡ option_to_list (clip 0 bound (get_or ms 0 d))
+clipped_at_first [] bound d some laid past = absurd (omega arith)
+clipped_at_first (m ∷ ms) bound d some laid past = clipped_first m ms 0 bound laid past
+
 -- from a page on, only the last mapping of a run can stick out that begins before it
 pub clipped_last : (ms : List Mapping) (low bound top : ℕ) (d : Mapping) → IsLaidOutFrom low ms → 0 < length ms →
     (get_or ms (length ms - 1) d).range.first ≤ bound →
@@ -56,31 +61,41 @@ clipped_last (m ∷ (n ∷ ns)) low bound top d laid some before =
     clipped_last (n ∷ ns) (end_of m.range) bound top d laid.2 (omega arith) (rw last before') in
     rw (place, clip_none bound top m (inl (omega arith))) (rest ∙ rw last refl)
 
--- of a run whose mappings end past a page, the first one's rest lies below it
-pub rest_of_first : (ms : List Mapping) (page : ℕ) (m : Mapping) → Some m ≡ slice_get ms 0 → IsLaidOut ms → All (λ m. page < end_of m.range) ms →
-    clipped 0 page ms ≡ option_to_list (clip 0 page m)
-rest_of_first [] page m is laid past = absurd cc
-rest_of_first (n ∷ ms) page m is laid past =
-    let ends : page < end_of n.range = All-head (λ (n : Mapping). page < end_of n.range) n ms past in
-    let same : n ≡ m = cc in
-    rw (← same) (clipped_first n ms 0 page laid (omega arith))
-
 -- a run that has a last mapping has one
 pub some_of_last : (ms : List Mapping) (m : Mapping) → Some m ≡ slice_get ms (length ms - 1) → 0 < length ms
 some_of_last [] m is = absurd cc
 some_of_last (n ∷ ms) m is = omega arith
 
-pub last_is_mapping : (ms : List Mapping) (m : Mapping) → Some m ≡ slice_get ms (length ms - 1) → IsLaidOut ms → IsMapping m
-last_is_mapping ms m is laid =
-    let some : 0 < length ms = some_of_last ms m is in
-    rw (← get_or_from_slice_get ms (length ms - 1) m m (sym is)) (is_mapping ms 0 (length ms - 1) m laid (omega arith))
+-- the mapping at a place of a run is the list's
+pub at_run : (ms : List Mapping) (place count k : ℕ) (d : Mapping) → k < count → get_or (run ms place count) k d ≡ get_or ms (place + k) d
+at_run ms place count k d less = get_or-take count (drop place ms) k d less ∙ get_or-drop place ms k d
+
+length_of_run : (ms : List Mapping) (place count : ℕ) → place + count ≤ length ms → length (run ms place count) ≡ count
+length_of_run ms place count within = rw (length-take count (drop place ms), length-drop place ms) (omega arith)
+
+run_is_laid_out : (ms : List Mapping) (place count : ℕ) → IsLaidOut ms → IsLaidOut (run ms place count)
+run_is_laid_out ms place count laid = laid_out-take (drop place ms) 0 count (laid_out-drop ms 0 place laid)
+
+-- of a run whose mappings end past a page, the first one's rest lies below it
+pub rest_of_first : (ms : List Mapping) (place count page : ℕ) (d : Mapping) → 0 < count → place + count ≤ length ms → IsLaidOut ms →
+    All (λ m. page < end_of m.range) (run ms place count) → clipped 0 page (run ms place count) ≡ option_to_list (clip 0 page (get_or ms place d))
+rest_of_first ms place count page d some within laid past =
+    let long : length (run ms place count) ≡ count = length_of_run ms place count within in
+    let place_is : place + 0 ≡ place = omega arith in
+    let first : get_or (run ms place count) 0 d ≡ get_or ms place d = rw place_is at (at_run ms place count 0 d some) in
+    let ends : page < end_of (get_or (run ms place count) 0 d).range = All-get_or (λ (m : Mapping). page < end_of m.range) (run ms place count) 0 d (omega arith) past in
+    clipped_at_first (run ms place count) page d (omega arith) (run_is_laid_out ms place count laid) (omega arith)
+    ∙ ap (λ (m : Mapping). option_to_list (clip 0 page m)) first
 
 -- of a run whose mappings begin before a page, the last one's rest lies behind it
-pub rest_of_last : (ms : List Mapping) (page top : ℕ) (m : Mapping) → Some m ≡ slice_get ms (length ms - 1) → IsLaidOut ms →
-    All (λ m. m.range.first < page) ms → clipped page top ms ≡ option_to_list (clip page top m)
-rest_of_last ms page top m is laid before =
-    let some : 0 < length ms = some_of_last ms m is in
-    let last : get_or ms (length ms - 1) m ≡ m = get_or_from_slice_get ms (length ms - 1) m m (sym is) in
-    let begins : (get_or ms (length ms - 1) m).range.first < page =
-    All-get_or (λ (m : Mapping). m.range.first < page) ms (length ms - 1) m (omega arith) before in
-    clipped_last ms 0 page top m laid some (omega arith) ∙ ap (λ (m : Mapping). option_to_list (clip page top m)) last
+pub rest_of_last : (ms : List Mapping) (place count page top : ℕ) (d : Mapping) → 0 < count → place + count ≤ length ms → IsLaidOut ms →
+    All (λ m. m.range.first < page) (run ms place count) → clipped page top (run ms place count) ≡ option_to_list (clip page top (get_or ms (place + count - 1) d))
+rest_of_last ms place count page top d some within laid before =
+    let long : length (run ms place count) ≡ count = length_of_run ms place count within in
+    let place_is : place + (count - 1) ≡ place + count - 1 = omega arith in
+    let last : get_or (run ms place count) (length (run ms place count) - 1) d ≡ get_or ms (place + count - 1) d =
+    rw (long, ← place_is) (at_run ms place count (count - 1) d (omega arith)) in
+    let begins : (get_or (run ms place count) (length (run ms place count) - 1) d).range.first < page =
+    All-get_or (λ (m : Mapping). m.range.first < page) (run ms place count) (length (run ms place count) - 1) d (omega arith) before in
+    clipped_last (run ms place count) 0 page top d (run_is_laid_out ms place count laid) (omega arith) (omega arith)
+    ∙ ap (λ (m : Mapping). option_to_list (clip page top m)) last
