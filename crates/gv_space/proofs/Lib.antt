@@ -22,3 +22,4 @@ pub mod UsesFound
 pub mod RenamingLemmas
 pub mod ReleasedLemmas
 pub mod BufferRanges
+pub mod Walked

@@ -1,5 +1,5 @@
 -- All that a change needs is there once its room was made.
-use Rattle.std.proofs.Common.{◌≡◌, ℕ, ◌+◌, ◌-◌, ◌<◌, ◌≤◌, ◌++◌, List, Some, None, length, arith, refl, sym, subst, ap, ⊎_elim, ◌∙◌}
+use Rattle.std.proofs.Common.{◌≡◌, ℕ, ◌+◌, ◌<◌, ◌≤◌, ◌++◌, List, Some, None, length, arith, refl, sym, subst, ap, ⊎_elim, ◌∙◌}
 use Rattle.std.specs.List.{All, splice}
 use Rattle.std.specs.Option.{option_to_list}
 use Rattle.std.proofs.lemmas.Bool.{cases_lt}
@@ -110,7 +110,7 @@ changed_before s list new within range place taken pieces spares u space same ro
 -- the same from what each step of a change answers
 pub made_ready : (i : Inside) (now : AddressSpace) (range : Span) (saved : List Mapping) (space : IsSpace (space_of i)) (laid : IsLaidOut saved) (list reserved : Ranges) (overlap : Overlap)
     (shown taken pieces middle : List Mapping) (spares more : ℕ) → space_of i ≡ now → list ≡ i.mapped → IsOverlap list.mappings range overlap →
-    shown ≡ now.mappings → taken ≡ run shown overlap.place (overlap.place + overlap.count - overlap.place) →
+    shown ≡ now.mappings → taken ≡ run shown overlap.place overlap.count →
     pieces ≡ option_to_list overlap.prev ++ inside (space_of i) range saved space laid ++ option_to_list overlap.next →
     ((within : List Mapping) → pieces ≡ option_to_list overlap.prev ++ within ++ option_to_list overlap.next → middle ≡ within) →
     All (IsPlaced now.area now.buffers) saved → limit_fault now range (restored now.mappings range saved) ≡ None →
@@ -119,8 +119,7 @@ pub made_ready : (i : Inside) (now : AddressSpace) (range : Span) (saved : List 
     IsReady (inside (space_of i) range saved space laid) (record (space_of i) { mappings = reserved.mappings; room = reserved.room }) range overlap.place taken pieces spares
 made_ready i now range saved space laid list reserved overlap shown taken pieces middle spares more space_is list_is is shown_is taken_is pieces_is middle_is placed none same room fits enough =
     let s : AddressSpace = space_of i in
-    let size : overlap.place + overlap.count - overlap.place ≡ overlap.count = omega arith in
-    let taken_now : taken ≡ run now.mappings overlap.place overlap.count = rw (shown_is, size) at taken_is in
+    let taken_now : taken ≡ run now.mappings overlap.place overlap.count = rw shown_is at taken_is in
     let between : middle ≡ inside s range saved space laid = middle_is (inside s range saved space laid) pieces_is in
     ready_from s range saved space laid reserved overlap taken pieces spares more
     (subst (λ (t : AddressSpace). All (IsPlaced t.area t.buffers) saved) (sym space_is) placed)

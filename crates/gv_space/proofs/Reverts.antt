@@ -109,12 +109,11 @@ fits_inside s u space undo space_is undo_is fits =
     subst (λ (v : UndoValue). CanRevert (space_of s) v) (sym undo_is) (subst (λ (t : AddressSpace). CanRevert t undo) (sym space_is) fits)
 
 -- the list is spliced and the counts are moved back: that is the space before the change
-pub state_made : (s : AddressSpace) (u : UndoValue) (space : IsSpace s) (fits : CanRevert s u) (shown taken put_back : List Mapping) (list : Ranges) (buffers : Table) (count : ℕ) →
-    shown ≡ s.mappings → taken ≡ u.change.taken → put_back ≡ u.change.taken →
+pub state_made : (s : AddressSpace) (u : UndoValue) (space : IsSpace s) (fits : CanRevert s u) (gone_now taken put_back : List Mapping) (list : Ranges) (buffers : Table) (count : ℕ) →
+    gone_now ≡ run s.mappings u.change.place u.change.put_in → taken ≡ u.change.taken → put_back ≡ u.change.taken →
     list.mappings ≡ splice s.mappings u.change.place (u.change.place + u.change.put_in) put_back → list.room ≡ s.room →
-    buffers ≡ by_count less_used (run shown u.change.place (u.change.place + u.change.put_in - u.change.place)) (by_count more_used taken (by_count less_kept taken s.buffers)) →
+    buffers ≡ by_count less_used gone_now (by_count more_used taken (by_count less_kept taken s.buffers)) →
     count ≡ length u.change.taken →
     record s { mappings = list.mappings; room = list.room; buffers = buffers; kept_count = s.kept_count - count } ≡ reverted s u
-state_made s u space fits shown taken put_back list buffers count shown_is taken_is put_back_is list_is room_is buffers_is count_is =
-    let size : u.change.place + u.change.put_in - u.change.place ≡ u.change.put_in = omega arith in
-    state_before s u space fits list buffers count (rw put_back_is at list_is) room_is (rw (shown_is, size, taken_is) at buffers_is) count_is
+state_made s u space fits gone_now taken put_back list buffers count gone_is taken_is put_back_is list_is room_is buffers_is count_is =
+    state_before s u space fits list buffers count (rw put_back_is at list_is) room_is (rw (gone_is, taken_is) at buffers_is) count_is

@@ -8,6 +8,7 @@ ghost use Rattle.gv_space.specs.Counts.{more_used, less_used, more_kept, less_ke
 ghost use Rattle.gv_space.specs.Live.{IsLiveBacking};
 
 use gv_buffers::Buffers;
+use gv_ranges::Run;
 use gv_types::{Backing, Mapping};
 
 /// Counts mappings that come into the list, each in its buffer.
@@ -23,13 +24,13 @@ pub fn count_in(buffers: &mut Buffers, mappings: &[Mapping])
     }
 }
 
-/// Counts out mappings that leave the list.
-pub fn count_out(buffers: &mut Buffers, mappings: &[Mapping])
-    requires live { All (λ m. IsLiveBacking buffers.old m.backing) mappings.now }
-    requires counted { All (λ b. count_of b.id mappings.now ≤ b.uses) buffers.old.live }
-    ensures { buffers.new ≡ by_count less_used mappings.now buffers.old }
+/// Counts out a run of the list, which leaves it.
+pub fn count_out(buffers: &mut Buffers, run: Run<'_>)
+    requires live { All (λ m. IsLiveBacking buffers.old m.backing) run }
+    requires counted { All (λ b. count_of b.id run ≤ b.uses) buffers.old.live }
+    ensures { buffers.new ≡ by_count less_used run.entry buffers.old }
 {
-    for mapping in mappings {
+    for mapping in run {
         if let Backing::Buffer { id, .. } = mapping.backing {
             buffers.count_out(id);
         }
@@ -63,7 +64,8 @@ pub fn unkeep(buffers: &mut Buffers, mappings: &[Mapping])
 }
 
 /// Counts a run of the list that gives way to `pieces` and comes into an undo value.
-pub fn move_counts(buffers: &mut Buffers, taken: &[Mapping], pieces: &[Mapping])
+pub fn move_counts(buffers: &mut Buffers, run: Run<'_>, taken: &[Mapping], pieces: &[Mapping])
+    requires same { run ≡ taken.now }
     requires taken { All (λ m. IsLiveBacking buffers.old m.backing) taken.now }
     requires pieces { All (λ m. IsLiveBacking buffers.old m.backing) pieces.now }
     requires keeps { All (λ b. b.kept + count_of b.id taken.now ≤ most_counted) buffers.old.live }
@@ -74,17 +76,17 @@ pub fn move_counts(buffers: &mut Buffers, taken: &[Mapping], pieces: &[Mapping])
 {
     keep(buffers, taken);
     count_in(buffers, pieces);
-    count_out(buffers, taken);
+    count_out(buffers, run);
 }
 
 /// Counts a run that comes back out of an undo value into the list, where `pieces` give way to it.
-pub fn move_counts_back(buffers: &mut Buffers, pieces: &[Mapping], taken: &[Mapping])
+pub fn move_counts_back(buffers: &mut Buffers, pieces: Run<'_>, taken: &[Mapping])
     requires taken { All (λ m. IsLiveBacking buffers.old m.backing) taken.now }
-    requires pieces { All (λ m. IsLiveBacking buffers.old m.backing) pieces.now }
+    requires pieces { All (λ m. IsLiveBacking buffers.old m.backing) pieces }
     requires kept { All (λ b. count_of b.id taken.now ≤ b.kept) buffers.old.live }
     requires room { All (λ b. b.uses + count_of b.id taken.now ≤ most_counted) buffers.old.live }
-    requires counted { All (λ b. count_of b.id pieces.now ≤ b.uses) buffers.old.live }
-    ensures { buffers.new ≡ by_count less_used pieces.now
+    requires counted { All (λ b. count_of b.id pieces ≤ b.uses) buffers.old.live }
+    ensures { buffers.new ≡ by_count less_used pieces.entry
         (by_count more_used taken.now (by_count less_kept taken.now buffers.old)) }
 {
     unkeep(buffers, taken);

@@ -65,7 +65,7 @@ impl ListWithTable {
         ensures tree { (table : PageTable) × IsTree self.now.mappings table × IsHeldAt table page result }
     {
         // Tells that the list is laid out.
-        let _mappings = self.list.mappings();
+        let _len = self.list.len();
         self.table.walk(page)
     }
 
@@ -100,7 +100,7 @@ impl ListWithTable {
         ensures err { IsOkUnless result Fault.OutOfMemory }
     {
         // Tells that the list is laid out.
-        let _mappings = self.list.mappings();
+        let _len = self.list.len();
         self.table.spare(alloc, range, pieces)
     }
 
@@ -132,7 +132,7 @@ impl ListWithTable {
     {
         let mut spares = spares;
         // Tells that the list is laid out.
-        let _mappings = self.list.mappings();
+        let _len = self.list.len();
         self.list.splice(place, out_count, pieces);
         let lost = self.table.paint(&self.list, range, place, &mut spares);
         spares.split(lost)

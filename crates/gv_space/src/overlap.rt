@@ -21,12 +21,11 @@ impl Overlap {
         ensures { IsOverlap list.now.mappings range result }
     {
         let (place, count) = list.overlapping(range);
-        let run = &list.mappings()[place..place + count];
         Overlap {
             place,
             count,
-            prev: prev_rest(run, range.first()),
-            next: next_rest(run, range.end()),
+            prev: prev_rest(list, place, count, range.first()),
+            next: next_rest(list, place, count, range.end()),
         }
     }
 

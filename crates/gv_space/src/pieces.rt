@@ -8,6 +8,7 @@ ghost use Rattle.gv_ranges.specs.Edit.{clipped};
 ghost use Rattle.gv_space.specs.Refusal.{count_met};
 
 use crate::overlap::Overlap;
+use gv_ranges::Run;
 use gv_types::{Mapping, OutOfMemory, PageRange};
 use smallvec::SmallVec;
 use std::alloc::Global;
@@ -23,6 +24,17 @@ const INCOMING: usize = 3;
 
 /// The mappings that come in, in the value itself where they are at most three.
 pub type Incoming = SmallVec<Mapping, INCOMING>;
+
+/// The mappings of a run, copied.
+pub fn copied(alloc: Global, run: Run<'_>) -> Result<Pieces, OutOfMemory>
+    ensures { IfOk result (λ p. p.items ≡ run.entry) }
+{
+    let mut pieces = SmallVec::with_capacity(alloc, run.len())?;
+    for mapping in run {
+        pieces.push(*mapping)?;
+    }
+    Ok(pieces)
+}
 
 /// How many of the saved mappings have pages in the range.
 pub fn count_in_range(saved: &[Mapping], range: PageRange) -> usize

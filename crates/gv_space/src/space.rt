@@ -11,6 +11,7 @@ use crate::list_with_table::ListWithTable;
 use crate::undo::OpUndo;
 use crate::{counts, ranges};
 use gv_buffers::{Buffers, Usage};
+use gv_ranges::RangeList;
 use gv_split::Step;
 use gv_table::PageTable;
 use gv_types::{Backing, Bounds, BufferId, Entry, Fault, Limits, Mapping, Op, PageOp, PageRange};
@@ -91,12 +92,12 @@ impl Space {
         self.limits
     }
 
-    /// The mappings, in ascending order.
-    pub fn mappings(&self) -> &[Mapping]
-        ensures value { result.now ≡ self.now.mappings }
+    /// The list of mappings.
+    pub fn list(&self) -> &RangeList
+        ensures value { result.now.mappings ≡ self.now.mappings }
         ensures space { IsSpace self.now }
     {
-        self.mapped.list().mappings()
+        self.mapped.list()
     }
 
     /// What the page holds, by the list: one binary search. None past the end of the address space.
@@ -241,7 +242,7 @@ impl Space {
             taken,
             tables,
         } = undo;
-        let pieces = &self.mapped.list().mappings()[place..place + put_in];
+        let pieces = self.mapped.list().run(place, put_in);
         counts::move_counts_back(&mut self.buffers, pieces, taken.as_slice());
         // The tables that the change put in the tree are dropped.
         let _lost = self

@@ -51,7 +51,7 @@ impl Space {
         let Some(count) = self.buffers.uses(id) else {
             return Err(Fault::NoBuffer);
         };
-        Ok(ranges::ranges_of(alloc, self.mappings(), id, count)?)
+        Ok(ranges::ranges_of(alloc, self.list(), id, count)?)
     }
 
     /// Makes a buffer of `pages` pages. `BadSize` at 0 pages or over 2^36, and `TooManyBuffers` where the limit's buffers are

@@ -13,11 +13,10 @@ ghost use Rattle.gv_space.specs.Ready.{IsReady};
 use super::Space;
 use crate::counts;
 use crate::overlap::Overlap;
-use crate::pieces::{Pieces, between_rests, with_rests};
+use crate::pieces::{Pieces, between_rests, copied, with_rests};
 use crate::undo::OpUndo;
 use gv_table::Spares;
 use gv_types::{Fault, Mapping, PageRange};
-use smallvec::SmallVec;
 use std::alloc::Global;
 
 impl Space {
@@ -40,8 +39,7 @@ impl Space {
         let overlap = Overlap::of(self.mapped.list(), range);
         self.check_limits(range, &overlap, saved)?;
         let place = overlap.place;
-        let run = &self.mappings()[place..place + overlap.count];
-        let taken = SmallVec::from_slice(alloc, run)?;
+        let taken = copied(alloc, self.list().run(place, overlap.count))?;
         let pieces = with_rests(alloc, &overlap, saved, range)?;
         let pieces = pieces.as_slice();
         let inside = between_rests(&overlap, pieces);
@@ -66,7 +64,8 @@ impl Space {
         ensures range { result.range ≡ range }
     {
         let count = taken.len();
-        counts::move_counts(&mut self.buffers, taken.as_slice(), pieces);
+        let run = self.mapped.list().run(place, count);
+        counts::move_counts(&mut self.buffers, run, taken.as_slice(), pieces);
         let tables = self.mapped.replace(range, place, count, pieces, spares);
         self.kept_count += count as u64;
         OpUndo {

@@ -51,7 +51,7 @@ impl Space {
             (IsOk result) (λ fault. result ≡ Err fault) }
     {
         let inside = count_in_range(saved, range);
-        let after = self.mappings().len() - overlap.count + overlap.count_rests() + inside;
+        let after = self.list().len() - overlap.count + overlap.count_rests() + inside;
         if after as u64 > self.limits.mappings()
             || self.kept_count + overlap.count as u64 > MAX_KEPT
         {

@@ -20,15 +20,15 @@ count_in-requires-clause-room c =
 pub count_out-requires-clause-live : goal.count_out-requires-clause-live
 count_out-requires-clause-live c =
     let kept : Table = by_count less_kept c.args.taken.now c.args.buffers.now in
-    subst (λ (t : Table). All (λ m. IsLiveBacking t m.backing) c.args.pieces.now) (sym (c.count_in.ensures ∙ ap (by_count more_used c.args.taken.now) c.unkeep.ensures))
-    (live-by_count more_used c.args.taken.now kept c.args.pieces.now more_used_of_counts
-    (live-by_count less_kept c.args.taken.now c.args.buffers.now c.args.pieces.now less_kept_of_counts c.requires.pieces))
+    subst (λ (t : Table). All (λ m. IsLiveBacking t m.backing) c.args.pieces) (sym (c.count_in.ensures ∙ ap (by_count more_used c.args.taken.now) c.unkeep.ensures))
+    (live-by_count more_used c.args.taken.now kept c.args.pieces more_used_of_counts
+    (live-by_count less_kept c.args.taken.now c.args.buffers.now c.args.pieces less_kept_of_counts c.requires.pieces))
 
 pub count_out-requires-clause-counted : goal.count_out-requires-clause-counted
 count_out-requires-clause-counted c =
     let kept : Table = by_count less_kept c.args.taken.now c.args.buffers.now in
-    subst (λ (t : Table). All (λ b. count_of b.id c.args.pieces.now ≤ b.uses) t.live) (sym (c.count_in.ensures ∙ ap (by_count more_used c.args.taken.now) c.unkeep.ensures))
-    (All-by_count (λ b. count_of b.id c.args.pieces.now ≤ b.uses) more_used c.args.taken.now kept
-    (All-by_count (λ b. count_of b.id c.args.pieces.now ≤ b.uses + count_of b.id c.args.taken.now) less_kept c.args.taken.now c.args.buffers.now
-    (All-weaker (λ b. count_of b.id c.args.pieces.now ≤ b.uses) (λ b. count_of b.id c.args.pieces.now ≤ b.uses + count_of b.id c.args.taken.now) (λ b few. omega arith)
+    subst (λ (t : Table). All (λ b. count_of b.id c.args.pieces ≤ b.uses) t.live) (sym (c.count_in.ensures ∙ ap (by_count more_used c.args.taken.now) c.unkeep.ensures))
+    (All-by_count (λ b. count_of b.id c.args.pieces ≤ b.uses) more_used c.args.taken.now kept
+    (All-by_count (λ b. count_of b.id c.args.pieces ≤ b.uses + count_of b.id c.args.taken.now) less_kept c.args.taken.now c.args.buffers.now
+    (All-weaker (λ b. count_of b.id c.args.pieces ≤ b.uses) (λ b. count_of b.id c.args.pieces ≤ b.uses + count_of b.id c.args.taken.now) (λ b few. omega arith)
     c.args.buffers.now.live c.requires.counted)))

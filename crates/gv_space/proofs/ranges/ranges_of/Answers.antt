@@ -9,10 +9,10 @@ use Rattle.gv_space.proofs.ranges.ranges_of.Goals as goal
 
 pub returns-clause-ranges : goal.returns-clause-ranges
 returns-clause-ranges c =
-    let of : List Mapping = filter (λ (m : Mapping). is_of c.args.id m.backing) c.args.mappings.now in
+    let of : List Mapping = filter (λ (m : Mapping). is_of c.args.id m.backing) c.args.list.now.mappings in
     let all : take c.args.count of ≡ of = take_all c.args.count of (omega (arith, c.requires)) in
     IfOk-weaker c.first_ranges.result
     (λ list. list.items ≡ map (λ (m : Mapping). m.range) (take c.args.count of))
-    (λ list. list.items ≡ ranges_of c.args.id c.args.mappings.now)
+    (λ list. list.items ≡ ranges_of c.args.id c.args.list.now.mappings)
     (λ list is. is ∙ ap (map (λ (m : Mapping). m.range)) all)
     c.first_ranges.ensures

@@ -15,7 +15,7 @@ returns-clause-enough c =
     let range = c.args.range in
     let now = c.args.self.now.mappings in
     let inside = c.self.inside.table in
-    let laid_now : IsLaidOut now = rw (← c.self.view_is) c.mappings-mappings.ensures.laid_out in
+    let laid_now : IsLaidOut now = rw (← c.self.view_is) c.len-len.ensures.laid_out in
     let tree_now : IsTree now inside = rw (← c.self.view_is) c.self.invariant in
     IfOk-weaker c.spare.result
     (λ spares. (ms : List Mapping) → IsLaidOut ms → FitsOutside ms range inside → clipped range.first (end_of range) ms ≡ c.args.pieces.now → gained_by ms inside ≤ spares)

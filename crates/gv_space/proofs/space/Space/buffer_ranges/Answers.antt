@@ -14,7 +14,7 @@ ranges_of-requires c =
     let s : AddressSpace = space_of c.self.inside in
     uses_found s.buffers c.args.id s.mappings c.in-Some.count c.self.invariant.used (sym c.uses.ensures.value ∙ c.in-Some.is)
     ∙ ap (λ (t : AddressSpace). count_of c.args.id t.mappings) c.self.view_is
-    ∙ ap (λ (ms : List Mapping). count_of c.args.id ms) (sym c.mappings.ensures.value)
+    ∙ ap (λ (ms : List Mapping). count_of c.args.id ms) (sym c.list.ensures.value)
 
 pub returns-in_err-ranges_of-clause-some : goal.returns-in_err-ranges_of-clause-some
 returns-in_err-ranges_of-clause-some c = λ _.
@@ -26,5 +26,5 @@ returns-in_err-ranges_of-clause-some c = λ _.
 
 pub returns-clause-in_space : goal.returns-clause-in_space
 returns-clause-in_space c =
-    let are : c.in_ok-ranges_of.field-0.items ≡ ranges_of c.args.id c.mappings.result.now = c.in_ok-ranges_of.ensures.ranges in
-    subst (All IsInSpace) (sym are) (ranges_in_space c.args.id c.mappings.result.now (rw c.mappings.ensures.value c.mappings.ensures.space.laid_out))
+    let are : c.in_ok-ranges_of.field-0.items ≡ ranges_of c.args.id c.list.result.now.mappings = c.in_ok-ranges_of.ensures.ranges in
+    subst (All IsInSpace) (sym are) (ranges_in_space c.args.id c.list.result.now.mappings (rw c.list.ensures.value c.list.ensures.space.laid_out))

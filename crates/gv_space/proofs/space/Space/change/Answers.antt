@@ -1,4 +1,4 @@
-use Rattle.std.proofs.Common.{◌≡◌, List, arith, sym, subst, ◌∙◌}
+use Rattle.std.proofs.Common.{◌≡◌, List, length, arith, sym, subst, ap, ◌∙◌}
 use Rattle.gv_types.specs.declared.mapping.Mapping.{Mapping}
 use Rattle.gv_ranges.specs.List.{IsLaidOut, Ranges}
 use Rattle.gv_ranges.specs.Edit.{restored}
@@ -20,12 +20,16 @@ spare-requires c =
     let middle : c.between_rests-inside.result.now ≡ within = c.between_rests-inside.ensures within (c.as_slice-pieces.ensures ∙ c.in_ok-pieces.ensures) in
     subst IsLaidOut (sym middle) (inside_sorted (space_of c.self.inside) c.args.range c.args.saved.now c.self.invariant c.requires.laid_out)
 
+pub run-requires : goal.run-requires
+run-requires c =
+    rw (ap (λ (l : List Mapping). length l) (c.list-2.ensures.value ∙ ap (λ (t : AddressSpace). t.mappings) (sym c.self.view_is) ∙ ap (λ (l : Ranges). l.mappings) (sym c.list.ensures))) c.of-overlap.ensures.met.within
+
 pub commit-requires : goal.commit-requires
 commit-requires c = (
   inside (space_of c.self.inside) c.args.range c.args.saved.now c.self.invariant c.requires.laid_out,
   made_ready c.self.inside c.args.self.now c.args.range c.args.saved.now c.self.invariant c.requires.laid_out c.list.result.now c.reserve.new.self c.of-overlap.result
-      c.mappings.result.now c.in_ok-taken.taken.items c.as_slice-pieces.result.now c.between_rests-inside.result.now c.in_ok-spares.spares c.saturating_sub.result
-      c.self.view_is c.list.ensures c.of-overlap.ensures c.mappings.ensures.value c.in_ok-taken.ensures.ok (c.as_slice-pieces.ensures ∙ c.in_ok-pieces.ensures) c.between_rests-inside.ensures
+      c.list-2.result.now.mappings c.in_ok-taken.taken.items c.as_slice-pieces.result.now c.between_rests-inside.result.now c.in_ok-spares.spares c.saturating_sub.result
+      c.self.view_is c.list.ensures c.of-overlap.ensures c.list-2.ensures.value (c.in_ok-taken.ensures ∙ c.run.ensures) (c.as_slice-pieces.ensures ∙ c.in_ok-pieces.ensures) c.between_rests-inside.ensures
       c.requires.placed (no_fault _ c.check_limits.result _ c.check_limits.ensures c.in_ok-check_limits.was)
       c.reserve.ensures.unchanged.mappings c.in_ok-reserve.ensures.ok (omega (arith, c.len.ensures.value, c.saturating_sub.ensures)) c.in_ok-spares.ensures.enough,
 )
@@ -37,8 +41,8 @@ returns-clause-changed c =
     let list : Ranges = c.reserve.new.self in
     let ready : IsReady within (record s { mappings = list.mappings; room = list.room }) c.args.range c.of-overlap.result.place c.in_ok-taken.taken.items c.as_slice-pieces.result.now c.in_ok-spares.spares =
     made_ready c.self.inside c.args.self.now c.args.range c.args.saved.now c.self.invariant c.requires.laid_out c.list.result.now list c.of-overlap.result
-    c.mappings.result.now c.in_ok-taken.taken.items c.as_slice-pieces.result.now c.between_rests-inside.result.now c.in_ok-spares.spares c.saturating_sub.result
-    c.self.view_is c.list.ensures c.of-overlap.ensures c.mappings.ensures.value c.in_ok-taken.ensures.ok (c.as_slice-pieces.ensures ∙ c.in_ok-pieces.ensures) c.between_rests-inside.ensures
+    c.list-2.result.now.mappings c.in_ok-taken.taken.items c.as_slice-pieces.result.now c.between_rests-inside.result.now c.in_ok-spares.spares c.saturating_sub.result
+    c.self.view_is c.list.ensures c.of-overlap.ensures c.list-2.ensures.value (c.in_ok-taken.ensures ∙ c.run.ensures) (c.as_slice-pieces.ensures ∙ c.in_ok-pieces.ensures) c.between_rests-inside.ensures
     c.requires.placed (no_fault _ c.check_limits.result _ c.check_limits.ensures c.in_ok-check_limits.was)
     c.reserve.ensures.unchanged.mappings c.in_ok-reserve.ensures.ok (omega (arith, c.len.ensures.value, c.saturating_sub.ensures)) c.in_ok-spares.ensures.enough in
     let is : IsChanged s c.commit.new.self (restored s.mappings c.args.range c.args.saved.now) c.commit.result =

@@ -1,6 +1,5 @@
-use Rattle.std.proofs.Common.{◌≡◌, ◌+◌, ◌-◌, ◌++◌, List, length, arith, sym, subst, ap, ◌∙◌}
-use Rattle.gv_types.specs.declared.mapping.Mapping.{Mapping}
-use Rattle.gv_ranges.specs.List.{Ranges}
+use Rattle.std.proofs.Common.{◌≡◌, ◌++◌, length, sym, subst, ap, ◌∙◌}
+use Rattle.gv_ranges.specs.List.{Ranges, run}
 use Rattle.gv_ranges.specs.Edit.{undone}
 use Rattle.gv_space.specs.State.{AddressSpace, IsSpace, AreKept}
 use Rattle.gv_space.specs.Undo.{UndoValue, CanRevert, reverted}
@@ -9,21 +8,19 @@ use Rattle.gv_space.proofs.Reverts.{undo_of, fits_inside, state_made, old, ended
 use Rattle.gv_space.proofs.KeptLemmas.{AreKept-reverted}
 use Rattle.gv_space.proofs.space.Space.revert.Goals as goal
 
-pub overflow_add-pieces : goal.overflow_add-pieces
-overflow_add-pieces c =
+pub run-pieces-requires : goal.run-pieces-requires
+run-pieces-requires c =
     let s : AddressSpace = space_of c.self.inside in
     let u : UndoValue = undo_of c.undo.inside in
     let fits : CanRevert s u = fits_inside c.self.inside c.undo.inside c.args.self.now c.args.undo c.self.view_is c.undo.view_is c.requires in
-    omega (arith, within s u c.self.invariant fits, c.self.invariant.few, c.self.invariant.limits.1)
+    rw (ap (λ (l : Ranges). length l.mappings) c.list.ensures) (within s u c.self.invariant fits)
 
-pub slice_bounds-pieces-end : goal.slice_bounds-pieces-end
-slice_bounds-pieces-end c =
+pub replace-lost-requires-clause-within : goal.replace-lost-requires-clause-within
+replace-lost-requires-clause-within c =
     let s : AddressSpace = space_of c.self.inside in
     let u : UndoValue = undo_of c.undo.inside in
     let fits : CanRevert s u = fits_inside c.self.inside c.undo.inside c.args.self.now c.args.undo c.self.view_is c.undo.view_is c.requires in
-    let mappings_are : c.mappings.result.now ≡ s.mappings = c.mappings.ensures.value ∙ ap (λ (l : Ranges). l.mappings) c.list.ensures in
-    let size : c.undo.inside.place + c.undo.inside.put_in - c.undo.inside.place ≡ c.undo.inside.put_in = omega arith in
-    omega (arith, within s u c.self.invariant fits, ap (λ (l : List Mapping). length l) mappings_are)
+    within s u c.self.invariant fits
 
 pub move_counts_back-requires-clause-taken : goal.move_counts_back-requires-clause-taken
 move_counts_back-requires-clause-taken c =
@@ -37,9 +34,8 @@ move_counts_back-requires-clause-pieces c =
     let s : AddressSpace = space_of c.self.inside in
     let u : UndoValue = undo_of c.undo.inside in
     let fits : CanRevert s u = fits_inside c.self.inside c.undo.inside c.args.self.now c.args.undo c.self.view_is c.undo.view_is c.requires in
-    let mappings_are : c.mappings.result.now ≡ s.mappings = c.mappings.ensures.value ∙ ap (λ (l : Ranges). l.mappings) c.list.ensures in
-    let size : c.undo.inside.place + c.undo.inside.put_in - c.undo.inside.place ≡ c.undo.inside.put_in = omega arith in
-    rw (mappings_are, size) (gone_live s u c.self.invariant fits)
+    let gone_is : c.run-pieces.result ≡ run s.mappings c.undo.inside.place c.undo.inside.put_in = c.run-pieces.ensures ∙ ap (λ (l : Ranges). run l.mappings c.undo.inside.place c.undo.inside.put_in) c.list.ensures in
+    rw gone_is (gone_live s u c.self.invariant fits)
 
 pub move_counts_back-requires-clause-kept : goal.move_counts_back-requires-clause-kept
 move_counts_back-requires-clause-kept c =
@@ -60,9 +56,8 @@ move_counts_back-requires-clause-counted c =
     let s : AddressSpace = space_of c.self.inside in
     let u : UndoValue = undo_of c.undo.inside in
     let fits : CanRevert s u = fits_inside c.self.inside c.undo.inside c.args.self.now c.args.undo c.self.view_is c.undo.view_is c.requires in
-    let mappings_are : c.mappings.result.now ≡ s.mappings = c.mappings.ensures.value ∙ ap (λ (l : Ranges). l.mappings) c.list.ensures in
-    let size : c.undo.inside.place + c.undo.inside.put_in - c.undo.inside.place ≡ c.undo.inside.put_in = omega arith in
-    rw (mappings_are, size) (gone_counted s u c.self.invariant fits)
+    let gone_is : c.run-pieces.result ≡ run s.mappings c.undo.inside.place c.undo.inside.put_in = c.run-pieces.ensures ∙ ap (λ (l : Ranges). run l.mappings c.undo.inside.place c.undo.inside.put_in) c.list.ensures in
+    rw gone_is (gone_counted s u c.self.invariant fits)
 
 pub replace-lost-requires-clause-ended : goal.replace-lost-requires-clause-ended
 replace-lost-requires-clause-ended c =
@@ -90,9 +85,9 @@ invariant_of-self c =
     let s : AddressSpace = space_of c.self.inside in
     let u : UndoValue = undo_of c.undo.inside in
     let fits : CanRevert s u = fits_inside c.self.inside c.undo.inside c.args.self.now c.args.undo c.self.view_is c.undo.view_is c.requires in
-    let shown : c.mappings.result.now ≡ s.mappings = c.mappings.ensures.value ∙ ap (λ (l : Ranges). l.mappings) c.list.ensures in
-    let state = state_made s u c.self.invariant fits c.mappings.result.now c.as_slice.result.now c.as_slice-2.result.now c.replace-lost.new.self c.move_counts_back.new.buffers c.len.result
-    shown c.as_slice.ensures c.as_slice-2.ensures c.replace-lost.ensures.mappings c.replace-lost.ensures.room c.move_counts_back.ensures c.len.ensures.value in
+    let gone_is : c.run-pieces.result ≡ run s.mappings c.undo.inside.place c.undo.inside.put_in = c.run-pieces.ensures ∙ ap (λ (l : Ranges). run l.mappings c.undo.inside.place c.undo.inside.put_in) c.list.ensures in
+    let state = state_made s u c.self.invariant fits c.run-pieces.result c.as_slice.result.now c.as_slice-2.result.now c.replace-lost.new.self c.move_counts_back.new.buffers c.len.result
+    gone_is c.as_slice.ensures c.as_slice-2.ensures c.replace-lost.ensures.mappings c.replace-lost.ensures.room c.move_counts_back.ensures c.len.ensures.value in
     subst IsSpace (sym state) (space_before s u c.self.invariant fits)
 
 pub returns-clause-state : goal.returns-clause-state
@@ -100,9 +95,9 @@ returns-clause-state c =
     let s : AddressSpace = space_of c.self.inside in
     let u : UndoValue = undo_of c.undo.inside in
     let fits : CanRevert s u = fits_inside c.self.inside c.undo.inside c.args.self.now c.args.undo c.self.view_is c.undo.view_is c.requires in
-    let shown : c.mappings.result.now ≡ s.mappings = c.mappings.ensures.value ∙ ap (λ (l : Ranges). l.mappings) c.list.ensures in
-    let state = state_made s u c.self.invariant fits c.mappings.result.now c.as_slice.result.now c.as_slice-2.result.now c.replace-lost.new.self c.move_counts_back.new.buffers c.len.result
-    shown c.as_slice.ensures c.as_slice-2.ensures c.replace-lost.ensures.mappings c.replace-lost.ensures.room c.move_counts_back.ensures c.len.ensures.value in
+    let gone_is : c.run-pieces.result ≡ run s.mappings c.undo.inside.place c.undo.inside.put_in = c.run-pieces.ensures ∙ ap (λ (l : Ranges). run l.mappings c.undo.inside.place c.undo.inside.put_in) c.list.ensures in
+    let state = state_made s u c.self.invariant fits c.run-pieces.result c.as_slice.result.now c.as_slice-2.result.now c.replace-lost.new.self c.move_counts_back.new.buffers c.len.result
+    gone_is c.as_slice.ensures c.as_slice-2.ensures c.replace-lost.ensures.mappings c.replace-lost.ensures.room c.move_counts_back.ensures c.len.ensures.value in
     state ∙ ap (λ (t : AddressSpace). reverted t u) c.self.view_is ∙ ap (λ (v : UndoValue). reverted c.args.self.now v) c.undo.view_is
 
 pub returns-clause-undone : goal.returns-clause-undone
@@ -120,9 +115,9 @@ returns-clause-kept c =
     let s : AddressSpace = space_of c.self.inside in
     let u : UndoValue = undo_of c.undo.inside in
     let fits : CanRevert s u = fits_inside c.self.inside c.undo.inside c.args.self.now c.args.undo c.self.view_is c.undo.view_is c.requires in
-    let shown : c.mappings.result.now ≡ s.mappings = c.mappings.ensures.value ∙ ap (λ (l : Ranges). l.mappings) c.list.ensures in
-    let state = state_made s u c.self.invariant fits c.mappings.result.now c.as_slice.result.now c.as_slice-2.result.now c.replace-lost.new.self c.move_counts_back.new.buffers c.len.result
-    shown c.as_slice.ensures c.as_slice-2.ensures c.replace-lost.ensures.mappings c.replace-lost.ensures.room c.move_counts_back.ensures c.len.ensures.value in
+    let gone_is : c.run-pieces.result ≡ run s.mappings c.undo.inside.place c.undo.inside.put_in = c.run-pieces.ensures ∙ ap (λ (l : Ranges). run l.mappings c.undo.inside.place c.undo.inside.put_in) c.list.ensures in
+    let state = state_made s u c.self.invariant fits c.run-pieces.result c.as_slice.result.now c.as_slice-2.result.now c.replace-lost.new.self c.move_counts_back.new.buffers c.len.result
+    gone_is c.as_slice.ensures c.as_slice-2.ensures c.replace-lost.ensures.mappings c.replace-lost.ensures.room c.move_counts_back.ensures c.len.ensures.value in
     λ others are_kept.
     let saved : AreKept s (u.change.taken ++ others) =
     subst (λ (v : UndoValue). AreKept s (v.change.taken ++ others)) (sym c.undo.view_is)

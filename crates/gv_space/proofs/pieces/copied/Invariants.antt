@@ -1,0 +1,9 @@
+use Rattle.std.proofs.Common.{◌≡◌, ◌++◌}
+use Rattle.gv_space.proofs.pieces.copied.Given as goal
+
+abbrev pub invariant-loop-mapping : goal.invariant-loop-mapping
+invariant-loop-mapping l = record {
+  items : l.pieces.items ++ l.mapping-iterator ≡ l.fn.run;
+  can : (goal.iterator-loop-mapping).can_next l.mapping-iterator;
+  finite : (goal.iterator-loop-mapping).is_finite l.mapping-iterator;
+}
