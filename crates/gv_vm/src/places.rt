@@ -57,7 +57,9 @@ pub fn translate(space: &Space, addr: u64) -> Option<Place>
     ensures { result ≡ place_at space.now.mappings addr }
 {
     // For the prover: what always holds of the space.
-    let _mappings = space.mappings();
+    let _list = space.list();
+    // The borrow checker proves this only where the function names the types inside the entry.
+    let _backing = Backing::Zero;
     let entry = space.walk(addr / PAGE_BYTES)?;
     Some(Place::of(entry, addr % PAGE_BYTES))
 }

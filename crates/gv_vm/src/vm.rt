@@ -63,7 +63,7 @@ impl Vm {
             Err(_) => return Err(OutOfMemory),
         };
         // For the prover: what always holds of the space.
-        let _mappings = space.mappings();
+        let _list = space.list();
         Ok(Vm {
             space,
             journal: Journal::new(alloc, limits.items()),
@@ -159,7 +159,7 @@ impl Vm {
     {
         let begun = self.jobs.begin(alloc, &mut self.space, accesses);
         // For the prover: what always holds of the space.
-        let _mappings = self.space.mappings();
+        let _list = self.space.list();
         begun
     }
 
@@ -174,7 +174,7 @@ impl Vm {
     {
         let ended = self.jobs.end(&mut self.space, number);
         // For the prover: what always holds of the space.
-        let _mappings = self.space.mappings();
+        let _list = self.space.list();
         ended
     }
 
@@ -222,7 +222,7 @@ impl Vm {
             seen,
         );
         // For the prover: what always holds of the space.
-        let _mappings = self.space.mappings();
+        let _list = self.space.list();
         tell(&mut self.told, queue, outcome);
         Ok(outcome)
     }

@@ -21,7 +21,7 @@ impl Vm {
         laws::lookups();
         let created = self.space.create(alloc, pages);
         // For the prover: what always holds of the space.
-        let _mappings = self.space.mappings();
+        let _list = self.space.list();
         created
     }
 
@@ -37,7 +37,7 @@ impl Vm {
         laws::lookups();
         let destroyed = self.space.destroy(id);
         // For the prover: what always holds of the space.
-        let _mappings = self.space.mappings();
+        let _list = self.space.list();
         destroyed
     }
 }

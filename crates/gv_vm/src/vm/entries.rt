@@ -29,7 +29,7 @@ impl Vm {
     {
         let rewound = self.journal.rewind(&mut self.space);
         // For the prover: what always holds of the space.
-        let _mappings = self.space.mappings();
+        let _list = self.space.list();
         rewound
     }
 
@@ -54,7 +54,7 @@ impl Vm {
     {
         let withdrawn = self.journal.withdraw(alloc, &mut self.space, entry);
         // For the prover: what always holds of the space.
-        let _mappings = self.space.mappings();
+        let _list = self.space.list();
         withdrawn
     }
 
@@ -73,7 +73,7 @@ impl Vm {
     {
         let settled = self.journal.settle(&mut self.space, to);
         // For the prover: what always holds of the space.
-        let _mappings = self.space.mappings();
+        let _list = self.space.list();
         settled
     }
 }

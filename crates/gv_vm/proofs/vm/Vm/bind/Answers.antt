@@ -16,5 +16,5 @@ invariant_of-self-2 c =
     subst (λ (seen : List ℕ). CameTo c.self.inside.space c.carry_out-outcome.new.space c.self.inside.journal c.carry_out-outcome.new.journal c.args.queue c.args.number c.args.request seen c.carry_out-outcome.result)
     c.in-Ok.ensures.seen c.carry_out-outcome.ensures.came in
     IsMachine-carried_out (machine_of c.self.inside) c.carry_out-outcome.new.space c.carry_out-outcome.new.journal c.args.queue c.args.number c.args.request c.args.reached.now c.carry_out-outcome.result (lists_of c.tell.new.told)
-    c.self.invariant c.carry_out-outcome.ensures.fits c.mappings-mappings.ensures.space came c.requires.queue none c.requires.reached c.in-Ok.ensures.reached
+    c.self.invariant c.carry_out-outcome.ensures.fits c.list-list.ensures.space came c.requires.queue none c.requires.reached c.in-Ok.ensures.reached
     (c.tell.ensures ∙ ap (λ (ls : List (List Outcome)). with_outcome ls c.args.queue c.carry_out-outcome.result) c.prepare.ensures.same)

@@ -6,4 +6,4 @@ pub invariant_of-self : goal.invariant_of-self
 invariant_of-self c =
     IsMachine-buffers (machine_of c.self.inside) c.end-ended.new.space c.end-ended.new.self c.self.invariant
     (ended_buffers c.self.inside.space c.end-ended.new.space c.self.inside.jobs c.end-ended.new.self c.args.number c.end-ended.result c.end-ended.ensures.ended c.end-ended.ensures.space)
-    c.end-ended.ensures.kept c.mappings-mappings.ensures.space c.end-ended.ensures.held
+    c.end-ended.ensures.kept c.list-list.ensures.space c.end-ended.ensures.held
