@@ -1,8 +1,8 @@
 -- Chunks joined: parts of them, one of them changed, and those that hold nothing.
-use Rattle.std.proofs.Common.{◌≡◌, ℕ, ◌+◌, ◌<◌, ◌≤◌, List, [], ◌∷◌, ◌++◌, length, take, drop, slice_index_or, slice_set, vec_capacity, arith, refl, ◌∙◌, ap, sym, add-one, suc}
+use Rattle.std.proofs.Common.{◌≡◌, ℕ, ◌+◌, ◌-◌, ◌<◌, ◌≤◌, List, [], ◌∷◌, ◌++◌, length, take, drop, slice_index_or, slice_set, vec_capacity, arith, refl, ◌∙◌, ap, sym, add-one, suc}
 use Rattle.std.proofs.Math.ListN.{length-set}
 use Rattle.std.proofs.Math.Seq.{take-append-add, drop-append-add}
-use Rattle.std.proofs.lemmas.List.{drop_more, take_more_set, take_more, take_all, append-nil, append_assoc, take-append-drop, take-append-le, drop-append-le, drop_at, take_at, set_split, length-drop, get_or_append_left, get_or-drop}
+use Rattle.std.proofs.lemmas.List.{drop_more, take_more_set, take_more, take_all, append-nil, append_assoc, take-append-drop, take-append-le, drop-append-le, drop_at, take_at, set_split, length-drop, drop-drop, get_or_append_left, get_or-drop}
 use Rattle.std.proofs.lemmas.List.Elements.{All-append, All-set, All-take, All-drop}
 use Rattle.std.proofs.lemmas.List.Concat.{flat_map-append}
 use Rattle.std.specs.List.{splice}
@@ -45,6 +45,12 @@ pub nothing_later : (xs : List (Vec Mapping)) (i : ℕ) (d : Vec Mapping) → i 
 nothing_later xs i d within none =
     let all : (slice_index_or xs i d).items ++ joined (drop (i + 1) xs) ≡ [] = sym (ap joined (drop_more xs i d within)) ∙ none in
     nil_back (slice_index_or xs i d).items _ all
+
+-- the last of the chunks behind a place is the last of all
+pub spare_behind : (xs b : List (Vec Mapping)) (n : ℕ) → b ≡ drop n xs → length b + n ≡ length xs → 0 < length b → joined (drop (length xs - 1) xs) ≡ [] →
+    joined (drop (length b - 1) b) ≡ []
+spare_behind xs b n is size some_left none =
+    ap joined (ap (drop (length b - 1)) is ∙ (drop-drop (length b - 1) n xs ∙ ap (λ k. drop k xs) (omega arith))) ∙ none
 
 -- pieces put into the first of chunks that hold nothing
 pub filled_more : (xs : List (Vec Mapping)) (i : ℕ) (d w : Vec Mapping) (now later rest pieces : List Mapping) → i < length xs →

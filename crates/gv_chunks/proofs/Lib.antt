@@ -3,3 +3,4 @@ pub mod ChunkLemmas
 pub mod JoinLemmas
 pub mod PackedLemmas
 pub mod PutLemmas
+pub mod RunLemmas

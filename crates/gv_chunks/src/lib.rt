@@ -7,6 +7,7 @@ pub mod join;
 pub mod laws;
 pub mod put;
 pub mod replace;
+pub mod run;
 pub mod settle;
 pub mod walk;
 

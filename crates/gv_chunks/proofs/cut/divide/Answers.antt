@@ -1,17 +1,11 @@
 use Rattle.std.proofs.Common.{◌≡◌, ℕ, ◌+◌, ◌-◌, ◌∙◌, ◌<◌, ◌≤◌, ◌++◌, [], List, ap, sym, take, drop, arith, vec_len, vec_capacity, length, slice_index_or, slice_set}
-use Rattle.std.proofs.lemmas.List.{length-set, drop-drop, length-drop, length-take, get_or-take, take_rest}
+use Rattle.std.proofs.lemmas.List.{length-set, length-drop, length-take, get_or-take, take_rest}
 use Rattle.std.specs.Global.{Vec}
 use Rattle.gv_types.specs.declared.mapping.Mapping.{Mapping}
 use Rattle.gv_chunks.specs.Chunks.{joined, AreChunks}
 use Rattle.gv_chunks.specs.declared.TheConstants.{CHUNK}
-use Rattle.gv_chunks.proofs.ChunkLemmas.{taken_chunks, dropped_chunks, appended_chunks, changed_chunks, turned_chunks, cut_front, cut_back, turned_joined, turned_first}
+use Rattle.gv_chunks.proofs.ChunkLemmas.{taken_chunks, dropped_chunks, appended_chunks, changed_chunks, turned_chunks, cut_front, cut_back, turned_joined, turned_first, spare_behind}
 use Rattle.gv_chunks.proofs.cut.divide.Goals as goal
-
--- the last of the chunks behind a place is the last of all
-spare_behind : (xs b : List (Vec Mapping)) (n : ℕ) → b ≡ drop n xs → length b + n ≡ length xs → 0 < length b → joined (drop (length xs - 1) xs) ≡ [] →
-    joined (drop (length b - 1) b) ≡ []
-spare_behind xs b n is size some_left none =
-    ap joined (ap (drop (length b - 1)) is ∙ (drop-drop (length b - 1) n xs ∙ ap (λ k. drop k xs) (omega arith))) ∙ none
 
 -- the rest of a chunk fits into one that holds nothing
 rest_fits : (v w : Vec Mapping) (left : ℕ) (now : List Mapping) → now ≡ v.items → vec_capacity v ≡ CHUNK → vec_capacity w ≡ CHUNK → w.items ≡ [] →
