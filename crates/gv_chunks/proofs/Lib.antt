@@ -2,5 +2,6 @@ pub mod SpliceLemmas
 pub mod ChunkLemmas
 pub mod JoinLemmas
 pub mod PackedLemmas
+pub mod HeldLemmas
 pub mod PutLemmas
 pub mod RunLemmas

@@ -4,9 +4,9 @@ use Rattle.std.proofs.lemmas.List.{append-nil, get_or-take, get_or-drop, get_or_
 use Rattle.std.proofs.lemmas.Bool.{cases_lt}
 use Rattle.std.specs.Global.{Vec}
 use Rattle.gv_types.specs.declared.mapping.Mapping.{Mapping}
-use Rattle.gv_chunks.specs.Chunks.{joined, Packed, PackedFrom}
+use Rattle.gv_chunks.specs.Chunks.{joined, AreChunks, AreFilled, Packed, PackedFrom}
 use Rattle.gv_chunks.specs.declared.TheConstants.{CHUNK}
-use Rattle.gv_chunks.proofs.ChunkLemmas.{joined-append, joined_parts}
+use Rattle.gv_chunks.proofs.ChunkLemmas.{joined-append, joined_parts, joined_at}
 
 -- the chunks behind the first are packed too
 pub packed_rest : (c : Vec Mapping) (cs : List (Vec Mapping)) → Packed (c ∷ cs) → Packed cs
@@ -94,3 +94,30 @@ packed_joined old new i n within room same behind joint packed k d low pair =
     let kept : CHUNK < vec_len (slice_index_or old (k + 1) d) + vec_len (slice_index_or old (k + 2) d) = rw (one, two) at held in
     let larger : vec_len (slice_index_or old (k + 1) d) ≤ vec_len (slice_index_or new k d) = grown old new i k d low (omega arith) behind joint in
     rw (first, second) (omega arith)
+
+-- chunks that are packed each hold something, where anything is held
+pub filled_packed : (xs : List (Vec Mapping)) (n : ℕ) → n ≤ length xs → AreChunks xs → Packed (take n xs) → joined (drop n xs) ≡ [] → 0 < length (joined xs) → AreFilled (take n xs)
+filled_packed xs n within room packed none some_held k d inside =
+    let size : length (take n xs) ≡ n = length-take-le n xs within in
+    elim (cases_lt (k + 1) n) [
+      | inl before ↦
+          let next : slice_index_or (take n xs) (k + 1) d ≡ slice_index_or xs (k + 1) d = get_or-take n xs (k + 1) d before in
+          let pair : CHUNK < vec_len (slice_index_or (take n xs) k d) + vec_len (slice_index_or (take n xs) (k + 1) d) = packed k d (omega arith) (omega arith) in
+          let both : CHUNK < vec_len (slice_index_or (take n xs) k d) + vec_len (slice_index_or xs (k + 1) d) = rw next at pair in
+          omega (arith, (slice_index_or xs (k + 1) d).ok, room (k + 1) d (omega arith))
+      | inr last ↦ elim (cases_lt 0 k) [
+        | inl later ↦
+            let there : k - 1 + 1 ≡ k = omega arith in
+            let first : slice_index_or (take n xs) (k - 1) d ≡ slice_index_or xs (k - 1) d = get_or-take n xs (k - 1) d (omega arith) in
+            let pair : CHUNK < vec_len (slice_index_or (take n xs) (k - 1) d) + vec_len (slice_index_or (take n xs) (k - 1 + 1) d) = packed (k - 1) d (omega arith) (omega arith) in
+            let both : CHUNK < vec_len (slice_index_or xs (k - 1) d) + vec_len (slice_index_or (take n xs) k d) = rw (first, there) at pair in
+            omega (arith, (slice_index_or xs (k - 1) d).ok, room (k - 1) d (omega arith))
+        | inr none_before ↦
+            let one : n ≡ 1 = omega arith in
+            let at : k ≡ 0 = omega arith in
+            let here : slice_index_or (take n xs) 0 d ≡ slice_index_or xs 0 d = get_or-take n xs 0 d (omega arith) in
+            let rest : joined (drop (0 + 1) xs) ≡ [] = rw one at none in
+            let all : joined xs ≡ (slice_index_or xs 0 d).items = joined_at xs 0 d (omega arith) ∙ (ap (λ ms. (slice_index_or xs 0 d).items ++ ms) rest ∙ append-nil (slice_index_or xs 0 d).items) in
+            rw (at, here) (omega (arith, (slice_index_or xs 0 d).ok, ap length all))
+      ]
+    ]

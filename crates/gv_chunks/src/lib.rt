@@ -1,8 +1,10 @@
 //! Mappings in chunks, so that an edit of a long list moves what lies near it and not all that stands behind.
 #![tactic(auto)]
 
+pub mod chunk_list;
 pub mod cut;
 pub mod edit;
+pub mod grow;
 pub mod join;
 pub mod laws;
 pub mod put;
@@ -10,6 +12,8 @@ pub mod replace;
 pub mod run;
 pub mod settle;
 pub mod walk;
+
+pub use chunk_list::ChunkList;
 
 /// How many mappings a chunk has room for.
 pub const CHUNK: usize = 128;

@@ -1,0 +1,32 @@
+//! More chunks for a list.
+ghost use Rattle.std.specs.Prelude.{◌≡◌, ◌+◌, ◌*◌, ◌<◌, ◌≤◌, [], length, take, drop, vec_len, OnOk};
+ghost use Rattle.gv_chunks.specs.Chunks.{joined, AreChunks};
+
+use crate::CHUNK;
+use gv_types::{Mapping, OutOfMemory};
+
+/// How many chunks a list needs that has room for `room` mappings: those that stand are filled by half or more on average, but for
+/// one, and an edit needs two that hold nothing.
+pub fn chunks_for(room: usize) -> usize
+    ensures enough { 2 * room + 3 * CHUNK ≤ CHUNK * result }
+    ensures least { CHUNK * result < 2 * room + 4 * CHUNK }
+{
+    room.div_ceil(CHUNK / 2) + 3
+}
+
+/// Makes chunks that hold nothing, one after another behind those that there are, until there are `count`. Where the system
+/// refuses the memory, those made stay.
+pub fn add_chunks(chunks: &mut Vec<Vec<Mapping>>, count: usize) -> Result<(), OutOfMemory>
+    ensures kept { take (length chunks.old.items) chunks.new.items ≡ chunks.old.items }
+    ensures spare { joined (drop (length chunks.old.items) chunks.new.items) ≡ [] }
+    ensures chunks { AreChunks chunks.old.items → AreChunks chunks.new.items }
+    ensures ok { OnOk result (count ≤ length chunks.new.items) }
+{
+    let have = chunks.len();
+    chunks.reserve_exact(count.saturating_sub(have))?;
+    let alloc = *chunks.allocator();
+    for _ in have..count {
+        chunks.push_reserved(Vec::with_capacity(alloc, CHUNK)?);
+    }
+    Ok(())
+}
