@@ -1,5 +1,5 @@
 -- A list in chunks that got more chunks, or of which a run was replaced.
-use Rattle.std.proofs.Common.{◌≡◌, ℕ, ◌+◌, ◌-◌, ◌*◌, ◌<◌, ◌≤◌, List, [], ◌∷◌, ◌++◌, length, take, drop, arith, refl, ◌∙◌, ap, sym}
+use Rattle.std.proofs.Common.{slice_index_or, vec_len, ◌≡◌, ℕ, ◌+◌, ◌-◌, ◌*◌, ◌<◌, ◌≤◌, List, [], ◌∷◌, ◌++◌, length, take, drop, arith, refl, ◌∙◌, ap, sym}
 use Rattle.std.proofs.lemmas.List.{take-append-drop, take-append-le, length-append, length-take-le, length-drop}
 use Rattle.std.specs.List.{splice}
 use Rattle.std.specs.Global.{Vec}
@@ -77,3 +77,9 @@ none_in_chunks xs count room chunked held none enough = record {
   fits = omega (arith, none);
   enough = enough;
 }
+
+-- a piece that begins before the end of its chunk holds something
+pub some_piece : (xs : List (Vec Mapping)) (chunk behind count : ℕ) → 0 < length xs → 0 < behind → ((d : Vec Mapping) → behind ≤ vec_len (slice_index_or xs chunk d)) →
+    ((d : Vec Mapping) → count + (behind - 1) ≡ vec_len (slice_index_or xs chunk d)) → 0 < count
+some_piece [] chunk behind count some_left past fits is = absurd (omega (arith, some_left))
+some_piece (x ∷ xs) chunk behind count some_left past fits is = omega (arith, past, fits x, is x)

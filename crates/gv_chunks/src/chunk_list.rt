@@ -1,8 +1,11 @@
 //! A list of mappings in chunks.
-ghost use Rattle.std.specs.Prelude.{◌≡◌, ◌+◌, ◌*◌, ◌<◌, ◌≤◌, [], length, max, OnOk, OnErr};
+ghost use Rattle.std.specs.Prelude.{◌≡◌, ◌+◌, ◌*◌, ◌<◌, ◌≤◌, [], length, take, drop, max, slice_index_or, OnOk, OnErr};
+ghost use Rattle.gv_types.specs.declared.mapping.Mapping.{Mapping};
 
+use crate::edit::piece_of;
 use crate::grow::{add_chunks, chunks_for};
 use crate::run::replace_anywhere;
+use crate::walk::place_in;
 use gv_types::{Mapping, OutOfMemory};
 use std::alloc::Global;
 use std::marker::Model;
@@ -29,7 +32,7 @@ impl Model for ChunkList {
 
 impl ChunkList {
     ghost use Rattle.std.specs.List.{splice};
-    ghost use Rattle.gv_chunks.specs.Chunks.{IsKept};
+    ghost use Rattle.gv_chunks.specs.Chunks.{joined, AreFilled, IsKept};
 
     /// A list of no mapping, which takes no memory.
     pub fn new(alloc: Global) -> ChunkList
@@ -56,6 +59,35 @@ impl ChunkList {
         ensures { result ≡ self.now.room }
     {
         self.room
+    }
+
+    /// The chunks that stand.
+    pub fn chunks(&self) -> &[Vec<Mapping>]
+        ensures items { joined result.now ≡ self.now.items }
+        ensures filled { AreFilled result.now }
+    {
+        &self.chunks[..self.standing]
+    }
+
+    /// What the chunk of a place holds from the place on. Where the list ends before the place, nothing.
+    pub fn piece(&self, place: usize) -> &[Mapping]
+        ensures value { result.now ≡ take (length result.now) (drop place self.now.items) }
+        ensures some { place < length self.now.items → 0 < length result.now }
+    {
+        if place >= self.len {
+            return &[];
+        }
+        let chunks = self.chunks();
+        let (chunk, behind) = place_in(chunks, place + 1);
+        piece_of(chunks, chunk, behind - 1)
+    }
+
+    /// The mapping at a place.
+    pub fn get(&self, place: usize) -> &Mapping
+        requires { place < length self.now.items }
+        ensures { (d : Mapping) → result.now ≡ slice_index_or self.now.items place d }
+    {
+        &self.piece(place)[0]
     }
 
     /// Makes room for `more` mappings beside those in the list. Where the room has to grow it at

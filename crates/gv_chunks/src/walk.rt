@@ -12,6 +12,7 @@ pub fn place_in(chunks: &[Vec<Mapping>], place: usize) -> (usize, usize)
     requires within { place ≤ length (joined chunks.now) }
     ensures within { result.0 < length chunks.now }
     ensures before { place ≡ length (joined (take result.0 chunks.now)) + result.1 }
+    ensures some { 0 < place → 0 < result.1 }
     ensures rest { (d : Vec Mapping) → result.1 ≤ vec_len (slice_index_or chunks.now result.0 d) }
 {
     let mut chunk = 0;

@@ -6,6 +6,7 @@ abbrev pub invariant-loop-chunk : goal.invariant-loop-chunk
 invariant-loop-chunk l = record {
   within : l.chunk < length l.chunks;
   before : l.place ≡ length (joined (take l.chunk l.chunks)) + l.left;
+  some : 0 < l.place → 0 < l.left;
 }
 
 abbrev pub decreases-loop-chunk : goal.decreases-loop-chunk
