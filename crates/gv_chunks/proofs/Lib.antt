@@ -1,5 +1,6 @@
 pub mod SpliceLemmas
 pub mod ChunkLemmas
+pub mod StartLemmas
 pub mod JoinLemmas
 pub mod PackedLemmas
 pub mod HeldLemmas

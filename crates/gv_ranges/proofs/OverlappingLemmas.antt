@@ -12,7 +12,7 @@ use Rattle.gv_ranges.proofs.LookupLemmas.{at_none}
 use Rattle.gv_ranges.proofs.ReplacedLemmas.{split_at_run}
 
 -- mappings that begin past a page say nothing of it
-at_begun_past : (ms : List Mapping) (page : ℕ) → All (λ m. page < m.range.first) ms → at ms page ≡ None
+pub at_begun_past : (ms : List Mapping) (page : ℕ) → All (λ m. page < m.range.first) ms → at ms page ≡ None
 at_begun_past [] page past = refl
 at_begun_past (m ∷ ms) page past =
     let here : page < m.range.first = All-head (λ (n : Mapping). page < n.range.first) m ms past in

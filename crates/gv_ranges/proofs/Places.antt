@@ -83,7 +83,7 @@ true-or-false : (b : Bool) → (b ≡ true) ⊎ (b ≡ false)
 true-or-false true = inl refl
 true-or-false false = inr refl
 
-chosen : (b : Bool) (next place half step : ℕ) → step ≡ (if b then half else 0) → next ≡ place + step →
+pub chosen : (b : Bool) (next place half step : ℕ) → step ≡ (if b then half else 0) → next ≡ place + step →
     ((b ≡ true) × (next ≡ place + half)) ⊎ ((b ≡ false) × (next ≡ place))
 chosen true next place half step is sum = inl (refl, omega arith)
 chosen false next place half step is sum = inr (refl, omega arith)

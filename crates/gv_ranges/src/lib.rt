@@ -1,6 +1,7 @@
 //! The list of mappings of an address space, and what is left of the mappings that a range meets.
 #![tactic(auto)]
 
+mod chunk_search;
 pub mod laws;
 mod range_list;
 mod rest;
