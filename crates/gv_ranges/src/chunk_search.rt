@@ -1,13 +1,13 @@
 //! Places in a list in order that stands in chunks: the chunk by halving, and the place in it as in one slice.
-ghost use Rattle.std.specs.Prelude.{◌<◌, ◌≤◌, ◌+◌, length, take, drop};
+ghost use Rattle.std.specs.Prelude.{◌≡◌, ◌<◌, ◌≤◌, ◌+◌, length, take, drop};
 ghost use Rattle.std.specs.List.{All};
 ghost use Rattle.gv_types.specs.Page.{PAGES};
 ghost use Rattle.gv_types.specs.Span.{end_of};
 ghost use Rattle.gv_chunks.specs.Chunks.{joined, AreFilled};
-ghost use Rattle.gv_ranges.specs.List.{IsLaidOut};
+ghost use Rattle.gv_ranges.specs.List.{at, IsLaidOut};
 
-use crate::search::step_past;
-use gv_types::Mapping;
+use crate::search::{entry_at, step_past};
+use gv_types::{Entry, Mapping, SPACE_PAGES};
 
 /// The last chunk whose first mapping begins at `page` or before it, or the first chunk. Each step halves what is left,
 /// whatever it finds.
@@ -29,4 +29,16 @@ fn chunk_of_page(chunks: &[Vec<Mapping>], page: u64) -> usize
         left -= half;
     }
     chunk
+}
+
+/// What a list in order that stands in chunks holds at a page.
+pub(crate) fn entry_in(chunks: &[Vec<Mapping>], page: u64) -> Option<Entry>
+    requires filled { AreFilled chunks.now }
+    requires laid_out { IsLaidOut (joined chunks.now) }
+    ensures { result ≡ at (joined chunks.now) page }
+{
+    if page >= SPACE_PAGES || chunks.is_empty() {
+        return None;
+    }
+    entry_at(&chunks[chunk_of_page(chunks, page)], page)
 }

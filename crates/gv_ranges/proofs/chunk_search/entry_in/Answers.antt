@@ -1,0 +1,28 @@
+use Rattle.std.proofs.Common.{◌∙◌, List, slice_index_or, ap, sym}
+use Rattle.std.proofs.lemmas.Bool.{eqb-true}
+use Rattle.std.specs.Global.{Vec}
+use Rattle.gv_types.specs.declared.mapping.Mapping.{Mapping}
+use Rattle.gv_ranges.specs.List.{at, IsLaidOut}
+use Rattle.gv_ranges.proofs.LookupLemmas.{at_past}
+use Rattle.gv_ranges.proofs.JoinedLemmas.{at-chunk, at-no_chunks, laid_out-chunk}
+use Rattle.gv_ranges.proofs.chunk_search.entry_in.Goals as goal
+use Rattle.gv_ranges.proofs.chunk_search.entry_in.Goals.{then-page-ge-SPACE_PAGES-via-then-page-ge-SPACE_PAGES, then-page-ge-SPACE_PAGES-via-else-page-ge-SPACE_PAGES+then-is_empty}
+
+pub returns-then-page-ge-SPACE_PAGES : goal.returns-then-page-ge-SPACE_PAGES
+returns-then-page-ge-SPACE_PAGES c =
+    elim c.then-page-ge-SPACE_PAGES.branch [
+      | then-page-ge-SPACE_PAGES-via-then-page-ge-SPACE_PAGES w ↦ sym (at_past _ 0 c.args.page c.requires.laid_out w.if-page-ge-SPACE_PAGES.true)
+      | then-page-ge-SPACE_PAGES-via-else-page-ge-SPACE_PAGES+then-is_empty w ↦ sym (at-no_chunks c.args.chunks.now c.args.page (eqb-true _ _ (sym w.if-is_empty.ensures)))
+    ]
+
+pub entry_at-requires : goal.entry_at-requires
+entry_at-requires c =
+    let here : IsLaidOut (slice_index_or c.args.chunks.now c.chunk_of_page.result c.index-chunks-chunk_of_page.result).items =
+    laid_out-chunk c.args.chunks.now c.chunk_of_page.result c.index-chunks-chunk_of_page.result c.chunk_of_page.ensures.within c.requires.laid_out in
+    rw (c.deref.ensures.value, c.index-chunks-chunk_of_page.is) here
+
+pub returns : goal.returns
+returns c =
+    c.entry_at.ensures ∙ (ap (λ (ms : List Mapping). at ms c.args.page) c.deref.ensures.value
+    ∙ (ap (λ (v : Vec Mapping). at v.items c.args.page) c.index-chunks-chunk_of_page.is
+    ∙ sym (at-chunk c.args.chunks.now c.args.page c.chunk_of_page.result c.index-chunks-chunk_of_page.result c.chunk_of_page.ensures.within c.chunk_of_page.ensures.ended c.chunk_of_page.ensures.later)))
