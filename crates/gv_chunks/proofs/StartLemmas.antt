@@ -1,6 +1,7 @@
 -- For callers: where the mappings of a chunk stand in the list that the chunks are together.
-use Rattle.std.proofs.Common.{◌≡◌, ℕ, [], ◌∷◌, ◌++◌, ◌+◌, ◌∙◌, ◌≤◌, ◌<◌, refl, length, get_or, take, drop, List, slice_index_or, arith, ap}
-use Rattle.std.proofs.lemmas.List.{take_at, drop_at, take_more, append-nil, length-append, get_or-append-add, get_or_append_left, take-take}
+use Rattle.std.proofs.Common.{◌≡◌, ℕ, [], ◌∷◌, ◌++◌, ◌+◌, ◌∙◌, ◌≤◌, ◌<◌, refl, length, get_or, take, drop, List, slice_index_or, arith, sym, ap}
+use Rattle.std.proofs.Math.Seq.{take-append-add, drop-append-add}
+use Rattle.std.proofs.lemmas.List.{take_at, drop_at, take_more, append-nil, length-append, get_or-append-add, get_or_append_left, take-take, take-append-le, drop-append-le}
 use Rattle.std.specs.Global.{Vec}
 use Rattle.gv_types.specs.declared.mapping.Mapping.{Mapping}
 use Rattle.gv_chunks.specs.Chunks.{joined}
@@ -24,18 +25,39 @@ start_rises xs i j up =
     let same : take i (take j xs) ≡ take i xs = take-take i j xs up in
     rw same at (start_within (take j xs) i)
 
-pub start_next : (xs : List (Vec Mapping)) (i : ℕ) (d : Vec Mapping) → i < length xs →
-    length (joined (take (i + 1) xs)) ≡ length (joined (take i xs)) + length (slice_index_or xs i d).items
-start_next xs i d within =
-    ap (λ ys. length (joined ys)) (take_more xs i d within)
-    ∙ (ap length (joined-append (take i xs) (slice_index_or xs i d ∷ []))
-    ∙ (length-append (joined (take i xs)) ((slice_index_or xs i d).items ++ [])
-    ∙ ap (λ ms. length (joined (take i xs)) + length ms) (append-nil (slice_index_or xs i d).items)))
+module _ (xs : List (Vec Mapping)) (i : ℕ) (d : Vec Mapping) (ms : List Mapping) (within : i < length xs) (is : ms ≡ (slice_index_or xs i d).items) where
+  -- the list around a chunk
+  around_chunk : joined xs ≡ joined (take i xs) ++ (ms ++ joined (drop (i + 1) xs))
+  around_chunk = joined_at xs i d within ∙ ap (λ ns. joined (take i xs) ++ (ns ++ joined (drop (i + 1) xs))) (sym is)
 
--- a chunk's place in the list
-pub in_chunk : (xs : List (Vec Mapping)) (i k : ℕ) (d : Vec Mapping) (e : Mapping) → i < length xs → k < length (slice_index_or xs i d).items →
-    get_or (joined xs) (length (joined (take i xs)) + k) e ≡ get_or (slice_index_or xs i d).items k e
-in_chunk xs i k d e within below =
-    ap (λ ms. get_or ms (length (joined (take i xs)) + k) e) (joined_at xs i d within)
-    ∙ (get_or-append-add (joined (take i xs)) ((slice_index_or xs i d).items ++ joined (drop (i + 1) xs)) k e
-    ∙ get_or_append_left (slice_index_or xs i d).items (joined (drop (i + 1) xs)) e k below)
+  -- the mappings up to the end of a chunk
+  pub take_chunk : joined (take (i + 1) xs) ≡ joined (take i xs) ++ ms
+  take_chunk =
+      ap joined (take_more xs i d within) ∙ (joined-append (take i xs) (slice_index_or xs i d ∷ [])
+      ∙ ap (λ ns. joined (take i xs) ++ ns) (append-nil (slice_index_or xs i d).items ∙ sym is))
+
+  pub end_of_chunk : length (joined (take (i + 1) xs)) ≡ length (joined (take i xs)) + length ms
+  end_of_chunk = ap length take_chunk ∙ length-append (joined (take i xs)) ms
+
+  -- the mappings before a place in a chunk, and those from it on
+  pub take_in_chunk : (left : ℕ) → left ≤ length ms → take (length (joined (take i xs)) + left) (joined xs) ≡ joined (take i xs) ++ take left ms
+  take_in_chunk left few =
+      ap (take (length (joined (take i xs)) + left)) around_chunk
+      ∙ (take-append-add (joined (take i xs)) (ms ++ joined (drop (i + 1) xs)) left
+      ∙ ap (λ ns. joined (take i xs) ++ ns) (take-append-le left ms (joined (drop (i + 1) xs)) few))
+
+  pub drop_in_chunk : (left : ℕ) → left ≤ length ms → drop (length (joined (take i xs)) + left) (joined xs) ≡ drop left ms ++ joined (drop (i + 1) xs)
+  drop_in_chunk left few =
+      ap (drop (length (joined (take i xs)) + left)) around_chunk
+      ∙ (drop-append-add (joined (take i xs)) (ms ++ joined (drop (i + 1) xs)) left
+      ∙ drop-append-le left ms (joined (drop (i + 1) xs)) few)
+
+  pub place_within : (left : ℕ) → left ≤ length ms → length (joined (take i xs)) + left ≤ length (joined xs)
+  place_within left few = omega (arith, start_within xs (i + 1), end_of_chunk)
+
+  -- the mapping at a place in a chunk
+  pub at_in_chunk : (k : ℕ) (e : Mapping) → k < length ms → get_or (joined xs) (length (joined (take i xs)) + k) e ≡ get_or ms k e
+  at_in_chunk k e below =
+      ap (λ ns. get_or ns (length (joined (take i xs)) + k) e) around_chunk
+      ∙ (get_or-append-add (joined (take i xs)) (ms ++ joined (drop (i + 1) xs)) k e
+      ∙ get_or_append_left ms (joined (drop (i + 1) xs)) e k below)

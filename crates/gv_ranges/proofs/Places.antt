@@ -4,10 +4,10 @@ use Rattle.std.specs.Prelude.{if◌then◌else◌}
 use Rattle.std.proofs.lemmas.Bool.{leb-true, leb-false, lt-leb, le-leb, cases_lt}
 use Rattle.std.proofs.lemmas.List.{length-drop, get_or_default, take_all}
 use Rattle.std.specs.List.{All}
-use Rattle.gv_types.specs.Span.{end_of}
+use Rattle.gv_types.specs.Span.{Span, end_of, IsInSpace}
 use Rattle.gv_types.specs.declared.mapping.Mapping.{Mapping}
-use Rattle.gv_ranges.specs.List.{at, IsLaidOut, AreEnded, IsPlaceOf}
-use Rattle.gv_ranges.proofs.LookupLemmas.{firsts_rise, ends_rise, end_before_first, at_gap, at_none}
+use Rattle.gv_ranges.specs.List.{at, IsLaidOut, AreEnded, IsPlaceOf, IsOverlappingRun}
+use Rattle.gv_ranges.proofs.LookupLemmas.{firsts_rise, ends_rise, end_before_first, at_gap, at_none, ended_before_begun, run_meets}
 use Rattle.gv_ranges.proofs.PartLemmas.{All-take_within, All-drop_within, All-take_at, All-drop_at}
 
 split : (i n : ℕ) → i < n + 1 → (i < n) ⊎ (i ≡ n)
@@ -189,3 +189,19 @@ stepped step first page bits fits few few' is =
           let none : bits ≡ 0 = is ∙ bits-none first page low few' in
           rw (le-leb _ _ low, none) (unshifted step))
     ]
+
+-- the mappings that meet a range, by how many end before it and how many begin before its end
+module _ (ms : List Mapping) (range : Span) (place behind : ℕ) (laid : IsLaidOut ms) (some : IsInSpace range) (placed : IsPlaceOf ms range.first place)
+    (within : behind ≤ length ms) (not_begun : All (λ m. end_of range ≤ m.range.first) (drop behind ms)) where
+  pub places_rise : place ≤ behind
+  places_rise = ended_before_begun ms 0 range place behind laid some placed.within within placed.ended not_begun
+
+  pub run_between : All (λ m. m.range.first < end_of range) (take behind ms) → IsOverlappingRun ms range place (behind - place)
+  run_between begun =
+      let end : place + (behind - place) ≡ behind = (let up = places_rise in omega (arith, up)) in
+      record {
+        within = rw end within;
+        before = placed.ended;
+        meeting = run_meets ms range place behind places_rise within placed.not_ended begun;
+        beyond = rw end not_begun;
+      }

@@ -1,8 +1,8 @@
-use Rattle.std.proofs.Common.{◌∙◌, List, slice_index_or, ap, sym}
+use Rattle.std.proofs.Common.{◌∙◌, List, ap, sym}
 use Rattle.std.proofs.lemmas.Bool.{eqb-true}
 use Rattle.std.specs.Global.{Vec}
 use Rattle.gv_types.specs.declared.mapping.Mapping.{Mapping}
-use Rattle.gv_ranges.specs.List.{at, IsLaidOut}
+use Rattle.gv_ranges.specs.List.{at}
 use Rattle.gv_ranges.proofs.LookupLemmas.{at_past}
 use Rattle.gv_ranges.proofs.JoinedLemmas.{at-chunk, at-no_chunks, laid_out-chunk}
 use Rattle.gv_ranges.proofs.chunk_search.entry_in.Goals as goal
@@ -17,9 +17,8 @@ returns-then-page-ge-SPACE_PAGES c =
 
 pub entry_at-requires : goal.entry_at-requires
 entry_at-requires c =
-    let here : IsLaidOut (slice_index_or c.args.chunks.now c.chunk_of_page.result c.index-chunks-chunk_of_page.result).items =
-    laid_out-chunk c.args.chunks.now c.chunk_of_page.result c.index-chunks-chunk_of_page.result c.chunk_of_page.ensures.within c.requires.laid_out in
-    rw (c.deref.ensures.value, c.index-chunks-chunk_of_page.is) here
+    laid_out-chunk c.args.chunks.now c.args.page c.chunk_of_page.result c.index-chunks-chunk_of_page.result c.deref.result.now c.requires.laid_out c.chunk_of_page.ensures.within
+    (c.deref.ensures.value ∙ ap (λ (v : Vec Mapping). v.items) c.index-chunks-chunk_of_page.is)
 
 pub returns : goal.returns
 returns c =
