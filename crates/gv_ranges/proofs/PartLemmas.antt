@@ -1,6 +1,6 @@
 -- What holds of each place before and behind a point of a list.
 use Rattle.std.proofs.Common.{◌≡◌, ℕ, ◌+◌, ◌≤◌, ◌<◌, length, take, drop, List, [], ◌∷◌, arith, get_or, ap, ◌∙◌}
-use Rattle.std.proofs.lemmas.List.{length-take-le, length-drop, get_or-take, get_or-drop}
+use Rattle.std.proofs.lemmas.List.{length-take, length-take-le, length-drop, get_or-take, get_or-drop}
 use Rattle.std.proofs.lemmas.List.Elements.{All-from_get_or, All-get_or}
 use Rattle.std.specs.List.{All, AllWithin}
 
@@ -23,3 +23,12 @@ pub All-drop_at : {X : Type 0} (P : X → Type 0) (xs : List X) (i : ℕ) (d : X
 All-drop_at P xs i d within all =
     let same : get_or (drop i xs) 0 d ≡ get_or xs i d = get_or-drop i xs 0 d ∙ ap (λ n. get_or xs n d) (omega arith) in
     rw (← same) (All-get_or P (drop i xs) 0 d (omega (arith, length-drop i xs)) all)
+
+-- a piece of a list: it ends where the list does, or before, and has what the list has
+pub piece-within : {X : Type 0} (xs piece : List X) (i : ℕ) → i ≤ length xs → piece ≡ take (length piece) (drop i xs) → i + length piece ≤ length xs
+piece-within xs piece i within is =
+    omega (arith, length-drop i xs, ap length is ∙ length-take (length piece) (drop i xs))
+
+pub piece-at : {X : Type 0} (xs piece : List X) (i k : ℕ) (d : X) → piece ≡ take (length piece) (drop i xs) → k < length piece → get_or piece k d ≡ get_or xs (i + k) d
+piece-at {X = X} xs piece i k d is less =
+    ap (λ (ys : List X). get_or ys k d) is ∙ get_or-take (length piece) (drop i xs) k d less ∙ get_or-drop i xs k d

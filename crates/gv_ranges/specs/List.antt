@@ -40,6 +40,13 @@ pub record IsRunAhead (ms : List Mapping) (end left : ℕ) (block : List Mapping
   pub begun : left ≤ end
   pub ahead : block ≡ take (length block) (drop (end - left) ms)
 
+-- the block is of a list of `len` mappings that is in order: those from `base` on, as many as the block has
+pub record IsBlockOf (ms : List Mapping) (len base : ℕ) (block : List Mapping) : Type 0 where
+  pub laid_out : IsLaidOut ms
+  pub all : len ≡ length ms
+  pub within : base ≤ length ms
+  pub ahead : block ≡ take (length block) (drop base ms)
+
 -- the mappings that meet a range are the `count` from `place` on
 pub record IsOverlappingRun (ms : List Mapping) (range : Span) (place count : ℕ) : Type 0 where
   pub within : place + count ≤ length ms

@@ -4,10 +4,12 @@
 mod chunk_search;
 pub mod laws;
 mod range_list;
+mod reader;
 mod rest;
 mod run;
 mod search;
 
 pub use range_list::RangeList;
+pub use reader::Reader;
 pub use rest::{next_rest, prev_rest};
 pub use run::Run;

@@ -1,0 +1,136 @@
+//! A list read near a place.
+ghost use Rattle.std.specs.Prelude.{◌≡◌, ◌<◌, ◌≤◌, length, slice_index_or};
+ghost use Rattle.gv_types.specs.declared.mapping.Mapping.{Mapping};
+ghost use Rattle.gv_ranges.specs.List.{IsLaidOut};
+
+use crate::RangeList;
+use gv_types::Mapping;
+use std::marker::Model;
+
+/// A list, or a slice of pieces, read near a place: the block of memory that holds it is looked up once.
+#[derive(Drop)]
+pub struct Reader<'a> {
+    block: &'a [Mapping],
+    // The place of the first mapping of the block.
+    base: usize,
+    len: usize,
+    // None where the block is all that is read.
+    list: Option<&'a RangeList>,
+}
+
+impl<'a> Model for Reader<'a> {
+    ghost use Rattle.std.specs.Prelude.{List};
+    ghost use Rattle.gv_types.specs.declared.mapping.Mapping.{Mapping};
+    ghost use Rattle.std.specs.Option.{option_map_or};
+    ghost use Rattle.gv_ranges.specs.List.{IsBlockOf};
+
+    ghost Value = { List Mapping };
+
+    ghost view = { λ r. option_map_or (λ l. l.now.mappings) r.list r.block.now };
+
+    ghost invariant = { λ r. IsBlockOf (option_map_or (λ l. l.now.mappings) r.list r.block.now)
+        r.len r.base r.block.now };
+}
+
+impl<'a> Reader<'a> {
+    /// The pieces, all in one block.
+    pub fn of_slice(pieces: &'a [Mapping]) -> Reader<'a>
+        requires { IsLaidOut pieces.now }
+        ensures { result ≡ pieces.now }
+    {
+        Reader {
+            block: pieces,
+            base: 0,
+            len: pieces.len(),
+            list: None,
+        }
+    }
+
+    /// The list, read from the mapping before the place on.
+    pub fn of_list(list: &'a RangeList, place: usize) -> Reader<'a>
+        requires { place ≤ length list.now.mappings }
+        ensures { result ≡ list.now.mappings }
+    {
+        let reader = Reader::from_base(list, place.saturating_sub(1));
+        if reader.is_near(place) {
+            reader
+        } else {
+            Reader::from_base(list, place)
+        }
+    }
+
+    /// The list, read from a place on.
+    fn from_base(list: &'a RangeList, base: usize) -> Reader<'a>
+        requires { base ≤ length list.now.mappings }
+        ensures { result ≡ list.now.mappings }
+    {
+        Reader {
+            block: list.piece(base),
+            base,
+            len: list.len(),
+            list: Some(list),
+        }
+    }
+
+    /// Whether the block holds the place, or nothing does.
+    #[inline(always)]
+    fn is_near(&self, place: usize) -> bool {
+        place.wrapping_sub(self.base) < self.block.len() || place == self.len
+    }
+
+    /// The same list, with the block looked up anew where it does not hold the place.
+    pub fn near(&self, place: usize) -> Reader<'a>
+        requires { place ≤ length self.now }
+        ensures { result ≡ self.now }
+    {
+        if !self.is_near(place) {
+            if let Some(list) = self.list {
+                return Reader::of_list(list, place);
+            }
+        }
+        Reader {
+            block: self.block,
+            base: self.base,
+            len: self.len,
+            list: self.list,
+        }
+    }
+
+    /// How many mappings there are.
+    #[inline(always)]
+    pub fn len(&self) -> usize
+        ensures len { result ≡ length self.now }
+        ensures laid_out { IsLaidOut self.now }
+    {
+        self.len
+    }
+
+    /// The mapping at a place.
+    #[inline(always)]
+    pub fn get(&self, place: usize) -> &'a Mapping
+        requires { place < length self.now }
+        ensures { (d : Mapping) → result.now ≡ slice_index_or self.now place d }
+    {
+        // Tells that the places are numbers of a machine.
+        let _len = self.len;
+        let inside = place.wrapping_sub(self.base);
+        if inside < self.block.len() {
+            &self.block[inside]
+        } else {
+            self.get_beyond(place)
+        }
+    }
+
+    /// The mapping at a place, wherever it stands.
+    #[cold]
+    #[inline(never)]
+    fn get_beyond(&self, place: usize) -> &'a Mapping
+        requires { place < length self.now }
+        ensures { (d : Mapping) → result.now ≡ slice_index_or self.now place d }
+    {
+        match self.list {
+            Some(list) => list.get(place),
+            None => &self.block[place],
+        }
+    }
+}
