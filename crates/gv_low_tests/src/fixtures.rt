@@ -1,11 +1,11 @@
 //! Mappings, operations, and lists changed by them.
-ghost use Rattle.std.specs.Prelude.{◌≡◌, ◌++◌, IfOk, IsTrue, OnOk};
+ghost use Rattle.std.specs.Prelude.{◌≡◌, ◌+◌, ◌≤◌, ◌++◌, [], ◌∷◌, IfOk, IsTrue, OnOk, length};
 ghost use Rattle.std.specs.List.{All};
 ghost use Rattle.std.specs.Option.{option_to_list};
 ghost use Rattle.gv_types.specs.Span.{span, meets};
 ghost use Rattle.gv_types.specs.Mapping.{IsMapping};
 ghost use Rattle.gv_types.specs.Operation.{IsPageOp, range_of};
-ghost use Rattle.gv_ranges.specs.List.{IsLaidOut};
+ghost use Rattle.gv_ranges.specs.List.{run, IsLaidOut};
 ghost use Rattle.gv_ranges.specs.Edit.{edited};
 
 use gv_ranges::{RangeList, next_rest, prev_rest};
@@ -72,17 +72,23 @@ fn add(pieces: &mut Vec<Mapping>, piece: Option<Mapping>) -> Result<(), OutOfMem
 }
 
 /// What stands in place of a run that meets the operation's range.
-fn replacement(alloc: Global, run: &[Mapping], op: &PageOp) -> Result<Vec<Mapping>, OutOfMemory>
+fn replacement(
+    alloc: Global,
+    list: &RangeList,
+    place: usize,
+    count: usize,
+    op: &PageOp,
+) -> Result<Vec<Mapping>, OutOfMemory>
     requires op { IsPageOp op.now }
-    requires laid_out { IsLaidOut run.now }
-    requires meeting { All (λ m. IsTrue (meets m.range (range_of op.now))) run.now }
-    ensures { IfOk result (λ pieces. pieces.items ≡ edited run.now op.now) }
+    requires within { place + count ≤ length list.now.mappings }
+    requires meeting { All (λ m. IsTrue (meets m.range (range_of op.now))) (run list.now.mappings place count) }
+    ensures { IfOk result (λ pieces. pieces.items ≡ edited (run list.now.mappings place count) op.now) }
 {
     let range = op.range();
     let mut pieces = Vec::new(alloc);
-    add(&mut pieces, prev_rest(run, range.first()))?;
+    add(&mut pieces, prev_rest(list, place, count, range.first()))?;
     add(&mut pieces, op.own_mapping())?;
-    add(&mut pieces, next_rest(run, range.end()))?;
+    add(&mut pieces, next_rest(list, place, count, range.end()))?;
     Ok(pieces)
 }
 
@@ -93,10 +99,33 @@ pub fn edit(alloc: Global, list: &mut RangeList, op: &PageOp) -> Result<(), OutO
     ensures laid_out { IsLaidOut list.old.mappings }
 {
     let (place, count) = list.overlapping(op.range());
-    let pieces = replacement(alloc, &list.mappings()[place..place + count], op)?;
+    // Tells that the list is laid out.
+    let _len = list.len();
+    let pieces = replacement(alloc, list, place, count, op)?;
     list.reserve(pieces.len())?;
     list.splice(place, count, &pieces);
     Ok(())
+}
+
+/// A list of one mapping.
+pub fn list_of_one(alloc: Global, one: Mapping) -> Result<RangeList, OutOfMemory>
+    requires { IsMapping one }
+    ensures { IfOk result (λ list. list.mappings ≡ one ∷ []) }
+{
+    let mut list = RangeList::new(alloc);
+    list.reserve(1)?;
+    list.splice(0, 0, &[one]);
+    Ok(list)
+}
+
+/// The mappings of a list, in one block.
+pub fn to_vec(alloc: Global, list: &RangeList) -> Result<Vec<Mapping>, OutOfMemory>
+    ensures value { IfOk result (λ mappings. mappings.items ≡ list.now.mappings) }
+    ensures laid_out { IsLaidOut list.now.mappings }
+{
+    // Tells that the list is laid out.
+    let _len = list.len();
+    Ok(list.iter().map(|mapping| *mapping).collect(alloc)?)
 }
 
 /// A list of so many mappings of one page each: the pages of a buffer in turn, one at every `step`th page.

@@ -4,8 +4,9 @@ ghost use Rattle.gv_ranges.specs.Examples.{MapOverThree, MapAtSamePages, UnmapOf
 ghost use Rattle.gv_ranges.specs.Examples.{RestsKeepFlags, RestsOfZeros, NeighboursStayApart};
 ghost use Rattle.gv_ranges.specs.Examples.{RestoreOfPieces};
 
-use crate::fixtures::{edit, entry, list_of, mapping, spread, unmap};
-use gv_ranges::{laws, next_rest, prev_rest};
+use crate::fixtures::{edit, entry, list_of, list_of_one, mapping, spread, unmap};
+use gv_ranges::{RangeList, laws, next_rest, prev_rest};
+use gv_types::Mapping;
 use std::test::Fail;
 
 /// What the definitions say of worked examples.
@@ -30,6 +31,11 @@ fn definitions_hold(_rt: HostRuntime) {
     laws::meetings();
 }
 
+/// Whether the list holds these mappings and no others.
+fn is_listed(list: &RangeList, wanted: &[Mapping]) -> bool {
+    list.len() == wanted.len() && list.iter().eq(wanted)
+}
+
 #[test]
 fn edits_leave_rests(rt: HostRuntime) -> Result<(), Fail> {
     let hole = unmap(2, 1)?;
@@ -42,24 +48,42 @@ fn edits_leave_rests(rt: HostRuntime) -> Result<(), Fail> {
     let rows = [(0, 2, 1, 0), (2, 2, 1, 2), (4, 2, 1, 4), (1, 4, 1, 100)];
     let mut list = list_of(rt.alloc(), &rows)?;
     edit(rt.alloc(), &mut list, &hole)?;
-    assert_eq!(rt; list.mappings(), wanted.as_slice());
+    assert!(rt; is_listed(&list, &wanted));
+    Ok(())
+}
+
+#[test]
+fn lists_are_read_by_place_and_by_run(rt: HostRuntime) -> Result<(), Fail> {
+    let first = mapping(0, 2, 1, 0)?;
+    let behind = [mapping(2, 1, 1, 9)?, mapping(5, 2, 1, 4)?];
+    let list = list_of(rt.alloc(), &[(5, 2, 1, 4), (0, 2, 1, 0), (2, 1, 1, 9)])?;
+    if list.len() != 3 {
+        return Err("another length".into());
+    }
+    assert_eq!(rt; *list.get(1), behind[0]);
+    let piece = list.piece(1);
+    assert!(rt; !piece.is_empty() && behind.starts_with(piece));
+    assert!(rt; list.run(1, 2).eq(&behind));
+    assert!(rt; list.run(0, 1).eq(&[first]));
+    assert!(rt; is_listed(&list, &[first, behind[0], behind[1]]));
+    assert_eq!(rt; list.iter().len(), 3);
     Ok(())
 }
 
 #[test]
 fn rests_of_one_mapping(rt: HostRuntime) -> Result<(), Fail> {
-    let run = [mapping(0, 4, 1, 7)?];
+    let list = list_of_one(rt.alloc(), mapping(0, 4, 1, 7)?)?;
     let before = mapping(0, 1, 1, 7)?;
     let behind = mapping(3, 1, 1, 10)?;
-    assert_eq!(rt; prev_rest(&run, 1), Some(before));
-    assert_eq!(rt; next_rest(&run, 3), Some(behind));
+    assert_eq!(rt; prev_rest(&list, 0, 1, 1), Some(before));
+    assert_eq!(rt; next_rest(&list, 0, 1, 3), Some(behind));
     Ok(())
 }
 
 #[test]
 fn a_thousand_mappings(rt: HostRuntime) -> Result<(), Fail> {
     let list = spread(rt.alloc(), 1000, 2)?;
-    assert_eq!(rt; list.mappings().len(), 1000);
+    assert_eq!(rt; list.len(), 1000);
     for k in 0..1000u32 {
         let page = u64::from(k) * 2;
         let found = [list.at(page), list.at(page + 1)];

@@ -8,7 +8,7 @@ ghost use Rattle.gv_ranges.specs.Edit.{clipped};
 ghost use Rattle.gv_table.specs.Reads.{AreAlikeOutside};
 ghost use Rattle.gv_table.specs.Table.{IsTree, FitsOutside, gained_by};
 
-use crate::fixtures::{edit, entry, map, spread, unmap};
+use crate::fixtures::{edit, entry, map, spread, to_vec, unmap};
 use gv_ranges::RangeList;
 use gv_table::{PageTable, Spares, laws};
 use gv_types::{Fault, PageOp, PageRange};
@@ -155,7 +155,8 @@ const LONG_CHAIN: u32 = 30_000;
 fn long_chain_of_spares(rt: HostRuntime) -> Result<(), Fail> {
     let list = spread(rt.alloc(), LONG_CHAIN, 512)?;
     let range = PageRange::new(0, 1 << 45).ok_or("a range")?;
-    drop(PageTable::new().spare(rt.alloc(), range, list.mappings())?);
+    let mappings = to_vec(rt.alloc(), &list)?;
+    drop(PageTable::new().spare(rt.alloc(), range, &mappings)?);
     Ok(())
 }
 
