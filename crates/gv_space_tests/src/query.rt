@@ -175,7 +175,7 @@ fn ranges(alloc: Global, space: &Space, id: &BufferId) -> Reply {
 
 fn look(space: &Space, buffers: &[BufferId], id: &BufferId) -> Reply {
     Reply::Looked {
-        list: list_of(space.mappings(), buffers),
+        list: list_of(space.list(), buffers),
         uses: space.uses(*id),
         kept: space.kept(*id),
         tables: space.tables(),

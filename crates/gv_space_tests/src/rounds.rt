@@ -53,7 +53,7 @@ fn missed_page(space: &Space, model: &Model) -> Option<Miss> {
 
 /// What is missed in a space that has to be what the model says, where undo values keep these mappings.
 fn missed(space: &Space, model: &Model, kept: &[Mapping]) -> Option<Miss> {
-    if space.mappings() != model.list.as_slice() {
+    if !space.list().iter().eq(model.list.as_slice()) {
         return Some(Miss::List);
     }
     if space.tables() != model.tables() {

@@ -1,4 +1,5 @@
 //! What is seen of a space, in plain numbers.
+use gv_ranges::RangeList;
 use gv_split::Step as Split;
 use gv_types::{Backing, BufferId, Entry, Mapping};
 
@@ -101,13 +102,13 @@ pub fn part_of(step: &Split, buffers: &[BufferId]) -> Part {
     }
 }
 
-pub fn list_of(mappings: &[Mapping], buffers: &[BufferId]) -> Pieces {
+pub fn list_of(list: &RangeList, buffers: &[BufferId]) -> Pieces {
     let mut pieces = [None; MOST];
-    for (place, mapping) in pieces.iter_mut().zip(mappings) {
+    for (place, mapping) in pieces.iter_mut().zip(list.iter()) {
         *place = Some(piece_of(mapping, buffers));
     }
     Pieces {
-        count: mappings.len(),
+        count: list.len(),
         pieces,
     }
 }
