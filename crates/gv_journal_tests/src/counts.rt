@@ -29,12 +29,21 @@ pub fn counts_of(space: &Space, buffers: &[BufferId]) -> Counts {
     counts
 }
 
+/// How many mappings of the list are of the buffer, each counted by itself.
+fn count_in(space: &Space, id: &BufferId) -> u64 {
+    space
+        .list()
+        .iter()
+        .filter(|mapping| count_of(&[**mapping], id) == 1)
+        .count() as u64
+}
+
 /// Whether the list has as many mappings of each buffer as is said of it.
 pub fn uses_are_counted(space: &Space, buffers: &[BufferId], counts: &Counts) -> bool {
     buffers
         .iter()
         .zip(&counts.uses)
-        .all(|(id, uses)| count_of(space.mappings(), id) == *uses)
+        .all(|(id, uses)| count_in(space, id) == *uses)
 }
 
 /// The pages of the only operation that an item did, if it did only one.

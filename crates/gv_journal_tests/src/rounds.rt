@@ -145,7 +145,7 @@ fn forget(
 /// Whether the newest item is taken back: list and counts are those before it.
 fn is_taken_back(space: &Space, past: &mut Past, counts: &Counts) -> bool {
     match (past.lists.pop(), past.counts.pop()) {
-        (Some(list), Some(before)) => list.as_slice() == space.mappings() && before == *counts,
+        (Some(list), Some(before)) => space.list().iter().eq(list.as_slice()) && before == *counts,
         _ => false,
     }
 }
@@ -163,7 +163,7 @@ fn turn(
     ensures { FitsSpace space.new journal.new }
 {
     let held = journal.items().len();
-    let list = Vec::from_slice(alloc, space.mappings())?;
+    let list = space.list().iter().map(|mapping| *mapping).collect(alloc)?;
     let before = counts_of(space, desk.buffers.as_slice());
     let gone = match step {
         Step::Settle { to } => to.saturating_sub(journal.first()) as usize,
@@ -188,7 +188,7 @@ fn turn(
                 past.counts.push(before)?;
                 counted
             } else {
-                list.as_slice() == space.mappings() && before == counts
+                space.list().iter().eq(list.as_slice()) && before == counts
             }
         }
     };

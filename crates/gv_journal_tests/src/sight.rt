@@ -66,7 +66,7 @@ fn piece_of(mapping: &Mapping, buffers: &[BufferId]) -> Piece {
 /// The list of a space whose buffers are these.
 pub fn see(space: &Space, buffers: &[BufferId]) -> List {
     let mut list = [None; MOST];
-    for (place, mapping) in list.iter_mut().zip(space.mappings()) {
+    for (place, mapping) in list.iter_mut().zip(space.list().iter()) {
         *place = Some(piece_of(mapping, buffers));
     }
     list
