@@ -33,7 +33,7 @@ fn withdrawals(rt: &impl Abort, alloc: Global, vm: &mut Vm) -> Result<(), Fail> 
     assert_eq!(rt; vm.translate(0x1abc), byte_of(a, 0x1abc));
     assert_eq!(rt; vm.withdraw(alloc, 0), Ok(3));
     assert_eq!(rt; vm.translate(0x1abc), None);
-    assert_eq!(rt; vm.space().mappings().len(), 0);
+    assert_eq!(rt; vm.space().list().len(), 0);
     assert_eq!(rt; vm.withdraw(alloc, 1), Err(Fault::Withdrawn));
     assert_eq!(rt; vm.withdraw(alloc, 2), Err(Fault::NotABind));
     assert_eq!(rt; vm.withdraw(alloc, 9), Err(Fault::NoEntry));

@@ -32,7 +32,7 @@ fn sight(world: &World) -> (usize, usize, usize, bool) {
     (
         vm.told(0).len(),
         vm.items().len(),
-        vm.space().mappings().len(),
+        vm.space().list().len(),
         vm.translate(0).is_some(),
     )
 }

@@ -115,7 +115,12 @@ fn is_each_timeline(world: &World, model: &Model) -> bool {
 
 /// Whether a world is what the definitions have.
 fn agrees(alloc: Global, world: &World, model: &Model) -> Result<bool, OutOfMemory> {
-    let is_listed = world.vm().space().mappings() == model.ground.list.as_slice();
+    let is_listed = world
+        .vm()
+        .space()
+        .list()
+        .iter()
+        .eq(model.ground.list.as_slice());
     let is_same = is_listed
         && has_entries(world, model)
         && shows_each_page(world, model)

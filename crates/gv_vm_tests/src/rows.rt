@@ -163,7 +163,12 @@ fn expect_out_of_turn(
     };
     let given = request(alloc, &[zero(4), zero(9)], &[point])?;
     let wanted = request(alloc, &[zero(4), zero(9)], &[point])?;
-    let mappings = Vec::from_slice(alloc, vm.space().mappings())?;
+    let mappings = vm
+        .space()
+        .list()
+        .iter()
+        .map(|mapping| *mapping)
+        .collect(alloc)?;
     let told = Vec::from_slice(alloc, vm.told(0))?;
     let entries = vm.items().len();
     match vm.bind(alloc, 0, number, given, &[]) {
@@ -173,7 +178,7 @@ fn expect_out_of_turn(
             assert!(rt; request == wanted);
         }
     }
-    assert!(rt; vm.space().mappings() == mappings.as_slice());
+    assert!(rt; vm.space().list().iter().eq(mappings.as_slice()));
     assert!(rt; vm.told(0) == told.as_slice());
     assert_eq!(rt; vm.items().len(), entries);
     Ok(())

@@ -33,6 +33,6 @@ fn numbers(rt: &impl Abort, alloc: Global, vm: &mut Vm) -> Result<(), Fail> {
     );
     assert_eq!(rt; vm.told(0).len(), 1);
     assert_eq!(rt; vm.items().len(), 1);
-    assert_eq!(rt; vm.space().mappings().len(), 1);
+    assert_eq!(rt; vm.space().list().len(), 1);
     Ok(())
 }
