@@ -102,7 +102,7 @@ impl Ran<'_> {
         assert!(rt; vm.told(0) == wanted.told[0]);
         assert!(rt; vm.told(1) == wanted.told[1]);
         assert!(rt; has_entries(vm.items(), wanted.entries));
-        assert!(rt; vm.space().mappings().len() == wanted.mappings);
+        assert!(rt; vm.space().list().len() == wanted.mappings);
         assert!(rt; leads(vm, wanted.zeros, true) && leads(vm, wanted.nowhere, false));
         assert!(rt; self.numbers == wanted.numbers);
     }
