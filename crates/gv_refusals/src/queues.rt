@@ -101,7 +101,7 @@ fn sight(vm: &Vm) -> (usize, usize, usize, bool) {
     (
         vm.told(0).len() + vm.told(1).len(),
         vm.items().len(),
-        vm.space().mappings().len(),
+        vm.space().list().len(),
         vm.translate(0).is_some(),
     )
 }

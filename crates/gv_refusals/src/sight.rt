@@ -41,7 +41,7 @@ pub fn fold_of(space: &Space, ids: &[Option<BufferId>]) -> Fold {
 /// The list of an address space.
 pub fn list_of(space: &Space) -> Fold {
     let mut fold = Fold::new();
-    for mapping in space.mappings() {
+    for mapping in space.list().iter() {
         take_mapping(&mut fold, mapping);
     }
     fold

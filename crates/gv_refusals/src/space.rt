@@ -156,7 +156,7 @@ fn restore_all(
     let before = seen(space, id);
     let range = PageRange::new(0, 8).ok_or(Wrong::Changed)?;
     let undo = restore_at_last(watch, alloc, space, range, saved, id)?;
-    let restored = (space.mappings().len(), space.uses(*id), space.kept(*id));
+    let restored = (space.list().len(), space.uses(*id), space.kept(*id));
     space.revert(undo);
     watch.expect(seen(space, id) == before);
     watch.expect(restored == (4, Some(4), Some(6)));
@@ -180,7 +180,7 @@ fn restore_over_zeros(watch: &mut Watch, alloc: Global) -> Result<(), Wrong> {
     };
     let saved = apply_at_last(watch, alloc, &mut space, &zeros, id)?;
     let outcome = restore_all(watch, alloc, &mut space, &saved, id);
-    let count = space.mappings().len();
+    let count = space.list().len();
     space.revert(saved);
     watch.expect(count == 3);
     watch.expect(seen(&space, id) == before);
