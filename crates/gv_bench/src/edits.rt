@@ -4,6 +4,7 @@ ghost use Rattle.gv_space.specs.State.{IsUnchanged};
 use crate::edit::Edit;
 use crate::failure::Failure;
 use gv_space::Space;
+use gv_types::PageRange;
 use std::alloc::Global;
 use std::time::{CpuClock, Duration};
 
@@ -40,14 +41,15 @@ pub fn keep_all(space: &mut Space, alloc: Global, edits: &[Edit]) -> Result<Vec<
 
 /// Applies an edit for good. How many mappings were behind its first page, where it makes the list longer or shorter.
 fn keep(space: &mut Space, alloc: Global, edit: &Edit) -> Result<Option<usize>, Failure> {
-    let count = space.mappings().len();
+    let count = space.list().len();
     let first = edit.first();
-    let place = space
-        .mappings()
-        .partition_point(|mapping| mapping.range.end() <= first);
+    let place = match PageRange::new(first, 1) {
+        Some(page) => space.list().overlapping(page).0,
+        None => count,
+    };
     let undo = space.apply(alloc, edit.op())?;
     space.release(undo);
-    if space.mappings().len() == count {
+    if space.list().len() == count {
         Ok(None)
     } else {
         Ok(Some(count.saturating_sub(place)))

@@ -119,7 +119,7 @@ fn time_all_look_ups<R: CpuClock>(
 /// The sum of the mappings of both lists. `Differ` where it is not the same.
 fn common_sum(space: &Space, list: &PlainList) -> Result<Checksum, Failure> {
     let mut sum = Checksum::new();
-    for mapping in space.mappings() {
+    for mapping in space.list().iter() {
         sum.add_mapping(mapping);
     }
     let mut plain = Checksum::new();
