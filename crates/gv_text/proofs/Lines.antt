@@ -1,5 +1,5 @@
 -- What single lines do.
-use Rattle.std.proofs.Common.{◌≡◌, ◌≢◌, ℕ, List, [], ◌∷◌, ◌++◌, true, false, Option, Some, None, is_some, Result, Ok, Err, MatchOption, IsOkUnless, String, string_bytes, refl, sym, ap, ◌∙◌, subst, append-nil, append_assoc, add-zero, ◌+◌, ◌<◌, length, take, get_or, nat_lt, arith, codes, decimal}
+use Rattle.std.proofs.Common.{◌≡◌, ◌≢◌, ℕ, List, [], ◌∷◌, ◌++◌, true, false, Option, Some, None, is_some, Result, Ok, Err, MatchOption, IsOkUnless, String, string_bytes, refl, sym, ap, ◌∙◌, subst, append-nil, ◌<◌, nat_lt, arith}
 use Rattle.std.proofs.lemmas.Bool.Decides.{nat_tests}
 use Rattle.std.specs.List.{flat_map, list_any}
 use Rattle.std.specs.declared.alloc.Global.{Global}
@@ -7,7 +7,6 @@ use Rattle.gv_types.specs.declared.fault.Fault.{Fault}
 use Rattle.gv_types.specs.declared.fault.Fault.TheVariants.{OutOfMemory}
 use Rattle.gv_types.specs.declared.fault.Fault.TheVariants.{TooManyAccesses}
 use Rattle.gv_vm.specs.Jobs.{Running, most_accesses, many_fault}
-use Rattle.gv_vm.specs.declared.outcome.Outcome.{Outcome}
 use Rattle.gv_vm.specs.World.{World}
 use Rattle.gv_vm.specs.declared.event.Event.{Event}
 use Rattle.gv_vm.specs.declared.event.Reply.{Reply}

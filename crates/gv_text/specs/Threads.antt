@@ -1,11 +1,9 @@
 -- What contracts see of a `ThreadsScript` (`ThreadsState`), and what its lines give to the queues.
-use Rattle.std.specs.Prelude.{◌≡◌, ℕ, ◌<◌, ◌≤◌, List, length, Result, Ok, Err}
+use Rattle.std.specs.Prelude.{ℕ, ◌<◌, Result, Ok, Err}
 use Rattle.gv_types.specs.Bounds.{Area}
-use Rattle.gv_types.specs.Limits.{Caps, IsFromOneTo}
+use Rattle.gv_types.specs.Limits.{Caps}
 use Rattle.gv_types.specs.Request.{Fits}
 use Rattle.gv_types.specs.declared.request.Request.{Request}
-use Rattle.gv_sync.specs.Seats.{most_timelines}
-use Rattle.gv_vm.specs.Outcomes.{queues}
 use Rattle.gv_text.specs.declared.fault.LineFault.{LineFault}
 use Rattle.gv_text.specs.declared.fault.LineFault.TheVariants.{Bad, OutOfMemory as NoMemory}
 use Rattle.gv_text.specs.declared.fault.ScriptFault.{ScriptFault}

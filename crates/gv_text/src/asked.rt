@@ -32,7 +32,7 @@ pub fn answer(
     match line {
         Line::Uses { name } => uses(names, vm, &name, out),
         Line::Value { name } => value(timeline_names, timelines, seat, &name, out),
-        Line::Map => Ok(write_mappings(out, names, vm.space().mappings())?),
+        Line::Map => Ok(write_mappings(out, names, vm.space().list())?),
         Line::At { addr } => Ok(write_place(out, names, &vm.translate(addr))?),
         Line::Tables => {
             let [four, three, two, one, zero] = vm.space().tables();

@@ -84,8 +84,8 @@ pub fn map(session: &mut Session, out: &mut String) -> Result<(), LineFault>
     ensures memory { result ≢ Err LineFault.Bad }
 {
     session.begin();
-    let mappings = session.world().vm().space().mappings();
-    Ok(write_mappings(out, session.buffers(), mappings)?)
+    let list = session.world().vm().space().list();
+    Ok(write_mappings(out, session.buffers(), list)?)
 }
 
 /// Writes where an address, in bytes, leads.

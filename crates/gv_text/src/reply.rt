@@ -8,6 +8,7 @@ ghost use Rattle.gv_text.specs.Reply.{lines_reply, place_text, place_reply, tabl
 
 use crate::names::Names;
 use gv_lines::write_hex;
+use gv_ranges::RangeList;
 use gv_split::Step;
 use gv_types::{Backing, BufferId, Flags, Mapping, PAGE_BYTES};
 use gv_vm::{Place, Target};
@@ -126,19 +127,15 @@ fn write_step(out: &mut String, names: &Names, step: &Step) -> Result<(), AllocE
 }
 
 /// Writes each mapping on a line of its own.
-pub fn write_mappings(
-    out: &mut String,
-    names: &Names,
-    mappings: &[Mapping],
-) -> Result<(), AllocError>
-    requires { All IsHeld mappings.now }
+pub fn write_mappings(out: &mut String, names: &Names, list: &RangeList) -> Result<(), AllocError>
+    requires { All IsHeld list.now.mappings }
     ensures { OnOk result (string_bytes out.new ≡
-        string_bytes out.old ++ lines_reply (mapping_text (texts names.now.entries)) mappings.now) }
+        string_bytes out.old ++ lines_reply (mapping_text (texts names.now.entries)) list.now.mappings) }
 {
-    if mappings.is_empty() {
+    if list.len() == 0 {
         return out.push_str("empty\n");
     }
-    for mapping in mappings {
+    for mapping in list.iter() {
         write_mapping(out, names, mapping)?;
         out.push_str("\n")?;
     }

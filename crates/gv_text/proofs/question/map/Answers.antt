@@ -5,4 +5,4 @@ use Rattle.gv_text.proofs.Held.{held_list}
 use Rattle.gv_text.proofs.question.map.Goals as goal
 
 pub write_mappings-requires : goal.write_mappings-requires
-write_mappings-requires c = subst (All IsHeld) (sym c.mappings-mappings.ensures.value) (held_list c.space.result.now c.mappings-mappings.ensures.space)
+write_mappings-requires c = subst (All IsHeld) (sym c.list-list.ensures.value) (held_list c.space.result.now c.list-list.ensures.space)

@@ -1,5 +1,4 @@
 use Rattle.std.proofs.Common.{◌≡◌, ◌∙◌, Some, refl, ap}
-use Rattle.gv_space.specs.State.{AddressSpace}
 use Rattle.gv_vm.specs.State.{Machine}
 use Rattle.gv_vm.specs.World.{World}
 use Rattle.gv_lines.specs.declared.line.Line.TheVariants as line

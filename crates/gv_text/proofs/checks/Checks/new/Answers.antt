@@ -1,4 +1,4 @@
-use Rattle.std.proofs.Common.{◌≡◌, ℕ, List, length, [], ap, arith}
+use Rattle.std.proofs.Common.{◌≡◌, ℕ, List, length, ap, arith}
 use Rattle.gv_text.proofs.checks.Checks.new.Goals as goal
 
 pub invariant_of-result : goal.invariant_of-result
