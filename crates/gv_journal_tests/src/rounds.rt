@@ -163,7 +163,7 @@ fn turn(
     ensures { FitsSpace space.new journal.new }
 {
     let held = journal.items().len();
-    let list = space.list().iter().map(|mapping| *mapping).collect(alloc)?;
+    let list: Vec<Mapping> = space.list().iter().map(|mapping| *mapping).collect(alloc)?;
     let before = counts_of(space, desk.buffers.as_slice());
     let gone = match step {
         Step::Settle { to } => to.saturating_sub(journal.first()) as usize,
