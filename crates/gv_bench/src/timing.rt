@@ -43,7 +43,7 @@ fn keep_run<R: CpuClock>(
     run: &[Edit],
 ) -> Result<Duration, Failure> {
     let moves = keep_all(space, alloc, run)?;
-    let mut mappings = space.list().iter().map(|mapping| *mapping).collect(alloc)?;
+    let mut mappings: Vec<Mapping> = space.list().iter().map(|mapping| *mapping).collect(alloc)?;
     time_moves(rt, &mut mappings, moves.as_slice())
 }
 

@@ -2,7 +2,7 @@
 ghost use Rattle.std.specs.Prelude.{◌≡◌, [], IfOk};
 
 use gv_buffers::Usage;
-use gv_types::{Bounds, BufferId, Fault, Flags, Limits, Op, PAGE_BYTES, Point, Request};
+use gv_types::{Bounds, BufferId, Fault, Flags, Limits, Mapping, Op, PAGE_BYTES, Point, Request};
 use gv_vm::{Access, Event, NotTold, Outcome, Place, Reply, Stopped, Target, Vm, World};
 use std::alloc::{AllocError, Global};
 use std::process::Abort;
@@ -163,7 +163,7 @@ fn expect_out_of_turn(
     };
     let given = request(alloc, &[zero(4), zero(9)], &[point])?;
     let wanted = request(alloc, &[zero(4), zero(9)], &[point])?;
-    let mappings = vm
+    let mappings: Vec<Mapping> = vm
         .space()
         .list()
         .iter()
