@@ -1,10 +1,11 @@
 -- A list in chunks that got more chunks, or of which a run was replaced.
-use Rattle.std.proofs.Common.{slice_index_or, vec_len, ◌≡◌, ℕ, ◌+◌, ◌-◌, ◌*◌, ◌<◌, ◌≤◌, List, [], ◌∷◌, ◌++◌, length, take, drop, arith, refl, ◌∙◌, ap, sym}
+use Rattle.std.proofs.Common.{slice_index_or, vec_len, ◌≡◌, ℕ, ◌+◌, ◌-◌, ◌*◌, ◌<◌, ◌≤◌, List, [], ◌∷◌, ◌++◌, length, take, drop, ◌⊎◌, inl, inr, arith, refl, ◌∙◌, ap, sym}
 use Rattle.std.proofs.lemmas.List.{take-append-drop, take-append-le, length-append, length-take-le, length-drop}
 use Rattle.std.specs.List.{splice}
 use Rattle.std.specs.Global.{Vec}
 use Rattle.gv_types.specs.declared.mapping.Mapping.{Mapping}
-use Rattle.gv_chunks.specs.Chunks.{joined, AreChunks, Packed, IsChunkList}
+use Rattle.gv_chunks.specs.Chunks.{joined, AreChunks, Packed}
+use Rattle.gv_chunks.specs.Inside.{IsChunkList}
 use Rattle.gv_chunks.specs.declared.TheConstants.{CHUNK}
 use Rattle.gv_chunks.proofs.PackedLemmas.{filled_packed}
 use Rattle.gv_chunks.proofs.RunLemmas.{joined_with_rest, none_with_rest}
@@ -19,8 +20,8 @@ joined_added old new kept none = ap joined (added_behind old new kept) ∙ joine
 
 -- with them there may be more room
 pub added_to : (old new : List (Vec Mapping)) (standing count room wanted : ℕ) → take (length old) new ≡ old → joined (drop (length old) new) ≡ [] → (AreChunks old → AreChunks new) →
-    IsChunkList old standing count room → count ≤ wanted → (0 < wanted → 2 * wanted + 3 * CHUNK ≤ CHUNK * length new) → IsChunkList new standing count wanted
-added_to old new standing count room wanted kept none chunked was fits enough =
+    IsChunkList old standing count room → room ≤ wanted → (0 < wanted → 0 < length new) → (CHUNK < wanted → 2 * wanted + 3 * CHUNK ≤ CHUNK * length new) → IsChunkList new standing count wanted
+added_to old new standing count room wanted kept none chunked was more some enough =
     let whole : new ≡ old ++ drop (length old) new = added_behind old new kept in
     let size : length new ≡ length old + length (drop (length old) new) = ap length whole ∙ length-append old (drop (length old) new) in
     let front : take standing new ≡ take standing old = ap (take standing) whole ∙ take-append-le standing old (drop (length old) new) was.within in
@@ -31,26 +32,28 @@ added_to old new standing count room wanted kept none chunked was fits enough =
       held = was.held ∙ ap length (sym (joined_added old new kept none));
       few = was.few;
       filled = rw front was.filled;
-      fits = fits;
+      fits = omega (arith, was.fits);
+      some = some;
+      short = λ low. was.short (omega arith);
       enough = enough;
     }
 
 -- the chunks there are stay enough where others are added
-pub still_enough : (old new : List (Vec Mapping)) (standing count room : ℕ) → take (length old) new ≡ old → IsChunkList old standing count room →
-    0 < room → 2 * room + 3 * CHUNK ≤ CHUNK * length new
-still_enough old new standing count room kept was some_room =
+pub still_list : (old new : List (Vec Mapping)) (standing count room : ℕ) → take (length old) new ≡ old → joined (drop (length old) new) ≡ [] → (AreChunks old → AreChunks new) →
+    IsChunkList old standing count room → IsChunkList new standing count room
+still_list old new standing count room kept none chunked was =
     let size : length new ≡ length old + length (drop (length old) new) = ap length (added_behind old new kept) ∙ length-append old (drop (length old) new) in
-    omega (arith, size, was.enough some_room)
+    added_to old new standing count room room kept none chunked was (omega arith) (λ some. omega (arith, size, was.some some)) (λ long. omega (arith, size, was.enough long))
 
 -- how much is held where a run was replaced
 pub length_spliced : (xs pieces : List Mapping) (place count : ℕ) → place + count ≤ length xs → length (splice xs place (place + count) pieces) ≡ length xs - count + length pieces
 length_spliced xs pieces place count within =
     omega (arith, length-append (take place xs) (pieces ++ drop (place + count) xs), length-append pieces (drop (place + count) xs), length-take-le place xs (omega arith), length-drop (place + count) xs)
 
--- packed chunks that hold something are the chunks of a list
+-- packed chunks that hold something are the chunks of a long list
 pub some_in_chunks : (xs : List (Vec Mapping)) (used count room : ℕ) → used ≤ length xs → joined (drop used xs) ≡ [] → AreChunks xs → Packed (take used xs) →
-    CHUNK * used ≤ 2 * length (joined xs) + CHUNK → count ≡ length (joined xs) → 0 < count → count ≤ room → (0 < room → 2 * room + 3 * CHUNK ≤ CHUNK * length xs) → IsChunkList xs used count room
-some_in_chunks xs used count room within none chunked packed few held some_held fits enough = record {
+    CHUNK * used ≤ 2 * length (joined xs) + CHUNK → count ≡ length (joined xs) → 0 < count → count ≤ room → CHUNK < room → 2 * room + 3 * CHUNK ≤ CHUNK * length xs → IsChunkList xs used count room
+some_in_chunks xs used count room within none chunked packed few held some_held fits long enough = record {
   within = within;
   spare = none;
   chunked = chunked;
@@ -58,7 +61,9 @@ some_in_chunks xs used count room within none chunked packed few held some_held 
   few = omega (arith, few, held);
   filled = filled_packed xs used within chunked packed none (omega (arith, held, some_held));
   fits = fits;
-  enough = enough;
+  some = λ _. omega (arith, long, enough);
+  short = λ low. absurd (omega (arith, low, long));
+  enough = λ _. enough;
 }
 
 nil_of_length : (ms : List Mapping) → length ms ≡ 0 → ms ≡ []
@@ -66,8 +71,9 @@ nil_of_length [] size = refl
 nil_of_length (m ∷ ms) size = absurd (omega (arith, size))
 
 -- and where nothing is held, no chunk stands
-pub none_in_chunks : (xs : List (Vec Mapping)) (count room : ℕ) → AreChunks xs → count ≡ length (joined xs) → count ≡ 0 → (0 < room → 2 * room + 3 * CHUNK ≤ CHUNK * length xs) → IsChunkList xs 0 count room
-none_in_chunks xs count room chunked held none enough = record {
+pub none_in_chunks : (xs : List (Vec Mapping)) (count room : ℕ) → AreChunks xs → count ≡ length (joined xs) → count ≡ 0 → (0 < room → 0 < length xs) → (CHUNK < room → 2 * room + 3 * CHUNK ≤ CHUNK * length xs) →
+    IsChunkList xs 0 count room
+none_in_chunks xs count room chunked held none some enough = record {
   within = omega arith;
   spare = nil_of_length (joined xs) (sym held ∙ none);
   chunked = chunked;
@@ -75,6 +81,8 @@ none_in_chunks xs count room chunked held none enough = record {
   few = omega arith;
   filled = λ k d inside. absurd (omega (arith, inside));
   fits = omega (arith, none);
+  some = some;
+  short = λ _. omega arith;
   enough = enough;
 }
 
@@ -83,3 +91,16 @@ pub some_piece : (xs : List (Vec Mapping)) (chunk behind count : ℕ) → 0 < le
     ((d : Vec Mapping) → count + (behind - 1) ≡ vec_len (slice_index_or xs chunk d)) → 0 < count
 some_piece [] chunk behind count some_left past fits is = absurd (omega (arith, some_left))
 some_piece (x ∷ xs) chunk behind count some_left past fits is = omega (arith, past, fits x, is x)
+
+-- a run of a long list replaced, wherever it lies
+pub replaced_list : (xs zs : List (Vec Mapping)) (s used now count room place out : ℕ) (pieces : List Mapping) → IsChunkList xs s count room → CHUNK < room → place + out ≤ length (joined xs) →
+    count + length pieces ≤ room + out → length zs ≡ length xs → joined zs ≡ splice (joined xs) place (place + out) pieces → used ≤ length zs → joined (drop used zs) ≡ [] → AreChunks zs → Packed (take used zs) →
+    CHUNK * used ≤ 2 * length (joined zs) + CHUNK →
+    (((now ≡ 0) × (count - out + length pieces ≡ 0)) ⊎ ((now ≡ used) × (0 < count - out + length pieces))) → IsChunkList zs now (count - out + length pieces) room
+replaced_list xs zs s used now count room place out pieces was long within enough same items below none chunked packed few which =
+    let held : count - out + length pieces ≡ length (joined zs) = omega (arith, was.held, ap length items, length_spliced (joined xs) pieces place out within) in
+    let room_left : 2 * room + 3 * CHUNK ≤ CHUNK * length zs = rw same (was.enough long) in
+    elim which [
+      | inl empty ↦ rw empty.0 (none_in_chunks zs (count - out + length pieces) room chunked held empty.1 (λ some. omega (arith, same, was.some some)) (λ _. room_left))
+      | inr some ↦ rw some.0 (some_in_chunks zs used (count - out + length pieces) room below none chunked packed few held some.1 (omega (arith, enough, within, was.held)) long room_left)
+    ]

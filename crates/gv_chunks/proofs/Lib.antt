@@ -6,3 +6,5 @@ pub mod PackedLemmas
 pub mod HeldLemmas
 pub mod PutLemmas
 pub mod RunLemmas
+pub mod IndexLemmas
+pub mod PartsLemmas

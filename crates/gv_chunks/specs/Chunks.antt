@@ -1,5 +1,5 @@
 -- Mappings in chunks: the list that they are together, how much each has room for, and that no two neighbours fit into one.
-use Rattle.std.specs.Prelude.{◌≡◌, ◌<◌, ◌≤◌, ◌+◌, ◌*◌, ℕ, List, [], length, take, drop, slice_index_or, vec_len, vec_capacity}
+use Rattle.std.specs.Prelude.{◌≡◌, ◌<◌, ◌≤◌, ◌+◌, ℕ, List, length, take, slice_index_or, vec_len, vec_capacity}
 use Rattle.std.specs.List.{flat_map, All}
 use Rattle.std.specs.Global.{Vec}
 use Rattle.gv_types.specs.declared.mapping.Mapping.{Mapping}
@@ -21,6 +21,11 @@ AreFilled chunks = (k : ℕ) (d : Vec Mapping) → k < length chunks → 0 < vec
 abbrev pub AreStarts : List ℕ → List (Vec Mapping) → Type 0
 AreStarts starts chunks = (k d : ℕ) → k < length chunks → (k < length starts) × (slice_index_or starts k d ≡ length (joined (take k chunks)))
 
+-- for each chunk, the page at which its first mapping begins
+abbrev pub AreFirsts : List ℕ → List (Vec Mapping) → Type 0
+AreFirsts firsts chunks = (k d : ℕ) (v : Vec Mapping) (m : Mapping) → k < length chunks →
+    (k < length firsts) × (slice_index_or firsts k d ≡ (slice_index_or (slice_index_or chunks k v).items 0 m).range.first)
+
 -- what a chunk and the next one hold is too much for one chunk, from the chunk `low` on
 abbrev pub PackedFrom : ℕ → List (Vec Mapping) → Type 0
 PackedFrom low chunks = (k : ℕ) (d : Vec Mapping) → low ≤ k → k + 1 < length chunks →
@@ -39,14 +44,3 @@ pub record Chunked : Type 0 where
 pub record IsKept (old new : Chunked) : Type 0 where
   pub items : new.items ≡ old.items
   pub room : old.room ≤ new.room
-
--- the first `standing` chunks hold `count` mappings, are few, and none is empty; those behind them hold nothing, and there are enough for the room
-pub record IsChunkList (chunks : List (Vec Mapping)) (standing count room : ℕ) : Type 0 where
-  pub within : standing ≤ length chunks
-  pub spare : joined (drop standing chunks) ≡ []
-  pub chunked : AreChunks chunks
-  pub held : count ≡ length (joined chunks)
-  pub few : CHUNK * standing ≤ 2 * count + CHUNK
-  pub filled : AreFilled (take standing chunks)
-  pub fits : count ≤ room
-  pub enough : 0 < room → 2 * room + 3 * CHUNK ≤ CHUNK * length chunks

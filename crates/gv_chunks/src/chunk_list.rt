@@ -2,37 +2,43 @@
 ghost use Rattle.std.specs.Prelude.{◌≡◌, ◌+◌, ◌*◌, ◌<◌, ◌≤◌, [], length, take, drop, max, slice_index_or, OnOk, OnErr};
 ghost use Rattle.gv_types.specs.declared.mapping.Mapping.{Mapping};
 
-use crate::edit::piece_of;
-use crate::grow::{add_chunks, chunks_for};
-use crate::run::replace_anywhere;
-use crate::walk::place_in;
+use crate::CHUNK;
+use crate::parts::Parts;
+use crate::piece::piece_of;
 use gv_types::{Mapping, OutOfMemory};
 use std::alloc::Global;
 use std::marker::Model;
 
-/// Mappings in chunks. The first `standing` chunks hold all that it has, and each of them something. Room that it has is never
-/// given up.
+/// The chunks that stand, and where each begins.
+#[derive(Clone, Copy)]
+pub struct Standing<'a> {
+    pub chunks: &'a [Vec<Mapping>],
+    /// For each chunk, how many mappings stand before it.
+    pub starts: &'a [usize],
+    /// For each chunk, the page at which its first mapping begins.
+    pub firsts: &'a [u64],
+}
+
+/// Mappings in chunks. Room that it has is never given up.
 #[derive(Debug, Drop)]
 pub struct ChunkList {
-    chunks: Vec<Vec<Mapping>>,
-    standing: usize,
-    len: usize,
-    room: usize,
+    parts: Parts,
 }
 
 impl Model for ChunkList {
-    ghost use Rattle.gv_chunks.specs.Chunks.{Chunked, IsChunkList, joined};
+    ghost use Rattle.gv_chunks.specs.Chunks.{Chunked};
+    ghost use Rattle.gv_chunks.specs.Inside.{AreParts, items_of};
 
     ghost Value = { Chunked };
 
-    ghost view = { λ l. record { items = joined l.chunks.items; room = l.room } };
+    ghost view = { λ l. record { items = items_of l.parts; room = l.parts.room } };
 
-    ghost invariant = { λ l. IsChunkList l.chunks.items l.standing l.len l.room };
+    ghost invariant = { λ l. AreParts l.parts };
 }
 
 impl ChunkList {
     ghost use Rattle.std.specs.List.{splice};
-    ghost use Rattle.gv_chunks.specs.Chunks.{joined, AreFilled, IsKept};
+    ghost use Rattle.gv_chunks.specs.Chunks.{joined, AreFilled, AreStarts, AreFirsts, IsKept};
 
     /// A list of no mapping, which takes no memory.
     pub fn new(alloc: Global) -> ChunkList
@@ -40,33 +46,38 @@ impl ChunkList {
         ensures room { result.room ≡ 0 }
     {
         ChunkList {
-            chunks: Vec::new(alloc),
-            standing: 0,
-            len: 0,
-            room: 0,
+            parts: Parts::new(alloc),
         }
     }
 
     /// How many mappings it has.
+    #[inline(always)]
     pub fn len(&self) -> usize
         ensures { result ≡ length self.now.items }
     {
-        self.len
+        self.parts.len
     }
 
     /// For how many mappings it has room.
     pub fn room(&self) -> usize
         ensures { result ≡ self.now.room }
     {
-        self.room
+        self.parts.room
     }
 
     /// The chunks that stand.
-    pub fn chunks(&self) -> &[Vec<Mapping>]
-        ensures items { joined result.now ≡ self.now.items }
-        ensures filled { AreFilled result.now }
+    #[inline(always)]
+    pub fn chunks(&self) -> Standing<'_>
+        ensures items { joined result.chunks.now ≡ self.now.items }
+        ensures filled { AreFilled result.chunks.now }
+        ensures starts { AreStarts result.starts.now result.chunks.now }
+        ensures firsts { AreFirsts result.firsts.now result.chunks.now }
     {
-        &self.chunks[..self.standing]
+        Standing {
+            chunks: &self.parts.chunks[..self.parts.standing],
+            starts: &self.parts.starts,
+            firsts: &self.parts.firsts,
+        }
     }
 
     /// What the chunk of a place holds from the place on. Where the list ends before the place, nothing.
@@ -74,12 +85,11 @@ impl ChunkList {
         ensures value { result.now ≡ take (length result.now) (drop place self.now.items) }
         ensures some { place < length self.now.items → 0 < length result.now }
     {
-        if place >= self.len {
+        if place >= self.parts.len {
             return &[];
         }
-        let chunks = self.chunks();
-        let (chunk, behind) = place_in(chunks, place + 1);
-        piece_of(chunks, chunk, behind - 1)
+        let (chunk, start) = self.parts.spot(place);
+        piece_of(&self.parts.chunks, chunk, place - start)
     }
 
     /// The mapping at a place.
@@ -90,8 +100,8 @@ impl ChunkList {
         &self.piece(place)[0]
     }
 
-    /// Makes room for `more` mappings beside those in the list. Where the room has to grow it at
-    /// least doubles, or grows to what is needed where that is more. `OutOfMemory` where the system
+    /// Makes room for `more` mappings beside those in the list, and no more than that: chunks are
+    /// never moved, so it need not grow by leaps. `OutOfMemory` where the system
     /// refuses the memory, and only where that room was missing.
     pub fn reserve(&mut self, more: usize) -> Result<(), OutOfMemory>
         ensures kept { IsKept self.old self.new }
@@ -99,17 +109,13 @@ impl ChunkList {
         ensures err { OnErr result (self.old.room < length self.old.items + more) }
         ensures enough { length self.old.items + more ≤ self.old.room
             → self.new.room ≡ self.old.room }
-        ensures double_or_need { self.new.room
-            ≤ max (2 * self.old.room) (length self.old.items + more) }
+        ensures needed { self.new.room ≤ max self.old.room (length self.old.items + more) }
     {
-        if more <= self.room - self.len {
+        if more <= self.parts.room - self.parts.len {
             return Ok(());
         }
-        let need = self.len.checked_add(more).ok_or(OutOfMemory)?;
-        let wanted = need.max(self.room.saturating_mul(2));
-        add_chunks(&mut self.chunks, chunks_for(wanted))?;
-        self.room = wanted;
-        Ok(())
+        let need = self.parts.len.checked_add(more).ok_or(OutOfMemory)?;
+        self.parts.grow(need)
     }
 
     /// Replaces `out_count` mappings from `place` on by `pieces`. It takes no memory: the room has
@@ -124,8 +130,6 @@ impl ChunkList {
         if out_count == 0 && pieces.is_empty() {
             return;
         }
-        let used = replace_anywhere(&mut self.chunks, self.standing, place, out_count, pieces);
-        self.len = self.len - out_count + pieces.len();
-        self.standing = if self.len == 0 { 0 } else { used };
+        self.parts.replace(place, out_count, pieces);
     }
 }

@@ -1,16 +1,21 @@
 //! More chunks for a list.
-ghost use Rattle.std.specs.Prelude.{◌≡◌, ◌+◌, ◌*◌, ◌<◌, ◌≤◌, [], length, take, drop, vec_len, OnOk};
+ghost use Rattle.std.specs.Prelude.{◌≡◌, ◌+◌, ◌*◌, ◌<◌, ◌≤◌, [], length, take, drop, max, vec_len, OnOk};
 ghost use Rattle.gv_chunks.specs.Chunks.{joined, AreChunks};
 
 use crate::CHUNK;
 use gv_types::{Mapping, OutOfMemory};
 
-/// How many chunks a list needs that has room for `room` mappings: those that stand are filled by half or more on average, but for
-/// one, and an edit needs two that hold nothing.
+/// How many chunks a list needs that has room for `room` mappings: one where all fit into one. Else those that stand are filled by
+/// half or more on average, but for one, and an edit needs two that hold nothing.
 pub fn chunks_for(room: usize) -> usize
-    ensures enough { 2 * room + 3 * CHUNK ≤ CHUNK * result }
-    ensures least { CHUNK * result < 2 * room + 4 * CHUNK }
+    ensures some { 0 < result }
+    ensures one { room ≤ CHUNK → result ≡ 1 }
+    ensures enough { CHUNK < room → 2 * room + 3 * CHUNK ≤ CHUNK * result }
+    ensures least { CHUNK < room → CHUNK * result < 2 * room + 4 * CHUNK }
 {
+    if room <= CHUNK {
+        return 1;
+    }
     room.div_ceil(CHUNK / 2) + 3
 }
 
@@ -21,9 +26,10 @@ pub fn add_chunks(chunks: &mut Vec<Vec<Mapping>>, count: usize) -> Result<(), Ou
     ensures spare { joined (drop (length chunks.old.items) chunks.new.items) ≡ [] }
     ensures chunks { AreChunks chunks.old.items → AreChunks chunks.new.items }
     ensures ok { OnOk result (count ≤ length chunks.new.items) }
+    ensures at_most { length chunks.new.items ≤ max (length chunks.old.items) count }
 {
     let have = chunks.len();
-    chunks.reserve_exact(count.saturating_sub(have))?;
+    chunks.reserve(count.saturating_sub(have))?;
     let alloc = *chunks.allocator();
     for _ in have..count {
         chunks.push_reserved(Vec::with_capacity(alloc, CHUNK)?);

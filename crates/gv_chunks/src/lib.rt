@@ -3,17 +3,20 @@
 
 pub mod chunk_list;
 pub mod cut;
-pub mod edit;
+pub mod gap;
 pub mod grow;
+pub mod index;
 pub mod join;
 pub mod laws;
+pub mod parts;
+pub mod piece;
 pub mod put;
 pub mod replace;
 pub mod run;
 pub mod settle;
 pub mod walk;
 
-pub use chunk_list::ChunkList;
+pub use chunk_list::{ChunkList, Standing};
 
 /// How many mappings a chunk has room for.
 pub const CHUNK: usize = 128;

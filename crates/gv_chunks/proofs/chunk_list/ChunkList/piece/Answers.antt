@@ -1,8 +1,16 @@
-use Rattle.std.proofs.Common.{length, arith}
-use Rattle.gv_chunks.proofs.HeldLemmas.{some_piece}
+use Rattle.std.proofs.Common.{◌<◌, ◌≡◌, ◌+◌, ◌-◌, length, arith, vec_len, slice_index_or}
+use Rattle.std.specs.Global.{Vec}
+use Rattle.gv_types.specs.declared.mapping.Mapping.{Mapping}
+use Rattle.gv_chunks.specs.Inside.{items_of}
+use Rattle.gv_chunks.proofs.PartsLemmas.{some_of}
 use Rattle.gv_chunks.proofs.chunk_list.ChunkList.piece.Goals as goal
 
 pub returns-clause-some : goal.returns-clause-some
 returns-clause-some c inside =
-    some_piece c.chunks-chunks.result.now c.place_in-chunk.result.0 c.place_in-chunk.result.1 (length c.piece_of.result.now) (omega (arith, c.place_in-chunk.ensures.within)) (c.place_in-chunk.ensures.some (omega arith))
-    c.place_in-chunk.ensures.rest c.piece_of.ensures.len
+    let p = c.self.inside.parts in
+    let list = c.self.invariant.list in
+    let below : c.args.place < length (items_of p) = omega (arith, c.if-place-self.false, list.held) in
+    let some : 0 < length p.chunks.items = list.some (omega (arith, c.if-place-self.false, list.fits)) in
+    let d : Vec Mapping = some_of p.chunks.items some in
+    let len : (v : Vec Mapping) → length c.piece_of.result.now + (c.args.place - c.spot-chunk.result.1) ≡ vec_len (slice_index_or p.chunks.items c.spot-chunk.result.0 v) = rw c.deref.ensures.value at c.piece_of.ensures.len in
+    omega (arith, len d, c.spot-chunk.ensures.later d below, c.spot-chunk.ensures.begun)

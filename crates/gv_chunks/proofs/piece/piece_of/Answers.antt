@@ -3,7 +3,7 @@ use Rattle.std.proofs.lemmas.List.{take_rest}
 use Rattle.std.specs.Global.{Vec}
 use Rattle.gv_types.specs.declared.mapping.Mapping.{Mapping}
 use Rattle.gv_chunks.proofs.ChunkLemmas.{piece_at}
-use Rattle.gv_chunks.proofs.edit.piece_of.Goals as goal
+use Rattle.gv_chunks.proofs.piece.piece_of.Goals as goal
 
 pub returns-clause-value : goal.returns-clause-value
 returns-clause-value c =

@@ -1,0 +1,91 @@
+//! Where the chunks of a list begin.
+ghost use Rattle.std.specs.Prelude.{◌≡◌, ◌+◌, ◌<◌, ◌≤◌, ◌^◌, ℕ, length, take, slice_index_or, OnOk};
+ghost use Rattle.gv_chunks.specs.Chunks.{joined, AreFilled, AreStarts, AreFirsts};
+
+use gv_types::{Mapping, OutOfMemory};
+
+/// Puts copies of a value behind the items until there are `count`. Where the system refuses the memory nothing changes.
+pub fn pad<T: Copy>(items: &mut Vec<T>, count: usize, value: T) -> Result<(), OutOfMemory>
+    ensures kept { take (length items.old.items) items.new.items ≡ items.old.items }
+    ensures ok { OnOk result (count ≤ length items.new.items) }
+{
+    let have = items.len();
+    items.reserve(count.saturating_sub(have))?;
+    for _ in have..count {
+        items.push_reserved(value);
+    }
+    Ok(())
+}
+
+/// The last of the first `standing` numbers that is at most `place`. Each step halves what is left.
+pub fn last_at_most(starts: &[usize], standing: usize, place: usize) -> usize
+    requires some { 0 < standing }
+    requires within { standing ≤ length starts.now }
+    requires first { (d : ℕ) → slice_index_or starts.now 0 d ≤ place }
+    ensures within { result < standing }
+    ensures begun { (d : ℕ) → slice_index_or starts.now result d ≤ place }
+    ensures next { (d : ℕ) → result + 1 < standing → place < slice_index_or starts.now (result + 1) d }
+{
+    let mut low = 0;
+    let mut left = standing;
+    while left > 1 {
+        let half = left / 2;
+        if starts[low + half] <= place {
+            low += half;
+            left -= half;
+        } else {
+            left = half;
+        }
+    }
+    low
+}
+
+/// Moves the numbers from `from` up to `to` by what went out and what came in.
+pub fn shift(starts: &mut [usize], from: usize, to: usize, out_count: usize, in_count: usize)
+    requires within { to ≤ length starts.old }
+    requires out { (k d : ℕ) → from ≤ k → k < to → out_count ≤ slice_index_or starts.old k d }
+    requires fits { (k d : ℕ) → from ≤ k → k < to → slice_index_or starts.old k d + in_count < out_count + 2 ^ 64 }
+    ensures len { length starts.new ≡ length starts.old }
+    ensures moved { (k d : ℕ) → from ≤ k → k < to
+        → slice_index_or starts.new k d + out_count ≡ slice_index_or starts.old k d + in_count }
+    ensures before { (k d : ℕ) → k < from → slice_index_or starts.new k d ≡ slice_index_or starts.old k d }
+{
+    for k in from..to {
+        starts[k] = starts[k] - out_count + in_count;
+    }
+}
+
+/// Writes where the chunks begin, from the chunk `from` on. Where those before it begin is written already.
+pub fn write_index(chunks: &[Vec<Mapping>], starts: &mut [usize], firsts: &mut [u64], from: usize)
+    requires from { from ≤ length chunks.now }
+    requires filled { AreFilled chunks.now }
+    requires few { length (joined chunks.now) < 2 ^ 64 }
+    requires starts { AreStarts starts.old (take from chunks.now) }
+    requires firsts { AreFirsts firsts.old (take from chunks.now) }
+    requires starts_within { length chunks.now ≤ length starts.old }
+    requires firsts_within { length chunks.now ≤ length firsts.old }
+    ensures starts { AreStarts starts.new chunks.now }
+    ensures firsts { AreFirsts firsts.new chunks.now }
+    ensures starts_len { length starts.new ≡ length starts.old }
+    ensures firsts_len { length firsts.new ≡ length firsts.old }
+{
+    let mut start = end_of(chunks, starts, from);
+    for k in from..chunks.len() {
+        starts[k] = start;
+        firsts[k] = chunks[k][0].range.first();
+        start += chunks[k].len();
+    }
+}
+
+/// How many mappings stand before a chunk, told by the one before it.
+fn end_of(chunks: &[Vec<Mapping>], starts: &[usize], chunk: usize) -> usize
+    requires within { chunk ≤ length chunks.now }
+    requires few { length (joined chunks.now) < 2 ^ 64 }
+    requires starts { AreStarts starts.now (take chunk chunks.now) }
+    ensures { result ≡ length (joined (take chunk chunks.now)) }
+{
+    if chunk == 0 {
+        return 0;
+    }
+    starts[chunk - 1] + chunks[chunk - 1].len()
+}

@@ -1,0 +1,224 @@
+//! The parts of a list in chunks.
+ghost use Rattle.std.specs.Prelude.{◌≡◌, ◌+◌, ◌-◌, ◌*◌, ◌<◌, ◌≤◌, true, [], length, take, drop, max, slice_index_or, vec_len, OnOk, OnErr};
+ghost use Rattle.std.specs.List.{splice};
+ghost use Rattle.std.specs.Global.{Vec};
+ghost use Rattle.gv_types.specs.declared.mapping.Mapping.{Mapping};
+ghost use Rattle.gv_chunks.specs.Chunks.{joined};
+ghost use Rattle.gv_chunks.specs.Inside.{AreParts, IsSpot, IsEditable, IsEmptied, items_of};
+ghost use Rattle.gv_chunks.specs.declared.parts.Way.TheVariants.{Within, Emptied, Elsewhere};
+ghost use Rattle.gv_chunks.specs.declared.TheConstants.{CHUNK};
+
+use crate::CHUNK;
+use crate::gap::close;
+use crate::grow::{add_chunks, chunks_for};
+use crate::index::{last_at_most, pad, shift, write_index};
+use crate::replace::replace_run;
+use crate::run::replace_anywhere;
+use gv_types::{Mapping, OutOfMemory};
+use std::alloc::Global;
+
+/// How a run is replaced: within its chunk, which may be emptied by it, or over chunks.
+#[derive(Clone, Copy)]
+enum Way {
+    Within,
+    Emptied,
+    Elsewhere,
+}
+
+/// Whether so many chunks are few for the mappings: filled by half or more on average, but for one.
+fn are_few(standing: usize, count: usize) -> bool
+    ensures few { result ≡ true → CHUNK * standing ≤ 2 * count + CHUNK }
+    ensures one { standing ≤ 1 → result ≡ true }
+{
+    standing <= count / (CHUNK / 2) + 1
+}
+
+/// The chunks of a list, and where each begins: how many mappings stand before it, and at which page its first one begins. The
+/// first `standing` chunks hold all that the list has.
+#[derive(Debug, Drop)]
+pub struct Parts {
+    pub(crate) chunks: Vec<Vec<Mapping>>,
+    pub(crate) starts: Vec<usize>,
+    pub(crate) firsts: Vec<u64>,
+    pub(crate) standing: usize,
+    pub(crate) len: usize,
+    pub(crate) room: usize,
+}
+
+impl Parts {
+    /// No chunk.
+    pub fn new(alloc: Global) -> Parts
+        ensures items { items_of result ≡ [] }
+        ensures room { result.room ≡ 0 }
+        ensures parts { AreParts result }
+    {
+        Parts {
+            chunks: Vec::new(alloc),
+            starts: Vec::new(alloc),
+            firsts: Vec::new(alloc),
+            standing: 0,
+            len: 0,
+            room: 0,
+        }
+    }
+
+    /// Makes chunks and their places in the index for `room` mappings. Where the system refuses the memory the room stays.
+    pub fn grow(&mut self, room: usize) -> Result<(), OutOfMemory>
+        requires parts { AreParts self.old }
+        requires more { self.old.room ≤ room }
+        ensures items { items_of self.new ≡ items_of self.old }
+        ensures ok { OnOk result (self.new.room ≡ room) }
+        ensures err { OnErr result (self.new.room ≡ self.old.room) }
+        ensures parts { AreParts self.new }
+    {
+        let count = chunks_for(room);
+        pad(&mut self.starts, count, 0)?;
+        pad(&mut self.firsts, count, 0)?;
+        add_chunks(&mut self.chunks, count)?;
+        self.room = room;
+        Ok(())
+    }
+
+    /// The chunk of a place, and how many mappings stand before that chunk.
+    pub fn spot(&self, place: usize) -> (usize, usize)
+        requires parts { AreParts self.now }
+        requires within { place ≤ length (items_of self.now) }
+        ensures { IsSpot self.now place result.0 result.1 }
+    {
+        if self.standing == 0 {
+            return (0, 0);
+        }
+        let chunk = last_at_most(&self.starts, self.standing, place);
+        (chunk, self.starts[chunk])
+    }
+
+    /// How the run of `out_count` mappings from a place on is replaced by `in_count`.
+    fn way(
+        &self,
+        chunk: usize,
+        start: usize,
+        place: usize,
+        out_count: usize,
+        in_count: usize,
+    ) -> Way
+        requires parts { AreParts self.now }
+        requires spot { IsSpot self.now place chunk start }
+        requires within { place + out_count ≤ length (items_of self.now) }
+        requires room { self.now.len + in_count ≤ self.now.room + out_count }
+        requires change { 0 < out_count + in_count }
+        ensures within { result ≡ Within → IsEditable self.now chunk start place out_count in_count }
+        ensures emptied { result ≡ Emptied → IsEmptied self.now chunk start place out_count in_count }
+        ensures elsewhere { result ≡ Elsewhere → CHUNK < self.now.room }
+    {
+        // Tells that the room is a number of a machine.
+        let _room = self.room;
+        let held = self.chunks[chunk].len();
+        if place - start + out_count > held {
+            return Way::Elsewhere;
+        }
+        let now = held - out_count + in_count;
+        let after = self.len - out_count + in_count;
+        if now > CHUNK {
+            return Way::Elsewhere;
+        }
+        if now == 0 && are_few(self.standing - 1, after) {
+            return Way::Emptied;
+        }
+        if now > 0 && are_few(self.standing.max(1), after) {
+            return Way::Within;
+        }
+        Way::Elsewhere
+    }
+
+    /// Replaces `out_count` mappings from `place` on, which lie in the chunk, by pieces that fit into it.
+    fn edit(
+        &mut self,
+        chunk: usize,
+        start: usize,
+        place: usize,
+        out_count: usize,
+        pieces: &[Mapping],
+    )
+        requires parts { AreParts self.old }
+        requires editable { IsEditable self.old chunk start place out_count (length pieces.now) }
+        requires room { self.old.len + length pieces.now ≤ self.old.room + out_count }
+        ensures items { items_of self.new ≡ splice (items_of self.old) place (place + out_count) pieces.now }
+        ensures room { self.new.room ≡ self.old.room }
+        ensures parts { AreParts self.new }
+    {
+        replace_run(&mut self.chunks[chunk], place - start, out_count, pieces);
+        self.len = self.len - out_count + pieces.len();
+        self.standing = self.standing.max(1);
+        self.starts[chunk] = start;
+        self.firsts[chunk] = self.chunks[chunk][0].range.first();
+        shift(
+            &mut self.starts,
+            chunk + 1,
+            self.standing,
+            out_count,
+            pieces.len(),
+        );
+    }
+
+    /// Takes out all that a chunk holds, and with it the chunk.
+    fn remove(&mut self, chunk: usize, start: usize, place: usize, out_count: usize)
+        requires parts { AreParts self.old }
+        requires emptied { IsEmptied self.old chunk start place out_count 0 }
+        ensures items { items_of self.new ≡ splice (items_of self.old) place (place + out_count) [] }
+        ensures room { self.new.room ≡ self.old.room }
+        ensures parts { AreParts self.new }
+    {
+        // Tells that the list's length is a number of a machine.
+        let _len = self.len;
+        close(&mut self.chunks, self.standing, chunk);
+        self.standing -= 1;
+        self.len -= out_count;
+        write_index(
+            &self.chunks[..self.standing],
+            &mut self.starts,
+            &mut self.firsts,
+            chunk,
+        );
+    }
+
+    /// Replaces `out_count` mappings from `place` on by the pieces, wherever they lie. All chunks are gone through.
+    #[cold]
+    #[inline(never)]
+    fn replace_all(&mut self, place: usize, out_count: usize, pieces: &[Mapping])
+        requires parts { AreParts self.old }
+        requires within { place + out_count ≤ length (items_of self.old) }
+        requires long { CHUNK < self.old.room }
+        requires room { self.old.len + length pieces.now ≤ self.old.room + out_count }
+        ensures items { items_of self.new ≡ splice (items_of self.old) place (place + out_count) pieces.now }
+        ensures room { self.new.room ≡ self.old.room }
+        ensures parts { AreParts self.new }
+    {
+        let used = replace_anywhere(&mut self.chunks, self.standing, place, out_count, pieces);
+        self.len = self.len - out_count + pieces.len();
+        self.standing = if self.len == 0 { 0 } else { used };
+        write_index(
+            &self.chunks[..self.standing],
+            &mut self.starts,
+            &mut self.firsts,
+            0,
+        );
+    }
+
+    /// Replaces `out_count` mappings from `place` on by the pieces: in their chunk, where they lie in one and fit.
+    pub fn replace(&mut self, place: usize, out_count: usize, pieces: &[Mapping])
+        requires parts { AreParts self.old }
+        requires within { place + out_count ≤ length (items_of self.old) }
+        requires room { self.old.len + length pieces.now ≤ self.old.room + out_count }
+        requires change { 0 < out_count + length pieces.now }
+        ensures items { items_of self.new ≡ splice (items_of self.old) place (place + out_count) pieces.now }
+        ensures room { self.new.room ≡ self.old.room }
+        ensures parts { AreParts self.new }
+    {
+        let (chunk, start) = self.spot(place);
+        match self.way(chunk, start, place, out_count, pieces.len()) {
+            Way::Within => self.edit(chunk, start, place, out_count, pieces),
+            Way::Emptied => self.remove(chunk, start, place, out_count),
+            Way::Elsewhere => self.replace_all(place, out_count, pieces),
+        }
+    }
+}
