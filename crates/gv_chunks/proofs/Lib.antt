@@ -8,3 +8,4 @@ pub mod PutLemmas
 pub mod RunLemmas
 pub mod IndexLemmas
 pub mod PartsLemmas
+pub mod GapLemmas

@@ -2,7 +2,7 @@
 use Rattle.std.proofs.Common.{◌≡◌, ℕ, ◌+◌, ◌-◌, ◌*◌, ◌<◌, ◌≤◌, max, List, [], ◌∷◌, ◌++◌, length, take, drop, slice_index_or, slice_set, vec_len, vec_capacity, ◌⊎◌, inl, inr, arith, refl, ◌∙◌, ap, sym}
 use Rattle.std.proofs.Math.ListN.{length-set}
 use Rattle.std.proofs.lemmas.Bool.{cases_lt}
-use Rattle.std.proofs.lemmas.List.{take-take, take-set-le, drop-set-lt, length-take, length-take-le, get_or-take, get_or-set_same, get_or-set_other, take_at}
+use Rattle.std.proofs.lemmas.List.{take-take, take-set-le, drop-set-lt, length-take, length-take-le, length-drop, get_or-take, get_or-set_same, get_or-set_other, take_at}
 use Rattle.std.proofs.lemmas.List.Elements.{All-append, All-take, All-drop}
 use Rattle.std.specs.Global.{Vec}
 use Rattle.std.specs.List.{splice}
@@ -299,3 +299,54 @@ module _ (xs zs : List (Vec Mapping)) (s chunk start out count room : ℕ) (d : 
 pub some_of : (xs : List (Vec Mapping)) → 0 < length xs → Vec Mapping
 some_of [] some = absurd (omega (arith, some))
 some_of (x ∷ xs) some = x
+
+-- a chunk divided into two
+module _ (xs zs : List (Vec Mapping)) (s chunk left count room : ℕ) (was : IsChunkList xs s count room) (below : chunk < s) (more : s < length xs) (same : length zs ≡ length xs)
+    (front : take chunk zs ≡ take chunk xs) where
+  opened_front : take chunk (take (s + 1) zs) ≡ take chunk (take s xs)
+  opened_front = take-take chunk (s + 1) zs (omega arith) ∙ (front ∙ sym (take-take chunk s xs (omega arith)))
+
+  pub opened_firsts : (firsts : List ℕ) → AreFirsts firsts (take s xs) → AreFirsts firsts (take chunk (take (s + 1) zs))
+  opened_firsts firsts are = rw opened_front (firsts_front (take s xs) chunk firsts are)
+
+  opened_before : (k : ℕ) (d : Vec Mapping) → k < chunk → 0 < vec_len (slice_index_or zs k d)
+  opened_before k d earlier =
+      let at : slice_index_or zs k d ≡ slice_index_or (take s xs) k d =
+      sym (get_or-take chunk zs k d earlier) ∙ (ap (λ ys. slice_index_or ys k d) front ∙ (get_or-take chunk xs k d earlier ∙ sym (get_or-take s xs k d (omega arith)))) in
+      rw at (was.filled k d (omega (arith, earlier, length-take-le s xs was.within)))
+
+  opened_later : (k : ℕ) (d : Vec Mapping) → chunk + 1 < k → k ≤ s → slice_index_or zs k d ≡ slice_index_or xs (k - 1) d → 0 < vec_len (slice_index_or zs k d)
+  opened_later k d past upto at = rw (at, ← get_or-take s xs (k - 1) d (omega arith)) (was.filled (k - 1) d (omega (arith, upto, past, length-take-le s xs was.within)))
+
+  pub opened_list : joined zs ≡ joined xs → ((d : Vec Mapping) → (slice_index_or zs chunk d).items ≡ take left (slice_index_or xs chunk d).items) →
+      ((d : Vec Mapping) → (slice_index_or zs (chunk + 1) d).items ≡ drop left (slice_index_or xs chunk d).items) →
+      ((k : ℕ) (d : Vec Mapping) → chunk + 1 < k → k ≤ s → slice_index_or zs k d ≡ slice_index_or xs (k - 1) d) → joined (drop (s + 1) zs) ≡ [] → 0 < left →
+      ((d : Vec Mapping) → left < vec_len (slice_index_or xs chunk d)) → AreChunks zs → CHUNK * (s + 1) ≤ 2 * count + CHUNK → CHUNK < room → IsChunkList zs (s + 1) count room
+  opened_list items first second later none some_left some_rest chunked few long = record {
+    within = omega (arith, more, same);
+    spare = none;
+    chunked = chunked;
+    held = was.held ∙ ap length (sym items);
+    few = few;
+    filled = λ k d inside.
+        let low : k < s + 1 = omega (arith, inside, length-take (s + 1) zs) in
+        let among : slice_index_or (take (s + 1) zs) k d ≡ slice_index_or zs k d = get_or-take (s + 1) zs k d low in
+        rw among (elim (cases_lt k chunk) [
+          | inl earlier ↦ opened_before k d earlier
+          | inr from ↦ elim (cases_lt (chunk + 1) k) [
+            | inl past ↦ opened_later k d past (omega arith) (later k d past (omega arith))
+            | inr near ↦ elim (cases_lt chunk k) [
+              | inl next ↦
+                  let at : k ≡ chunk + 1 = omega arith in
+                  rw at (omega (arith, (slice_index_or zs (chunk + 1) d).ok, ap length (second d), length-drop left (slice_index_or xs chunk d).items, some_rest d, (slice_index_or xs chunk d).ok))
+              | inr here ↦
+                  let at : k ≡ chunk = omega arith in
+                  rw at (omega (arith, (slice_index_or zs chunk d).ok, ap length (first d), length-take left (slice_index_or xs chunk d).items, some_rest d, some_left, (slice_index_or xs chunk d).ok))
+            ]
+          ]
+        ]);
+    fits = was.fits;
+    some = λ some. omega (arith, same, was.some some);
+    short = λ low. absurd (omega (arith, low, long));
+    enough = λ _. omega (arith, same, was.enough long);
+  }

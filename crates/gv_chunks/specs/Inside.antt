@@ -64,3 +64,10 @@ pub record IsEmptied (p : Parts) (chunk start place out_count in_count : ℕ) : 
   pub all : (d : Vec Mapping) → out_count ≡ vec_len (slice_index_or p.chunks.items chunk d)
   pub none : in_count ≡ 0
   pub few : CHUNK * (p.standing - 1) ≤ 2 * (p.len - out_count) + CHUNK
+
+-- a chunk of a long list may be divided: it holds enough for two, and one more is still few
+pub record IsDivisible (p : Parts) (chunk : ℕ) : Type 0 where
+  pub standing : chunk < p.standing
+  pub holds : (d : Vec Mapping) → 2 < vec_len (slice_index_or p.chunks.items chunk d)
+  pub long : CHUNK < p.room
+  pub few : CHUNK * (p.standing + 1) ≤ 2 * p.len + CHUNK

@@ -1,5 +1,5 @@
 //! A list of chunks cut at a place, and chunks filled.
-ghost use Rattle.std.specs.Prelude.{◌≡◌, ◌+◌, ◌-◌, ◌*◌, ◌<◌, ◌≤◌, [], length, take, drop, slice_index_or, vec_len};
+ghost use Rattle.std.specs.Prelude.{◌≡◌, ◌+◌, ◌-◌, ◌*◌, ◌<◌, ◌≤◌, ℕ, [], length, take, drop, slice_index_or, vec_len};
 ghost use Rattle.std.specs.Global.{Vec};
 ghost use Rattle.gv_types.specs.declared.mapping.Mapping.{Mapping};
 ghost use Rattle.gv_chunks.specs.Chunks.{joined, AreChunks};
@@ -29,7 +29,7 @@ pub fn cut(chunks: &mut [Vec<Mapping>], place: usize) -> usize
 }
 
 /// Moves what a chunk holds from `left` on into the last chunk, which holds nothing, and puts that behind it.
-fn divide(chunks: &mut [Vec<Mapping>], chunk: usize, left: usize)
+pub fn divide(chunks: &mut [Vec<Mapping>], chunk: usize, left: usize)
     requires within { chunk + 1 < length chunks.old }
     requires spare { joined (drop (length chunks.old - 1) chunks.old) ≡ [] }
     requires left { (d : Vec Mapping) → left ≤ vec_len (slice_index_or chunks.old chunk d) }
@@ -38,6 +38,11 @@ fn divide(chunks: &mut [Vec<Mapping>], chunk: usize, left: usize)
         ≡ take (length (joined (take chunk chunks.old)) + left) (joined chunks.old) }
     ensures behind { joined (drop (chunk + 1) chunks.new)
         ≡ drop (length (joined (take chunk chunks.old)) + left) (joined chunks.old) }
+    ensures front { take chunk chunks.new ≡ take chunk chunks.old }
+    ensures first { (d : Vec Mapping) → (slice_index_or chunks.new chunk d).items ≡ take left (slice_index_or chunks.old chunk d).items }
+    ensures second { (d : Vec Mapping) → (slice_index_or chunks.new (chunk + 1) d).items ≡ drop left (slice_index_or chunks.old chunk d).items }
+    ensures later { (k : ℕ) (d : Vec Mapping) → chunk + 1 < k → k < length chunks.old
+        → slice_index_or chunks.new k d ≡ slice_index_or chunks.old (k - 1) d }
     ensures chunks { AreChunks chunks.new }
 {
     let (front, back) = chunks.split_at_mut(chunk + 1);

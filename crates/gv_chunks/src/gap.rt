@@ -1,7 +1,11 @@
 //! A chunk of a list taken out of the row of chunks, or put into it.
 ghost use Rattle.std.specs.Prelude.{◌≡◌, ◌+◌, ◌-◌, ◌<◌, ◌≤◌, ◌++◌, [], length, take, drop};
+ghost use Rattle.std.specs.Prelude.{ℕ, slice_index_or, vec_len};
+ghost use Rattle.std.specs.Global.{Vec};
+ghost use Rattle.gv_types.specs.declared.mapping.Mapping.{Mapping};
 ghost use Rattle.gv_chunks.specs.Chunks.{joined, AreChunks};
 
+use crate::cut::divide;
 use gv_types::Mapping;
 
 /// Empties a chunk. It comes to stand behind all others.
@@ -30,4 +34,25 @@ pub fn close(chunks: &mut [Vec<Mapping>], standing: usize, chunk: usize)
 {
     let (used, _) = chunks.split_at_mut(standing);
     turn_out(used, chunk);
+}
+
+/// Moves what one of the first `standing` chunks holds from `left` on into a chunk of its own behind it. Those behind the first
+/// `standing` hold nothing, and there is one.
+pub fn open(chunks: &mut [Vec<Mapping>], standing: usize, chunk: usize, left: usize)
+    requires chunk { chunk < standing }
+    requires within { standing < length chunks.old }
+    requires spare { joined (drop standing chunks.old) ≡ [] }
+    requires left { (d : Vec Mapping) → left ≤ vec_len (slice_index_or chunks.old chunk d) }
+    requires chunks { AreChunks chunks.old }
+    ensures items { joined chunks.new ≡ joined chunks.old }
+    ensures front { take chunk chunks.new ≡ take chunk chunks.old }
+    ensures first { (d : Vec Mapping) → (slice_index_or chunks.new chunk d).items ≡ take left (slice_index_or chunks.old chunk d).items }
+    ensures second { (d : Vec Mapping) → (slice_index_or chunks.new (chunk + 1) d).items ≡ drop left (slice_index_or chunks.old chunk d).items }
+    ensures later { (k : ℕ) (d : Vec Mapping) → chunk + 1 < k → k ≤ standing
+        → slice_index_or chunks.new k d ≡ slice_index_or chunks.old (k - 1) d }
+    ensures spare { joined (drop (standing + 1) chunks.new) ≡ [] }
+    ensures chunks { AreChunks chunks.new }
+{
+    let (used, _) = chunks.split_at_mut(standing + 1);
+    divide(used, chunk, left);
 }

@@ -4,12 +4,12 @@ ghost use Rattle.std.specs.List.{splice};
 ghost use Rattle.std.specs.Global.{Vec};
 ghost use Rattle.gv_types.specs.declared.mapping.Mapping.{Mapping};
 ghost use Rattle.gv_chunks.specs.Chunks.{joined};
-ghost use Rattle.gv_chunks.specs.Inside.{AreParts, IsSpot, IsEditable, IsEmptied, items_of};
+ghost use Rattle.gv_chunks.specs.Inside.{AreParts, IsDivisible, IsSpot, IsEditable, IsEmptied, items_of};
 ghost use Rattle.gv_chunks.specs.declared.parts.Way.TheVariants.{Within, Emptied, Elsewhere};
 ghost use Rattle.gv_chunks.specs.declared.TheConstants.{CHUNK};
 
 use crate::CHUNK;
-use crate::gap::close;
+use crate::gap::{close, open};
 use crate::grow::{add_chunks, chunks_for};
 use crate::index::{last_at_most, pad, shift, write_index};
 use crate::replace::replace_run;
@@ -204,8 +204,30 @@ impl Parts {
         );
     }
 
+    /// Divides a chunk into two. The first has one more than half: so a list that only grows at its end stays few.
+    fn divide(&mut self, chunk: usize)
+        requires parts { AreParts self.old }
+        requires divisible { IsDivisible self.old chunk }
+        ensures items { items_of self.new ≡ items_of self.old }
+        ensures len { self.new.len ≡ self.old.len }
+        ensures room { self.new.room ≡ self.old.room }
+        ensures parts { AreParts self.new }
+    {
+        // Tells that the list's length is a number of a machine.
+        let _len = self.len;
+        let left = self.chunks[chunk].len() / 2 + 1;
+        open(&mut self.chunks, self.standing, chunk, left);
+        self.standing += 1;
+        write_index(
+            &self.chunks[..self.standing],
+            &mut self.starts,
+            &mut self.firsts,
+            chunk,
+        );
+    }
+
     /// Replaces `out_count` mappings from `place` on by the pieces: in their chunk, where they lie in one and fit.
-    pub fn replace(&mut self, place: usize, out_count: usize, pieces: &[Mapping])
+    fn replace_one(&mut self, place: usize, out_count: usize, pieces: &[Mapping])
         requires parts { AreParts self.old }
         requires within { place + out_count ≤ length (items_of self.old) }
         requires room { self.old.len + length pieces.now ≤ self.old.room + out_count }
@@ -219,6 +241,93 @@ impl Parts {
             Way::Within => self.edit(chunk, start, place, out_count, pieces),
             Way::Emptied => self.remove(chunk, start, place, out_count),
             Way::Elsewhere => self.replace_all(place, out_count, pieces),
+        }
+    }
+
+    /// Replaces a run of which `beyond` mappings lie beyond the chunk in which it begins: first these go.
+    fn replace_across(&mut self, place: usize, out_count: usize, beyond: usize, pieces: &[Mapping])
+        requires parts { AreParts self.old }
+        requires beyond { 0 < beyond }
+        requires less { beyond < out_count }
+        requires within { place + out_count ≤ length (items_of self.old) }
+        requires room { self.old.len + length pieces.now ≤ self.old.room + out_count }
+        ensures items { items_of self.new ≡ splice (items_of self.old) place (place + out_count) pieces.now }
+        ensures room { self.new.room ≡ self.old.room }
+        ensures parts { AreParts self.new }
+    {
+        let here = out_count - beyond;
+        self.replace_one(place + here, beyond, &[]);
+        self.replace_one(place, here, pieces);
+    }
+
+    /// Divides a chunk where that is few, and two chunks have room for so many more.
+    fn make_place(&mut self, chunk: usize, more: usize)
+        requires parts { AreParts self.old }
+        requires long { CHUNK < self.old.room }
+        ensures items { items_of self.new ≡ items_of self.old }
+        ensures len { self.new.len ≡ self.old.len }
+        ensures room { self.new.room ≡ self.old.room }
+        ensures parts { AreParts self.new }
+    {
+        if more <= CHUNK / 2
+            && chunk < self.standing
+            && self.chunks[chunk].len() > 2
+            && are_few(self.standing + 1, self.len)
+        {
+            self.divide(chunk);
+        }
+    }
+
+    /// Replaces a run that does not lie in one chunk, or for which more comes in than the chunk has room for.
+    #[cold]
+    #[inline(never)]
+    fn replace_elsewhere(
+        &mut self,
+        chunk: usize,
+        end: usize,
+        place: usize,
+        out_count: usize,
+        pieces: &[Mapping],
+    )
+        requires parts { AreParts self.old }
+        requires long { CHUNK < self.old.room }
+        requires within { place + out_count ≤ length (items_of self.old) }
+        requires room { self.old.len + length pieces.now ≤ self.old.room + out_count }
+        requires change { 0 < out_count + length pieces.now }
+        ensures items { items_of self.new ≡ splice (items_of self.old) place (place + out_count) pieces.now }
+        ensures room { self.new.room ≡ self.old.room }
+        ensures parts { AreParts self.new }
+    {
+        let beyond = out_count.saturating_sub(end.saturating_sub(place));
+        if 0 < beyond && beyond < out_count {
+            self.replace_across(place, out_count, beyond, pieces);
+            return;
+        }
+        self.make_place(chunk, pieces.len());
+        self.replace_one(place, out_count, pieces);
+    }
+
+    /// Replaces `out_count` mappings from `place` on by the pieces. In most lists of most sizes they lie in one chunk, and what
+    /// comes in fits into it.
+    pub fn replace(&mut self, place: usize, out_count: usize, pieces: &[Mapping])
+        requires parts { AreParts self.old }
+        requires within { place + out_count ≤ length (items_of self.old) }
+        requires room { self.old.len + length pieces.now ≤ self.old.room + out_count }
+        requires change { 0 < out_count + length pieces.now }
+        ensures items { items_of self.new ≡ splice (items_of self.old) place (place + out_count) pieces.now }
+        ensures room { self.new.room ≡ self.old.room }
+        ensures parts { AreParts self.new }
+    {
+        let (chunk, start) = self.spot(place);
+        match self.way(chunk, start, place, out_count, pieces.len()) {
+            Way::Within => self.edit(chunk, start, place, out_count, pieces),
+            Way::Emptied => self.remove(chunk, start, place, out_count),
+            Way::Elsewhere => {
+                // Tells that the list's length is a number of a machine.
+                let _len = self.len;
+                let end = start + self.chunks[chunk].len();
+                self.replace_elsewhere(chunk, end, place, out_count, pieces);
+            }
         }
     }
 }

@@ -1,10 +1,11 @@
 use Rattle.std.proofs.Common.{◌≡◌, ℕ, ◌+◌, ◌-◌, ◌∙◌, ◌<◌, ◌≤◌, ◌++◌, [], List, ap, sym, take, drop, arith, vec_len, vec_capacity, length, slice_index_or, slice_set}
-use Rattle.std.proofs.lemmas.List.{length-set, length-drop, length-take, get_or-take, take_rest}
+use Rattle.std.proofs.lemmas.List.{length-set, length-drop, length-take, get_or-take, get_or_default, take-take, take_rest}
 use Rattle.std.specs.Global.{Vec}
 use Rattle.gv_types.specs.declared.mapping.Mapping.{Mapping}
 use Rattle.gv_chunks.specs.Chunks.{joined, AreChunks}
 use Rattle.gv_chunks.specs.declared.TheConstants.{CHUNK}
 use Rattle.gv_chunks.proofs.ChunkLemmas.{taken_chunks, dropped_chunks, appended_chunks, changed_chunks, turned_chunks, cut_front, cut_back, turned_joined, turned_first, spare_behind}
+use Rattle.gv_chunks.proofs.GapLemmas.{divided_front, divided_first, divided_second, divided_later}
 use Rattle.gv_chunks.proofs.cut.divide.Goals as goal
 
 -- the rest of a chunk fits into one that holds nothing
@@ -56,10 +57,21 @@ returns c =
     let moved : c.append.new.items.items ≡ (slice_index_or c.rotate_right.new.self 0 c.index-back-0.result).items
     ++ drop c.args.left (slice_index_or c.split_at_mut-front.result.0.now c.args.chunk c.index-front-chunk.result).items =
     c.append.ensures.items ∙ ap (λ ms. (slice_index_or c.rotate_right.new.self 0 c.index-back-0.result).items ++ ms) (take_rest c.deref.result.now c.args.left ∙ ap (drop c.args.left) c.deref.ensures.value) in
+    let f : List (Vec Mapping) = c.split_at_mut-front.result.0.now in
+    let b : List (Vec Mapping) = c.split_at_mut-front.result.1.now in
+    let r : List (Vec Mapping) = c.rotate_right.new.self in
+    let w : Vec Mapping = c.truncate.new.self in
+    let v : Vec Mapping = c.append.new.items in
+    let held : (d : Vec Mapping) → (slice_index_or f c.args.chunk c.index-front-chunk.result).items ≡ (slice_index_or c.args.chunks.now c.args.chunk d).items =
+    λ d. ap (λ (u : Vec Mapping). u.items) (at ∙ get_or_default c.args.chunks.now c.args.chunk c.index-front-chunk.result d (omega arith)) in
     record {
       before = rw c.split_at_mut-front.ensures.value (cut_front c.split_at_mut-front.result.0.now c.split_at_mut-front.result.1.now (slice_set c.rotate_right.new.self 0 c.append.new.items) c.args.chunk c.args.left c.index-front-chunk.result c.truncate.new.self size fits c.truncate.ensures.items);
       behind = rw c.split_at_mut-front.ensures.value (cut_back c.split_at_mut-front.result.0.now c.split_at_mut-front.result.1.now c.rotate_right.new.self (slice_set c.split_at_mut-front.result.0.now c.args.chunk c.truncate.new.self) c.args.chunk c.args.left c.index-front-chunk.result c.index-back-0.result c.append.new.items size
           (omega (arith, length-set c.split_at_mut-front.result.0.now c.args.chunk c.truncate.new.self)) fits in_back same none moved);
+      front = divided_front f b r c.args.chunk w v size some_left c.rotate_right.ensures.after ∙ (ap (take c.args.chunk) c.split_at_mut-front.ensures.front ∙ take-take c.args.chunk (c.args.chunk + 1) c.args.chunks.now (omega arith));
+      first = λ d. rw (divided_first f b r c.args.chunk w v size some_left c.rotate_right.ensures.after d) (c.truncate.ensures.items ∙ ap (take c.args.left) (held d));
+      second = λ d. rw (divided_second f b r c.args.chunk w v size some_left c.rotate_right.ensures.after d) (moved ∙ (ap (λ ms. ms ++ drop c.args.left (slice_index_or f c.args.chunk c.index-front-chunk.result).items) none ∙ ap (drop c.args.left) (held d)));
+      later = λ k d past below. divided_later f b r c.args.chunk w v size some_left c.rotate_right.ensures.after k d past (omega (arith, below, size, c.split_at_mut-front.ensures.back_len)) ∙ ap (λ xs. slice_index_or xs (k - 1) d) (sym c.split_at_mut-front.ensures.value);
       chunks = appended_chunks (slice_set c.split_at_mut-front.result.0.now c.args.chunk c.truncate.new.self) (slice_set c.rotate_right.new.self 0 c.append.new.items)
           (changed_chunks c.split_at_mut-front.result.0.now c.args.chunk c.truncate.new.self source front) (changed_chunks c.rotate_right.new.self 0 c.append.new.items target turned);
     }
