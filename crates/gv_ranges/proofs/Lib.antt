@@ -1,6 +1,7 @@
 pub mod PartLemmas
 pub mod LookupLemmas
 pub mod Places
+pub mod Firsts
 pub mod JoinedLemmas
 pub mod ClipLemmas
 pub mod KeptLemmas
