@@ -16,7 +16,7 @@ use crate::spare::needed_in;
 use crate::spares::Spares;
 use crate::table_counts::TableCounts;
 use crate::walk::walk_tree;
-use gv_ranges::RangeList;
+use gv_ranges::{RangeList, Reader};
 use gv_types::{Entry, Fault, Mapping, PageRange, SPACE_PAGES};
 use std::alloc::Global;
 
@@ -79,9 +79,10 @@ impl PageTable {
         ensures err { IfErr result (λ fault. fault ≡ OutOfMemory) }
         ensures some_needed { OnErr result (0 < needed_for pieces.now range self.now) }
     {
-        let place = advance(pieces, 0, range.first());
+        let pieces = Reader::of_slice(pieces);
+        let place = advance(&pieces, 0, range.first());
         let mut spares = Spares::new();
-        for _ in 0..needed_in(&self.root, TOP_LEVEL, 0, pieces, range, place) {
+        for _ in 0..needed_in(&self.root, TOP_LEVEL, 0, &pieces, range, place) {
             spares.grow(alloc)?;
         }
         Ok(spares)
@@ -111,13 +112,13 @@ impl PageTable {
         ensures owed { (ms : List Mapping) → IsLaidOut ms → IsTree ms self.old
             → gained_by ms self.new ≡ result }
     {
-        let mappings = list.mappings();
-        let place = advance(mappings, place, range.first());
+        let mappings = Reader::of_list(list, place);
+        let place = advance(&mappings, place, range.first());
         paint_slot(
             &mut self.root,
             TOP_LEVEL,
             0,
-            mappings,
+            &mappings,
             range,
             place,
             spares,

@@ -10,11 +10,12 @@ ghost use Rattle.gv_table.specs.Tree.{IsTreeOf, IsTreeOutside};
 use crate::levels::{SLOTS, slots_met};
 use crate::place::advance;
 use crate::slot::Slot;
-use gv_types::{Mapping, PageRange};
+use gv_ranges::Reader;
+use gv_types::PageRange;
 
 /// The slot of a page, given the place of the first mapping that ends past it.
 #[inline(always)]
-fn page_slot(mappings: &[Mapping], place: usize, page: u64) -> Slot
+fn page_slot(mappings: &Reader<'_>, place: usize, page: u64) -> Slot
     requires laid_out { IsLaidOut mappings.now }
     requires place { IsPlaceOf mappings.now page place }
     ensures { IsTreeOf mappings.now 0 page result }
@@ -22,7 +23,7 @@ fn page_slot(mappings: &[Mapping], place: usize, page: u64) -> Slot
     if place == mappings.len() {
         return Slot::Empty;
     }
-    let m = &mappings[place];
+    let m = mappings.get(place);
     if page < m.range.first() {
         return Slot::Empty;
     }
@@ -34,7 +35,7 @@ fn page_slot(mappings: &[Mapping], place: usize, page: u64) -> Slot
 pub fn paint_pages(
     slots: &mut [Slot; SLOTS],
     first: u64,
-    mappings: &[Mapping],
+    mappings: &Reader<'_>,
     range: PageRange,
     place: usize,
 )

@@ -24,7 +24,8 @@ use crate::slot::{Slot, overwrite};
 use crate::spares::Spares;
 use crate::table_counts::TableCounts;
 use crate::wanted::{Wanted, slot_wanted};
-use gv_types::{Entry, Mapping, PageRange};
+use gv_ranges::Reader;
+use gv_types::{Entry, PageRange};
 
 /// Makes the slots the parts of a leaf, each of `pages` pages.
 fn spread(slots: &mut [Slot; SLOTS], entry: &Entry, pages: u64)
@@ -104,7 +105,7 @@ pub fn paint_slot(
     slot: &mut Slot,
     level: usize,
     first: u64,
-    mappings: &[Mapping],
+    mappings: &Reader<'_>,
     range: PageRange,
     place: usize,
     spares: &mut Spares,
@@ -139,7 +140,7 @@ pub fn paint_slot(
                     slots,
                     level - 1,
                     first,
-                    mappings,
+                    &mappings.near(place),
                     range,
                     place,
                     spares,
@@ -157,7 +158,7 @@ fn paint_row(
     slots: &mut [Slot; SLOTS],
     level: usize,
     first: u64,
-    mappings: &[Mapping],
+    mappings: &Reader<'_>,
     range: PageRange,
     place: usize,
     spares: &mut Spares,

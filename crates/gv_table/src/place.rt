@@ -7,17 +7,18 @@ ghost use Rattle.gv_table.specs.Levels.{top_level, slot_pages, entered};
 ghost use Rattle.gv_table.specs.Reads.{IsReadBy, EndsBefore, IsNeighbour};
 
 use crate::levels::pages_of;
+use gv_ranges::Reader;
 use gv_types::{Mapping, PageRange};
 
 /// The place of the first mapping that ends past the page, given a place that is not behind it. It looks at the mappings
 /// from there on, one after another.
-pub fn advance(mappings: &[Mapping], place: usize, page: u64) -> usize
+pub fn advance(mappings: &Reader<'_>, place: usize, page: u64) -> usize
     requires laid_out { IsLaidOut mappings.now }
     requires ended { AreEnded mappings.now page place }
     ensures { IsPlaceOf mappings.now page result }
 {
     let mut place = place;
-    while place < mappings.len() && mappings[place].range.end() <= page {
+    while place < mappings.len() && mappings.get(place).range.end() <= page {
         place += 1;
     }
     place
@@ -25,7 +26,7 @@ pub fn advance(mappings: &[Mapping], place: usize, page: u64) -> usize
 
 /// The mapping before the place, where it reaches into a slot that begins before the range.
 fn neighbour<'a>(
-    mappings: &'a [Mapping],
+    mappings: &Reader<'a>,
     range: PageRange,
     place: usize,
     first: u64,
@@ -37,7 +38,7 @@ fn neighbour<'a>(
     if place == 0 || range.first() <= first {
         return None;
     }
-    let m = &mappings[place - 1];
+    let m = mappings.get(place - 1);
     if m.range.end() <= first {
         return None;
     }
@@ -47,7 +48,7 @@ fn neighbour<'a>(
 /// A mapping that meets the pages of a slot which meets the range, if one does: it decides what the list says of them.
 /// The place is that of the first mapping which ends past the slot's first page in the range.
 pub fn met_by<'a>(
-    mappings: &'a [Mapping],
+    mappings: &Reader<'a>,
     range: PageRange,
     place: usize,
     level: usize,
@@ -67,7 +68,7 @@ pub fn met_by<'a>(
     if place == mappings.len() {
         return None;
     }
-    let m = &mappings[place];
+    let m = mappings.get(place);
     if first + pages_of(level) <= m.range.first() {
         return None;
     }

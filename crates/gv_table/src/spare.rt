@@ -13,7 +13,8 @@ use crate::levels::{pages_of, slots_met};
 use crate::place::advance;
 use crate::slot::Slot;
 use crate::wanted::{Wanted, slot_wanted};
-use gv_types::{Mapping, PageRange};
+use gv_ranges::Reader;
+use gv_types::PageRange;
 
 /// A slot of the slot's table, or an empty one.
 fn child_of<'a>(slot: &'a Slot, index: usize, empty: &'a Slot) -> &'a Slot
@@ -39,7 +40,7 @@ fn one_if_not_table(slot: &Slot) -> u64
 
 /// Whether a slot may have to be a table, where a list will have the pieces in the range.
 fn may_be_table(
-    pieces: &[Mapping],
+    pieces: &Reader<'_>,
     range: PageRange,
     place: usize,
     level: usize,
@@ -73,7 +74,7 @@ pub fn needed_in(
     slot: &Slot,
     level: usize,
     first: u64,
-    pieces: &[Mapping],
+    pieces: &Reader<'_>,
     range: PageRange,
     place: usize,
 ) -> u64
@@ -100,7 +101,7 @@ fn needed_below(
     slot: &Slot,
     level: usize,
     first: u64,
-    pieces: &[Mapping],
+    pieces: &Reader<'_>,
     range: PageRange,
     place: usize,
 ) -> u64

@@ -8,7 +8,8 @@ ghost use Rattle.gv_table.specs.Wanted.{wanted};
 
 use crate::levels::{GREATEST_LEAF_LEVEL, pages_of};
 use crate::place::met_by;
-use gv_types::{Entry, Mapping, PageRange};
+use gv_ranges::Reader;
+use gv_types::{Entry, PageRange};
 
 /// What a slot is to hold.
 pub enum Wanted {
@@ -20,7 +21,7 @@ pub enum Wanted {
 /// What the list wants of a slot that meets the range. The place is that of the first mapping which ends past the slot's
 /// first page in the range.
 pub fn slot_wanted(
-    mappings: &[Mapping],
+    mappings: &Reader<'_>,
     range: PageRange,
     place: usize,
     level: usize,

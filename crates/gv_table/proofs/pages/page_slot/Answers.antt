@@ -9,8 +9,8 @@ use Rattle.gv_table.proofs.Spans.{covers-from}
 use Rattle.gv_table.proofs.Trees.{IsTreeOf-page}
 use Rattle.gv_table.proofs.pages.page_slot.Goals as goal
 
-pub returns-then-place-mappings : goal.returns-then-place-mappings
-returns-then-place-mappings c =
+pub returns-then-place-len : goal.returns-then-place-len
+returns-then-place-len c =
     let place = c.requires.place in
     IsTreeOf-page c.args.mappings.now c.args.page None _
     (at_none c.args.mappings.now c.args.page
@@ -20,10 +20,10 @@ returns-then-place-mappings c =
 pub returns-then-page-first : goal.returns-then-page-first
 returns-then-page-first c =
     let ms = c.args.mappings.now in
-    let m = c.index-mappings-place.result in
+    let m = c.get-m.result.now in
     let place = c.requires.place in
     let inside : c.args.place < length ms = omega (arith, place.within) in
-    let later : c.args.page < (get_or ms c.args.place m).range.first = rw (← c.index-mappings-place.is) (omega arith) in
+    let later : c.args.page < (get_or ms c.args.place m).range.first = rw (← c.get-m.ensures m) (omega arith) in
     IsTreeOf-page ms c.args.page None _
     (at_gap ms 0 c.args.page c.args.place m c.requires.laid_out inside
     (λ k less. All-take_at (λ (n : Mapping). end_of n.range ≤ c.args.page) ms c.args.place k m place.within place.ended less) later)
@@ -32,23 +32,23 @@ returns-then-page-first c =
 pub part-requires : goal.part-requires
 part-requires c =
     let ms = c.args.mappings.now in
-    let m = c.index-mappings-place.result in
+    let m = c.get-m.result.now in
     let place = c.requires.place in
     let inside : c.args.place < length ms = omega (arith, place.within) in
     let past = All-drop_at (λ (n : Mapping). c.args.page < end_of n.range) ms c.args.place m inside place.not_ended in
     record {
-      mapping = rw c.index-mappings-place.is (is_mapping ms 0 c.args.place m c.requires.laid_out inside);
-      covered = covers-from m.range c.args.page (omega arith) (rw (← c.index-mappings-place.is) at past);
+      mapping = rw (c.get-m.ensures m) (is_mapping ms 0 c.args.place m c.requires.laid_out inside);
+      covered = covers-from m.range c.args.page (omega arith) (rw (← c.get-m.ensures m) at past);
     }
 
 pub returns : goal.returns
 returns c =
     let ms = c.args.mappings.now in
-    let m = c.index-mappings-place.result in
+    let m = c.get-m.result.now in
     let place = c.requires.place in
     let inside : c.args.place < length ms = omega (arith, place.within) in
-    let begun : (get_or ms c.args.place m).range.first ≤ c.args.page = rw (← c.index-mappings-place.is) (omega arith) in
+    let begun : (get_or ms c.args.place m).range.first ≤ c.args.page = rw (← c.get-m.ensures m) (omega arith) in
     let past = All-drop_at (λ (n : Mapping). c.args.page < end_of n.range) ms c.args.place m inside place.not_ended in
     let found = at_found ms c.args.page c.args.place m inside
     (λ k less. All-take_at (λ (n : Mapping). end_of n.range ≤ c.args.page) ms c.args.place k m place.within place.ended less) begun past in
-    IsTreeOf-page ms c.args.page (Some (part m c.args.page)) _ (rw (← c.index-mappings-place.is) at found) (c.leaf.ensures ∙ ap leaf c.part.ensures)
+    IsTreeOf-page ms c.args.page (Some (part m c.args.page)) _ (rw (← c.get-m.ensures m) at found) (c.leaf.ensures ∙ ap leaf c.part.ensures)

@@ -263,21 +263,21 @@ paint_slot-paint_row-requires t c =
         (
           omega (arith, below-of, c.requires.in_space),
           (
-            c.requires.laid_out,
+            rw c.near.ensures c.requires.laid_out,
             (
-              place-ended ms (entered c.args.range c.args.first) (entered c.args.range c.args.first) c.args.place (omega arith) c.requires.place,
+              rw c.near.ensures (place-ended ms (entered c.args.range c.args.first) (entered c.args.range c.args.first) c.args.place (omega arith) c.requires.place),
               (
                 subst (λ (n : ℕ). meets (span c.args.first n) c.args.range ≡ true) below-of c.requires.met,
                 (
-                  λ k below. record {
+                  λ k below. rw c.near.ensures (record {
                     earlier = c.requires.outside.earlier;
                     laid_out = c.requires.outside.laid_out;
                     alike = c.requires.outside.alike;
                     tree = subst (λ (s : Slot). IsTreeOf c.requires.outside.earlier (c.args.level - 1) (c.args.first + k * pages_of (c.args.level - 1)) s) (sym (parts k))
                         (c.make_table.ensures.divided.parts c.requires.outside.earlier c.args.first c.requires.outside.laid_out c.requires.outside.tree k below);
-                  },
+                  }),
                   (
-                    omega (arith, gains, gain, c.make_table.ensures.taken, c.requires.enough),
+                    rw c.near.ensures (omega (arith, gains, gain, c.make_table.ensures.taken, c.requires.enough)),
                     divided-row c.args.counts.now c.make_table.new.counts c.args.level c.args.slot.now c.deref_mut.result.now some c.requires.part
                         c.make_table.ensures.counted
                         (λ target k below. sym (tables_at-same target (c.args.level - 1) _ _ (tables k below))),
@@ -304,14 +304,15 @@ paint_slot-returns-in-Table-slot-clause-lost t c =
     let tables = row-tables c.args.slot.now c.make_table.new.slot c.deref_mut.result.now parts c.make_table.ensures.divided.tables in
     let losses = lost-divided ms (c.args.level - 1) c.args.first c.args.slot.now c.deref_mut.result.now tables in
     let loss = lost-parts ms c.args.level c.args.first c.args.slot.now some want in
-    omega (arith, losses, loss, c.paint_row.ensures.lost)
+    let down = rw c.near.ensures at c.paint_row.ensures.lost in
+    omega (arith, losses, loss, down)
 
 pub paint_slot-returns-in-Table-slot-clause-tree : goal.paint_slot-returns-in-Table-slot-clause-tree
 paint_slot-returns-in-Table-slot-clause-tree t c =
     let want = sym c.slot_wanted.ensures ∙ c.in-Table.is in
     let held = values_o_at enum 3 (c.in-Table-slot.slots, tt) in
     rw (c.in-Table-slot.is, held)
-    (IsTreeOf-table _ c.args.level c.args.first _ (table-above _ c.args.level c.args.first want) want c.paint_row.ensures.tree)
+    (IsTreeOf-table _ c.args.level c.args.first _ (table-above _ c.args.level c.args.first want) want (rw c.near.ensures at c.paint_row.ensures.tree))
 
 pub paint_slot-returns-in-Table-slot-clause-exchanged : goal.paint_slot-returns-in-Table-slot-clause-exchanged
 paint_slot-returns-in-Table-slot-clause-exchanged t c =
@@ -325,7 +326,8 @@ paint_slot-returns-in-Table-slot-clause-exchanged t c =
     let gain = gained-parts ms c.args.level c.args.first c.args.slot.now some want in
     let losses = lost-divided ms (c.args.level - 1) c.args.first c.args.slot.now c.deref_mut.result.now tables in
     let loss = lost-parts ms c.args.level c.args.first c.args.slot.now some want in
-    omega (arith, gains, losses, gain, loss, c.make_table.ensures.taken, c.paint_row.ensures.exchanged)
+    let down = rw c.near.ensures at c.paint_row.ensures.exchanged in
+    omega (arith, gains, losses, gain, loss, c.make_table.ensures.taken, down)
 
 pub paint_slot-returns-in-Table-slot-clause-counted : goal.paint_slot-returns-in-Table-slot-clause-counted
 paint_slot-returns-in-Table-slot-clause-counted t c =

@@ -1,5 +1,4 @@
-use Rattle.std.proofs.Common.{arith, ◌≡◌, ◌≤◌, ◌<◌, get_or, length, sym, ◌∙◌}
-use Rattle.std.proofs.lemmas.List.{get_or_default}
+use Rattle.std.proofs.Common.{arith, ◌≡◌, ◌≤◌, ◌<◌, get_or, length, sym}
 use Rattle.gv_types.specs.Span.{end_of}
 use Rattle.gv_table.specs.Levels.{slot_pages}
 use Rattle.gv_table.proofs.PagesOf.{pages_of-some}
@@ -11,27 +10,27 @@ returns-in-Some c =
     neighbour-read c.args.mappings.now c.args.range (slot_pages c.args.level c.args.first) c.args.place c.requires.laid_out c.requires.place
     c.in-Some.m.now (pages_of-some c.args.level) c.requires.met c.in-Some.ensures
 
-pub returns-then-place-mappings : goal.returns-then-place-mappings
-returns-then-place-mappings c =
+pub returns-then-place-len : goal.returns-then-place-len
+returns-then-place-len c =
     none-met c.args.mappings.now c.args.range (slot_pages c.args.level c.args.first) c.args.place c.requires.laid_out c.requires.place
     c.in_default.ensures (λ inside d. absurd (omega arith))
 
 pub returns-then-first-pages_of : goal.returns-then-first-pages_of
 returns-then-first-pages_of c =
     let ms = c.args.mappings.now in
-    let m = c.index-mappings-place.result in
+    let m = c.get-m.result.now in
     let later : end_of (slot_pages c.args.level c.args.first) ≤ m.range.first = omega arith in
     none-met ms c.args.range (slot_pages c.args.level c.args.first) c.args.place c.requires.laid_out c.requires.place
     c.in_default.ensures
     (λ inside d.
-    let same : get_or ms c.args.place d ≡ m = get_or_default ms c.args.place d m inside ∙ sym c.index-mappings-place.is in
+    let same : get_or ms c.args.place d ≡ m = sym (c.get-m.ensures d) in
     rw same later)
 
 pub returns : goal.returns
 returns c =
     let ms = c.args.mappings.now in
-    let m = c.index-mappings-place.result in
+    let m = c.get-m.result.now in
     let inside : c.args.place < length ms = (let within = c.requires.place.within in omega (arith, within)) in
     let begun : m.range.first < end_of (slot_pages c.args.level c.args.first) = omega arith in
     next-read ms c.args.range (slot_pages c.args.level c.args.first) c.args.place c.requires.laid_out c.requires.place
-    m (pages_of-some c.args.level) inside c.index-mappings-place.is begun
+    m (pages_of-some c.args.level) inside (c.get-m.ensures m) begun

@@ -1,4 +1,4 @@
-use Rattle.std.proofs.Common.{List, arith, subst}
+use Rattle.std.proofs.Common.{List, rules, arith, subst}
 use Rattle.gv_types.specs.declared.mapping.Mapping.{Mapping}
 use Rattle.gv_table.specs.Tree.{IsTreeOf}
 use Rattle.gv_table.specs.Levels.{slot_pages}
@@ -27,15 +27,15 @@ paint_slot-requires-clause-part c =
 pub returns-clause-back : goal.returns-clause-back
 returns-clause-back c = λ ms laid tree.
     let same = gained-lost ms c.args.list.now.mappings 5 0 c.args.self.now.root c.paint_slot.new.slot
-    (tree-match ms 5 0 c.args.self.now.root laid tree) (tree-match c.args.list.now.mappings 5 0 c.paint_slot.new.slot c.mappings-mappings.ensures.laid_out
-    (subst (λ (xs : List Mapping). IsTreeOf xs 5 0 c.paint_slot.new.slot) c.mappings-mappings.ensures.value c.paint_slot.ensures.tree)) in
-    let exchanged = rw c.mappings-mappings.ensures.value at c.paint_slot.ensures.exchanged in
+    (tree-match ms 5 0 c.args.self.now.root laid tree) (tree-match c.args.list.now.mappings 5 0 c.paint_slot.new.slot (search rules)
+    (subst (λ (xs : List Mapping). IsTreeOf xs 5 0 c.paint_slot.new.slot) c.of_list-mappings.ensures c.paint_slot.ensures.tree)) in
+    let exchanged = rw c.of_list-mappings.ensures at c.paint_slot.ensures.exchanged in
     omega (arith, same, exchanged, c.requires.enough)
 
 pub returns-clause-owed : goal.returns-clause-owed
 returns-clause-owed c = λ ms laid tree.
     let same = gained-lost ms c.args.list.now.mappings 5 0 c.args.self.now.root c.paint_slot.new.slot
-    (tree-match ms 5 0 c.args.self.now.root laid tree) (tree-match c.args.list.now.mappings 5 0 c.paint_slot.new.slot c.mappings-mappings.ensures.laid_out
-    (subst (λ (xs : List Mapping). IsTreeOf xs 5 0 c.paint_slot.new.slot) c.mappings-mappings.ensures.value c.paint_slot.ensures.tree)) in
-    let lost = rw c.mappings-mappings.ensures.value at c.paint_slot.ensures.lost in
+    (tree-match ms 5 0 c.args.self.now.root laid tree) (tree-match c.args.list.now.mappings 5 0 c.paint_slot.new.slot (search rules)
+    (subst (λ (xs : List Mapping). IsTreeOf xs 5 0 c.paint_slot.new.slot) c.of_list-mappings.ensures c.paint_slot.ensures.tree)) in
+    let lost = rw c.of_list-mappings.ensures at c.paint_slot.ensures.lost in
     omega (arith, same, lost)

@@ -8,10 +8,12 @@ needed_in-end-requires-clause-in_space c = let all = pages_of-top in omega (arit
 
 pub returns-clause-number : goal.returns-clause-number
 returns-clause-number c =
-    omega (arith, c.needed_in-end.ensures.count, c.loop.invariant)
+    let count = rw c.of_slice-pieces.ensures at c.needed_in-end.ensures.count in
+    omega (arith, count, c.loop.invariant)
 
 pub returns-clause-enough : goal.returns-clause-enough
 returns-clause-enough c = λ ms laid outside is.
     let all = pages_of-top in
     let enough = gained-needed c.args.range ms c.args.pieces.now 5 0 c.args.self.now.root outside laid is (omega (arith, all)) in
-    omega (arith, enough, c.needed_in-end.ensures.count, c.loop.invariant)
+    let count = rw c.of_slice-pieces.ensures at c.needed_in-end.ensures.count in
+    omega (arith, enough, count, c.loop.invariant)
