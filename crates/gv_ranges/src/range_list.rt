@@ -3,9 +3,9 @@ ghost use Rattle.std.specs.Prelude.{◌≡◌, ◌+◌, ◌*◌, ◌<◌, ◌≤
 ghost use Rattle.std.specs.Prelude.{max, OnOk, OnErr};
 ghost use Rattle.gv_types.specs.declared.mapping.Mapping.{Mapping};
 
+use crate::chunk_search::{entry_in, overlapping_in};
 use crate::run::Run;
-use crate::search::{entry_at, overlapping_run};
-use gv_chunks::replace::replace_run;
+use gv_chunks::ChunkList;
 use gv_types::{Entry, Mapping, OutOfMemory, PageRange};
 use std::alloc::Global;
 use std::marker::Model;
@@ -14,18 +14,17 @@ use std::marker::Model;
 /// in a tree. Room that it has is never given up.
 #[derive(Debug, Drop)]
 pub struct RangeList {
-    mappings: Vec<Mapping>,
+    list: ChunkList,
 }
 
 impl Model for RangeList {
-    ghost use Rattle.std.specs.Prelude.{vec_capacity};
     ghost use Rattle.gv_ranges.specs.List.{Ranges, IsLaidOut};
 
     ghost Value = { Ranges };
 
-    ghost view = { λ l. record { mappings = l.mappings.items; room = vec_capacity l.mappings } };
+    ghost view = { λ l. record { mappings = l.list.items; room = l.list.room } };
 
-    ghost invariant = { λ l. IsLaidOut l.mappings.items };
+    ghost invariant = { λ l. IsLaidOut l.list.items };
 }
 
 impl RangeList {
@@ -38,16 +37,8 @@ impl RangeList {
         ensures room { result.room ≡ 0 }
     {
         RangeList {
-            mappings: Vec::new(alloc),
+            list: ChunkList::new(alloc),
         }
-    }
-
-    /// The mappings, in ascending order.
-    pub fn mappings(&self) -> &[Mapping]
-        ensures value { result.now ≡ self.now.mappings }
-        ensures laid_out { IsLaidOut self.now.mappings }
-    {
-        self.mappings.as_slice()
     }
 
     /// How many mappings there are.
@@ -55,7 +46,7 @@ impl RangeList {
         ensures len { result ≡ length self.now.mappings }
         ensures laid_out { IsLaidOut self.now.mappings }
     {
-        self.mappings.len()
+        self.list.len()
     }
 
     /// The mapping at a place.
@@ -64,7 +55,7 @@ impl RangeList {
         requires { place < length self.now.mappings }
         ensures { (d : Mapping) → result.now ≡ slice_index_or self.now.mappings place d }
     {
-        &self.mappings[place]
+        self.list.get(place)
     }
 
     /// The mappings from a place on that stand in one block of memory with the one at it.
@@ -74,7 +65,7 @@ impl RangeList {
         ensures value { result.now ≡ take (length result.now) (drop place self.now.mappings) }
         ensures some { place < length self.now.mappings → 0 < length result.now }
     {
-        &self.mappings[place..]
+        self.list.piece(place)
     }
 
     /// The `count` mappings from a place on, one after another.
@@ -92,10 +83,9 @@ impl RangeList {
         Run::new(self, 0, self.len())
     }
 
-    /// Makes room for `more` mappings beside those in the list. Where the room has to grow it at
-    /// least doubles, so a list of n mappings that was built by edits was moved for growth about
-    /// log n times; it asks for the double, or for what is needed where that is more. `OutOfMemory`
-    /// where the system refuses the memory, and only where that room was missing.
+    /// Makes room for `more` mappings beside those in the list, and for no more than that: no mapping
+    /// is moved for it. `OutOfMemory` where the system refuses the memory, and only where that room
+    /// was missing.
     pub fn reserve(&mut self, more: usize) -> Result<(), OutOfMemory>
         ensures unchanged { IsUnchanged self.old self.new }
         ensures ok { OnOk result (length self.new.mappings + more ≤ self.new.room) }
@@ -105,21 +95,14 @@ impl RangeList {
         ensures double_or_need { self.new.room
             ≤ max (2 * self.old.room) (length self.old.mappings + more) }
     {
-        let len = self.mappings.len();
-        let room = self.mappings.capacity();
-        if more <= room - len {
-            return Ok(());
-        }
-        let need = len.checked_add(more).ok_or(OutOfMemory)?;
-        let wanted = need.max(room.saturating_mul(2));
-        Ok(self.mappings.reserve_exact(wanted - len)?)
+        self.list.reserve(more)
     }
 
-    /// What the page holds, if anything. One binary search.
+    /// What the page holds, if anything. One search, which halves what is left at each step.
     pub fn at(&self, page: u64) -> Option<Entry>
         ensures { result ≡ at self.now.mappings page }
     {
-        entry_at(&self.mappings, page)
+        entry_in(self.list.chunks(), page)
     }
 
     /// The place of the first mapping that meets the range, and how many mappings do. Where none
@@ -128,12 +111,11 @@ impl RangeList {
     pub fn overlapping(&self, range: PageRange) -> (usize, usize)
         ensures { IsOverlappingRun self.now.mappings range result.0 result.1 }
     {
-        overlapping_run(&self.mappings, range)
+        overlapping_in(self.list.chunks(), range)
     }
 
     /// Replaces `out_count` mappings from `place` on by `pieces`. It takes no memory: the room has
-    /// to be there, and stays as it is. The mappings behind are moved in one block, and only if
-    /// their place changes.
+    /// to be there, and stays as it is.
     pub fn splice(&mut self, place: usize, out_count: usize, pieces: &[Mapping])
         requires within { place + out_count ≤ length self.old.mappings }
         requires room { length self.old.mappings + length pieces.now ≤ self.old.room + out_count }
@@ -143,6 +125,6 @@ impl RangeList {
             ≡ splice self.old.mappings place (place + out_count) pieces.now }
         ensures room { self.new.room ≡ self.old.room }
     {
-        replace_run(&mut self.mappings, place, out_count, pieces);
+        self.list.splice(place, out_count, pieces);
     }
 }
