@@ -5,6 +5,8 @@
 #[cfg(test)]
 mod buffers;
 #[cfg(test)]
+mod chunks;
+#[cfg(test)]
 mod fixtures;
 #[cfg(test)]
 mod full_tables;
