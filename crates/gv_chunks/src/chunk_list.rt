@@ -100,22 +100,25 @@ impl ChunkList {
         &self.piece(place)[0]
     }
 
-    /// Makes room for `more` mappings beside those in the list, and no more than that: chunks are
-    /// never moved, so it need not grow by leaps. `OutOfMemory` where the system
-    /// refuses the memory, and only where that room was missing.
+    /// Makes room for `more` mappings beside those in the list: where the room has to grow, as much as the chunks
+    /// have that are needed, and at most the double where that is enough. `OutOfMemory` where the system refuses the
+    /// memory, and only where that room was missing.
     pub fn reserve(&mut self, more: usize) -> Result<(), OutOfMemory>
         ensures kept { IsKept self.old self.new }
         ensures ok { OnOk result (length self.new.items + more ≤ self.new.room) }
         ensures err { OnErr result (self.old.room < length self.old.items + more) }
         ensures enough { length self.old.items + more ≤ self.old.room
             → self.new.room ≡ self.old.room }
-        ensures needed { self.new.room ≤ max self.old.room (length self.old.items + more) }
+        ensures double_or_need { self.new.room
+            ≤ max (2 * self.old.room) (length self.old.items + more) }
     {
         if more <= self.parts.room - self.parts.len {
             return Ok(());
         }
         let need = self.parts.len.checked_add(more).ok_or(OutOfMemory)?;
-        self.parts.grow(need)
+        let whole = need.div_ceil(CHUNK / 2).saturating_mul(CHUNK / 2);
+        let wanted = need.max(whole.min(self.parts.room.saturating_mul(2)));
+        self.parts.grow(wanted)
     }
 
     /// Replaces `out_count` mappings from `place` on by `pieces`. It takes no memory: the room has
