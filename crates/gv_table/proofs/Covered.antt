@@ -72,7 +72,7 @@ covering-part (m ∷ ms) low s t entry laid found up some down =
           rw here (covering-part ms (end_of m.range) s t entry laid.2 found' up some down))
     ]
 
-small-advanced : (b : Backing) (i n count : ℕ) → HasSmallPages b count → i + n ≤ count → HasSmallPages (advanced b i) n
+pub small-advanced : (b : Backing) (i n count : ℕ) → HasSmallPages b count → i + n ≤ count → HasSmallPages (advanced b i) n
 small-advanced (Buffer id page) i n count small within = omega arith
 small-advanced Zero i n count small within = tt
 

@@ -9,6 +9,7 @@ pub mod Places
 pub mod Wants
 pub mod Trees
 pub mod Rows
+mod Runs
 pub mod Matches
 pub mod Painted
 pub mod Needs

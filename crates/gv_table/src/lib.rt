@@ -2,6 +2,7 @@
 //! 512 pages and of 262,144 pages.
 #![tactic(auto)]
 
+mod fill;
 pub mod laws;
 mod levels;
 mod page_table;

@@ -7,27 +7,51 @@ ghost use Rattle.gv_table.specs.declared.slot.Slot.TheVariants.{Empty};
 ghost use Rattle.gv_table.specs.Levels.{slots_per_table, pages_of, slot_pages, entered};
 ghost use Rattle.gv_table.specs.Tree.{IsTreeOf, IsTreeOutside};
 
+use crate::fill::{empty, fill};
 use crate::levels::{SLOTS, slots_met};
 use crate::place::advance;
 use crate::slot::Slot;
 use gv_ranges::Reader;
 use gv_types::PageRange;
 
-/// The slot of a page, given the place of the first mapping that ends past it.
-#[inline(always)]
-fn page_slot(mappings: &Reader<'_>, place: usize, page: u64) -> Slot
+/// Makes the slots from `low` on those of the list's tree, as far as one mapping or one gap goes, and at most up to `high`:
+/// where it ends. The place is that of the first mapping which ends past the first slot's page.
+fn paint_run(
+    slots: &mut [Slot; SLOTS],
+    first: u64,
+    low: usize,
+    high: usize,
+    mappings: &Reader<'_>,
+    place: usize,
+) -> usize
+    requires in_space { first + slots_per_table ≤ PAGES }
+    requires some { low < high }
+    requires within { high ≤ slots_per_table }
     requires laid_out { IsLaidOut mappings.now }
-    requires place { IsPlaceOf mappings.now page place }
-    ensures { IsTreeOf mappings.now 0 page result }
+    requires place { IsPlaceOf mappings.now (first + low) place }
+    ensures further { low < result }
+    ensures within { result ≤ high }
+    ensures painted { (k : ℕ) → low ≤ k → k < result
+        → IsTreeOf mappings.now 0 (first + k) (slice_index_or slots.new k Empty) }
+    ensures before { (k : ℕ) → k < low
+        → slice_index_or slots.new k Empty ≡ slice_index_or slots.old k Empty }
+    ensures behind { (k : ℕ) → result ≤ k
+        → slice_index_or slots.new k Empty ≡ slice_index_or slots.old k Empty }
 {
     if place == mappings.len() {
-        return Slot::Empty;
+        empty(slots, low, high);
+        return high;
     }
     let m = mappings.get(place);
+    let page = first + low as u64;
     if page < m.range.first() {
-        return Slot::Empty;
+        let end = (m.range.first() - first).min(high as u64) as usize;
+        empty(slots, low, end);
+        return end;
     }
-    Slot::leaf(m.part(page))
+    let end = (m.range.end() - first).min(high as u64) as usize;
+    fill(slots, low, end, &m.part(page));
+    end
 }
 
 /// Makes the slots of a table of pages those of the list's tree, given that they fit outside the range. Those are visited
@@ -50,9 +74,9 @@ pub fn paint_pages(
 {
     let (low, high) = slots_met(0, first, range);
     let mut place = place;
-    for index in low..high {
-        let page = first + index as u64;
-        place = advance(mappings, place, page);
-        slots[index] = page_slot(mappings, place, page);
+    let mut index = low;
+    while index < high {
+        place = advance(mappings, place, first + index as u64);
+        index = paint_run(slots, first, index, high, mappings, place);
     }
 }

@@ -1,18 +1,20 @@
-use Rattle.std.proofs.Common.{rules, arith, ◌≡◌, ◌≢◌, ◌+◌, ◌*◌, ◌<◌, ◌≤◌, ℕ, length, slice_index_or, slice_set, List, refl, sym, subst}
+use Rattle.std.proofs.Common.{arith, ◌≡◌, ◌+◌, ◌*◌, ◌≤◌, ℕ, slice_index_or, refl, sym, ◌∙◌, subst, inl, inr}
+use Rattle.std.proofs.lemmas.Bool.{cases_lt}
 use Rattle.gv_table.specs.declared.slot.Slot.{Slot}
 use Rattle.gv_table.specs.declared.slot.Slot.TheVariants.{Empty}
 use Rattle.gv_table.specs.Levels.{pages_of, slot_pages, entered}
 use Rattle.gv_table.specs.Tree.{IsTreeOf}
 use Rattle.gv_table.proofs.PagesOf.{pages_of-zero, part-within, slots-of-one-page}
-use Rattle.gv_table.proofs.Painted.{painted-below, painted-above, row-tree}
+use Rattle.gv_table.proofs.Painted.{row-tree}
 use Rattle.gv_table.proofs.Places.{ended-later, place-ended}
-use Rattle.gv_table.proofs.Rows.{row-other, row-here}
 use Rattle.gv_table.proofs.Spans.{meets-before, meets-bounds}
 use Rattle.gv_table.proofs.Trees.{outside-apart}
 use Rattle.gv_table.proofs.pages.paint_pages.Goals as goal
 
 pub loop-index-init : goal.loop-index-init
 loop-index-init c = record {
+  from = omega arith;
+  upto = c.slots_met-low.ensures.ordered;
   place = ended-later c.args.mappings.now (entered c.args.range c.args.first) _ c.args.place (omega (arith, pages_of-zero)) c.requires.place;
   painted = λ k below.
       let fits = part-within k (512 * pages_of 0) (pages_of 0) (omega (arith, c.slots_met-low.ensures.ordered, c.slots_met-low.ensures.within)) refl in
@@ -25,28 +27,32 @@ loop-index-init c = record {
 
 pub advance-place-requires-clause-ended : goal.advance-place-requires-clause-ended
 advance-place-requires-clause-ended c =
-    let from : c.slots_met-low.result.0 ≤ c.loop-index.index = c.loop-index.auto.index in
+    let from : c.slots_met-low.result.0 ≤ c.loop-index.index = c.loop-index.invariant.from in
     let in_range = meets-bounds (slot_pages 0 (c.args.first + c.loop-index.index * pages_of 0)) c.args.range (c.slots_met-low.ensures.met c.loop-index.index from c.loop-index-test.true) in
     ended-later c.args.mappings.now _ (c.args.first + c.loop-index.index) c.loop-index.place (omega (arith, in_range, slots-of-one-page c.loop-index.index, pages_of-zero)) c.loop-index.invariant.place
+
+pub paint_run-index-requires-clause-in_space : goal.paint_run-index-requires-clause-in_space
+paint_run-index-requires-clause-in_space c = omega (arith, pages_of-zero, c.requires.in_space)
 
 pub loop-index-preserved : goal.loop-index-preserved
 loop-index-preserved c =
     let inv = c.loop-index.invariant in
     let ms = c.args.mappings.now in
+    let first : ℕ = c.args.first in
     let i : ℕ = c.loop-index.index in
-    let row = c.loop-index.slots in
-    let within : c.loop-index.index < length c.loop-index.slots = search rules in
-    let page : c.args.first + i ≡ c.args.first + i * pages_of 0 = omega (arith, slots-of-one-page i) in
-    let after : List Slot = slice_set row i c.page_slot.result in
-    let same : (k : ℕ) → k ≢ i → slice_index_or after k Empty ≡ slice_index_or row k Empty = row-other after row i _ refl in
-    let new : slice_index_or after i Empty ≡ c.page_slot.result = row-here after row i _ refl within in
-    let here : IsTreeOf ms 0 (c.args.first + i * pages_of 0) (slice_index_or after i Empty) =
-    subst (λ (n : ℕ). IsTreeOf ms 0 n (slice_index_or after i Empty)) page
-    (subst (λ (s : Slot). IsTreeOf ms 0 (c.args.first + i) s) (sym new) c.page_slot.ensures) in
+    let run = c.paint_run-index.ensures in
+    let row = c.paint_run-index.new.slots in
     record {
-      place = place-ended ms (c.args.first + i) _ c.advance-place.result (omega (arith, slots-of-one-page (i + 1))) c.advance-place.ensures;
-      painted = painted-below ms 0 c.args.first i c.args.slots.now row after same inv.untouched c.requires.laid_out here inv.painted;
-      untouched = painted-above ms 0 c.args.first i c.args.slots.now row after same inv.untouched c.requires.laid_out here;
+      from = omega (arith, inv.from, run.further);
+      upto = run.within;
+      place = place-ended ms (first + i) _ c.advance-place.result (omega (arith, run.further, slots-of-one-page c.paint_run-index.result)) c.advance-place.ensures;
+      painted = λ k below. elim (cases_lt k i) [
+        | inl less ↦ subst (λ (s : Slot). IsTreeOf ms 0 (first + k * pages_of 0) s) (sym (run.before k less)) (inv.painted k less)
+        | inr up ↦ (
+            let page : first + k ≡ first + k * pages_of 0 = omega (arith, slots-of-one-page k) in
+            subst (λ (n : ℕ). IsTreeOf ms 0 n (slice_index_or row k Empty)) page (run.painted k up below))
+      ];
+      untouched = λ k up. run.behind k up ∙ inv.untouched k (omega (arith, run.further, up));
     }
 
 pub returns : goal.returns

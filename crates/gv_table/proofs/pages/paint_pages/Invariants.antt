@@ -1,4 +1,4 @@
-use Rattle.std.proofs.Common.{◌≡◌, ◌+◌, ◌*◌, ◌<◌, ◌≤◌, ℕ, slice_index_or}
+use Rattle.std.proofs.Common.{◌≡◌, ◌+◌, ◌*◌, ◌-◌, ◌<◌, ◌≤◌, ℕ, slice_index_or}
 use Rattle.gv_table.specs.declared.slot.Slot.TheVariants.{Empty}
 use Rattle.gv_ranges.specs.List.{AreEnded}
 use Rattle.gv_table.specs.Levels.{pages_of, entered}
@@ -7,7 +7,12 @@ use Rattle.gv_table.proofs.pages.paint_pages.Given as goal
 
 abbrev pub invariant-loop-index : goal.invariant-loop-index
 invariant-loop-index l = record {
+  from : l.initial.index ≤ l.index;
+  upto : l.index ≤ l.high;
   place : AreEnded l.mappings (entered l.fn.range (l.first + l.index * pages_of 0)) l.place;
   painted : (k : ℕ) → k < l.index → IsTreeOf l.mappings 0 (l.first + k * pages_of 0) (slice_index_or l.slots k Empty);
   untouched : (k : ℕ) → l.index ≤ k → slice_index_or l.slots k Empty ≡ slice_index_or l.initial.slots k Empty;
 }
+
+abbrev pub decreases-loop-index : goal.decreases-loop-index
+decreases-loop-index l = l.high - l.index
