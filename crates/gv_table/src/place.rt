@@ -25,6 +25,7 @@ pub fn advance(mappings: &Reader<'_>, place: usize, page: u64) -> usize
 }
 
 /// The mapping before the place, where it reaches into a slot that begins before the range.
+#[inline(always)]
 fn neighbour<'a>(
     mappings: &Reader<'a>,
     range: PageRange,
@@ -47,6 +48,7 @@ fn neighbour<'a>(
 
 /// A mapping that meets the pages of a slot which meets the range, if one does: it decides what the list says of them.
 /// The place is that of the first mapping which ends past the slot's first page in the range.
+#[inline(always)]
 pub fn met_by<'a>(
     mappings: &Reader<'a>,
     range: PageRange,

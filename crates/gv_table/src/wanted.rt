@@ -20,6 +20,7 @@ pub enum Wanted {
 
 /// What the list wants of a slot that meets the range. The place is that of the first mapping which ends past the slot's
 /// first page in the range.
+#[inline(always)]
 pub fn slot_wanted(
     mappings: &Reader<'_>,
     range: PageRange,
