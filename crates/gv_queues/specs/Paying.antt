@@ -1,5 +1,5 @@
 -- What a worker does to its seat for the requests that it serves.
-use Rattle.std.specs.Prelude.{◌≡◌, ℕ, ◌≤◌, List, [], ◌∷◌, ◌++◌, map, max}
+use Rattle.std.specs.Prelude.{◌≡◌, ℕ, ◌<◌, ◌≤◌, List, [], ◌∷◌, ◌++◌, length, map, max, slice_index_or, take}
 use Rattle.std.specs.List.{All}
 use Rattle.gv_types.specs.declared.request.Point.{Point}
 use Rattle.gv_types.specs.declared.request.Request.{Request}
@@ -46,3 +46,17 @@ all_owed (outcome ∷ outcomes) (request ∷ requests) = owed outcome request.si
 pub record AreReached (waits : List Point) (seat : SeatState) (reached : List Sight) : Type 0 where
   pub points : map (λ (s : Sight). s.point) reached ≡ waits
   pub seen : All (λ (s : Sight). s.number ≤ (mark_of seat s.point.timeline).seen) reached
+
+-- each point had been reached when it was looked at
+abbrev pub WereReached : List Sight → Type 0
+WereReached sights = All (λ (s : Sight). s.point.value ≤ s.number) sights
+
+-- A wait that was not reached when it was looked at, and the first: these are the sights of the waits before it in order, and
+-- each of those was reached
+pub record IsFirstLacking (waits : List Point) (seat : SeatState) (reached : List Sight) (lacking : Sight) : Type 0 where
+  pub place : ℕ
+  pub exists : place < length waits
+  pub point : (d : Point) → slice_index_or waits place d ≡ lacking.point
+  pub short : lacking.number < lacking.point.value
+  pub sights : AreReached (take place waits) seat reached
+  pub before : WereReached reached

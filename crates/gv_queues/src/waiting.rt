@@ -3,7 +3,7 @@ ghost use Rattle.std.specs.Prelude.{◌≡◌, ◌<◌, ◌≤◌, [], length, v
 ghost use Rattle.std.specs.List.{All};
 ghost use Rattle.gv_sync.specs.Seats.{IsSeatOf, count_of, mark_of};
 ghost use Rattle.gv_sync.specs.Turns.{HasLooked};
-ghost use Rattle.gv_queues.specs.Paying.{AreReached};
+ghost use Rattle.gv_queues.specs.Paying.{AreReached, IsFirstLacking};
 
 use crate::gate::{Gate, Turn};
 use gv_sync::{Lacking, Reached, Seat, Timelines};
@@ -52,7 +52,8 @@ fn wait_for<G: Gate, R: Wait>(
     ensures looked { HasLooked seat.old seat.new }
     ensures reached { IfOk result (λ r. (r.point ≡ point.now)
         × (r.number ≤ (mark_of seat.new point.now.timeline).seen)) }
-    ensures lacking { IfErr result (λ l. l.point ≡ point.now) }
+    ensures enough { IfOk result (λ r. r.point.value ≤ r.number) }
+    ensures lacking { IfErr result (λ l. (l.point ≡ point.now) × (l.number < l.point.value)) }
 {
     seat.has_each_mark();
     for _ in rt.forever() {
@@ -69,7 +70,8 @@ fn wait_for<G: Gate, R: Wait>(
     unreachable!()
 }
 
-/// Looks at all waits in order, each until it is reached, or until the gate gives up. There is room for what is reached.
+/// Looks at all waits in order, each until it is reached, or until the gate gives up: then it answers the first that is not
+/// reached. There is room for what is reached.
 pub fn wait_for_all<G: Gate, R: Wait>(
     rt: &R,
     timelines: &Timelines,
@@ -85,6 +87,7 @@ pub fn wait_for_all<G: Gate, R: Wait>(
     ensures own { IsSeatOf timelines.now seat.new }
     ensures looked { HasLooked seat.old seat.new }
     ensures lacking { IfErr result (λ l. Contains waits.now l.point) }
+    ensures first { IfErr result (λ l. IsFirstLacking waits.now seat.new reached.new.items l) }
     ensures reached { OnOk result (AreReached waits.now seat.new reached.new.items) }
 {
     for point in waits {

@@ -1,7 +1,7 @@
 use Rattle.std.proofs.Common.{◌≤◌, length, take, vec_capacity}
 use Rattle.gv_sync.specs.Seats.{IsSeatOf}
 use Rattle.gv_sync.specs.Turns.{HasLooked}
-use Rattle.gv_queues.specs.Paying.{AreReached}
+use Rattle.gv_queues.specs.Paying.{AreReached, WereReached}
 use Rattle.gv_queues.proofs.waiting.wait_for_all.Given as goal
 
 abbrev pub invariant-loop-point : goal.invariant-loop-point
@@ -9,4 +9,5 @@ invariant-loop-point g l =
     IsSeatOf l.timelines l.seat
     × HasLooked l.fn.seat l.seat
     × AreReached (take l.point-index l.waits) l.seat l.reached.items
+    × WereReached l.reached.items
     × (length l.waits ≤ vec_capacity l.reached)
