@@ -1,6 +1,9 @@
 //! Gates, each of which gives up or stops holding a worker after a stated number of turns.
+ghost use Rattle.std.specs.Prelude.{◌<◌, IfSome};
+
 use gv_queues::{Gate, Turn};
 use gv_sync::Lacking;
+use gv_types::Point;
 use std::sync::atomic::Ordering::SeqCst;
 use std::sync::atomic::{AtomicBool, AtomicU64};
 use std::thread;
@@ -133,4 +136,107 @@ impl Gate for Counting<'_> {
     }
 
     fn before_lock(&self, _queue: u64, _number: u64) {}
+}
+
+/// At how many turns each request is given up: those of queue 0 first, two of each queue.
+const PATIENCE: [u64; 4] = [3, 5, 7, 9];
+
+/// The points that the requests wait for where a roll is called, those of queue 0 first.
+const AWAITED: [Point; 4] = [
+    Point {
+        timeline: 0,
+        value: 10,
+    },
+    Point {
+        timeline: 0,
+        value: 11,
+    },
+    Point {
+        timeline: 1,
+        value: 10,
+    },
+    Point {
+        timeline: 1,
+        value: 11,
+    },
+];
+
+/// Gives each of two requests on each of two queues up at a number of turns of its own. It counts how often it is asked for
+/// each, and how often each comes to the lock.
+#[derive(Drop)]
+pub struct Roll {
+    turns: [AtomicU64; 4],
+    locks: [AtomicU64; 4],
+    mistaken: AtomicBool,
+}
+
+/// The place of a request, by its queue and its number.
+fn place_of(queue: u64, number: u64) -> Option<usize>
+    ensures { IfSome result (λ place. place < 4) }
+{
+    match (queue, number) {
+        (0, 0) => Some(0),
+        (0, 1) => Some(1),
+        (1, 0) => Some(2),
+        (1, 1) => Some(3),
+        _ => None,
+    }
+}
+
+impl Roll {
+    pub fn new() -> Roll {
+        Roll {
+            turns: [
+                AtomicU64::new(0),
+                AtomicU64::new(0),
+                AtomicU64::new(0),
+                AtomicU64::new(0),
+            ],
+            locks: [
+                AtomicU64::new(0),
+                AtomicU64::new(0),
+                AtomicU64::new(0),
+                AtomicU64::new(0),
+            ],
+            mistaken: AtomicBool::new(false),
+        }
+    }
+
+    /// Whether each request was asked for as often as it has patience, came to the lock once, and was never named otherwise.
+    pub fn is_called(&self) -> bool {
+        let asked = self
+            .turns
+            .iter()
+            .zip(PATIENCE)
+            .all(|(turns, patience)| turns.load(SeqCst) == patience);
+        let came = self.locks.iter().all(|locks| locks.load(SeqCst) == 1);
+        asked && came && !self.mistaken.load(SeqCst)
+    }
+}
+
+impl Gate for Roll {
+    fn turn(&self, queue: u64, number: u64, lacking: &Lacking, turns: u64) -> Turn {
+        let Some(place) = place_of(queue, number) else {
+            self.mistaken.store(true, SeqCst);
+            return Turn::GiveUp;
+        };
+        let before = self.turns[place].fetch_add(1, SeqCst);
+        if turns != before.wrapping_add(1) || lacking.point() != AWAITED[place] {
+            self.mistaken.store(true, SeqCst);
+        }
+        if turns < PATIENCE[place] {
+            Turn::GoOn
+        } else {
+            Turn::GiveUp
+        }
+    }
+
+    fn before_lock(&self, queue: u64, number: u64) {
+        match place_of(queue, number) {
+            Some(place) => {
+                self.locks[place].fetch_add(1, SeqCst);
+            }
+            None => self.mistaken.store(true, SeqCst),
+        }
+    }
 }

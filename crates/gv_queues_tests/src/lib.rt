@@ -8,9 +8,13 @@ mod gates;
 #[cfg(test)]
 mod hostile;
 #[cfg(test)]
+mod leaving;
+#[cfg(test)]
 mod meeting;
 #[cfg(test)]
 mod plan;
+#[cfg(test)]
+mod roll;
 #[cfg(test)]
 mod row;
 #[cfg(test)]

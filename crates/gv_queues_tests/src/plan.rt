@@ -8,12 +8,12 @@ use crate::gates::{TURNS, await_flag};
 use crate::row::{Sent, Step};
 use gv_queues::{Driver, PutFault, Submitter, VmLock};
 use gv_sync::{Seat, Timelines};
-use gv_types::{Fault, Flags, Point};
-use gv_vm::{Place, QUEUES, Target};
+use gv_types::{Bounds, Fault, Flags, Limits, MAX_ITEMS, MAX_MAPPINGS, Point};
+use gv_vm::{Place, QUEUES, Target, Vm};
 use std::alloc::Global;
 use std::sync::Wait;
 use std::sync::atomic::AtomicBool;
-use std::thread;
+use std::{mem, thread};
 
 /// Steps in order, how many requests were put on each queue, and the first step that was answered otherwise than wanted.
 #[derive(Drop)]
@@ -179,9 +179,23 @@ impl Stage<'_> {
                 self.lock.lock(rt).withdraw(self.alloc, *entry) == *number
             }
             Step::Rewind { number } => self.lock.lock(rt).rewind() == *number,
+            Step::Replace { told } => self.replace(rt, *told),
             Step::Look { addr, zeros } => { is_wanted(self.lock.lock(rt).translate(*addr), *zeros) }
             Step::Put(..) | Step::Raise { .. } => false,
         }
+    }
+
+    /// Puts a new address space in the place of the one under the lock. Each of its queues may be told so many outcomes.
+    fn replace<R: Wait>(&self, rt: &R, told: u64) -> bool {
+        let Some(limits) = Limits::new(1, MAX_MAPPINGS, MAX_ITEMS, told) else {
+            return false;
+        };
+        let Ok(vm) = Vm::new(self.alloc, Bounds::whole(), limits) else {
+            return false;
+        };
+        let old = mem::replace(&mut *self.lock.lock(rt), vm);
+        old.close();
+        true
     }
 
     fn await_told<R: Wait>(&self, rt: &R, outcomes: usize) -> bool {

@@ -70,6 +70,10 @@ pub enum Step {
     Rewind {
         number: Result<u64, Fault>,
     },
+    /// Puts a new address space in the place of the one under the lock. Each of its queues may be told so many outcomes.
+    Replace {
+        told: u64,
+    },
     /// Looks, under the lock, whether an address leads to zeros or nowhere.
     Look {
         addr: u64,

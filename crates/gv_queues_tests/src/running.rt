@@ -1,10 +1,10 @@
 //! Queues run on a new address space, and what is compared at the end.
 use crate::plan::{Plan, is_wanted};
-use crate::row::{Kept, Setting, Wanted};
+use crate::row::{Kept, Sent, Setting, Wanted};
 use gv_journal::{Item, ItemKind};
 use gv_queues::{Driver, Gate, QueueEnd, QueuesFault, run_queues};
 use gv_sync::Timelines;
-use gv_types::{Bounds, Limits};
+use gv_types::{Bounds, Limits, Request};
 use gv_vm::{QUEUES, Vm};
 use std::alloc::Global;
 use std::process::Abort;
@@ -58,9 +58,11 @@ pub fn run<'a, G: Gate + Sync, R: Threads + Wait + Sync>(
 }
 
 impl Ran<'_> {
-    /// Asserts that each step was answered as wanted, and that the numbers of each of so many queues agree.
+    /// Asserts that each step was answered as wanted, that the numbers of each of so many queues agree, and that no other
+    /// queue was told anything.
     pub fn expect_ends(&self, rt: &impl Abort, count: u64) {
         assert_eq!(rt; self.plan.other(), None);
+        assert!(rt; (count..QUEUES as u64).all(|queue| self.is_untold(queue)));
         match &self.ends {
             Ok(ends) => {
                 assert!(rt; ends.len() as u64 == count);
@@ -91,6 +93,19 @@ impl Ran<'_> {
             && end.left.len() as u64 == put.saturating_sub(told)
     }
 
+    fn is_untold(&self, queue: u64) -> bool {
+        queue < QUEUES as u64 && self.vm.told(queue).is_empty()
+    }
+
+    /// Asserts that these requests were left on queue 0, in order.
+    pub fn expect_left(&self, rt: &impl Abort, wanted: &[Sent]) {
+        let left = match &self.ends {
+            Ok(ends) => ends.first(),
+            Err(_) => None,
+        };
+        assert!(rt; left.is_some_and(|end| are(end.left.as_slice(), wanted)));
+    }
+
     /// How many entries there are.
     pub fn entries(&self) -> usize {
         self.vm.items().len()
@@ -116,6 +131,15 @@ impl Ran<'_> {
         } = self;
         vm.close();
     }
+}
+
+/// Whether these are the requests that were sent, in order.
+fn are(requests: &[Request], wanted: &[Sent]) -> bool {
+    requests.len() == wanted.len()
+        && requests
+            .iter()
+            .zip(wanted)
+            .all(|(request, sent)| sent.is(request))
 }
 
 /// Whether all addresses lead to zeros, or all nowhere.
