@@ -1,5 +1,5 @@
 -- The ends of queues, one by one.
-use Rattle.std.proofs.Common.{◌≡◌, ℕ, zero, suc, ◌+◌, ◌<◌, Option, Some, None, IfSome, false, true≢false, Result, Ok, Err, IfOk, List, [], ◌∷◌, ◌++◌, length, take, refl, map, get_or, sym, ap, ◌∙◌, subst, arith}
+use Rattle.std.proofs.Common.{◌≡◌, ℕ, zero, suc, ◌+◌, ◌<◌, Option, Some, None, IfNone, IfSome, false, true≢false, Result, Ok, Err, IfOk, List, [], ◌∷◌, ◌++◌, length, take, refl, map, get_or, sym, ap, ◌∙◌, subst, arith}
 use Rattle.std.proofs.lemmas.List.{get_or_append_left, get_or-map, length-append, length-drop, length-map}
 use Rattle.std.proofs.Math.Seq.{get_or-append_seam}
 use Rattle.std.specs.Option.{is_some}
@@ -9,9 +9,9 @@ use Rattle.gv_vm.specs.Outcomes.{told_to}
 use Rattle.gv_vm.specs.declared.outcome.Outcome.{Outcome}
 use Rattle.gv_vm.specs.State.{Machine}
 use Rattle.gv_queues.specs.declared.finishing.QueueEnd.{QueueEnd}
-use Rattle.gv_queues.specs.Ending.{AreCountedEnds, AreEndsOf, AreInOrder, ArePuts, IsEndOf, no_put, no_worker, put_at, worker_at}
+use Rattle.gv_queues.specs.Ending.{AreClosed, AreCountedEnds, AreEndsOf, AreInOrder, AreOnOwnChannels, ArePuts, EndOnOwnChannels, IsEndOf, no_put, put_at}
 use Rattle.gv_queues.specs.Submitting.{AreCounted, AreOpened, AreSameSubmitters, IsOpened, PutEndState, SubmitterState, no_submitter, put_end_of, submitter_at}
-use Rattle.gv_queues.specs.Working.{AreLeft, WorkerEndState}
+use Rattle.gv_queues.specs.Working.{AreEndsOfWorkers, AreLeft, IsEndOfWorker, WorkerEndState, WorkerState, end_at, no_end, no_worker, worker_at}
 
 -- what holds at each place of a list and at its end holds at each place of the longer list
 pub one_more : {X : Type 0} (P : ℕ → X → Type 0) (xs ys : List X) (x d : X) → ys ≡ xs ++ x ∷ [] → P (length xs) x
@@ -35,8 +35,8 @@ pub in_order_more : {X : Type 0} (queue : X → ℕ) (xs ys : List X) (x : X) �
 in_order_more queue xs ys x order here is = each_more (λ k e. queue e ≡ k) xs ys x is here order
 
 pub ends_more : (vm : Machine) (puts : List PutEndState) (workers : List WorkerEndState) (ends longer : List QueueEnd) (end : QueueEnd)
-    → longer ≡ ends ++ end ∷ [] → IsEndOf vm (put_at puts (length ends)) (worker_at workers (length ends)) end → AreEndsOf vm puts workers ends → AreEndsOf vm puts workers longer
-ends_more vm puts workers ends longer end is here each = each_more (λ k e. IsEndOf vm (put_at puts k) (worker_at workers k) e) ends longer end is here each
+    → longer ≡ ends ++ end ∷ [] → IsEndOf vm (put_at puts (length ends)) (end_at workers (length ends)) end → AreEndsOf vm puts workers ends → AreEndsOf vm puts workers longer
+ends_more vm puts workers ends longer end is here each = each_more (λ k e. IsEndOf vm (put_at puts k) (end_at workers k) e) ends longer end is here each
 
 -- the closed submitters are those that were opened, each with what the driver put
 pub puts_of : (count : ℕ → ℕ) (limit depth timelines : ℕ) (old new : List SubmitterState) (puts : List PutEndState)
@@ -84,7 +84,7 @@ counted_ends vm count puts workers ends even same were order each queue d lt =
     let low' : queue < length workers = subst (λ (n : ℕ). queue < n) (sym same) low in record {
       each = end.each;
       driven = end.put ∙ sym (were.counted queue low);
-      told = end.told ∙ ap (λ (q : ℕ). length (told_to vm.told q)) (order queue no_worker low');
+      told = end.told ∙ ap (λ (q : ℕ). length (told_to vm.told q)) (order queue no_end low');
     }
 
 pub if_ok : {A E : Type 0} (P Q : A → Type 0) (r : Result A E) → ((a : A) → P a → Q a) → IfOk r P → IfOk r Q
@@ -94,6 +94,14 @@ if_ok P Q (Err e) f p = tt
 pub if_ok_both : {A E : Type 0} (P Q : A → Type 0) (r : Result A E) → IfOk r P → IfOk r Q → IfOk r (λ a. P a × Q a)
 if_ok_both P Q (Ok a) p q = (p, q)
 if_ok_both P Q (Err e) p q = tt
+
+pub if_none : {A : Type 0} (r : Option A) (P : Type 0) → P → IfNone r P
+if_none None P p = p
+if_none (Some x) P p = tt
+
+pub if_none_of : {A : Type 0} (r : Option A) (P Q : Type 0) → IfNone r P → (P → Q) → IfNone r Q
+if_none_of None P Q p f = f p
+if_none_of (Some x) P Q p f = tt
 
 pub if_some_none : (r : Option ℕ) (P : ℕ → Type 0) → is_some r ≡ false → IfSome r P
 if_some_none None P e = tt

@@ -7,8 +7,9 @@ use Rattle.crossbeam_channel.specs.Fifo.{Pushes, Pops, Forks, Learns}
 use Rattle.atomic_table.proofs.Lists.{at_set, at_snoc}
 use Rattle.gv_types.specs.declared.request.Request.{Request}
 use Rattle.gv_types.specs.Request.{Fits}
+use Rattle.gv_queues.specs.declared.log.About.{About}
 use Rattle.gv_queues.specs.declared.log.Log.{Log}
-use Rattle.gv_queues.specs.Handover.{opening_log, submitter_log, worker_log, KnowsPut, KnowsTaken, TakenThenHeld, Put, Took, HoldsLast}
+use Rattle.gv_queues.specs.Handover.{about_queue, opening_log, submitter_log, worker_log, KnowsPut, KnowsTaken, TakenThenHeld, Put, Took, HoldsLast}
 
 at_end : (l : List Log) (a b : Log) (j : ℕ) → get_elem? l j ≢ some b → get_elem? (l ++ a ∷ []) j ≡ some b → j ≡ length l
 at_end [] a b zero n e = refl
@@ -28,14 +29,14 @@ each_set F views pass w mine others j u e =
     ⊎_elim (λ (x : (j ≡ pass) × (w ≡ u)). subst (λ (y : ℕ × Log). F y.0 y.1) (λ i. (sym x.0 i, x.1 i)) mine)
     (λ (x : (j ≢ pass) × (get_elem? views j ≡ some u)). others j u x.0 x.1) (at_set views pass j w u e)
 
-abbrev Knows : ℕ → ℕ → ℕ → List Request → List Request → ℕ → Log → Type 0
-Knows submitter worker timelines put taken pass v = KnowsPut submitter timelines put pass v × KnowsTaken worker timelines taken pass v
+abbrev Knows : ℕ → ℕ → About → List Request → List Request → ℕ → Log → Type 0
+Knows submitter worker about put taken pass v = KnowsPut submitter about put pass v × KnowsTaken worker about taken pass v
 
 pub begins : TakenThenHeld [] (opening_log ∷ [])
 begins = record {
   submitter = 0;
   worker = 0;
-  timelines = 0;
+  about = about_queue 0 0;
   put = [];
   taken = [];
   in_order = refl;
@@ -43,14 +44,14 @@ begins = record {
   knows = λ j u at. first j u at;
 }
   where
-    first : (j : ℕ) (u : Log) → get_elem? (opening_log ∷ []) j ≡ some u → Knows 0 0 0 [] [] j u
-    first zero u at = subst (λ (y : Log). Knows 0 0 0 [] [] 0 y) (some-injective opening_log u at) ((λ _. (refl, refl, λ _. refl)), (λ _. (refl, refl, λ _. refl)))
+    first : (j : ℕ) (u : Log) → get_elem? (opening_log ∷ []) j ≡ some u → Knows 0 0 (about_queue 0 0) [] [] j u
+    first zero u at = subst (λ (y : Log). Knows 0 0 (about_queue 0 0) [] [] 0 y) (some-injective opening_log u at) ((λ _. (refl, refl, λ _. refl)), (λ _. (refl, refl, λ _. refl)))
     first (suc j) u at = absurd (some-ne-none u (sym at))
 
-pub forks : (pass timelines : ℕ) (v : Log) → v ≡ opening_log → Forks TakenThenHeld pass v (submitter_log timelines []) (worker_log timelines [])
-forks pass timelines v opening items views h at =
-    let l : Log = submitter_log timelines [] in
-    let r : Log = worker_log timelines [] in
+pub forks : (pass : ℕ) (about : About) (v : Log) → v ≡ opening_log → Forks TakenThenHeld pass v (submitter_log about []) (worker_log about [])
+forks pass about v opening items views h at =
+    let l : Log = submitter_log about [] in
+    let r : Log = worker_log about [] in
     let may_put : v.puts ≡ true = ap (λ (y : Log). y.puts) opening in
     let may_take : v.takes ≡ true = ap (λ (y : Log). y.takes) opening in
     let put = (h.knows pass v at).0 may_put in
@@ -58,66 +59,66 @@ forks pass timelines v opening items views h at =
     let none_put : h.put ≡ [] = sym put.1 ∙ ap (λ (y : Log). y.put) opening in
     let none_taken : h.taken ≡ [] = sym taken.1 ∙ ap (λ (y : Log). y.taken) opening in
     let vs : List Log = set views pass l in
-    let Old : ℕ → Log → Type 0 = λ j u. KnowsPut h.submitter timelines h.put j u × (u.takes ≢ true) in
+    let Old : ℕ → Log → Type 0 = λ j u. KnowsPut h.submitter about h.put j u × (u.takes ≢ true) in
     let old : Each Old vs = each_set Old views pass l ((λ _. (put.0, sym none_put, λ _. refl)), λ p. true≢false (sym p))
     (λ j u other e. ((λ p. absurd (other (((h.knows j u e).0 p).0 ∙ sym put.0))), λ p. other (((h.knows j u e).1 p).0 ∙ sym taken.0))) in record {
       submitter = h.submitter;
       worker = length vs;
-      timelines = timelines;
+      about = about;
       put = h.put;
       taken = h.taken;
       in_order = h.in_order;
-      fits = subst (λ (y : List Request). All (Fits timelines) y) (sym none_put) (All-nil (Fits timelines));
+      fits = subst (λ (y : List Request). All (Fits about.timelines) y) (sym none_put) (All-nil (Fits about.timelines));
       knows = λ j u e. ⊎_elim (λ x. ((old j u x).0, λ p. absurd ((old j u x).1 p)))
-          (λ (is : r ≡ u). ((λ p. absurd (true≢false (sym (ap (λ (y : Log). y.puts) is ∙ p)))), λ p. (at_end vs r u j (λ x. (old j u x).1 p) e, ap (λ (y : Log). y.taken) (sym is) ∙ sym none_taken, λ _. ap (λ (y : Log). y.timelines) (sym is))))
+          (λ (is : r ≡ u). ((λ p. absurd (true≢false (sym (ap (λ (y : Log). y.puts) is ∙ p)))), λ p. (at_end vs r u j (λ x. (old j u x).1 p) e, ap (λ (y : Log). y.taken) (sym is) ∙ sym none_taken, λ _. ap (λ (y : Log). y.about) (sym is))))
           (at_snoc vs r u j e);
     }
 
-pub puts : (depth pass timelines : ℕ) (put : List Request) (v : Log) (x : Request) → v ≡ submitter_log timelines put → Fits timelines x → Pushes TakenThenHeld depth pass v x (Put v x)
-puts depth pass timelines put v x is fits items views _ h at =
-    let w : Log = submitter_log v.timelines (v.put ++ x ∷ []) in
+pub puts : (depth pass : ℕ) (about : About) (put : List Request) (v : Log) (x : Request) → v ≡ submitter_log about put → Fits about.timelines x → Pushes TakenThenHeld depth pass v x (Put v x)
+puts depth pass about put v x is fits items views _ h at =
+    let w : Log = submitter_log v.about (v.put ++ x ∷ []) in
     let mine = (h.knows pass v at).0 (ap (λ (y : Log). y.puts) is) in
-    let same : h.timelines ≡ timelines = sym (mine.2 (ap (λ (y : Log). y.takes) is)) ∙ ap (λ (y : Log). y.timelines) is in
+    let same : h.about ≡ about = sym (mine.2 (ap (λ (y : Log). y.takes) is)) ∙ ap (λ (y : Log). y.about) is in
     let all = h.put ++ x ∷ [] in (
       w,
       record {
         submitter = h.submitter;
         worker = h.worker;
-        timelines = h.timelines;
+        about = h.about;
         put = all;
         taken = h.taken;
         in_order = ap (λ l. l ++ x ∷ []) h.in_order ∙ append_assoc h.taken items (x ∷ []);
-        fits = All-push (Fits h.timelines) h.put x h.fits (subst (λ (b : ℕ). Fits b x) (sym same) fits);
-        knows = each_set (Knows h.submitter h.worker h.timelines all h.taken) views pass w
+        fits = All-push (Fits h.about.timelines) h.put x h.fits (subst (λ (b : About). Fits b.timelines x) (sym same) fits);
+        knows = each_set (Knows h.submitter h.worker h.about all h.taken) views pass w
             ((λ _. (mine.0, ap (λ l. l ++ x ∷ []) mine.1, λ _. mine.2 (ap (λ (y : Log). y.takes) is))), λ p. absurd (true≢false (sym p)))
             (λ j u other e. ((λ p. absurd (other (((h.knows j u e).0 p).0 ∙ sym mine.0))), (h.knows j u e).1));
       },
       refl,
     )
 
-pub takes : (pass timelines : ℕ) (taken : List Request) (v : Log) → v ≡ worker_log timelines taken → Pops TakenThenHeld pass v (Took v)
-takes pass timelines taken v is x items views h at =
-    let w : Log = worker_log v.timelines (v.taken ++ x ∷ []) in
+pub takes : (pass : ℕ) (about : About) (taken : List Request) (v : Log) → v ≡ worker_log about taken → Pops TakenThenHeld pass v (Took v)
+takes pass about taken v is x items views h at =
+    let w : Log = worker_log v.about (v.taken ++ x ∷ []) in
     let mine = (h.knows pass v at).1 (ap (λ (y : Log). y.takes) is) in
-    let same : v.timelines ≡ h.timelines = mine.2 (ap (λ (y : Log). y.puts) is) in
+    let same : v.about ≡ h.about = mine.2 (ap (λ (y : Log). y.puts) is) in
     let all = h.taken ++ x ∷ [] in
-    let left : All (Fits h.timelines) (h.taken ++ x ∷ items) = subst (λ (l : List Request). All (Fits h.timelines) l) h.in_order h.fits in
-    let here : Fits h.timelines x = All-head (Fits h.timelines) x items (all_behind (Fits h.timelines) h.taken (x ∷ items) left) in (
+    let left : All (Fits h.about.timelines) (h.taken ++ x ∷ items) = subst (λ (l : List Request). All (Fits h.about.timelines) l) h.in_order h.fits in
+    let here : Fits h.about.timelines x = All-head (Fits h.about.timelines) x items (all_behind (Fits h.about.timelines) h.taken (x ∷ items) left) in (
       w,
       record {
         submitter = h.submitter;
         worker = h.worker;
-        timelines = h.timelines;
+        about = h.about;
         put = h.put;
         taken = all;
         in_order = h.in_order ∙ sym (append_assoc h.taken (x ∷ []) items);
         fits = h.fits;
-        knows = each_set (Knows h.submitter h.worker h.timelines h.put all) views pass w
+        knows = each_set (Knows h.submitter h.worker h.about h.put all) views pass w
             ((λ p. absurd (true≢false (sym p))), λ _. (mine.0, ap (λ l. l ++ x ∷ []) mine.1, λ _. same))
             (λ j u other e. ((h.knows j u e).0, λ p. absurd (other (((h.knows j u e).1 p).0 ∙ sym mine.0))));
       },
-      (refl, subst (λ (b : ℕ). Fits b x) (sym same) here),
+      (refl, subst (λ (b : About). Fits b.timelines x) (sym same) here),
     )
 
-pub holds_last : (pass timelines : ℕ) (put : List Request) (v : Log) → v ≡ submitter_log timelines put → Learns TakenThenHeld pass v (HoldsLast v)
-holds_last pass timelines put v is items views h at = (h.taken, ((h.knows pass v at).0 (ap (λ (y : Log). y.puts) is)).1 ∙ h.in_order)
+pub holds_last : (pass : ℕ) (about : About) (put : List Request) (v : Log) → v ≡ submitter_log about put → Learns TakenThenHeld pass v (HoldsLast v)
+holds_last pass about put v is items views h at = (h.taken, ((h.knows pass v at).0 (ap (λ (y : Log). y.puts) is)).1 ∙ h.in_order)

@@ -2,8 +2,8 @@
 use Rattle.std.specs.Prelude.{◌≡◌, ℕ, ◌+◌, ◌<◌, List, [], length, slice_index_or}
 use Rattle.gv_vm.specs.State.{Machine}
 use Rattle.gv_vm.specs.Outcomes.{told_to}
-use Rattle.gv_queues.specs.Submitting.{PutEndState}
-use Rattle.gv_queues.specs.Working.{WorkerEndState}
+use Rattle.gv_queues.specs.Submitting.{ChannelId, PutEndState, SubmitterState, no_channel, submitter_at}
+use Rattle.gv_queues.specs.Working.{WorkerEndState, WorkerState, end_at, worker_at}
 use Rattle.gv_queues.specs.declared.finishing.QueueEnd.{QueueEnd}
 use Rattle.gv_queues.specs.declared.finishing.QueuesFault.{QueuesFault}
 use Rattle.gv_queues.specs.declared.finishing.QueuesFault.TheVariants.{NotMade, NotStarted, Disagree}
@@ -18,20 +18,34 @@ pub record Agrees (vm : Machine) (put : PutEndState) (worker : WorkerEndState) :
   pub told : worker.gave ≡ told_to vm.told worker.queue
 
 abbrev pub no_put : PutEndState
-no_put = record { queue = 0; put = [] }
+no_put = record { queue = 0; channel = no_channel; put = [] }
 
 abbrev pub put_at : List PutEndState → ℕ → PutEndState
 put_at puts queue = slice_index_or puts queue no_put
 
-abbrev pub no_worker : WorkerEndState
-no_worker = record { queue = 0; taken = []; gave = []; left = []; halvings = 0 }
+-- Of each of so many queues, what puts and what takes is of one channel. No two queues share a channel.
+pub record HaveOwnChannels (count : ℕ) (puts takes : ℕ → ChannelId) : Type 0 where
+  pub one : (queue : ℕ) → queue < count → puts queue ≡ takes queue
+  pub apart : (queue other : ℕ) → queue < count → other < count → puts queue ≡ puts other → queue ≡ other
 
-abbrev pub worker_at : List WorkerEndState → ℕ → WorkerEndState
-worker_at workers queue = slice_index_or workers queue no_worker
+-- the submitters and the workers
+abbrev pub AreOnOwnChannels : List SubmitterState → List WorkerState → Type 0
+AreOnOwnChannels submitters workers =
+    HaveOwnChannels (length submitters) (λ queue. (submitter_at submitters queue).channel) (λ queue. (worker_at workers queue).channel)
+
+-- what is left of them
+abbrev pub EndOnOwnChannels : List PutEndState → List WorkerEndState → Type 0
+EndOnOwnChannels puts workers =
+    HaveOwnChannels (length puts) (λ queue. (put_at puts queue).channel) (λ queue. (end_at workers queue).channel)
+
+-- at each place is the channel of the submitter that stood there
+abbrev pub AreClosed : List SubmitterState → List PutEndState → Type 0
+AreClosed submitters puts =
+    (queue : ℕ) → queue < length puts → (put_at puts queue).channel ≡ (submitter_at submitters queue).channel
 
 -- the ends of this queue agree
 abbrev pub AgreesAt : Machine → List PutEndState → List WorkerEndState → ℕ → Type 0
-AgreesAt vm puts workers queue = Agrees vm (put_at puts queue) (worker_at workers queue)
+AgreesAt vm puts workers queue = Agrees vm (put_at puts queue) (end_at workers queue)
 
 -- the queue at which the ends don't agree, and at each before they do
 pub record IsFirstOther (vm : Machine) (puts : List PutEndState) (workers : List WorkerEndState) (queue : ℕ) : Type 0 where
@@ -51,7 +65,7 @@ pub record IsEndOf (vm : Machine) (submitted : PutEndState) (worker : WorkerEndS
 abbrev pub AreEndsOf : Machine → List PutEndState → List WorkerEndState → List QueueEnd → Type 0
 AreEndsOf vm puts workers ends =
     (queue : ℕ) (d : QueueEnd) → queue < length ends
-    → IsEndOf vm (put_at puts queue) (worker_at workers queue) (slice_index_or ends queue d)
+    → IsEndOf vm (put_at puts queue) (end_at workers queue) (slice_index_or ends queue d)
 
 -- Of each queue, what was put was told or is left. So many requests did the driver put, and so many outcomes the address
 -- space tells.

@@ -3,23 +3,29 @@ use Rattle.std.specs.Prelude.{◌≡◌, ℕ, ◌<◌, ◌≤◌, List, [], leng
 use Rattle.atomic_table.specs.Seated.{TableId}
 use Rattle.gv_types.specs.declared.request.Request.{Request}
 
+-- which channel an end is of: what no other channel shares with it, and the queue that each of its passes knows
+pub record ChannelId : Type 0 where
+  pub table : TableId
+  pub queue : ℕ
+
 -- its queue, its channel, how many requests it may put, how many the channel holds at most, the count of timelines, and
 -- what it put
 pub record SubmitterState : Type 0 where
   pub queue : ℕ
-  pub channel : TableId
+  pub channel : ChannelId
   pub limit : ℕ
   pub depth : ℕ
   pub timelines : ℕ
   pub put : List Request
 
--- a closed submitter: its queue, and what it put
+-- a closed submitter: its queue, its channel, and what it put
 pub record PutEndState : Type 0 where
   pub queue : ℕ
+  pub channel : ChannelId
   pub put : List Request
 
 abbrev pub put_end_of : SubmitterState → PutEndState
-put_end_of s = record { queue = s.queue; put = s.put }
+put_end_of s = record { queue = s.queue; channel = s.channel; put = s.put }
 
 -- The channel may have held as many requests as it has places: so many were put. Whether it did at some moment can't be
 -- said, since a pass keeps no trace of a put that was refused.
@@ -29,11 +35,18 @@ MayBeFull s = s.depth ≤ length s.put
 abbrev pub most_places : ℕ
 most_places = 65536
 
+-- where there is no channel
+abbrev pub no_channel : ChannelId
+no_channel = record {
+  table = record { words = 0; slots = 0; views_name = 0; atom = 0; block = 0; offset = 0; slot_names = [] };
+  queue = 0;
+}
+
 -- where there is no submitter
 abbrev pub no_submitter : SubmitterState
 no_submitter = record {
   queue = 0;
-  channel = record { words = 0; slots = 0; views_name = 0; atom = 0; block = 0; offset = 0; slot_names = [] };
+  channel = no_channel;
   limit = 0;
   depth = 0;
   timelines = 0;
@@ -46,6 +59,7 @@ submitter_at submitters queue = slice_index_or submitters queue no_submitter
 -- a submitter of this queue that put nothing yet
 pub record IsOpened (number most places count : ℕ) (s : SubmitterState) : Type 0 where
   pub queue : s.queue ≡ number
+  pub channel : s.channel.queue ≡ number
   pub limit : s.limit ≡ most
   pub depth : s.depth ≡ places
   pub timelines : s.timelines ≡ count

@@ -2,10 +2,12 @@
 use Rattle.std.specs.Prelude.{◌≡◌, ℕ, List, [], ◌∷◌, ◌++◌, length}
 use Rattle.gv_types.specs.declared.request.Request.{Request}
 use Rattle.gv_types.specs.Request.{Fits}
+use Rattle.gv_queues.specs.Submitting.{ChannelId}
 
--- a queue, the count of its timelines, and what was taken from it
+-- a queue, its channel, the count of its timelines, and what was taken from it
 pub record TakerState : Type 0 where
   pub queue : ℕ
+  pub channel : ChannelId
   pub timelines : ℕ
   pub taken : List Request
 

@@ -1,5 +1,5 @@
 -- A worker and its end.
-use Rattle.std.specs.Prelude.{◌≡◌, ℕ, ◌≤◌, List, [], length, drop, Result, Ok, Err}
+use Rattle.std.specs.Prelude.{◌≡◌, ℕ, ◌<◌, ◌≤◌, List, [], length, drop, slice_index_or, Result, Ok, Err}
 use Rattle.atomic_table.specs.Seated.{TableId}
 use Rattle.gv_types.specs.declared.request.Point.{Point}
 use Rattle.gv_types.specs.declared.request.Request.{Request}
@@ -8,10 +8,12 @@ use Rattle.gv_sync.specs.Seats.{SeatState, mark_of}
 use Rattle.gv_vm.specs.declared.outcome.Outcome.{Outcome}
 use Rattle.gv_vm.specs.declared.outcome.NotTold.{NotTold}
 use Rattle.gv_queues.specs.Paying.{all_owed, owed}
+use Rattle.gv_queues.specs.Submitting.{ChannelId, no_channel}
 
--- a worker that took nothing yet: its queue, the timelines of its seat, and the seat's share
+-- a worker that took nothing yet: its queue, its channel, the timelines of its seat, and the seat's share
 pub record WorkerState : Type 0 where
   pub queue : ℕ
+  pub channel : ChannelId
   pub of : TableId
   pub halvings : ℕ
 
@@ -19,6 +21,7 @@ pub record WorkerState : Type 0 where
 -- the share of its seat
 pub record WorkerEndState : Type 0 where
   pub queue : ℕ
+  pub channel : ChannelId
   pub taken : List Request
   pub gave : List Outcome
   pub left : List Request
@@ -38,3 +41,32 @@ RaisedJustOwed gave taken seat =
 abbrev pub owed_by : Result Outcome NotTold → List Point → List Point
 owed_by (Ok outcome) signals = owed outcome signals
 owed_by (Err not_told) signals = []
+
+-- where there is no worker
+abbrev pub no_worker : WorkerState
+no_worker = record {
+  queue = 0;
+  channel = no_channel;
+  of = no_channel.table;
+  halvings = 0;
+}
+
+abbrev pub worker_at : List WorkerState → ℕ → WorkerState
+worker_at workers queue = slice_index_or workers queue no_worker
+
+abbrev pub no_end : WorkerEndState
+no_end = record { queue = 0; channel = no_channel; taken = []; gave = []; left = []; halvings = 0 }
+
+abbrev pub end_at : List WorkerEndState → ℕ → WorkerEndState
+end_at ends queue = slice_index_or ends queue no_end
+
+-- the end is that of this worker: it has its queue, its channel and its seat's share
+pub record IsEndOfWorker (worker : WorkerState) (end : WorkerEndState) : Type 0 where
+  pub queue : end.queue ≡ worker.queue
+  pub channel : end.channel ≡ worker.channel
+  pub halvings : end.halvings ≡ worker.halvings
+
+-- at each place is the end of the worker that stood there
+abbrev pub AreEndsOfWorkers : List WorkerState → List WorkerEndState → Type 0
+AreEndsOfWorkers workers ends =
+    (queue : ℕ) (d : WorkerEndState) → queue < length ends → IsEndOfWorker (worker_at workers queue) (slice_index_or ends queue d)

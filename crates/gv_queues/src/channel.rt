@@ -2,7 +2,8 @@
 ghost use Rattle.std.specs.Prelude.{◌≡◌, ◌<◌, ℕ, [], IfOk};
 ghost use Rattle.crossbeam_channel.specs.Claims.{view, IsSeatAt};
 ghost use Rattle.crossbeam_channel.specs.Ends.{sends_on, receives_on, ruled_capacity};
-ghost use Rattle.gv_queues.specs.Handover.{submitter_log, worker_log};
+ghost use Rattle.gv_queues.specs.Handover.{about_queue, submitter_log, worker_log};
+ghost use Rattle.gv_queues.specs.declared.log.About.{About};
 
 use crate::log::Log;
 use crossbeam_channel::protocol::{Lesson, Outcome, Protocol, Split};
@@ -22,13 +23,15 @@ impl Protocol<Request, Log> for InOrder {
     ghost first = { opening_log };
 }
 
-/// For how many timelines a queue is. The call that opens the queue picks it.
+/// Which queue a channel is of, and for how many timelines. The call that opens the channel picks it.
 pub trait Bound {
-    ghost bound: { ℕ };
+    ghost about: { About };
 }
 
 impl Bound for Brand {
-    ghost bound = { 0 };
+    ghost use Rattle.gv_queues.specs.Handover.{about_queue};
+
+    ghost about = { about_queue 0 0 };
 }
 
 /// The first pass of a channel is cut into the submitter's and the worker's.
@@ -40,9 +43,9 @@ impl<B: Bound> Split<Log> for Roles<B> {
     ghost use Rattle.std.specs.Prelude.{[]};
     ghost use Rattle.gv_queues.specs.Handover.{submitter_log, worker_log};
 
-    ghost left = { λ v. submitter_log B.bound [] };
+    ghost left = { λ v. submitter_log B.about [] };
 
-    ghost right = { λ v. worker_log B.bound [] };
+    ghost right = { λ v. worker_log B.about [] };
 }
 
 /// What a put tells.
@@ -88,14 +91,20 @@ pub struct Ends {
     pub takes: QueuePass,
 }
 
-fn open_branded<B: Bound>(alloc: Global, depth: usize, timelines: u64) -> Result<Ends, AllocError>
+fn open_branded<B: Bound>(
+    alloc: Global,
+    depth: usize,
+    queue: u64,
+    timelines: u64,
+) -> Result<Ends, AllocError>
     requires depth { 0 < depth }
-    requires bound { timelines ≡ B.bound }
+    requires about { about_queue queue timelines ≡ B.about }
     ensures depth { IfOk result (λ e. ruled_capacity (sends_on e.sends) ≡ depth) }
     ensures puts { IfOk result (λ e. IsSeatAt (sends_on e.sends) e.puts
-        × (view e.puts ≡ submitter_log timelines [])) }
+        × (view e.puts ≡ submitter_log (about_queue queue timelines) [])) }
     ensures takes { IfOk result (λ e. IsSeatAt (receives_on e.receives) e.takes
-        × (view e.takes ≡ worker_log timelines [])) }
+        × (view e.takes ≡ worker_log (about_queue queue timelines) [])) }
+    ensures one { IfOk result (λ e. e.takes.table_id ≡ e.puts.table_id) }
 {
     let (sends, receives, mut puts) = bounded_with(alloc, depth)?;
     let takes = sends.another::<Roles<B>>(&mut puts);
@@ -107,14 +116,15 @@ fn open_branded<B: Bound>(alloc: Global, depth: usize, timelines: u64) -> Result
     })
 }
 
-/// A channel of so many places for requests that fit so many timelines. Nothing was put or taken.
-pub fn open(alloc: Global, depth: usize, timelines: u64) -> Result<Ends, AllocError>
+/// A channel of this queue, of so many places for requests that fit so many timelines. Nothing was put or taken.
+pub fn open(alloc: Global, depth: usize, queue: u64, timelines: u64) -> Result<Ends, AllocError>
     requires { 0 < depth }
     ensures depth { IfOk result (λ e. ruled_capacity (sends_on e.sends) ≡ depth) }
     ensures puts { IfOk result (λ e. IsSeatAt (sends_on e.sends) e.puts
-        × (view e.puts ≡ submitter_log timelines [])) }
+        × (view e.puts ≡ submitter_log (about_queue queue timelines) [])) }
     ensures takes { IfOk result (λ e. IsSeatAt (receives_on e.receives) e.takes
-        × (view e.takes ≡ worker_log timelines [])) }
+        × (view e.takes ≡ worker_log (about_queue queue timelines) [])) }
+    ensures one { IfOk result (λ e. e.takes.table_id ≡ e.puts.table_id) }
 {
-    open_branded::<Brand>(alloc, depth, timelines)
+    open_branded::<Brand>(alloc, depth, queue, timelines)
 }

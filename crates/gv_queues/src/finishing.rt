@@ -1,7 +1,7 @@
 //! What is known when all is done.
 ghost use Rattle.std.specs.Prelude.{◌≡◌, ◌<◌, ◌≤◌, ℕ, [], IfOk, IfErr, length, vec_len, vec_capacity};
 ghost use Rattle.gv_vm.specs.Outcomes.{queues};
-ghost use Rattle.gv_queues.specs.Ending.{AgreesAt, AreEndsOf, AreInOrder, IsFirstOther};
+ghost use Rattle.gv_queues.specs.Ending.{AgreesAt, AreEndsOf, AreInOrder, EndOnOwnChannels, IsFirstOther};
 
 use crate::put_end::PutEnd;
 use crate::worker_end::WorkerEnd;
@@ -62,6 +62,7 @@ pub fn finish(
     requires even { length puts.now ≡ vec_len workers }
     requires few { vec_len workers ≤ queues }
     requires order { AreInOrder (λ p. p.queue) puts.now × AreInOrder (λ w. w.queue) workers.items }
+    requires channels { EndOnOwnChannels puts.now workers.items }
     requires none { ends.items ≡ [] }
     requires room { vec_len workers ≤ vec_capacity ends }
     ensures agree { IfOk result (λ _. (queue : ℕ) → queue < length puts.now

@@ -2,11 +2,17 @@
 use gv_types::Request;
 use std::collections::LinkedList;
 
-/// What a pass may do, for how many timelines, and what was put and taken with it. It exists in proofs alone.
+/// Which queue a channel is of, and for how many timelines. It exists in proofs alone.
+pub struct About {
+    pub queue: u64,
+    pub timelines: u64,
+}
+
+/// What a pass may do, what its channel is, and what was put and taken with it. It exists in proofs alone.
 pub struct Log {
     pub puts: bool,
     pub takes: bool,
-    pub timelines: u64,
+    pub about: About,
     pub put: LinkedList<Request>,
     pub taken: LinkedList<Request>,
 }

@@ -4,13 +4,13 @@ ghost use Rattle.std.specs.List.{All};
 ghost use Rattle.gv_sync.specs.Seats.{IsSeatOf, count_of};
 ghost use Rattle.gv_types.specs.Limits.{IsFromOneTo};
 ghost use Rattle.gv_vm.specs.Outcomes.{queues};
-ghost use Rattle.gv_queues.specs.Ending.{AreInOrder};
+ghost use Rattle.gv_queues.specs.Ending.{AreInOrder, AreOnOwnChannels};
 ghost use Rattle.gv_queues.specs.Submitting.{AreOpened, most_places};
 
 use crate::channel::{Ends, open};
 use crate::finishing::QueuesFault;
 use crate::put_end::PutEnd;
-use crate::running::OfQueue;
+use crate::running::OfWorker;
 use crate::submitter::Submitter;
 use crate::taking::Taker;
 use crate::worker::Worker;
@@ -22,7 +22,7 @@ use std::thread::PromisedHandle;
 /// The room for what the workers leave. Each list is empty.
 #[derive(Drop)]
 pub struct Rooms {
-    pub handles: Vec<PromisedHandle<WorkerEnd, OfQueue>>,
+    pub handles: Vec<PromisedHandle<WorkerEnd, OfWorker>>,
     pub puts: Vec<PutEnd>,
     pub workers: Vec<WorkerEnd>,
 }
@@ -74,6 +74,7 @@ pub fn open_all(
         × All (λ w. w.of ≡ timelines.now) o.workers.items) }
     ensures opened { IfOk result (λ o. AreOpened limit depth (count_of timelines.now) o.submitters.items) }
     ensures order { IfOk result (λ o. AreInOrder (λ w. w.queue) o.workers.items) }
+    ensures channels { IfOk result (λ o. AreOnOwnChannels o.submitters.items o.workers.items) }
     ensures even { IfOk result (λ o. (vec_len o.workers ≡ count) × (vec_len o.submitters ≡ count)) }
     ensures fault { IfErr result (λ fault. fault ≡ QueuesFault.NotMade) }
 {
@@ -88,7 +89,7 @@ pub fn open_all(
             puts,
             receives,
             takes,
-        } = open(alloc, depth, named)?;
+        } = open(alloc, depth, queue, named)?;
         let own = timelines.split(seat)?;
         submitters.push_reserved(Submitter::new(sends, puts, queue, limit, named));
         workers.push_reserved(Worker::new(Taker::new(receives, takes, queue), own, left));

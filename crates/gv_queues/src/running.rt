@@ -2,8 +2,9 @@
 ghost use Rattle.std.specs.Prelude.{◌≡◌, ◌<◌, ◌≤◌, ℕ, [], IfNone, IfSome, map, vec_len, vec_capacity};
 ghost use Rattle.std.specs.List.{All};
 ghost use Rattle.gv_sync.specs.Seats.{IsSeatOf, count_of};
-ghost use Rattle.gv_queues.specs.Ending.{AreInOrder, ArePuts};
+ghost use Rattle.gv_queues.specs.Ending.{AreClosed, AreInOrder, AreOnOwnChannels, ArePuts, EndOnOwnChannels};
 ghost use Rattle.gv_queues.specs.Submitting.{AreOpened, put_end_of};
+ghost use Rattle.gv_queues.specs.Working.{AreEndsOfWorkers, IsEndOfWorker};
 
 use crate::driver::Driver;
 use crate::gate::Gate;
@@ -11,22 +12,23 @@ use crate::opening::{Opened, Rooms};
 use crate::put_end::PutEnd;
 use crate::submitter::Submitter;
 use crate::vm_lock::{Locked, VmLock};
-use crate::worker::{Shared, work};
+use crate::worker::{Shared, Worker, work};
 use crate::worker_end::WorkerEnd;
 use gv_sync::{Seat, Timelines};
 use std::alloc::Global;
+use std::snapshot::Snapshot;
 use std::sync::Wait;
 use std::thread;
 use std::thread::{Promise, PromisedHandle, Threads};
 
-/// The end is that of the worker of this queue.
-#[derive(Clone, Copy)]
-pub struct OfQueue(u64);
+/// The end is that of this worker.
+#[derive(Drop)]
+pub struct OfWorker(Snapshot<Worker>);
 
-impl Promise<WorkerEnd> for OfQueue {
-    ghost use Rattle.std.specs.Prelude.{◌≡◌};
+impl Promise<WorkerEnd> for OfWorker {
+    ghost use Rattle.gv_queues.specs.Working.{IsEndOfWorker};
 
-    ghost kept_by = { λ p end. end.queue ≡ p.0 };
+    ghost kept_by = { λ p end. IsEndOfWorker p.0.value end };
 }
 
 /// What the queues left, and the first queue whose worker was not started, if any.
@@ -63,6 +65,7 @@ fn drive_all<D: Driver, R: Wait>(
     requires none { puts.items ≡ [] }
     requires room { vec_len submitters ≤ vec_capacity puts }
     ensures puts { ArePuts (D.put_on driver.new) result.items }
+    ensures closed { AreClosed submitters.items result.items }
     ensures len { vec_len result ≡ vec_len submitters }
 {
     driver.drive(rt, lock, submitters.as_mut_slice(), timelines, &mut seat);
@@ -72,13 +75,12 @@ fn drive_all<D: Driver, R: Wait>(
 /// Waits for the workers, and takes what still stands in a channel. The queues are closed.
 fn join_all<R: Threads + Wait>(
     rt: &R,
-    handles: Vec<PromisedHandle<WorkerEnd, OfQueue>>,
+    handles: Vec<PromisedHandle<WorkerEnd, OfWorker>>,
     mut workers: Vec<WorkerEnd>,
 ) -> Vec<WorkerEnd>
-    requires order { AreInOrder (λ h. h.promise.0) handles.items }
     requires none { workers.items ≡ [] }
     requires room { vec_len handles ≤ vec_capacity workers }
-    ensures order { AreInOrder (λ w. w.queue) result.items }
+    ensures ends { AreEndsOfWorkers (map (λ h. h.promise.0.value) handles.items) result.items }
     ensures len { vec_len result ≡ vec_len handles }
 {
     for handle in handles {
@@ -110,6 +112,7 @@ pub fn run_workers<L: Locked + Sync, G: Gate + Sync, D: Driver, R: Threads + Wai
     requires opened { (limit : ℕ) × (depth : ℕ)
         × AreOpened limit depth (count_of around.timelines.now) opened.submitters.items }
     requires order { AreInOrder (λ w. w.queue) opened.workers.items }
+    requires channels { AreOnOwnChannels opened.submitters.items opened.workers.items }
     requires even { vec_len opened.workers ≡ vec_len opened.submitters }
     requires none { (rooms.handles.items ≡ []) × (rooms.puts.items ≡ []) × (rooms.workers.items ≡ []) }
     requires room { (vec_len opened.workers ≤ vec_capacity rooms.handles)
@@ -119,6 +122,8 @@ pub fn run_workers<L: Locked + Sync, G: Gate + Sync, D: Driver, R: Threads + Wai
     ensures puts { IfNone result.refused (ArePuts (D.put_on driver.new) result.puts.items) }
     ensures even { IfNone result.refused ((vec_len result.puts ≡ vec_len opened.submitters)
         × (vec_len result.workers ≡ vec_len opened.submitters)) }
+    ensures ends { IfNone result.refused (AreEndsOfWorkers opened.workers.items result.workers.items) }
+    ensures channels { IfNone result.refused (EndOnOwnChannels result.puts.items result.workers.items) }
     ensures refused { IfSome result.refused (λ queue. (queue < vec_len opened.submitters)
         × (driver.new ≡ driver.old)) }
 {
@@ -145,6 +150,7 @@ pub fn run_workers<L: Locked + Sync, G: Gate + Sync, D: Driver, R: Threads + Wai
             requires opened { (limit : ℕ) × (depth : ℕ)
                 × AreOpened limit depth (count_of timelines.now) submitters.items }
             requires order { AreInOrder (λ w. w.queue) workers.items }
+            requires channels { AreOnOwnChannels submitters.items workers.items }
             requires even { vec_len workers ≡ vec_len submitters }
             requires none { (handles.items ≡ []) × (puts.items ≡ []) × (worker_ends.items ≡ []) }
             requires room { (vec_len workers ≤ vec_capacity handles) × (vec_len workers ≤ vec_capacity puts)
@@ -153,6 +159,8 @@ pub fn run_workers<L: Locked + Sync, G: Gate + Sync, D: Driver, R: Threads + Wai
             ensures puts { IfNone result.1.refused (ArePuts (D.put_on result.0.now) result.1.puts.items) }
             ensures even { IfNone result.1.refused ((vec_len result.1.puts ≡ vec_len submitters)
                 × (vec_len result.1.workers ≡ vec_len submitters)) }
+            ensures ends { IfNone result.1.refused (AreEndsOfWorkers workers.items result.1.workers.items) }
+            ensures channels { IfNone result.1.refused (EndOnOwnChannels result.1.puts.items result.1.workers.items) }
             ensures refused { IfSome result.1.refused (λ queue. (queue < vec_len submitters)
                 × (result.0.now ≡ driver.entry.now)) }
             ensures same { result.0.ghost_name ≡ driver.entry.ghost_name }
@@ -161,10 +169,10 @@ pub fn run_workers<L: Locked + Sync, G: Gate + Sync, D: Driver, R: Threads + Wai
             for worker in workers {
                 let queue = worker.queue();
                 let started = scope.spawn_with(
-                    OfQueue(queue),
+                    OfWorker(Snapshot::of(&worker)),
                     move || -> WorkerEnd
                         requires { worker.of ≡ timelines.now }
-                        ensures { result.queue ≡ worker.queue }
+                        ensures { IsEndOfWorker worker result }
                     {
                         let all = Shared {
                             lock: lock.vm_lock(),

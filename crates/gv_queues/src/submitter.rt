@@ -4,7 +4,7 @@ ghost use Rattle.crossbeam_channel.specs.Claims.{view, IsSeatAt};
 ghost use Rattle.crossbeam_channel.specs.Ends.{sends_on, ruled_capacity};
 ghost use Rattle.gv_types.specs.Request.{Fits as FitsTimelines};
 ghost use Rattle.gv_vm.specs.Outcomes.{queues};
-ghost use Rattle.gv_queues.specs.Handover.{submitter_log};
+ghost use Rattle.gv_queues.specs.Handover.{about_queue, submitter_log};
 ghost use Rattle.gv_queues.specs.Submitting.{MayBeFull, put_end_of};
 
 use crate::channel::{Puts, QueuePass, Sends};
@@ -37,14 +37,14 @@ impl Model for Submitter {
     ghost use Rattle.crossbeam_channel.specs.Claims.{view as log_of, IsSeatAt};
     ghost use Rattle.crossbeam_channel.specs.Ends.{sends_on, ruled_capacity};
     ghost use Rattle.gv_vm.specs.Outcomes.{queues};
-    ghost use Rattle.gv_queues.specs.Handover.{submitter_log};
+    ghost use Rattle.gv_queues.specs.Handover.{about_queue, submitter_log};
     ghost use Rattle.gv_queues.specs.Submitting.{SubmitterState};
 
     ghost Value = { SubmitterState };
 
     ghost view = { λ s. record {
       queue = s.queue;
-      channel = s.pass.table_id;
+      channel = record { table = s.pass.table_id; queue = s.queue };
       limit = s.limit;
       depth = ruled_capacity (sends_on s.sends);
       timelines = s.timelines;
@@ -53,7 +53,7 @@ impl Model for Submitter {
 
     ghost invariant = { λ s.
         IsSeatAt (sends_on s.sends) s.pass
-        × (log_of s.pass ≡ submitter_log s.timelines (log_of s.pass).put)
+        × (log_of s.pass ≡ submitter_log (about_queue s.queue s.timelines) (log_of s.pass).put)
         × (s.count ≡ length (log_of s.pass).put)
         × (s.count ≤ s.limit)
         × (s.queue < queues) };
@@ -68,11 +68,11 @@ impl Submitter {
         timelines: u64,
     ) -> Submitter
         requires seat { IsSeatAt (sends_on sends) pass }
-        requires none { view pass ≡ submitter_log timelines [] }
+        requires none { view pass ≡ submitter_log (about_queue queue timelines) [] }
         requires queue { queue < queues }
         ensures { result ≡ record {
           queue = queue;
-          channel = pass.table_id;
+          channel = record { table = pass.table_id; queue = queue };
           limit = limit;
           depth = ruled_capacity (sends_on sends);
           timelines = timelines;

@@ -3,7 +3,7 @@ ghost use Rattle.std.specs.Prelude.{◌≡◌, ◌<◌, [], length, IfSome, IfNo
 ghost use Rattle.crossbeam_channel.specs.Claims.{view, IsSeatAt};
 ghost use Rattle.crossbeam_channel.specs.Ends.{receives_on};
 ghost use Rattle.gv_vm.specs.Outcomes.{queues};
-ghost use Rattle.gv_queues.specs.Handover.{worker_log};
+ghost use Rattle.gv_queues.specs.Handover.{about_queue, worker_log};
 ghost use Rattle.gv_queues.specs.Taking.{IsTakenFrom};
 
 use crate::channel::{QueuePass, Receives, Takes};
@@ -24,29 +24,35 @@ impl Model for Taker {
     ghost use Rattle.crossbeam_channel.specs.Claims.{view as log_of, IsSeatAt};
     ghost use Rattle.crossbeam_channel.specs.Ends.{receives_on};
     ghost use Rattle.gv_vm.specs.Outcomes.{queues};
-    ghost use Rattle.gv_queues.specs.Handover.{worker_log};
+    ghost use Rattle.gv_queues.specs.Handover.{about_queue, worker_log};
     ghost use Rattle.gv_queues.specs.Taking.{TakerState};
 
     ghost Value = { TakerState };
 
     ghost view = { λ t. record {
       queue = t.queue;
-      timelines = (log_of t.pass).timelines;
+      channel = record { table = t.pass.table_id; queue = t.queue };
+      timelines = (log_of t.pass).about.timelines;
       taken = (log_of t.pass).taken;
     } };
 
     ghost invariant = { λ t.
         IsSeatAt (receives_on t.receives) t.pass
-        × (log_of t.pass ≡ worker_log (log_of t.pass).timelines (log_of t.pass).taken)
+        × (log_of t.pass ≡ worker_log (about_queue t.queue (log_of t.pass).about.timelines) (log_of t.pass).taken)
         × (t.queue < queues) };
 }
 
 impl Taker {
     pub(crate) fn new(receives: Receives, pass: QueuePass, queue: u64) -> Taker
         requires seat { IsSeatAt (receives_on receives) pass }
-        requires none { view pass ≡ worker_log (view pass).timelines [] }
+        requires none { view pass ≡ worker_log (about_queue queue (view pass).about.timelines) [] }
         requires queue { queue < queues }
-        ensures { result ≡ record { queue = queue; timelines = (view pass).timelines; taken = [] } }
+        ensures { result ≡ record {
+          queue = queue;
+          channel = record { table = pass.table_id; queue = queue };
+          timelines = (view pass).about.timelines;
+          taken = [];
+        } }
     {
         Taker {
             receives,

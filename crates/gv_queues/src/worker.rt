@@ -41,7 +41,12 @@ impl Model for Worker {
 
     ghost Value = { WorkerState };
 
-    ghost view = { λ w. record { queue = w.taker.queue; of = w.seat.of; halvings = w.seat.halvings } };
+    ghost view = { λ w. record {
+      queue = w.taker.queue;
+      channel = w.taker.channel;
+      of = w.seat.of;
+      halvings = w.seat.halvings;
+    } };
 
     ghost invariant = { λ w.
         (w.taker.taken ≡ [])
@@ -57,7 +62,12 @@ impl Worker {
         requires timelines { taker.timelines ≡ count_of seat.of }
         requires raised { (timeline : ℕ) → (mark_of seat timeline).raised ≡ 0 }
         requires left { (left.items ≡ []) × (0 < vec_capacity left) }
-        ensures { result ≡ record { queue = taker.queue; of = seat.of; halvings = seat.halvings } }
+        ensures { result ≡ record {
+          queue = taker.queue;
+          channel = taker.channel;
+          of = seat.of;
+          halvings = seat.halvings;
+        } }
     {
         Worker { taker, seat, left }
     }
@@ -120,6 +130,7 @@ pub fn work<G: Gate, R: Wait>(
 ) -> WorkerEnd
     requires { worker.of ≡ shared.timelines.now }
     ensures queue { result.queue ≡ worker.queue }
+    ensures channel { result.channel ≡ worker.channel }
     // No seat was split off the worker's own, with which it could have raised unseen.
     ensures share { result.halvings ≡ worker.halvings }
 {

@@ -27,6 +27,7 @@ impl Model for WorkerEnd {
 
     ghost view = { λ e. record {
       queue = e.taker.queue;
+      channel = e.taker.channel;
       taken = e.taker.taken;
       gave = e.gave.items;
       left = e.left.items;
@@ -43,6 +44,7 @@ impl WorkerEnd {
         requires raised { RaisedJustOwed gave.items taker.taken seat }
         ensures { result ≡ record {
           queue = taker.queue;
+          channel = taker.channel;
           taken = taker.taken;
           gave = gave.items;
           left = left.items;
@@ -74,6 +76,7 @@ impl WorkerEnd {
     /// Takes what still stands in the channel of a closed queue and leaves it, as far as there is room.
     pub(crate) fn drained<R: Wait>(self, rt: &R) -> WorkerEnd
         ensures queue { result.queue ≡ self.queue }
+        ensures channel { result.channel ≡ self.channel }
         ensures gave { result.gave ≡ self.gave }
         ensures share { result.halvings ≡ self.halvings }
     {

@@ -4,6 +4,7 @@ use Rattle.gv_sync.proofs.LookLemmas.{split_raised}
 use Rattle.gv_queues.specs.Submitting.{IsOpened, SubmitterState}
 use Rattle.gv_queues.specs.Taking.{TakerState}
 use Rattle.gv_queues.specs.Working.{WorkerState}
+use Rattle.gv_queues.proofs.Channels.{channels_more, own_channels}
 use Rattle.gv_queues.proofs.Ends.{each_more, opened_more, in_order_more}
 use Rattle.gv_queues.proofs.opening.open_all.Goals as goal
 
@@ -18,6 +19,7 @@ loop-queue-preserved c =
     let wide : vec_len c.loop-queue.workers ≡ length c.loop-queue.workers.items = search rules in
     let opened : IsOpened (length c.loop-queue.submitters.items) c.args.limit c.args.depth (count_of c.args.timelines.now) c.new.result = record {
       queue = ap (λ (s : SubmitterState). s.queue) c.new.ensures ∙ (sym was.3 ∙ long);
+      channel = ap (λ (s : SubmitterState). s.channel.queue) c.new.ensures ∙ (sym was.3 ∙ long);
       limit = ap (λ (s : SubmitterState). s.limit) c.new.ensures;
       depth = ap (λ (s : SubmitterState). s.depth) c.new.ensures ∙ search rules;
       timelines = ap (λ (s : SubmitterState). s.timelines) c.new.ensures ∙ c.count-named.ensures.count;
@@ -26,7 +28,11 @@ loop-queue-preserved c =
     let shared : c.split.new.seat.halvings ≡ c.args.seat.now.halvings + (c.loop-queue.queue + 1) =
     let half = ap (λ (s : SeatState). s.halvings) c.split.ensures.kept in let so_far = was.2 in omega (arith, half, so_far) in
     let queue : c.new-in-loop-queue-2.result.queue ≡ length c.loop-queue.workers.items =
-    ap (λ (w : WorkerState). w.queue) c.new-in-loop-queue-2.ensures ∙ (ap (λ (t : TakerState). t.queue) c.new-in-loop-queue.ensures ∙ (sym was.4 ∙ wide)) in (
+    ap (λ (w : WorkerState). w.queue) c.new-in-loop-queue-2.ensures ∙ (ap (λ (t : TakerState). t.queue) c.new-in-loop-queue.ensures ∙ (sym was.4 ∙ wide)) in
+    let taker_channel = ap (λ (t : TakerState). t.channel) c.new-in-loop-queue.ensures in
+    let worker_channel = ap (λ (w : WorkerState). w.channel) c.new-in-loop-queue-2.ensures in
+    let submitter_channel = ap (λ (s : SubmitterState). s.channel) c.new.ensures in
+    let one : c.new.result.channel ≡ c.new-in-loop-queue-2.result.channel = search rules in (
       search rules,
       search rules,
       shared,
@@ -36,6 +42,12 @@ loop-queue-preserved c =
       in_order_more (λ (w : WorkerState). w.queue) c.loop-queue.workers.items c.push_reserved-in-loop-queue.new.self.items c.new-in-loop-queue-2.result was.6 queue c.push_reserved-in-loop-queue.ensures.items,
       each_more (λ (k : ℕ) (w : WorkerState). w.of ≡ c.args.timelines.now) c.loop-queue.workers.items c.push_reserved-in-loop-queue.new.self.items c.new-in-loop-queue-2.result
           c.push_reserved-in-loop-queue.ensures.items (ap (λ (w : WorkerState). w.of) c.new-in-loop-queue-2.ensures ∙ c.in_ok-own.ensures.own_given) was.7,
+      channels_more c.loop-queue.submitters.items c.push_reserved.new.self.items c.loop-queue.workers.items c.push_reserved-in-loop-queue.new.self.items c.new.result c.new-in-loop-queue-2.result
+          c.push_reserved.ensures.items c.push_reserved-in-loop-queue.ensures.items one was.8,
       search rules,
       search rules,
     )
+
+pub returns-clause-channels : goal.returns-clause-channels
+returns-clause-channels c =
+    let was = c.loop-queue.invariant in own_channels c.args.limit c.args.depth (count_of c.args.timelines.now) c.loop-queue.submitters.items c.loop-queue.workers.items was.5 was.8

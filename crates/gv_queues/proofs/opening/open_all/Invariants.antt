@@ -3,6 +3,7 @@ use Rattle.gv_sync.specs.Seats.{IsSeatOf, count_of}
 use Rattle.gv_queues.specs.Ending.{AreInOrder}
 use Rattle.gv_queues.specs.Submitting.{AreOpened}
 use Rattle.gv_queues.specs.Working.{WorkerState}
+use Rattle.gv_queues.proofs.Channels.{of_submitters, of_workers}
 use Rattle.gv_queues.proofs.opening.open_all.Given as goal
 
 abbrev pub invariant-loop-queue : goal.invariant-loop-queue
@@ -15,5 +16,6 @@ invariant-loop-queue l =
     × AreOpened l.fn.limit l.fn.depth (count_of l.timelines) l.submitters.items
     × AreInOrder (λ (w : WorkerState). w.queue) l.workers.items
     × All (λ (w : WorkerState). w.of ≡ l.timelines) l.workers.items
+    × (of_submitters l.submitters.items ≡ of_workers l.workers.items)
     × (l.fn.count ≤ vec_capacity l.submitters)
     × (l.fn.count ≤ vec_capacity l.workers)

@@ -1,5 +1,6 @@
 use Rattle.std.proofs.Common.{rules, ◌≡◌, ◌∙◌, List, drop, ap, map, length}
 use Rattle.gv_queues.specs.Submitting.{SubmitterState, put_end_of}
+use Rattle.gv_queues.proofs.Channels.{closed_of}
 use Rattle.gv_queues.proofs.Ends.{puts_of, taken_whole}
 use Rattle.gv_queues.proofs.running.drive_all.Goals as goal
 
@@ -10,3 +11,11 @@ returns-clause-puts g c =
     let long : c.args.submitters.len ≡ length new = search rules in
     let whole = taken_whole new (drop (length new) c.args.submitters.items) c.args.submitters.len long in
     puts_of (g.D.Driver.put_on c.drive.new.self) opened.0 opened.1 _ c.args.submitters.items new c.close_all.result.items (c.close_all.ensures ∙ ap (λ (l : List SubmitterState). map put_end_of l) whole) even opened.2 (search rules) c.drive.ensures.counts
+
+pub returns-clause-closed : goal.returns-clause-closed
+returns-clause-closed g c =
+    let new = c.drive.new.submitters in
+    let even : length new ≡ length c.args.submitters.items = search rules in
+    let long : c.args.submitters.len ≡ length new = search rules in
+    let whole = taken_whole new (drop (length new) c.args.submitters.items) c.args.submitters.len long in
+    closed_of c.args.submitters.items new c.close_all.result.items (c.close_all.ensures ∙ ap (λ (l : List SubmitterState). map put_end_of l) whole) even (search rules)

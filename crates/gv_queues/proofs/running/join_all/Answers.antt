@@ -1,16 +1,27 @@
-use Rattle.std.proofs.Common.{rules, ◌≡◌, ◌+◌, ◌∙◌, vec_len, length}
-use Rattle.gv_queues.specs.Working.{WorkerEndState}
-use Rattle.gv_queues.proofs.Ends.{in_order_more}
+use Rattle.std.proofs.Common.{rules, ◌≡◌, ◌+◌, ◌∙◌, ℕ, List, map, sym, ap, subst, vec_len, length}
+use Rattle.std.proofs.lemmas.List.{get_or-map}
+use Rattle.std.specs.declared.thread.PromisedHandle.{PromisedHandle}
+use Rattle.gv_queues.specs.declared.worker_end.WorkerEnd.{WorkerEnd}
+use Rattle.gv_queues.specs.declared.running.OfWorker.{OfWorker}
+use Rattle.gv_queues.specs.Working.{IsEndOfWorker, WorkerEndState, WorkerState, no_worker, worker_at}
+use Rattle.gv_queues.proofs.Channels.{ended_more}
 use Rattle.gv_queues.proofs.running.join_all.Goals as goal
 
 pub loop-handle-preserved : goal.loop-handle-preserved
 loop-handle-preserved g c =
     let was = c.loop-handle.invariant in let step = c.in-Some.ensures.steps in let done = vec_len c.loop-handle.workers in
-    let next : c.in-Some.handle.promise.0 ≡ done = let h = was.1 0 c.in-Some.handle in grind rules in
-    let here : c.drained.result.queue ≡ done = c.drained.ensures.queue ∙ (c.join.ensures ∙ next) in
+    let all : List WorkerState = map (λ h. h.promise.0.value) c.args.handles.items in
+    let next : c.in-Some.handle.promise.0.value ≡ worker_at all done = let h = was.1 0 c.in-Some.handle in grind rules in
+    let end : WorkerEndState = c.drained.result in
+    let kept = c.join.ensures in
+    let here : IsEndOfWorker (worker_at all done) end = record {
+      queue = c.drained.ensures.queue ∙ (kept.queue ∙ ap (λ (w : WorkerState). w.queue) next);
+      channel = c.drained.ensures.channel ∙ (kept.channel ∙ ap (λ (w : WorkerState). w.channel) next);
+      halvings = c.drained.ensures.share ∙ (kept.halvings ∙ ap (λ (w : WorkerState). w.halvings) next);
+    } in
     let long : done ≡ length c.loop-handle.workers.items = search rules in (
       search rules,
       (λ k d below. let h = was.1 (k + 1) d in grind rules),
-      in_order_more (λ (w : WorkerEndState). w.queue) _ _ _ was.2 (here ∙ long) c.push_reserved.ensures.items,
+      ended_more all _ _ _ c.push_reserved.ensures.items (subst (λ (n : ℕ). IsEndOfWorker (worker_at all n) end) long here) was.2,
       search rules,
     )

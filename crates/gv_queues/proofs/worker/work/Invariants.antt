@@ -7,6 +7,7 @@ abbrev pub invariant-loop : goal.invariant-loop
 invariant-loop g l =
     IsSeatOf l.shared.timelines.now l.seat
     × (l.taker.queue ≡ l.fn.worker.queue)
+    × (l.taker.channel ≡ l.fn.worker.channel)
     × (l.taker.timelines ≡ count_of l.shared.timelines.now)
     × (length l.taker.taken ≡ vec_len l.gave)
     × (l.left.items ≡ [])

@@ -16,12 +16,13 @@ loop-place-preserved g c =
     let grown : c.push_reserved.new.self.items ≡ c.loop-place.left.items ++ request ∷ [] =
     c.push_reserved.ensures.items ∙ ap (λ (r : Request). c.loop-place.left.items ++ r ∷ []) c.into_request.ensures in
     let taken_len : length c.take.new.self.taken ≡ length taken + 1 = ap (λ (l : List Request). length l) longer ∙ length-append taken (request ∷ []) in
-    let count = was.4 in let room = was.3 in let len = c.push_reserved.ensures.len in let capacity = c.push_reserved.ensures.capacity in
+    let count = was.5 in let room = was.4 in let len = c.push_reserved.ensures.len in let capacity = c.push_reserved.ensures.capacity in
     let below = c.loop-place-test.true in (
       search rules,
+      search rules,
       subst (λ (l : List Request). AreLeft l gave c.push_reserved.new.self.items) (sym longer)
-          (subst (λ (l : List Request). AreLeft (taken ++ request ∷ []) gave l) (sym grown) (left_more taken gave c.loop-place.left.items request was.1)),
-      subst (λ (l : List Request). RaisedJustOwed gave l c.self.inside.seat) (sym longer) (owed_same gave taken request c.self.inside.seat was.1.few was.2),
+          (subst (λ (l : List Request). AreLeft (taken ++ request ∷ []) gave l) (sym grown) (left_more taken gave c.loop-place.left.items request was.2)),
+      subst (λ (l : List Request). RaisedJustOwed gave l c.self.inside.seat) (sym longer) (owed_same gave taken request c.self.inside.seat was.2.few was.3),
       subst (λ (n : ℕ). vec_len c.push_reserved.new.self + (c.capacity.result - c.len-3.result - (c.loop-place.place + 1)) ≤ n) (sym capacity) (omega (arith, len, room, below)),
       omega (arith, taken_len, count),
     )

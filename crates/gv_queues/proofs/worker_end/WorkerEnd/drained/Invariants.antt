@@ -5,6 +5,7 @@ use Rattle.gv_queues.proofs.worker_end.WorkerEnd.drained.Given as goal
 abbrev pub invariant-loop-place : goal.invariant-loop-place
 invariant-loop-place g l =
     (l.taker.queue ≡ l.fn.self.queue)
+    × (l.taker.channel ≡ l.fn.self.channel)
     × AreLeft l.taker.taken l.gave.items l.left.items
     × RaisedJustOwed l.gave.items l.taker.taken l.seat
     × (vec_len l.left + (l.room - l.place) ≤ vec_capacity l.left)

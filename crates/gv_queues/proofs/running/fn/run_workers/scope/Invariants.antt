@@ -1,6 +1,5 @@
-use Rattle.std.proofs.Common.{◌≡◌, ◌≤◌, ◌+◌, ◌<◌, ℕ, None, vec_len, vec_capacity, get_or}
+use Rattle.std.proofs.Common.{◌≡◌, ◌≤◌, ◌+◌, ◌++◌, ◌<◌, ℕ, None, map, vec_len, vec_capacity, get_or}
 use Rattle.std.specs.Vec.Iter.{into_iter_items, into_iter_len}
-use Rattle.gv_queues.specs.Ending.{AreInOrder}
 use Rattle.gv_queues.proofs.running.fn.run_workers.scope.Given as goal
 
 abbrev pub invariant-loop-worker : goal.invariant-loop-worker
@@ -9,6 +8,6 @@ invariant-loop-worker g l =
     (done + into_iter_len rest ≡ vec_len l.submitters)
     × ((k : ℕ) (d : _) → k < into_iter_len rest → (get_or (into_iter_items rest) k d).queue ≡ done + k)
     × ((k : ℕ) (d : _) → k < into_iter_len rest → (get_or (into_iter_items rest) k d).of ≡ l.timelines)
-    × AreInOrder (λ h. h.promise.0) l.handles.items
+    × (map (λ h. h.promise.0.value) l.handles.items ++ into_iter_items rest ≡ into_iter_items l.initial.worker-iterator)
     × (vec_len l.submitters ≤ vec_capacity l.handles)
     × (l.refused ≡ None)
