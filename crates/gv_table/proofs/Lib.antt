@@ -13,6 +13,7 @@ mod Runs
 pub mod Matches
 pub mod Painted
 pub mod Needs
+mod Around
 pub mod Foresight
 pub mod EditLemmas
 pub mod LikenessLemmas

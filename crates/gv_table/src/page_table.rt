@@ -12,7 +12,7 @@ use crate::levels::TOP_LEVEL;
 use crate::paint::paint_slot;
 use crate::place::advance;
 use crate::slot::Slot;
-use crate::spare::needed_in;
+use crate::spare::needed_in_tree;
 use crate::spares::Spares;
 use crate::table_counts::TableCounts;
 use crate::walk::walk_tree;
@@ -80,9 +80,8 @@ impl PageTable {
         ensures some_needed { OnErr result (0 < needed_for pieces.now range self.now) }
     {
         let pieces = Reader::of_slice(pieces);
-        let place = advance(&pieces, 0, range.first());
         let mut spares = Spares::new();
-        for _ in 0..needed_in(&self.root, TOP_LEVEL, 0, &pieces, range, place) {
+        for _ in 0..needed_in_tree(&self.root, &pieces, range) {
             spares.grow(alloc)?;
         }
         Ok(spares)

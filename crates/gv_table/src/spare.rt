@@ -1,15 +1,16 @@
 //! How many tables a paint may need.
-ghost use Rattle.std.specs.Prelude.{◌≡◌, ◌+◌, ◌*◌, ◌≤◌, ◌<◌, IsTrue};
+ghost use Rattle.std.specs.Prelude.{◌≡◌, ◌+◌, ◌*◌, ◌≤◌, ◌<◌, IsTrue, IfSome};
 ghost use Rattle.gv_types.specs.Page.{PAGES};
 ghost use Rattle.gv_types.specs.Span.{span, meets, end_of};
 ghost use Rattle.gv_ranges.specs.List.{IsLaidOut, IsPlaceOf, AreEnded};
 ghost use Rattle.gv_table.specs.declared.slot.Slot.TheVariants.{Empty};
 ghost use Rattle.gv_table.specs.Levels.{top_level, root_level, slots_per_table, pages_of, slot_pages, entered};
+ghost use Rattle.gv_table.specs.Levels.{IsWithin, IsInPart};
 ghost use Rattle.gv_table.specs.Sums.{sum_below};
 ghost use Rattle.gv_table.specs.Tree.{is_table, child};
 ghost use Rattle.gv_table.specs.Counts.{needed, may_divide, one_if_not};
 
-use crate::levels::{pages_of, slots_met};
+use crate::levels::{TOP_LEVEL, pages_of, slots_in, slots_met};
 use crate::place::advance;
 use crate::slot::Slot;
 use crate::wanted::{Wanted, slot_wanted};
@@ -70,7 +71,7 @@ fn may_be_table(
 /// How many places of a slot may need a table where it has none.
 #[cycle(spare)]
 #[inline(always)]
-pub fn needed_in(
+fn needed_in(
     slot: &Slot,
     level: usize,
     first: u64,
@@ -126,4 +127,44 @@ fn needed_below(
         total += needed_in(part, level, start, pieces, range, place);
     }
     total
+}
+
+/// Which part of a slot the whole range lies in, if one above level 0 does.
+#[inline(always)]
+fn part_around(level: usize, first: u64, range: PageRange) -> Option<usize>
+    requires known { level ≤ top_level }
+    requires in_space { end_of (slot_pages level first) ≤ PAGES }
+    requires within { IsWithin range level first }
+    ensures { IfSome result (λ index. IsInPart range level first index) }
+{
+    if level <= 1 {
+        return None;
+    }
+    let pages = pages_of(level - 1);
+    let index = slots_in(level - 1, range.first() - first);
+    if first + index * pages + pages < range.end() {
+        return None;
+    }
+    Some(index as usize)
+}
+
+/// How many places of the tree may need a table where it has none. As long as the range lies in one part of a slot, only that
+/// part is looked at: the slot has to be a table whatever the pieces are.
+pub fn needed_in_tree(root: &Slot, pieces: &Reader<'_>, range: PageRange) -> u64
+    requires { IsLaidOut pieces.now }
+    ensures { result ≡ needed pieces.now range top_level 0 root.now }
+{
+    let empty = Slot::Empty;
+    let place = advance(pieces, 0, range.first());
+    let mut slot = root;
+    let mut level = TOP_LEVEL;
+    let mut first = 0;
+    let mut count = 0;
+    while let Some(index) = part_around(level, first, range) {
+        count += one_if_not_table(slot);
+        slot = child_of(slot, index, &empty);
+        level -= 1;
+        first += index as u64 * pages_of(level);
+    }
+    count + needed_in(slot, level, first, pieces, range, place)
 }
