@@ -2,7 +2,7 @@
 ghost use Rattle.std.specs.Prelude.{◌≡◌, IsTrue};
 ghost use Rattle.gv_types.specs.Operation.{has_range};
 
-use gv_types::{Op, PAGE_BYTES};
+use gv_types::Op;
 
 /// An operation that names its pages, so that a space applies it at once.
 #[derive(Clone, Copy)]
@@ -24,10 +24,5 @@ impl Edit {
         ensures { IsTrue (has_range result.now) }
     {
         &self.op
-    }
-
-    /// Its first page.
-    pub fn first(&self) -> u64 {
-        self.op.addr() / PAGE_BYTES
     }
 }

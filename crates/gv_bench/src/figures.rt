@@ -4,7 +4,7 @@ use std::time::Duration;
 
 /// The line over the figures: nanoseconds of a step of each kind, then how many hundredths of the one the other takes.
 pub const HEADER: &str = "\
-workload  mappings    apply   revert     move     edit     find     walk  look-up  \
+workload  mappings    apply   revert     edit     find     walk  look-up  \
 revert/apply  apply/edit  find/look-up  walk/look-up";
 
 /// Times at one workload and size: of edits of the address space and of the plain list, and of look-ups in both.
@@ -25,9 +25,8 @@ impl fmt::Display for Figures {
             look_up,
         } = self.look_ups;
         write!(f, "  {:>7}  {:>7}", edits.apply.each(), edits.revert.each())?;
-        write!(f, "  {:>7}  {:>7}", edits.shift.each(), plain.each())?;
-        write!(f, "  {:>7}  {:>7}", find.each(), walk.each())?;
-        write!(f, "  {:>7}", look_up.each())?;
+        write!(f, "  {:>7}  {:>7}", plain.each(), find.each())?;
+        write!(f, "  {:>7}  {:>7}", walk.each(), look_up.each())?;
         write!(f, "  {:>11}%", edits.revert.percent_of(edits.apply))?;
         write!(f, "  {:>9}%", edits.apply.percent_of(plain))?;
         write!(f, "  {:>11}%", find.percent_of(look_up))?;
@@ -35,12 +34,11 @@ impl fmt::Display for Figures {
     }
 }
 
-/// Times of edits of the address space: of applying them, of taking them back, and of moving alone what they move.
+/// Times of edits of the address space: of applying them, and of taking them back.
 #[derive(Clone, Copy)]
 pub struct SpaceTimes {
     pub apply: Least,
     pub revert: Least,
-    pub shift: Least,
 }
 
 impl SpaceTimes {
@@ -49,7 +47,6 @@ impl SpaceTimes {
         SpaceTimes {
             apply: Least::new(edits),
             revert: Least::new(edits),
-            shift: Least::new(edits),
         }
     }
 }

@@ -6,9 +6,8 @@ use crate::failure::Failure;
 use crate::figures::{Least, SpaceTimes};
 use crate::plain_list::PlainList;
 use gv_space::Space;
-use gv_types::{Entry, Mapping};
-use std::alloc::Global;
-use std::time::{CpuClock, Duration};
+use gv_types::Entry;
+use std::time::CpuClock;
 
 /// How many edits a run has.
 const EDITS: usize = 100;
@@ -17,7 +16,7 @@ const EDITS: usize = 100;
 const LOOK_UPS: usize = 1_000;
 
 /// Applies edits to the space, in runs, each of which is taken back once and applied again. The times of applying a run,
-/// of taking it back, and of moving alone what its edits move.
+/// and of taking it back.
 pub fn time_edits<R: CpuClock + AllocGlobal>(
     rt: &R,
     space: &mut Space,
@@ -30,38 +29,9 @@ pub fn time_edits<R: CpuClock + AllocGlobal>(
         let reverted = rt.thread_cpu_time()?;
         times.apply.take(applied.saturating_sub(start));
         times.revert.take(reverted.saturating_sub(applied));
-        times.shift.take(keep_run(rt, rt.alloc(), space, run)?);
+        keep_all(space, rt.alloc(), run)?;
     }
     Ok(times)
-}
-
-/// Applies a run for good. The time of moving alone what its edits move.
-fn keep_run<R: CpuClock>(
-    rt: &R,
-    alloc: Global,
-    space: &mut Space,
-    run: &[Edit],
-) -> Result<Duration, Failure> {
-    let moves = keep_all(space, alloc, run)?;
-    let mut mappings: Vec<Mapping> = space.list().iter().map(|mapping| *mapping).collect(alloc)?;
-    time_moves(rt, &mut mappings, moves.as_slice())
-}
-
-/// The time of moving the last mappings by one place: so many, then so many, each time in one block.
-fn time_moves<R: CpuClock>(
-    rt: &R,
-    mappings: &mut Vec<Mapping>,
-    moves: &[usize],
-) -> Result<Duration, Failure> {
-    let start = rt.thread_cpu_time()?;
-    for count in moves {
-        let place = mappings.len().saturating_sub(*count);
-        if place < mappings.len() {
-            mappings.copy_within(place + 1.., place);
-        }
-    }
-    let moved = rt.thread_cpu_time()?;
-    Ok(moved.saturating_sub(start))
 }
 
 /// Applies edits to the plain list, in runs. The time of a run.

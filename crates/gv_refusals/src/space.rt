@@ -16,7 +16,10 @@ use gv_types::{Bounds, BufferId, Fault, Flags, Limits, Op, PAGE_BYTES, PageRange
 use std::alloc::Global;
 
 /// How many mappings the list may have.
-const MOST: u64 = 8;
+const MOST: u64 = 200;
+
+/// How many mappings fit into one chunk of the list.
+const CHUNK: u32 = 128;
 
 /// All that is seen of a space and its buffer.
 fn seen(space: &Space, id: &BufferId) -> Fold {
@@ -222,10 +225,48 @@ fn tables_there_and_back(watch: &mut Watch, alloc: Global) -> Result<(), Wrong> 
     Ok(())
 }
 
+/// Applies an operation, and takes it back: how many mappings stand in between.
+fn apply_and_back(
+    watch: &mut Watch,
+    alloc: Global,
+    space: &mut Space,
+    op: &Op,
+    id: &BufferId,
+) -> Result<usize, Fault>
+    ensures { IsUnchanged space.old space.new }
+{
+    let before = seen(space, id);
+    let undo = apply_at_last(watch, alloc, space, op, id)?;
+    let there = space.list().len();
+    space.revert(undo);
+    watch.expect(seen(space, id) == before);
+    Ok(there)
+}
+
+/// A list that fills a chunk, and then more: chunks and their places in the index are asked for. Then a run of most of it is
+/// taken out and comes back.
+fn chunks_there_and_back(watch: &mut Watch, alloc: Global) -> Result<(), Wrong> {
+    let mut space = space_at_last(alloc)?;
+    let id = &create_at_last(alloc, &mut space, 1)?;
+    for page in 0..CHUNK {
+        let undo = apply_at_last(watch, alloc, &mut space, &map(id, page, 1), id)?;
+        space.release(undo);
+    }
+    let more = apply_and_back(watch, alloc, &mut space, &map(id, CHUNK + 9, 1), id);
+    watch.expect(more == Ok(129));
+    let first = apply_at_last(watch, alloc, &mut space, &map(id, CHUNK, 1), id)?;
+    space.release(first);
+    let fewer = apply_and_back(watch, alloc, &mut space, &unmap(5, 120), id);
+    watch.expect(fewer == Ok(9));
+    watch.expect(space.list().len() == 129);
+    Ok(())
+}
+
 /// Plays the row.
 pub fn play(alloc: Global) -> Result<(), Wrong> {
     let mut watch = Watch::new();
     restore_over_zeros(&mut watch, alloc)?;
     tables_there_and_back(&mut watch, alloc)?;
+    chunks_there_and_back(&mut watch, alloc)?;
     watch.end()
 }
