@@ -1,5 +1,5 @@
 //! What puts requests while the workers run.
-ghost use Rattle.std.specs.Prelude.{◌≡◌, ◌≤◌, ℕ};
+ghost use Rattle.std.specs.Prelude.{◌≡◌, ◌≤◌, ℕ, length};
 ghost use Rattle.gv_sync.specs.Seats.{IsSeatOf, count_of};
 ghost use Rattle.gv_queues.specs.Submitting.{AreCounted, AreOpened, AreSameSubmitters};
 
@@ -13,8 +13,12 @@ use std::sync::Wait;
 pub trait Driver {
     ghost put_on: { Self → ℕ → ℕ };
 
-    /// Each place has the submitter of its queue, which put nothing yet; all have one limit and one depth. Afterwards the
-    /// same submitters stand there, on the same channels.
+    /// What the driver relies on: of how many requests each queue takes, how many places it has, and how many queues there
+    /// are.
+    ghost relies_on: { Self → ℕ → ℕ → ℕ → Type 0 };
+
+    /// Each place has the submitter of its queue, which put nothing yet; all have one limit and one depth, which are such as
+    /// the driver relies on. Afterwards the same submitters stand there, on the same channels.
     fn drive<R: Wait>(
         &mut self,
         rt: &R,
@@ -25,7 +29,8 @@ pub trait Driver {
     )
         requires own { IsSeatOf timelines.now seat.old }
         requires opened { (limit : ℕ) × (depth : ℕ)
-            × AreOpened limit depth (count_of timelines.now) submitters.old }
+            × AreOpened limit depth (count_of timelines.now) submitters.old
+            × relies_on self.old limit depth (length submitters.old) }
         ensures own { IsSeatOf timelines.now seat.new }
         ensures same { AreSameSubmitters submitters.old submitters.new }
         ensures counts { AreCounted (put_on self.new) submitters.new };

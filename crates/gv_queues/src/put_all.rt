@@ -75,6 +75,8 @@ impl Driver for PutAll {
 
     ghost put_on = { λ d. count_at d.counts };
 
+    ghost relies_on = { λ d limit depth count. Unit {0} };
+
     fn drive<R: Wait>(
         &mut self,
         rt: &R,

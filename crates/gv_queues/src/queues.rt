@@ -19,7 +19,8 @@ use std::alloc::Global;
 use std::sync::Wait;
 use std::thread::Threads;
 
-/// Runs so many queues of so many places each, with a worker on a thread of its own for each, until the driver is done.
+/// Runs so many queues of so many places each, with a worker on a thread of its own for each, until the driver is done. Each
+/// queue takes as many requests as outcomes may be told; the driver may rely on these numbers.
 /// `NotMade` where the system refuses the memory that they start with, `NotStarted` where it refuses a thread: no request
 /// was put. `Disagree` with the first queue on which what was put, taken and told don't agree. The address space comes back
 /// on every path.
@@ -38,6 +39,7 @@ pub fn run_queues<G: Gate + Sync, D: Driver, R: Threads + Wait + Sync>(
     requires count { IsFromOneTo queues count }
     requires depth { IsFromOneTo most_places depth }
     requires untold { IsUntold vm }
+    requires relied { D.relies_on driver.old vm.space.limits.told depth count }
     ensures own { IsSeatOf timelines.now seat.new }
     ensures marks { seat.new.marks ≡ seat.old.marks }
     ensures share { result.1 ≢ Err QueuesFault.NotMade → seat.new.halvings ≡ seat.old.halvings + (count + 1) }

@@ -61,7 +61,8 @@ fn drive_all<D: Driver, R: Wait>(
     puts: Vec<PutEnd>,
 ) -> Vec<PutEnd>
     requires own { IsSeatOf timelines.now seat }
-    requires opened { (limit : ℕ) × (depth : ℕ) × AreOpened limit depth (count_of timelines.now) submitters.items }
+    requires opened { (limit : ℕ) × (depth : ℕ) × AreOpened limit depth (count_of timelines.now) submitters.items
+        × D.relies_on driver.old limit depth (vec_len submitters) }
     requires none { puts.items ≡ [] }
     requires room { vec_len submitters ≤ vec_capacity puts }
     ensures puts { ArePuts (D.put_on driver.new) result.items }
@@ -110,7 +111,8 @@ pub fn run_workers<L: Locked + Sync, G: Gate + Sync, D: Driver, R: Threads + Wai
     requires own { IsSeatOf around.timelines.now opened.seat
         × All (λ w. w.of ≡ around.timelines.now) opened.workers.items }
     requires opened { (limit : ℕ) × (depth : ℕ)
-        × AreOpened limit depth (count_of around.timelines.now) opened.submitters.items }
+        × AreOpened limit depth (count_of around.timelines.now) opened.submitters.items
+        × D.relies_on driver.old limit depth (vec_len opened.submitters) }
     requires order { AreInOrder (λ w. w.queue) opened.workers.items }
     requires channels { AreOnOwnChannels opened.submitters.items opened.workers.items }
     requires even { vec_len opened.workers ≡ vec_len opened.submitters }
@@ -148,7 +150,8 @@ pub fn run_workers<L: Locked + Sync, G: Gate + Sync, D: Driver, R: Threads + Wai
         move |scope| -> (&mut D, Ran)
             requires own { IsSeatOf timelines.now seat × All (λ w. w.of ≡ timelines.now) workers.items }
             requires opened { (limit : ℕ) × (depth : ℕ)
-                × AreOpened limit depth (count_of timelines.now) submitters.items }
+                × AreOpened limit depth (count_of timelines.now) submitters.items
+                × D.relies_on driver.now limit depth (vec_len submitters) }
             requires order { AreInOrder (λ w. w.queue) workers.items }
             requires channels { AreOnOwnChannels submitters.items workers.items }
             requires even { vec_len workers ≡ vec_len submitters }
