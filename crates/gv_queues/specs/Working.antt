@@ -3,6 +3,7 @@ use Rattle.std.specs.Prelude.{◌≡◌, ℕ, ◌<◌, ◌≤◌, List, [], leng
 use Rattle.atomic_table.specs.Seated.{TableId}
 use Rattle.gv_types.specs.declared.request.Point.{Point}
 use Rattle.gv_types.specs.declared.request.Request.{Request}
+use Rattle.gv_sync.specs.declared.marks.Mark.{Mark}
 use Rattle.gv_sync.specs.Raises.{raised, values_on}
 use Rattle.gv_sync.specs.Seats.{SeatState, mark_of}
 use Rattle.gv_vm.specs.declared.outcome.Outcome.{Outcome}
@@ -10,11 +11,12 @@ use Rattle.gv_vm.specs.declared.outcome.NotTold.{NotTold}
 use Rattle.gv_queues.specs.Paying.{all_owed, owed}
 use Rattle.gv_queues.specs.Submitting.{ChannelId, no_channel}
 
--- a worker that took nothing yet: its queue, its channel, the timelines of its seat, and the seat's share
+-- a worker that took nothing yet: its queue, its channel, and of its seat the timelines, what it knows of them, and its share
 pub record WorkerState : Type 0 where
   pub queue : ℕ
   pub channel : ChannelId
   pub of : TableId
+  pub marks : List Mark
   pub halvings : ℕ
 
 -- what a worker that ended leaves: the requests that it took, the outcomes that it gave the first of them, and the others; and
@@ -48,6 +50,7 @@ no_worker = record {
   queue = 0;
   channel = no_channel;
   of = no_channel.table;
+  marks = [];
   halvings = 0;
 }
 

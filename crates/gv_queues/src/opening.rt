@@ -5,6 +5,7 @@ ghost use Rattle.gv_sync.specs.Seats.{IsSeatOf, count_of};
 ghost use Rattle.gv_types.specs.Limits.{IsFromOneTo};
 ghost use Rattle.gv_vm.specs.Outcomes.{queues};
 ghost use Rattle.gv_queues.specs.Ending.{AreInOrder, AreOnOwnChannels};
+ghost use Rattle.gv_queues.specs.Sharing.{HaveSplits, split_behind};
 ghost use Rattle.gv_queues.specs.Submitting.{AreOpened, most_places};
 
 use crate::channel::{Ends, open};
@@ -72,6 +73,7 @@ pub fn open_all(
     ensures share { IfOk result (λ _. seat.new.halvings ≡ seat.old.halvings + (count + 1)) }
     ensures seats { IfOk result (λ o. IsSeatOf timelines.now o.seat
         × All (λ w. w.of ≡ timelines.now) o.workers.items) }
+    ensures given { IfOk result (λ o. HaveSplits seat.old o.workers.items × (o.seat ≡ split_behind seat.old count)) }
     ensures opened { IfOk result (λ o. AreOpened limit depth (count_of timelines.now) o.submitters.items) }
     ensures order { IfOk result (λ o. AreInOrder (λ w. w.queue) o.workers.items) }
     ensures channels { IfOk result (λ o. AreOnOwnChannels o.submitters.items o.workers.items) }

@@ -45,6 +45,7 @@ impl Model for Worker {
       queue = w.taker.queue;
       channel = w.taker.channel;
       of = w.seat.of;
+      marks = w.seat.marks;
       halvings = w.seat.halvings;
     } };
 
@@ -66,6 +67,7 @@ impl Worker {
           queue = taker.queue;
           channel = taker.channel;
           of = seat.of;
+          marks = seat.marks;
           halvings = seat.halvings;
         } }
     {

@@ -1,12 +1,17 @@
 use Rattle.std.proofs.Common.{rules, ◌≡◌, ◌∙◌, ◌+◌, ℕ, length, vec_len, sym, ap, arith}
-use Rattle.gv_sync.specs.Seats.{SeatState, count_of, mark_of}
+use Rattle.gv_sync.specs.Seats.{SeatState, count_of, mark_of, split_from}
 use Rattle.gv_sync.proofs.LookLemmas.{split_raised}
+use Rattle.gv_queues.specs.Sharing.{after_splits, seat_of, split_behind}
 use Rattle.gv_queues.specs.Submitting.{IsOpened, SubmitterState}
 use Rattle.gv_queues.specs.Taking.{TakerState}
-use Rattle.gv_queues.specs.Working.{WorkerState}
+use Rattle.gv_queues.specs.Working.{WorkerState, no_worker}
 use Rattle.gv_queues.proofs.Channels.{channels_more, own_channels}
-use Rattle.gv_queues.proofs.Ends.{each_more, opened_more, in_order_more}
+use Rattle.gv_queues.proofs.Ends.{each_more, one_more, opened_more, in_order_more}
 use Rattle.gv_queues.proofs.opening.open_all.Goals as goal
+
+-- two seats that agree in each part are one
+seats_one : (a b : SeatState) → a.of ≡ b.of → a.marks ≡ b.marks → a.halvings ≡ b.halvings → a ≡ b
+seats_one a b of marks halvings i = record { of = of i; marks = marks i; halvings = halvings i }
 
 pub new-requires-in-loop-queue-2-clause-raised : goal.new-requires-in-loop-queue-2-clause-raised
 new-requires-in-loop-queue-2-clause-raised c t =
@@ -32,6 +37,9 @@ loop-queue-preserved c =
     let taker_channel = ap (λ (t : TakerState). t.channel) c.new-in-loop-queue.ensures in
     let worker_channel = ap (λ (w : WorkerState). w.channel) c.new-in-loop-queue-2.ensures in
     let submitter_channel = ap (λ (s : SubmitterState). s.channel) c.new.ensures in
+    let lent : c.loop-queue.seat ≡ after_splits c.args.seat.now c.loop-queue.queue = seats_one _ _ (was.0 ∙ sym c.requires.own) was.1 was.2 in
+    let own : seat_of c.new-in-loop-queue-2.result ≡ split_behind c.args.seat.now (length c.loop-queue.workers.items) =
+    ap seat_of c.new-in-loop-queue-2.ensures ∙ (c.in_ok-own.ensures.given ∙ (ap split_from lent ∙ ap (λ (n : ℕ). split_behind c.args.seat.now n) (sym was.4 ∙ wide))) in
     let one : c.new.result.channel ≡ c.new-in-loop-queue-2.result.channel = search rules in (
       search rules,
       search rules,
@@ -44,6 +52,8 @@ loop-queue-preserved c =
           c.push_reserved-in-loop-queue.ensures.items (ap (λ (w : WorkerState). w.of) c.new-in-loop-queue-2.ensures ∙ c.in_ok-own.ensures.own_given) was.7,
       channels_more c.loop-queue.submitters.items c.push_reserved.new.self.items c.loop-queue.workers.items c.push_reserved-in-loop-queue.new.self.items c.new.result c.new-in-loop-queue-2.result
           c.push_reserved.ensures.items c.push_reserved-in-loop-queue.ensures.items one was.8,
+      one_more (λ (k : ℕ) (w : WorkerState). seat_of w ≡ split_behind c.args.seat.now k) c.loop-queue.workers.items c.push_reserved-in-loop-queue.new.self.items c.new-in-loop-queue-2.result no_worker
+          c.push_reserved-in-loop-queue.ensures.items own was.9,
       search rules,
       search rules,
     )
@@ -51,3 +61,10 @@ loop-queue-preserved c =
 pub returns-clause-channels : goal.returns-clause-channels
 returns-clause-channels c =
     let was = c.loop-queue.invariant in own_channels c.args.limit c.args.depth (count_of c.args.timelines.now) c.loop-queue.submitters.items c.loop-queue.workers.items was.5 was.8
+
+pub returns-clause-given : goal.returns-clause-given
+returns-clause-given c =
+    let was = c.loop-queue.invariant in
+    let lent : c.loop-queue.seat ≡ after_splits c.args.seat.now c.loop-queue.queue = seats_one _ _ (was.0 ∙ sym c.requires.own) was.1 was.2 in
+    let all : c.loop-queue.queue ≡ c.args.count = search rules in
+    (was.9, c.in_ok-own-2.ensures.given ∙ (ap split_from lent ∙ ap (λ (n : ℕ). split_behind c.args.seat.now n) all))

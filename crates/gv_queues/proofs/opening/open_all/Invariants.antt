@@ -3,6 +3,7 @@ use Rattle.gv_sync.specs.Seats.{IsSeatOf, count_of}
 use Rattle.gv_queues.specs.Ending.{AreInOrder}
 use Rattle.gv_queues.specs.Submitting.{AreOpened}
 use Rattle.gv_queues.specs.Working.{WorkerState}
+use Rattle.gv_queues.specs.Sharing.{HaveSplits}
 use Rattle.gv_queues.proofs.Channels.{of_submitters, of_workers}
 use Rattle.gv_queues.proofs.opening.open_all.Given as goal
 
@@ -17,5 +18,6 @@ invariant-loop-queue l =
     × AreInOrder (λ (w : WorkerState). w.queue) l.workers.items
     × All (λ (w : WorkerState). w.of ≡ l.timelines) l.workers.items
     × (of_submitters l.submitters.items ≡ of_workers l.workers.items)
+    × HaveSplits l.fn.seat l.workers.items
     × (l.fn.count ≤ vec_capacity l.submitters)
     × (l.fn.count ≤ vec_capacity l.workers)
