@@ -2,7 +2,7 @@
 use Rattle.std.proofs.Common.{◌≡◌, ℕ, refl}
 use Rattle.gv_buffers.specs.declared.counter.Counter.{Counter}
 use Rattle.gv_buffers.specs.declared.counter.Counter.TheVariants.{Uses, Kept}
-use Rattle.gv_buffers.specs.declared.slots.LiveBuffer.{LiveBuffer}
+use Rattle.gv_buffers.specs.declared.live_buffer.LiveBuffer.{LiveBuffer}
 use Rattle.gv_buffers.specs.Slots.{buffer_at}
 use Rattle.gv_buffers.specs.Table.{Buffer, count, with_count, IsBuffer}
 

@@ -10,7 +10,7 @@ use Rattle.gv_types.specs.declared.mapping.BufferId.{BufferId}
 use Rattle.gv_buffers.specs.declared.usage.Usage.TheVariants.{Read}
 use Rattle.gv_buffers.specs.declared.usage.User.{User}
 use Rattle.gv_buffers.specs.Users.{HaveNoConflict}
-use Rattle.gv_buffers.specs.Table.{Buffer, Table, buffer, has_id, IsLive, fresh, without, changed, only, left_by, left_everywhere, IsBuffer, IsCreated, IsTable}
+use Rattle.gv_buffers.specs.Table.{Buffer, Table, buffer, has_id, IsLive, fresh, without, changed, only, left_by, left_everywhere, count_below, IsBuffer, IsCreated, IsTable}
 
 -- a change that keeps what is looked for
 pub find-map : (test : Buffer → Bool) (f : Buffer → Buffer) (bs : List Buffer) → ((b : Buffer) → test (f b) ≡ test b) → find test (map f bs) ≡ option_map f (find test bs)
@@ -107,20 +107,30 @@ found_live P t id all lives =
     let found = live_found (buffer t id) lives in
     (found.0, found.1, found_from_All P (has_id id) t.live found.0 all found.1)
 
+-- a new buffer stands among the live ones
+pub live_of_made : (old new : Table) (id : BufferId) (pages : ℕ) → IsCreated old new id pages →
+    new.live ≡ insert old.live (count_below id.index old.live) (fresh id pages)
+live_of_made old new id pages made =
+    ap (λ (t : Table). t.live) made.state ∙ ap (λ (i : BufferId). insert old.live (count_below i.index old.live) (fresh i pages)) (sym made.id_is)
+
+-- how many were made before it is its generation
+pub generation_of_made : (old new : Table) (id : BufferId) (pages : ℕ) → IsCreated old new id pages → id.generation ≡ old.made
+generation_of_made old new id pages made = ap (λ (i : BufferId). i.generation) made.id_is
+
 pub made_is_found : (old new : Table) (id : BufferId) (pages : ℕ) → IsCreated old new id pages → buffer new id ≡ Some (fresh id pages)
 made_is_found old new id pages made =
-    ap (λ (t : Table). buffer t id) made.state
-    ∙ find-insert_here (has_id id) (fresh id pages) made.place old.live (is_same_id-itself id)
+    ap (find (has_id id)) (live_of_made old new id pages made)
+    ∙ find-insert_here (has_id id) (fresh id pages) (count_below id.index old.live) old.live (is_same_id-itself id)
     (λ k d within. let index : eqb (get_or old.live k d).id.index id.index ≡ false = ne_eqb _ _ (made.free k d within) in rw index refl)
 
 pub others_stay_made : (old new : Table) (id other : BufferId) (pages : ℕ) → IsCreated old new id pages → other ≢ id → buffer new other ≡ buffer old other
 others_stay_made old new id other pages made apart =
-    ap (λ (t : Table). buffer t other) made.state
-    ∙ find-insert_other (has_id other) (fresh id pages) made.place old.live (is_same_id-other id other apart)
+    ap (find (has_id other)) (live_of_made old new id pages made)
+    ∙ find-insert_other (has_id other) (fresh id pages) (count_below id.index old.live) old.live (is_same_id-other id other apart)
 
 pub dead_stays_dead : (old new : Table) (id dead : BufferId) (pages : ℕ) → IsCreated old new id pages → dead.generation < old.made → buffer old dead ≡ None → buffer new dead ≡ None
 dead_stays_dead old new id dead pages made before gone =
-    let apart : dead ≢ id = (λ same. let g : dead.generation ≡ id.generation = ap (λ (i : BufferId). i.generation) same in absurd (omega (arith, made.generation, before))) in
+    let apart : dead ≢ id = (λ same. let g : dead.generation ≡ id.generation = ap (λ (i : BufferId). i.generation) same in absurd (omega (arith, generation_of_made old new id pages made, before))) in
     others_stay_made old new id dead pages made apart ∙ gone
 
 pub destroyed_is_dead : (t : Table) (id : BufferId) → buffer (without id t) id ≡ None

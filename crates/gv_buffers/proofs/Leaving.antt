@@ -3,15 +3,13 @@ use Rattle.std.proofs.Common.{◌≡◌, ◌≢◌, ℕ, List, [], ◌∷◌, �
 use Rattle.std.specs.Option.{option_map}
 use Rattle.std.proofs.lemmas.Bool.{cases_eq}
 use Rattle.std.proofs.lemmas.List.Elements.{Contains-push_cases}
-use Rattle.slab.specs.Slab.{Slab, get}
-use Rattle.gv_buffers.specs.declared.slots.LiveBuffer.{LiveBuffer}
 use Rattle.gv_buffers.specs.declared.usage.User.{User}
 use Rattle.gv_buffers.specs.Users.{left}
 use Rattle.gv_buffers.specs.Table.{Buffer, left_by}
-use Rattle.gv_buffers.specs.Slots.{buffer_at, buffer_in, IsLeftOrSame}
+use Rattle.gv_buffers.specs.Slots.{SlotList, get, buffer_at, buffer_in, IsLeftOrSame}
 
 -- a job has left the buffers at the places of the list, and each other is left or as it was
-pub record HaveLeft (job : ℕ) (old new : Slab LiveBuffer) (places : List ℕ) : Type 0 where
+pub record HaveLeft (job : ℕ) (old new : SlotList) (places : List ℕ) : Type 0 where
   pub noted : (place : ℕ) → Contains places place → buffer_in new place ≡ option_map (left_by job) (buffer_in old place)
   pub others : (place : ℕ) → IsLeftOrSame job old new place
 
@@ -27,7 +25,7 @@ left_by-left_by job None = refl
 left_by-left_by job (Some b) = rw left-left refl
 
 -- one more place
-pub HaveLeft-more : (job : ℕ) (old mid new : Slab LiveBuffer) (places : List ℕ) (place : ℕ) → HaveLeft job old mid places →
+pub HaveLeft-more : (job : ℕ) (old mid new : SlotList) (places : List ℕ) (place : ℕ) → HaveLeft job old mid places →
     buffer_in new place ≡ option_map (left_by job) (buffer_in mid place) →
     ((key : ℕ) → key ≢ place → get new key ≡ get mid key) → HaveLeft job old new (places ++ place ∷ [])
 HaveLeft-more job old mid new places place before here others =

@@ -5,6 +5,7 @@ pub mod Tables
 pub mod Counters
 pub mod Conflicts
 pub mod Rooms
+pub mod Vacancy
 pub mod Making
 pub mod Using
 pub mod FoundLemmas

@@ -1,23 +1,24 @@
 -- A buffer is made, or destroyed.
-use Rattle.std.proofs.Common.{◌≡◌, ◌≢◌, ℕ, ◌+◌, ◌<◌, ◌≤◌, ◌||◌, List, length, true, false, cond, not, eqb, ltb, leb, arith, refl, sym, ◌∙◌, ap, subst, ⊎_elim, Some, None, Option, zero-add}
+use Rattle.std.proofs.Common.{◌≡◌, ◌≢◌, ℕ, ◌+◌, ◌<◌, ◌≤◌, ◌||◌, List, ◌∷◌, [], length, reverse, drop, slice_get, unwrap_or, vec_len, vec_capacity, true, false, cond, not, eqb, ltb, leb, arith, refl, sym, ◌∙◌, ap, subst, ⊎_elim, Some, None, Option, zero-add}
 use Rattle.std.specs.Option.{option_map}
+use Rattle.std.proofs.lemmas.List.{length-reverse}
 use Rattle.std.specs.List.{insert, filter}
 use Rattle.std.proofs.lemmas.Bool.{cases_eq, ne_eqb, eq-eqb, le-ltb, lt-leb, le-leb}
 use Rattle.std.proofs.lemmas.Option.{none-some, same_Some}
 use Rattle.std.proofs.lemmas.List.Elements.{All-nil}
-use Rattle.slab.specs.Slab.{Slab, get, slab_len, Updates}
 use Rattle.gv_types.specs.Page.{pages_per_buffer}
 use Rattle.gv_types.specs.Mapping.{buffer_id}
 use Rattle.gv_types.specs.declared.mapping.BufferId.{BufferId}
 use Rattle.gv_types.specs.declared.fault.Fault.TheVariants.{TooManyBuffers}
-use Rattle.gv_buffers.specs.declared.slots.LiveBuffer.{LiveBuffer}
+use Rattle.gv_buffers.specs.declared.live_buffer.LiveBuffer.{LiveBuffer}
+use Rattle.gv_buffers.specs.declared.slots.Slots.{Slots}
 use Rattle.gv_buffers.specs.declared.buffers.Buffers.TheInside.{Inside}
-use Rattle.gv_buffers.specs.Table.{Buffer, Table, has_id, fresh, create_fault, most_made, IsBuffer, IsCreated, without}
+use Rattle.gv_buffers.specs.Table.{Buffer, Table, has_id, fresh, create_fault, most_made, count_below, next_index, next_id, with_new, IsBuffer, IsCreated, without}
 use Rattle.gv_buffers.specs.Places.{IsNoted}
-use Rattle.gv_buffers.specs.Slots.{buffer_at, buffer_in, buffers_from, live_at}
+use Rattle.gv_buffers.specs.Slots.{SlotList, get, buffer_at, buffer_in, buffers_from, live_count, live_at, next_place, Updates, AreVacant}
 use Rattle.gv_buffers.specs.Sound.{table_of, IsSound}
 use Rattle.gv_buffers.proofs.Lists.{All-buffers_from, put_in, passing, buffers_from-filter}
-use Rattle.gv_buffers.proofs.Tables.{live_slot, index_of_seen}
+use Rattle.gv_buffers.proofs.Tables.{live_slot, index_of_seen, count_live, length-buffers_from}
 use Rattle.gv_buffers.proofs.Conflicts.{no_pairs}
 use Rattle.gv_buffers.proofs.Using.{IsNow, grown}
 
@@ -49,18 +50,34 @@ pub record IsMade (b : Inside) (t : Table) (id : BufferId) (pages : ℕ) : Type 
   pub sound : IsSound b
   pub created : IsCreated t (table_of b) id pages
 
+no_first : (vs : List ℕ) → slice_get vs 0 ≡ None → length vs ≡ 0
+no_first [] none = refl
+no_first (v ∷ vs) none = absurd (none-some v (sym none))
+
+-- the next place is the next index: where none is vacant, as many buffers live as there are slots
+next_from_slots : (slots : SlotList) (vacant : List ℕ) (first : Option ℕ) → slice_get (reverse vacant) 0 ≡ first → AreVacant slots vacant →
+    unwrap_or first (length slots) ≡ unwrap_or first (length (buffers_from 0 slots))
+next_from_slots slots vacant None is are =
+    let none : length vacant ≡ 0 = sym (length-reverse vacant) ∙ no_first (reverse vacant) is in
+    omega (arith, none, are.all, length-buffers_from 0 slots)
+next_from_slots slots vacant (Some v) is are = refl
+
 -- a buffer is put into a free slot
-made : (a : Inside) (t : Table) (new : Slab LiveBuffer) (key pages : ℕ) (slot : LiveBuffer) → IsSound a → table_of a ≡ t → slab_len a.slots < a.limit →
-    0 < pages → pages ≤ pages_per_buffer → get a.slots key ≡ None → Updates a.slots new key (Some slot) → slab_len new ≡ slab_len a.slots + 1 →
-    buffer_at key slot ≡ fresh (buffer_id key a.made) pages →
-    IsMade (record a { made = a.made + 1; slots = new }) t (buffer_id key a.made) pages
-made a t new key pages slot sound view room some few free updates len seen =
+pub made : (a : Inside) (t : Table) (slots : Slots) (key pages : ℕ) (slot : LiveBuffer) → IsSound a → table_of a ≡ t →
+    live_count a.slots.entries.items < a.limit → 0 < pages → pages ≤ pages_per_buffer →
+    key ≡ next_place a.slots.entries.items a.slots.vacant.items → get a.slots.entries.items key ≡ None →
+    Updates a.slots.entries.items slots.entries.items key (Some slot) → live_count slots.entries.items ≡ live_count a.slots.entries.items + 1 → AreVacant slots.entries.items slots.vacant.items →
+    reverse slots.vacant.items ≡ drop 1 (reverse a.slots.vacant.items) → length slots.entries.items ≤ vec_capacity slots.vacant → buffer_at key slot ≡ fresh (buffer_id key a.made) pages →
+    IsMade (record a { made = a.made + 1; slots = slots }) t (buffer_id key a.made) pages
+made a t slots key pages slot sound view room some few next free updates len are rest places seen =
     let b : Buffer = fresh (buffer_id key a.made) pages in
-    let here : buffer_in new key ≡ Some b = ap (option_map (buffer_at key)) updates.changed ∙ ap (λ (x : Buffer). Some x) seen in
+    let here : buffer_in slots.entries.items key ≡ Some b = ap (option_map (buffer_at key)) updates.changed ∙ ap (λ (x : Buffer). Some x) seen in
     let elsewhere = λ (place : ℕ) (apart : place ≢ key). ap (option_map (buffer_at place)) (updates.others place apart) in
     let is_buffer : IsBuffer (a.made + 1) b = record { made_before = omega arith; some_pages = some; few_pages = few; no_conflict = no_pairs } in
-    let put = put_in 0 key slot a.slots.slots new.slots free updates.changed updates.others in
+    let put = put_in 0 key key slot a.slots.entries.items slots.entries.items (omega arith) free updates.changed updates.others in
     let at_key : buffer_at (0 + key) slot ≡ b = rw zero-add seen in
+    let index : key ≡ next_index (table_of a) = next ∙ next_from_slots a.slots.entries.items a.slots.vacant.items _ refl sound.vacant in
+    let name : buffer_id key a.made ≡ next_id (table_of a) = ap (λ (n : ℕ). buffer_id n a.made) index in
     record {
       sound = record {
         limit = sound.limit;
@@ -75,29 +92,44 @@ made a t new key pages slot sound view room some few free updates len seen =
             (λ (e : place ≡ key). rw (e, here) (All-nil (λ u. IsNoted a.places u.job key)))
             (λ (apart : place ≢ key). rw (elsewhere place apart) (sound.noted place))
             (cases_eq place key);
+        vacant = are;
+        room = places;
       };
-      created = subst (λ (s : Table). IsCreated s (record { limit = a.limit; made = a.made + 1; live = buffers_from 0 new.slots }) (buffer_id key a.made) pages) view (record {
-        generation = refl;
-        free = All-buffers_from (λ x. x.id.index ≢ key) 0 a.slots.slots (λ k j e x found same.
+      created = subst (λ (s : Table). IsCreated s (table_of (record a { made = a.made + 1; slots = slots })) (buffer_id key a.made) pages) view (record {
+        id_is = name;
+        free = All-buffers_from (λ x. x.id.index ≢ key) 0 a.slots.entries.items (λ k j e x found same.
             let place : x.id.index ≡ j = index_of_seen j _ x found in
             let there : k ≡ key = omega arith in
-            absurd (none-some x (sym (ap (option_map (buffer_at j)) (subst (λ (n : ℕ). get a.slots n ≡ None) (sym there) free)) ∙ found)));
-        place = put.place;
-        within = put.within;
-        state = ap (λ (live : List Buffer). record { limit = a.limit; made = a.made + 1; live = live }) (put.list ∙ ap (insert (buffers_from 0 a.slots.slots) put.place) at_key);
+            absurd (none-some x (sym (ap (option_map (buffer_at j)) (subst (λ (n : ℕ). get a.slots.entries.items n ≡ None) (sym there) free)) ∙ found)));
+        state = ap (λ (live : List Buffer). record { limit = a.limit; made = a.made + 1; live = live; vacant = reverse slots.vacant.items })
+            (put.list ∙ ap (insert (buffers_from 0 a.slots.entries.items) (count_below key (buffers_from 0 a.slots.entries.items))) at_key
+            ∙ ap (λ (n : ℕ). insert (buffers_from 0 a.slots.entries.items) (count_below n (buffers_from 0 a.slots.entries.items)) (fresh (buffer_id n a.made) pages)) index)
+            ∙ ap (λ (vs : List ℕ). record (with_new pages (table_of a)) { vacant = vs }) rest;
       });
     }
 
--- and into one that is free once room was made for it
-pub made_with_room : (a : Inside) (t : Table) (mid new : Slab LiveBuffer) (key place pages : ℕ) (slot : LiveBuffer) → IsSound a → table_of a ≡ t →
-    mid ≡ record a.slots { capacity = mid.capacity } → key ≡ place → slab_len a.slots < a.limit → 0 < pages → pages ≤ pages_per_buffer → get mid key ≡ None →
-    Updates mid new key (Some slot) → slab_len new ≡ slab_len mid + 1 → buffer_at place slot ≡ fresh (buffer_id place a.made) pages →
-    IsMade (record a { made = a.made + 1; slots = new }) t (buffer_id place a.made) pages
-made_with_room a t mid new key place pages slot sound view same is room some few free updates len seen =
-    let now : IsNow (record a { slots = mid }) t = grown a t mid sound view same in
-    let mid_len : slab_len mid ≡ slab_len a.slots = ap (λ (s : Slab LiveBuffer). slab_len s) same in
-    made (record a { slots = mid }) t new place pages slot now.sound now.table (omega arith) some few
-    (subst (λ (n : ℕ). get mid n ≡ None) is free) (subst (λ (n : ℕ). Updates mid new n (Some slot)) is updates) len seen
+-- and into the next one, once room was made for it
+pub made_with_room : (a : Inside) (t : Table) (mid slots : Slots) (place pages : ℕ) (slot : LiveBuffer) → IsSound a → table_of a ≡ t →
+    mid.entries.items ≡ a.slots.entries.items → mid.vacant.items ≡ a.slots.vacant.items → length mid.entries.items ≤ vec_capacity mid.vacant →
+    (vec_len mid.vacant ≡ 0 → length mid.entries.items < vec_capacity mid.vacant) → length t.live < a.limit → 0 < pages → pages ≤ pages_per_buffer →
+    place ≡ next_place a.slots.entries.items a.slots.vacant.items →
+    get mid.entries.items (next_place mid.entries.items mid.vacant.items) ≡ None →
+    Updates mid.entries.items slots.entries.items (next_place mid.entries.items mid.vacant.items) (Some slot) →
+    live_count slots.entries.items ≡ live_count mid.entries.items + 1 → AreVacant slots.entries.items slots.vacant.items → reverse slots.vacant.items ≡ drop 1 (reverse mid.vacant.items) →
+    vec_capacity slots.vacant ≡ vec_capacity mid.vacant → length slots.entries.items ≤ length mid.entries.items + 1 →
+    (0 < vec_len mid.vacant → length slots.entries.items ≡ length mid.entries.items) → buffer_at place slot ≡ fresh (buffer_id place a.made) pages →
+    IsMade (record a { made = a.made + 1; slots = slots }) t (buffer_id place a.made) pages
+made_with_room a t mid slots place pages slot sound view same same_vacant room room_next few_live some few is free updates len are rest capacity places places_same seen =
+    let now : IsNow (record a { slots = mid }) t = grown a t mid sound view same same_vacant room in
+    let next : place ≡ next_place mid.entries.items mid.vacant.items = rw (same, same_vacant) is in
+    let fits : length slots.entries.items ≤ vec_capacity slots.vacant = ⊎_elim
+    (λ (e : vec_len mid.vacant ≡ 0). omega (arith, room_next e, capacity, places))
+    (λ (d : vec_len mid.vacant ≢ 0). let some_vacant : 0 < vec_len mid.vacant = omega (arith, d) in omega (arith, room, capacity, places_same some_vacant))
+    (cases_eq (vec_len mid.vacant) 0) in
+    made (record a { slots = mid }) t slots place pages slot now.sound now.table
+    (omega (arith, few_live, count_live (record a { slots = mid }) t now.table)) some few next
+    (subst (λ (n : ℕ). get mid.entries.items n ≡ None) (sym next) free) (subst (λ (n : ℕ). Updates mid.entries.items slots.entries.items n (Some slot)) (sym next) updates)
+    len are rest fits seen
 
 pub record IsDestroyed (b : Inside) (t : Table) (id : BufferId) : Type 0 where
   pub sound : IsSound b
@@ -110,22 +142,25 @@ passing_elsewhere id place (Some s) apart =
     let other : eqb place id.index ≡ false = ne_eqb _ _ apart in rw other refl
 
 -- a buffer is taken out of its slot
-pub destroyed : (a : Inside) (t : Table) (new : Slab LiveBuffer) (id : BufferId) (v : LiveBuffer) → IsSound a → table_of a ≡ t → live_at a.slots id ≡ Some v →
-    Updates a.slots new id.index None → slab_len new + 1 ≡ slab_len a.slots → IsDestroyed (record a { slots = new }) t id
-destroyed a t new id v sound view found updates len =
+pub destroyed : (a : Inside) (t : Table) (slots : Slots) (id : BufferId) (v : LiveBuffer) → IsSound a → table_of a ≡ t → live_at a.slots.entries.items id ≡ Some v →
+    Updates a.slots.entries.items slots.entries.items id.index None → live_count slots.entries.items + 1 ≡ live_count a.slots.entries.items → AreVacant slots.entries.items slots.vacant.items →
+    reverse slots.vacant.items ≡ id.index ∷ reverse a.slots.vacant.items → length slots.entries.items ≤ vec_capacity slots.vacant →
+    IsDestroyed (record a { slots = slots }) t id
+destroyed a t slots id v sound view found updates len are noted places =
+    let new : SlotList = slots.entries.items in
     let slot = live_slot a id v found in
     let here : buffer_in new id.index ≡ None = ap (option_map (buffer_at id.index)) updates.changed in
     let elsewhere = λ (place : ℕ) (apart : place ≢ id.index). ap (option_map (buffer_at place)) (updates.others place apart) in
     let index : eqb id.index id.index ≡ true = eq-eqb _ _ refl in
     let generation : eqb v.generation id.generation ≡ true = eq-eqb _ _ slot.1 in
-    let gone : None ≡ passing (λ b. not (has_id id b)) (buffer_in a.slots id.index) = rw slot.0 (rw (index, generation) refl) in
+    let gone : None ≡ passing (λ b. not (has_id id b)) (buffer_in a.slots.entries.items id.index) = rw slot.0 (rw (index, generation) refl) in
     let each = λ (place : ℕ). ⊎_elim
-    (λ (e : place ≡ id.index). let there : buffer_in new id.index ≡ passing (λ b. not (has_id id b)) (buffer_in a.slots id.index) = here ∙ gone in
-    subst (λ (n : ℕ). buffer_in new n ≡ passing (λ b. not (has_id id b)) (buffer_in a.slots n)) (sym e) there)
-    (λ (apart : place ≢ id.index). elsewhere place apart ∙ passing_elsewhere id place (get a.slots place) apart)
+    (λ (e : place ≡ id.index). let there : buffer_in new id.index ≡ passing (λ b. not (has_id id b)) (buffer_in a.slots.entries.items id.index) = here ∙ gone in
+    subst (λ (n : ℕ). buffer_in new n ≡ passing (λ b. not (has_id id b)) (buffer_in a.slots.entries.items n)) (sym e) there)
+    (λ (apart : place ≢ id.index). elsewhere place apart ∙ passing_elsewhere id place (get a.slots.entries.items place) apart)
     (cases_eq place id.index) in
-    let list : buffers_from 0 new.slots ≡ filter (λ b. not (has_id id b)) (buffers_from 0 a.slots.slots) =
-    buffers_from-filter (λ b. not (has_id id b)) 0 a.slots.slots new.slots (λ k j e. let same : j ≡ k = omega arith in rw same (each k)) in
+    let list : buffers_from 0 new ≡ filter (λ b. not (has_id id b)) (buffers_from 0 a.slots.entries.items) =
+    buffers_from-filter (λ b. not (has_id id b)) 0 a.slots.entries.items new (λ k j e. let same : j ≡ k = omega arith in rw same (each k)) in
     record {
       sound = record {
         limit = sound.limit;
@@ -138,6 +173,9 @@ destroyed a t new id v sound view found updates len =
             (λ (e : place ≡ id.index). rw (e, here) tt)
             (λ (apart : place ≢ id.index). rw (elsewhere place apart) (sound.noted place))
             (cases_eq place id.index);
+        vacant = are;
+        room = places;
       };
-      table = ap (λ (live : List Buffer). record { limit = a.limit; made = a.made; live = live }) list ∙ ap (without id) view;
+      table = ap (λ (live : List Buffer). record { limit = a.limit; made = a.made; live = live; vacant = reverse slots.vacant.items }) list
+          ∙ ap (λ (vs : List ℕ). record (without id (table_of a)) { vacant = vs }) noted ∙ ap (without id) view;
     }

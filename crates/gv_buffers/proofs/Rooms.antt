@@ -1,15 +1,14 @@
--- A job that is among the users of a buffer needs no more room there.
-use Rattle.std.proofs.Common.{◌≡◌, ℕ, true, is_some, refl, sym, ◌∙◌, subst, Some, None, Option, List, position}
+-- A job that is among the users of a buffer is noted there.
+use Rattle.std.proofs.Common.{◌≡◌, ℕ, true, is_some, refl, subst, Some, None, Option, List, position}
 use Rattle.std.specs.List.{All}
 use Rattle.std.proofs.lemmas.Bool.{eqb-true, false≢true}
 use Rattle.std.proofs.lemmas.List.Quantifiers.{position-Some}
-use Rattle.slab.specs.Slab.{Slab, get, ContainsKey, with_value, Updates}
-use Rattle.slab.proofs.SlabLemmas.{Updates-with_value}
-use Rattle.gv_buffers.specs.declared.slots.LiveBuffer.{LiveBuffer}
 use Rattle.gv_buffers.specs.declared.usage.Usage.TheVariants.{Read}
 use Rattle.gv_buffers.specs.declared.usage.User.{User}
 use Rattle.gv_buffers.specs.Places.{Notes, IsNoted}
-use Rattle.gv_buffers.specs.Slots.{HasRoomForJob}
+use Rattle.gv_buffers.specs.declared.live_buffer.LiveBuffer.{LiveBuffer}
+use Rattle.gv_buffers.specs.Slots.{buffer_at, AreNoted, IsUserIn}
+use Rattle.std.specs.Option.{option_map}
 use Rattle.gv_buffers.proofs.Joins.{is_of}
 
 some_of : (o : Option ℕ) → is_some o ≡ true → (i : ℕ) × (o ≡ Some i)
@@ -25,8 +24,7 @@ noted_user notes place job users found noted =
     let here = position-Some (is_of job) users at.0 no_one at.1 in
     subst (λ (j : ℕ). IsNoted notes j place) (eqb-true _ _ here.1) (noted at.0 no_one here.0)
 
-pub room_from_user : (slots : Slab LiveBuffer) (place : ℕ) (slot : LiveBuffer) (job : ℕ) → ContainsKey slots place → is_some (position (is_of job) slot.users.items) ≡ true →
-    HasRoomForJob job (get (with_value slots place slot) place)
-room_from_user slots place slot job lives found =
-    let updates : Updates slots (with_value slots place slot) place (Some slot) = Updates-with_value slots place slot lives in
-    rw updates.changed (λ missed. absurd (false≢true (sym missed ∙ found)))
+-- so is a job that is among the users in a slot
+pub noted_in_slot : (notes : Notes) (place job : ℕ) (slot : Option LiveBuffer) → IsUserIn job slot → AreNoted notes place (option_map (buffer_at place) slot) → IsNoted notes job place
+noted_in_slot notes place job None is noted = absurd is
+noted_in_slot notes place job (Some buffer) is noted = noted_user notes place job buffer.users.items is noted

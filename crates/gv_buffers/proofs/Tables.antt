@@ -1,27 +1,28 @@
 -- A table of buffers against its slots: what an id finds, and what a change of slots does to the table.
-use Rattle.std.proofs.Common.{◌≡◌, ◌≢◌, ℕ, ◌+◌, List, [], ◌∷◌, length, map, true, false, cond, eqb, arith, refl, sym, ◌∙◌, ap, subst, ⊎_elim, Some, None, Option, IsSome, is_some, count_by}
+use Rattle.std.proofs.Common.{◌≡◌, ◌≢◌, ℕ, ◌+◌, List, [], ◌∷◌, length, map, true, false, cond, eqb, arith, refl, sym, reverse, ◌∙◌, ap, subst, ⊎_elim, Some, None, Option, IsSome, is_some, count_by}
 use Rattle.std.specs.Option.{option_map, option_copied, IsSomeAnd, MatchOption}
 use Rattle.std.specs.Borrow.{Bor}
+use Rattle.std.specs.Global.{Vec}
 use Rattle.std.specs.List.{All}
 use Rattle.std.proofs.lemmas.Bool.{cases_eq, ne_eqb, eq-eqb, eqb-true, false≢true}
 use Rattle.std.proofs.lemmas.Option.{none-some, same_Some}
 use Rattle.std.proofs.lemmas.List.{length-map}
 use Rattle.std.proofs.lemmas.List.Sums.{sum_by-cons}
-use Rattle.slab.specs.Slab.{Slab, get, slab_len, ContainsKey, Updates, with_value}
-use Rattle.slab.proofs.SlabLemmas.{Updates-with_value}
 use Rattle.gv_types.specs.declared.mapping.BufferId.{BufferId}
-use Rattle.gv_buffers.specs.declared.slots.LiveBuffer.{LiveBuffer}
+use Rattle.gv_buffers.specs.declared.live_buffer.LiveBuffer.{LiveBuffer}
+use Rattle.gv_buffers.specs.declared.slots.Slots.{Slots}
 use Rattle.gv_buffers.specs.declared.buffers.Buffers.TheInside.{Inside}
 use Rattle.gv_buffers.specs.Table.{Buffer, Table, has_id, buffer, IsLive, IsTable, IsBuffer, only, changed}
 use Rattle.gv_buffers.specs.Places.{Notes, IsNoted}
-use Rattle.gv_buffers.specs.Slots.{buffer_at, buffer_in, buffers_from, of_generation, live_at, AreNoted}
+use Rattle.gv_buffers.specs.Slots.{SlotList, get, buffer_at, buffer_in, buffers_from, live_count, of_generation, live_at, Holds, AreNoted}
 use Rattle.gv_buffers.specs.Sound.{table_of, IsSound}
 use Rattle.gv_buffers.proofs.FoundLemmas.{counted_lives}
-use Rattle.gv_buffers.proofs.Lists.{Slots, seen_at, buffers_from-map, buffers_from-same, All-buffers_from, AllPairs-buffers_from, find-buffers_from}
+use Rattle.gv_buffers.proofs.Vacancy.{AreVacant-alike}
+use Rattle.gv_buffers.proofs.Lists.{seen_at, buffers_from-map, buffers_from-same, All-buffers_from, AllPairs-buffers_from, find-buffers_from}
 
 -- what an id finds is the buffer in its slot
-pub buffer_from_slot : (a : Inside) (id : BufferId) → buffer (table_of a) id ≡ option_map (buffer_at id.index) (live_at a.slots id)
-buffer_from_slot a id = find-buffers_from id 0 id.index a.slots.slots (omega arith)
+pub buffer_from_slot : (a : Inside) (id : BufferId) → buffer (table_of a) id ≡ option_map (buffer_at id.index) (live_at a.slots.entries.items id)
+buffer_from_slot a id = find-buffers_from id 0 id.index a.slots.entries.items (omega arith)
 
 of_generation_is : (generation i : ℕ) (o : Option LiveBuffer) (v : LiveBuffer) → IsSome (option_map (buffer_at i) (of_generation generation o)) → o ≡ Some v → v.generation ≡ generation
 of_generation_is generation i None v lives found = absurd (none-some v found)
@@ -32,38 +33,45 @@ of_generation_is generation i (Some x) v lives found =
     rw (← same) (eqb-true _ _ t)
 
 -- the slot at a live id's place holds a buffer of its generation
-pub live_generation : (a : Inside) (id : BufferId) (v : LiveBuffer) → IsLive (table_of a) id → get a.slots id.index ≡ Some v → v.generation ≡ id.generation
+pub live_generation : (a : Inside) (id : BufferId) (v : LiveBuffer) → IsLive (table_of a) id → get a.slots.entries.items id.index ≡ Some v → v.generation ≡ id.generation
 live_generation a id v lives found =
-    of_generation_is id.generation id.index (get a.slots id.index) v (rw (buffer_from_slot a id) at lives) found
+    of_generation_is id.generation id.index (get a.slots.entries.items id.index) v (rw (buffer_from_slot a id) at lives) found
 
 contains_of_generation : (generation i : ℕ) (o : Option LiveBuffer) → IsSome (option_map (buffer_at i) (of_generation generation o)) → IsSome o
 contains_of_generation generation i None lives = lives
 contains_of_generation generation i (Some x) lives = refl
 
-pub live_contains : (a : Inside) (id : BufferId) → IsLive (table_of a) id → ContainsKey a.slots id.index
-live_contains a id lives = contains_of_generation id.generation id.index (get a.slots id.index) (rw (buffer_from_slot a id) at lives)
+pub live_contains : (a : Inside) (id : BufferId) → IsLive (table_of a) id → Holds a.slots.entries.items id.index
+live_contains a id lives = contains_of_generation id.generation id.index (get a.slots.entries.items id.index) (rw (buffer_from_slot a id) at lives)
+
+some_slot : (o : Option LiveBuffer) → IsSome o → (v : LiveBuffer) × (o ≡ Some v)
+some_slot None lives = absurd (false≢true lives)
+some_slot (Some v) lives = (v, refl)
+
+slot_of : (a : Inside) (id : BufferId) → IsLive (table_of a) id → (v : LiveBuffer) × (get a.slots.entries.items id.index ≡ Some v)
+slot_of a id lives = some_slot (get a.slots.entries.items id.index) (live_contains a id lives)
 
 -- the buffer of a live id, by its slot
-pub live_buffer : (a : Inside) (id : BufferId) (v : LiveBuffer) → IsLive (table_of a) id → get a.slots id.index ≡ Some v → buffer (table_of a) id ≡ Some (buffer_at id.index v)
+pub live_buffer : (a : Inside) (id : BufferId) (v : LiveBuffer) → IsLive (table_of a) id → get a.slots.entries.items id.index ≡ Some v → buffer (table_of a) id ≡ Some (buffer_at id.index v)
 live_buffer a id v lives found =
     let generation : eqb v.generation id.generation ≡ true = eq-eqb _ _ (live_generation a id v lives found) in
     buffer_from_slot a id ∙ (rw found (rw generation refl))
 
 -- there is a live buffer for each slot that holds one
-pub length-buffers_from : (i : ℕ) (xs : Slots) → length (buffers_from i xs) ≡ count_by is_some xs
+pub length-buffers_from : (i : ℕ) (xs : SlotList) → length (buffers_from i xs) ≡ count_by is_some xs
 length-buffers_from i [] = refl
 length-buffers_from i (None ∷ xs) = omega (arith, length-buffers_from (i + 1) xs, sum_by-cons (λ (o : Option LiveBuffer). cond (is_some o) 1 0) None xs)
 length-buffers_from i (Some x ∷ xs) = omega (arith, length-buffers_from (i + 1) xs, sum_by-cons (λ (o : Option LiveBuffer). cond (is_some o) 1 0) (Some x) xs)
 
 -- each buffer that is changed stands in its slot
-pub live_from_map : (f : Buffer → Buffer) (old new : Slab LiveBuffer) → ((place : ℕ) → buffer_in new place ≡ option_map f (buffer_in old place)) →
-    buffers_from 0 new.slots ≡ map f (buffers_from 0 old.slots)
+pub live_from_map : (f : Buffer → Buffer) (old new : SlotList) → ((place : ℕ) → buffer_in new place ≡ option_map f (buffer_in old place)) →
+    buffers_from 0 new ≡ map f (buffers_from 0 old)
 live_from_map f old new each =
-    buffers_from-map f 0 old.slots new.slots (λ k j e. let same : j ≡ k = omega arith in rw same (each k))
+    buffers_from-map f 0 old new (λ k j e. let same : j ≡ k = omega arith in rw same (each k))
 
-pub live_from_same : (old new : Slab LiveBuffer) → ((place : ℕ) → buffer_in new place ≡ buffer_in old place) → buffers_from 0 new.slots ≡ buffers_from 0 old.slots
+pub live_from_same : (old new : SlotList) → ((place : ℕ) → buffer_in new place ≡ buffer_in old place) → buffers_from 0 new ≡ buffers_from 0 old
 live_from_same old new each =
-    buffers_from-same 0 old.slots new.slots (λ k j e. let same : j ≡ k = omega arith in rw same (each k))
+    buffers_from-same 0 old new (λ k j e. let same : j ≡ k = omega arith in rw same (each k))
 
 -- a change of one buffer, slot by slot
 only_elsewhere : (id : BufferId) (change : Buffer → Buffer) (place : ℕ) (o : Option LiveBuffer) → place ≢ id.index →
@@ -79,7 +87,7 @@ only_here id change v same =
     let generation : eqb v.generation id.generation ≡ true = eq-eqb _ _ same in
     rw (index, generation) refl
 
-pub places_from_only : (id : BufferId) (change : Buffer → Buffer) (old new : Slab LiveBuffer) (v : LiveBuffer) → get old id.index ≡ Some v → v.generation ≡ id.generation →
+pub places_from_only : (id : BufferId) (change : Buffer → Buffer) (old new : SlotList) (v : LiveBuffer) → get old id.index ≡ Some v → v.generation ≡ id.generation →
     buffer_in new id.index ≡ option_map change (buffer_in old id.index) → ((place : ℕ) → place ≢ id.index → buffer_in new place ≡ buffer_in old place) →
     (place : ℕ) → buffer_in new place ≡ option_map (only id change) (buffer_in old place)
 places_from_only id change old new v found same here others place =
@@ -102,21 +110,29 @@ noted_after : (f : Buffer → Buffer) (old new : Notes) (place : ℕ) (o : Optio
 noted_after f old new place None keeps were = were
 noted_after f old new place (Some y) keeps were = keeps y refl were
 
+nothing_seen : (place : ℕ) (o : Option LiveBuffer) → option_map (buffer_at place) o ≡ None → o ≡ None
+nothing_seen place None seen = refl
+nothing_seen place (Some x) seen = absurd (none-some (buffer_at place x) (sym seen))
+
 -- a sound table whose buffers are changed one by one
-pub sound_map : (a b : Inside) (f : Buffer → Buffer) → IsSound a → b.limit ≡ a.limit → b.made ≡ a.made →
-    ((place : ℕ) → buffer_in b.slots place ≡ option_map f (buffer_in a.slots place)) →
-    ((place : ℕ) (x : Buffer) → buffer_in a.slots place ≡ Some x → IsBuffer a.made x → IsBuffer a.made (f x)) →
-    ((place : ℕ) (x : Buffer) → buffer_in a.slots place ≡ Some x → AreNoted a.places place (Some x) → AreNoted b.places place (Some (f x))) →
+pub sound_map : (a b : Inside) (f : Buffer → Buffer) → IsSound a → b.limit ≡ a.limit → b.made ≡ a.made → b.slots.vacant ≡ a.slots.vacant →
+    length b.slots.entries.items ≡ length a.slots.entries.items →
+    ((place : ℕ) → buffer_in b.slots.entries.items place ≡ option_map f (buffer_in a.slots.entries.items place)) →
+    ((place : ℕ) (x : Buffer) → buffer_in a.slots.entries.items place ≡ Some x → IsBuffer a.made x → IsBuffer a.made (f x)) →
+    ((place : ℕ) (x : Buffer) → buffer_in a.slots.entries.items place ≡ Some x → AreNoted a.places place (Some x) → AreNoted b.places place (Some (f x))) →
     IsSound b
-sound_map a b f sound limit made each keeps notes =
-    let lists : buffers_from 0 b.slots.slots ≡ map f (buffers_from 0 a.slots.slots) = live_from_map f a.slots b.slots each in
-    let same_len : slab_len b.slots ≡ slab_len a.slots =
-    sym (length-buffers_from 0 b.slots.slots) ∙ ap length lists ∙ length-map _ _ ∙ length-buffers_from 0 a.slots.slots in
+sound_map a b f sound limit made vacant long each keeps notes =
+    let lists : buffers_from 0 b.slots.entries.items ≡ map f (buffers_from 0 a.slots.entries.items) = live_from_map f a.slots.entries.items b.slots.entries.items each in
+    let same_len : live_count b.slots.entries.items ≡ live_count a.slots.entries.items =
+    sym (length-buffers_from 0 b.slots.entries.items) ∙ ap length lists ∙ length-map _ _ ∙ length-buffers_from 0 a.slots.entries.items in
     record {
       limit = rw limit sound.limit;
       few = rw (limit, same_len) sound.few;
-      buffers = λ place x found. rw made (buffers_after f a.made (buffer_in a.slots place) x (sym (each place) ∙ found) (keeps place) (sound.buffers place));
-      noted = λ place. rw (each place) (noted_after f a.places b.places place (buffer_in a.slots place) (notes place) (sound.noted place));
+      buffers = λ place x found. rw made (buffers_after f a.made (buffer_in a.slots.entries.items place) x (sym (each place) ∙ found) (keeps place) (sound.buffers place));
+      noted = λ place. rw (each place) (noted_after f a.places b.places place (buffer_in a.slots.entries.items place) (notes place) (sound.noted place));
+      vacant = rw vacant (AreVacant-alike a.slots.entries.items b.slots.entries.items a.slots.vacant.items long same_len
+          (λ place nothing. nothing_seen place (get b.slots.entries.items place) (each place ∙ ap (λ o. option_map f (option_map (buffer_at place) o)) nothing)) sound.vacant);
+      room = rw (vacant, long) sound.room;
     }
 
 -- what a sound table's buffers keep
@@ -124,9 +140,9 @@ pub sound_table : (a : Inside) → IsSound a → IsTable (table_of a)
 sound_table a sound =
     record {
       limit = sound.limit;
-      few = rw (length-buffers_from 0 a.slots.slots) sound.few;
-      buffers = All-buffers_from (IsBuffer a.made) 0 a.slots.slots (λ k j e b found. let same : j ≡ k = omega arith in sound.buffers k b (subst (λ (n : ℕ). seen_at n a.slots.slots k ≡ Some b) same found));
-      apart = AllPairs-buffers_from 0 a.slots.slots;
+      few = rw (length-buffers_from 0 a.slots.entries.items) sound.few;
+      buffers = All-buffers_from (IsBuffer a.made) 0 a.slots.entries.items (λ k j e b found. let same : j ≡ k = omega arith in sound.buffers k b (subst (λ (n : ℕ). seen_at n a.slots.entries.items k ≡ Some b) same found));
+      apart = AllPairs-buffers_from 0 a.slots.entries.items;
     }
 
 -- one buffer's counts were changed in its slot
@@ -142,34 +158,37 @@ only_notes : (id : BufferId) (change : Buffer → Buffer) (notes : Notes) (place
 only_notes id change notes place x same was =
     elim (has_id id x) as (λ t. All (λ u. IsNoted notes u.job place) (cond t (change x) x).users) [ true ↦ rw same was | false ↦ was ]
 
-pub moved : (a : Inside) (t : Table) (id : BufferId) (v w : LiveBuffer) (change : Buffer → Buffer) → IsSound a → table_of a ≡ t → IsLive t id → get a.slots id.index ≡ Some v →
-    buffer_at id.index w ≡ change (buffer_at id.index v) → ((made : ℕ) (x : Buffer) → IsBuffer made x → IsBuffer made (change x)) → ((x : Buffer) → (change x).users ≡ x.users) →
-    IsCounted (record a { slots = with_value a.slots id.index w }) id change t
-moved a t id v w change sound view lives found written keeps users =
+pub moved : (a : Inside) (t : Table) (new : Slots) (id : BufferId) (change : Buffer → Buffer) → IsSound a → table_of a ≡ t → IsLive t id → new.vacant ≡ a.slots.vacant →
+    length new.entries.items ≡ length a.slots.entries.items → buffer_in new.entries.items id.index ≡ option_map change (buffer_in a.slots.entries.items id.index) →
+    ((place : ℕ) → place ≢ id.index → get new.entries.items place ≡ get a.slots.entries.items place) →
+    ((made : ℕ) (x : Buffer) → IsBuffer made x → IsBuffer made (change x)) → ((x : Buffer) → (change x).users ≡ x.users) →
+    IsCounted (record a { slots = new }) id change t
+moved a t new id change sound view lives vacant long here others keeps users =
     let lives_here : IsLive (table_of a) id = subst (λ (s : Table). IsLive s id) (sym view) lives in
-    let new : Slab LiveBuffer = with_value a.slots id.index w in
-    let updates : Updates a.slots new id.index (Some w) = Updates-with_value a.slots id.index w (live_contains a id lives_here) in
-    let here : buffer_in new id.index ≡ option_map change (buffer_in a.slots id.index) =
-    ap (option_map (buffer_at id.index)) updates.changed ∙ (rw found (ap (λ (b : Buffer). Some b) written)) in
-    let each = places_from_only id change a.slots new v found (live_generation a id v lives_here found) here (λ place apart. ap (option_map (buffer_at place)) (updates.others place apart)) in
+    let found = slot_of a id lives_here in
+    let each = places_from_only id change a.slots.entries.items new.entries.items found.0 found.1 (live_generation a id found.0 lives_here found.1) here (λ place apart. ap (option_map (buffer_at place)) (others place apart)) in
     record {
-      sound = sound_map a (record a { slots = new }) (only id change) sound refl refl each
+      sound = sound_map a (record a { slots = new }) (only id change) sound refl refl vacant long each
           (λ place x _ was. only_keeps id change a.made x (keeps a.made x) was)
           (λ place x _ was. only_notes id change a.places place x (users x) was);
-      table = ap (λ (live : List Buffer). record { limit = a.limit; made = a.made; live = live }) (live_from_map (only id change) a.slots new each) ∙ ap (changed id change) view;
+      table = ap (λ (vs : Vec ℕ). record { limit = a.limit; made = a.made; live = buffers_from 0 new.entries.items; vacant = reverse vs.items }) vacant
+          ∙ ap (λ (live : List Buffer). record { limit = a.limit; made = a.made; live = live; vacant = reverse a.slots.vacant.items }) (live_from_map (only id change) a.slots.entries.items new.entries.items each)
+          ∙ ap (changed id change) view;
     }
 
 pub counted_contains : (a : Inside) (t : Table) (id : BufferId) (count : Buffer → ℕ) (P : ℕ → Type 0) → table_of a ≡ t →
-    IsSomeAnd (option_map count (buffer t id)) P → ContainsKey a.slots id.index
+    IsSomeAnd (option_map count (buffer t id)) P → Holds a.slots.entries.items id.index
 counted_contains a t id count P view holds = live_contains a id (subst (λ (s : Table). IsLive s id) (sym view) (counted_lives t id count P holds))
 
 -- what is said of a count of a live buffer holds of the number in its slot
-pub count_in_slot : (a : Inside) (t : Table) (id : BufferId) (v : LiveBuffer) (count : Buffer → ℕ) (P : ℕ → Type 0) → table_of a ≡ t → get a.slots id.index ≡ Some v →
-    IsSomeAnd (option_map count (buffer t id)) P → P (count (buffer_at id.index v))
-count_in_slot a t id v count P view found holds =
+pub count_in_place : (a : Inside) (t : Table) (id : BufferId) (count : Buffer → ℕ) (P : ℕ → Type 0) → table_of a ≡ t →
+    IsSomeAnd (option_map count (buffer t id)) P → IsSomeAnd (option_map count (buffer_in a.slots.entries.items id.index)) P
+count_in_place a t id count P view holds =
     let lives_here : IsLive (table_of a) id = subst (λ (s : Table). IsLive s id) (sym view) (counted_lives t id count P holds) in
+    let found = slot_of a id lives_here in
     let holds_here : IsSomeAnd (option_map count (buffer (table_of a) id)) P = subst (λ (s : Table). IsSomeAnd (option_map count (buffer s id)) P) (sym view) holds in
-    subst (λ (o : Option Buffer). IsSomeAnd (option_map count o) P) (live_buffer a id v lives_here found) holds_here
+    let seen : buffer (table_of a) id ≡ buffer_in a.slots.entries.items id.index = live_buffer a id found.0 lives_here found.1 ∙ sym (ap (option_map (buffer_at id.index)) found.1) in
+    subst (λ (o : Option Buffer). IsSomeAnd (option_map count o) P) seen holds_here
 
 -- a number read of what a search found
 pub read_from_map : (o : Option (Bor LiveBuffer)) (r : Option ℕ) (read : LiveBuffer → ℕ) (Gives : Bor LiveBuffer → ℕ → Type 0) →
@@ -179,7 +198,7 @@ read_from_map (Some x) None read Gives cases says = absurd cases
 read_from_map (Some x) (Some y) read Gives cases says = ap (λ (n : ℕ). Some n) (says x y cases)
 
 -- a slot that is put back as it was
-pub buffer_in_from_get : (slots : Slab LiveBuffer) (place : ℕ) (v : LiveBuffer) → get slots place ≡ Some v → buffer_in slots place ≡ Some (buffer_at place v)
+pub buffer_in_from_get : (slots : SlotList) (place : ℕ) (v : LiveBuffer) → get slots place ≡ Some v → buffer_in slots place ≡ Some (buffer_at place v)
 buffer_in_from_get slots place v found = ap (option_map (buffer_at place)) found
 
 of_generation_found : (generation : ℕ) (o : Option LiveBuffer) (v : LiveBuffer) → of_generation generation o ≡ Some v → (o ≡ Some v) × (v.generation ≡ generation)
@@ -191,15 +210,15 @@ of_generation_found generation (Some x) v found =
     ] refl found
 
 -- a search that found a slot found it at its place, with its generation
-pub live_slot : (a : Inside) (id : BufferId) (v : LiveBuffer) → live_at a.slots id ≡ Some v → (get a.slots id.index ≡ Some v) × (v.generation ≡ id.generation)
-live_slot a id v found = of_generation_found id.generation (get a.slots id.index) v found
+pub live_slot : (a : Inside) (id : BufferId) (v : LiveBuffer) → live_at a.slots.entries.items id ≡ Some v → (get a.slots.entries.items id.index ≡ Some v) × (v.generation ≡ id.generation)
+live_slot a id v found = of_generation_found id.generation (get a.slots.entries.items id.index) v found
 
 -- the buffer that a search found, or missed
-pub found_buffer : (a : Inside) (t : Table) (id : BufferId) (v : LiveBuffer) → table_of a ≡ t → live_at a.slots id ≡ Some v → buffer t id ≡ Some (buffer_at id.index v)
+pub found_buffer : (a : Inside) (t : Table) (id : BufferId) (v : LiveBuffer) → table_of a ≡ t → live_at a.slots.entries.items id ≡ Some v → buffer t id ≡ Some (buffer_at id.index v)
 found_buffer a t id v view found =
     sym (ap (λ (s : Table). buffer s id) view) ∙ buffer_from_slot a id ∙ ap (option_map (buffer_at id.index)) found
 
-pub missed_buffer : (a : Inside) (t : Table) (id : BufferId) → table_of a ≡ t → live_at a.slots id ≡ None → buffer t id ≡ None
+pub missed_buffer : (a : Inside) (t : Table) (id : BufferId) → table_of a ≡ t → live_at a.slots.entries.items id ≡ None → buffer t id ≡ None
 missed_buffer a t id view missed =
     sym (ap (λ (s : Table). buffer s id) view) ∙ buffer_from_slot a id ∙ ap (option_map (buffer_at id.index)) missed
 
@@ -208,8 +227,8 @@ index_of_seen j None b found = absurd (none-some b found)
 index_of_seen j (Some s) b found = ap (λ (x : Buffer). x.id.index) (sym (same_Some _ _ found))
 
 -- as many buffers are alive as slots hold one
-pub live_count : (a : Inside) (t : Table) → table_of a ≡ t → length t.live ≡ slab_len a.slots
-live_count a t view = ap (λ (s : Table). length s.live) (sym view) ∙ length-buffers_from 0 a.slots.slots
+pub count_live : (a : Inside) (t : Table) → table_of a ≡ t → length t.live ≡ live_count a.slots.entries.items
+count_live a t view = ap (λ (s : Table). length s.live) (sym view) ∙ length-buffers_from 0 a.slots.entries.items
 
 field_seen : (i : ℕ) (field : Buffer → ℕ) (o : Option LiveBuffer) → option_map (λ s. field (buffer_at i s)) o ≡ option_map field (option_map (buffer_at i) o)
 field_seen i field None = refl
@@ -217,9 +236,9 @@ field_seen i field (Some s) = refl
 
 -- a number of the buffer with an id, read from its slot
 pub field_in_slot : (a : Inside) (t : Table) (id : BufferId) (field : Buffer → ℕ) → table_of a ≡ t →
-    option_map (λ s. field (buffer_at id.index s)) (live_at a.slots id) ≡ option_map field (buffer t id)
+    option_map (λ s. field (buffer_at id.index s)) (live_at a.slots.entries.items id) ≡ option_map field (buffer t id)
 field_in_slot a t id field view =
-    field_seen id.index field (live_at a.slots id) ∙ ap (option_map field) (sym (buffer_from_slot a id) ∙ ap (λ (s : Table). buffer s id) view)
+    field_seen id.index field (live_at a.slots.entries.items id) ∙ ap (option_map field) (sym (buffer_from_slot a id) ∙ ap (λ (s : Table). buffer s id) view)
 
 -- a table of buffers that is seen keeps what a sound one does
 pub is_table : (a : Inside) (t : Table) → IsSound a → table_of a ≡ t → IsTable t

@@ -1,10 +1,10 @@
 -- What contracts see of `Buffers` (`Table`): the live buffers, with their counts and users, and what calls make of them.
-use Rattle.std.specs.Prelude.{◌≡◌, ◌≢◌, ℕ, ◌+◌, ◌-◌, ◌^◌, ◌<◌, ◌≤◌, Bool, not, ◌||◌, ◌==◌, nat_lt, nat_le, if◌then◌else◌, List, [], map, length, filter, find, insert, Option, Some, None, IsSome}
+use Rattle.std.specs.Prelude.{◌≡◌, ◌≢◌, ℕ, ◌+◌, ◌-◌, ◌^◌, ◌<◌, ◌≤◌, Bool, not, ◌||◌, ◌==◌, nat_lt, nat_le, if◌then◌else◌, List, [], ◌∷◌, map, length, filter, find, insert, drop, slice_get, unwrap_or, Option, Some, None, IsSome}
 use Rattle.std.specs.List.{All, AllPairs}
 use Rattle.std.specs.Option.{option_map}
 use Rattle.gv_types.specs.Page.{pages_per_buffer}
 use Rattle.gv_types.specs.Limits.{greatest, IsFromOneTo}
-use Rattle.gv_types.specs.Mapping.{is_same_id}
+use Rattle.gv_types.specs.Mapping.{buffer_id, is_same_id}
 use Rattle.gv_types.specs.declared.mapping.BufferId.{BufferId}
 use Rattle.gv_types.specs.declared.fault.Fault.{Fault}
 use Rattle.gv_types.specs.declared.fault.Fault.TheVariants.{NoBuffer, BadSize, TooManyBuffers, Mapped, Kept as KeptFault, InUse, Conflict}
@@ -22,11 +22,13 @@ pub record Buffer : Type 0 where
   pub kept : ℕ
   pub users : List User
 
--- what contracts see of `Buffers`: the limit of live buffers, how many were ever made, and the live ones
+-- what contracts see of `Buffers`: the limit of live buffers, how many were ever made, the live ones in the order of their
+-- indexes, and the indexes that dead ones left vacant, the last one first
 pub record Table : Type 0 where
   pub limit : ℕ
   pub made : ℕ
   pub live : List Buffer
+  pub vacant : List ℕ
 
 -- no more buffers than this are ever made
 abbrev pub most_made : ℕ
@@ -37,7 +39,7 @@ abbrev pub most_counted : ℕ
 most_counted = 2 ^ 64 - 1
 
 abbrev pub no_buffers : ℕ → Table
-no_buffers limit = record { limit = limit; made = 0; live = [] }
+no_buffers limit = record { limit = limit; made = 0; live = []; vacant = [] }
 
 abbrev pub has_id : BufferId → Buffer → Bool
 has_id id b = is_same_id b.id id
@@ -81,14 +83,32 @@ create_fault t pages =
     else if nat_le t.limit (length t.live) || nat_le most_made t.made then Some TooManyBuffers
     else None
 
--- A buffer was made. Its generation is how many were made before it, its index is that of no live buffer, and
--- it stands among the live ones, which stay as they are.
+-- The id of the next buffer: its index is the one that was left vacant last, else the first that no buffer had yet, and its
+-- generation is how many were made before it.
+abbrev pub next_index : Table → ℕ
+next_index t = unwrap_or (slice_get t.vacant 0) (length t.live)
+
+abbrev pub next_id : Table → BufferId
+next_id t = buffer_id (next_index t) t.made
+
+-- how many live buffers have a lower index
+abbrev pub count_below : ℕ → List Buffer → ℕ
+count_below index bs = length (filter (λ b. nat_lt b.id.index index) bs)
+
+-- the table with a new buffer at its place among the live ones, which stay as they are
+abbrev pub with_new : ℕ → Table → Table
+with_new pages t =
+    record t {
+      made = t.made + 1;
+      live = insert t.live (count_below (next_index t) t.live) (fresh (next_id t) pages);
+      vacant = drop 1 t.vacant;
+    }
+
+-- A buffer was made. It has the next id, whose index is that of no live buffer.
 pub record IsCreated (old new : Table) (id : BufferId) (pages : ℕ) : Type 0 where
-  pub generation : id.generation ≡ old.made
+  pub id_is : id ≡ next_id old
   pub free : All (λ b. b.id.index ≢ id.index) old.live
-  pub place : ℕ
-  pub within : place ≤ length old.live
-  pub state : new ≡ record old { made = old.made + 1; live = insert old.live place (fresh id pages) }
+  pub state : new ≡ with_new pages old
 
 -- what names a live buffer: mappings in the list, else mappings in undo values, else jobs
 abbrev pub use_fault : Buffer → Option Fault
@@ -106,9 +126,9 @@ destroy_fault_of (Some b) = use_fault b
 abbrev pub destroy_fault : Table → BufferId → Option Fault
 destroy_fault t id = destroy_fault_of (buffer t id)
 
--- the table without a buffer
+-- the table without a buffer, which leaves its index vacant
 abbrev pub without : BufferId → Table → Table
-without id t = record t { live = filter (λ b. not (has_id id b)) t.live }
+without id t = record t { live = filter (λ b. not (has_id id b)) t.live; vacant = id.index ∷ t.vacant }
 
 -- the change of one buffer, and of no other
 abbrev pub only : BufferId → (Buffer → Buffer) → Buffer → Buffer

@@ -1,14 +1,14 @@
 //! The table of buffers.
-ghost use Rattle.std.specs.Prelude.{◌≡◌, ◌<◌, IfOk, IsOk, IsOkUnless, OnOk, OnErr, MatchOption};
+ghost use Rattle.std.specs.Prelude.{◌≡◌, ◌<◌, length, IfOk, IsOk, IsOkUnless, OnOk, OnErr, MatchOption};
 ghost use Rattle.gv_types.specs.Limits.{greatest, IsFromOneTo};
 
 use crate::counter::Counter;
+use crate::live_buffer::LiveBuffer;
 use crate::places::{Places, forget};
-use crate::slots::{LiveBuffer, join_at, leave_all, live_at, make_room, next_place};
+use crate::slots::Slots;
 use crate::usage::Usage;
 use crate::users;
 use gv_types::{BUFFER_PAGES, BufferId, Fault, Generation};
-use slab::Slab;
 use std::alloc::Global;
 use std::collections::HashMap;
 use std::marker::Model;
@@ -23,7 +23,7 @@ const FIRST_ROOM: u64 = 8;
 pub struct Buffers {
     limit: u64,
     made: u64,
-    slots: Slab<LiveBuffer>,
+    slots: Slots,
     places: Places,
 }
 
@@ -58,15 +58,18 @@ impl Buffers {
         Ok(Buffers {
             limit,
             made: 0,
-            slots: Slab::with_capacity(alloc, room)?,
+            slots: Slots {
+                entries: Vec::with_capacity(alloc, room)?,
+                vacant: Vec::with_capacity(alloc, room)?,
+            },
             places: HashMap::new(alloc),
         })
     }
 
     /// Makes a buffer of `pages` pages. `BadSize` at 0 pages or over 2^36, then `TooManyBuffers`
     /// where the limit's buffers are alive or 2^64 - 1 were made, then `OutOfMemory`. The id's
-    /// generation is how many were made before; its index may be that of a buffer that was
-    /// destroyed. It takes memory only where no place is free, and then for twice as many places.
+    /// generation is how many were made before; its index is the one that a destroyed buffer left
+    /// last, if one is vacant. It takes memory only where none is, and then for twice as many places.
     pub fn create(&mut self, alloc: Global, pages: u64) -> Result<BufferId, Fault>
         ensures fault { MatchOption (create_fault self.old pages)
             (IsOkUnless result Fault.OutOfMemory) (λ fault. result ≡ Err fault) }
@@ -77,18 +80,19 @@ impl Buffers {
         if pages == 0 || pages > BUFFER_PAGES {
             return Err(Fault::BadSize);
         }
-        if self.slots.len() as u64 >= self.limit || self.made == u64::MAX {
+        if self.live() as u64 >= self.limit || self.made == u64::MAX {
             return Err(Fault::TooManyBuffers);
         }
-        let place = next_place(&mut self.slots)?;
+        let place = self.slots.next_place()?;
         let generation = self.made;
-        self.slots.insert_reserved(LiveBuffer {
+        let buffer = LiveBuffer {
             generation: Generation::new(generation),
             pages,
             uses: 0,
             kept: 0,
             users: Vec::new(alloc),
-        });
+        };
+        self.slots.put_in(buffer);
         self.made += 1;
         Ok(BufferId::new(place, generation))
     }
@@ -102,12 +106,12 @@ impl Buffers {
         ensures ok { OnOk result (self.new ≡ without id self.old) }
         ensures err { OnErr result (self.new ≡ self.old) }
     {
-        let place = id.index as usize;
-        let Some(slot) = live_at(&self.slots, id) else {
+        let place = id.index;
+        let Some(slot) = self.slots.get(id) else {
             return Err(Fault::NoBuffer);
         };
         slot.check_unused()?;
-        self.slots.remove(place);
+        self.slots.take_out(place);
         Ok(())
     }
 
@@ -132,7 +136,7 @@ impl Buffers {
         ensures value { result ≡ pages self.now id }
         ensures table { IsTable self.now }
     {
-        live_at(&self.slots, id).map(|slot| slot.pages)
+        self.slots.get(id).map(|slot| slot.pages)
     }
 
     /// Counts one more mapping in the list. It takes no memory.
@@ -167,12 +171,19 @@ impl Buffers {
         self.lower(Counter::Kept, id);
     }
 
+    // How many buffers are alive.
+    fn live(&self) -> usize
+        ensures { result ≡ length self.now.live }
+    {
+        self.slots.entries.len() - self.slots.vacant.len()
+    }
+
     /// How many mappings a counter of the buffer counts, or None where the id is dead.
     fn counted(&self, counter: Counter, id: BufferId) -> Option<u64>
         ensures value { result ≡ counted counter self.now id }
         ensures table { IsTable self.now }
     {
-        live_at(&self.slots, id).map(|slot| slot.count(counter))
+        self.slots.get(id).map(|slot| slot.count(counter))
     }
 
     /// Counts one mapping more.
@@ -180,7 +191,7 @@ impl Buffers {
         requires { IsSomeAnd (counted counter self.old id) (λ count. count < most_counted) }
         ensures { self.new ≡ changed id (raised counter 1) self.old }
     {
-        self.slots[id.index as usize].raise(counter);
+        self.slots.raise(id.index, counter);
     }
 
     /// Counts one mapping less.
@@ -188,7 +199,7 @@ impl Buffers {
         requires { IsSomeAnd (counted counter self.old id) (λ count. 0 < count) }
         ensures { self.new ≡ changed id (lowered counter 1) self.old }
     {
-        self.slots[id.index as usize].lower(counter);
+        self.slots.lower(id.index, counter);
     }
 
     /// Lets a job use a buffer; one that uses it already gets the stronger usage. `NoBuffer` where
@@ -202,14 +213,14 @@ impl Buffers {
         ensures table { IsTable self.new }
     {
         let place = id.index;
-        let Some(slot) = live_at(&self.slots, id) else {
+        let Some(slot) = self.slots.get(id) else {
             return Err(Fault::NoBuffer);
         };
         if let Some(job) = users::conflict(&slot.users, job, usage) {
             return Err(Fault::Conflict { job });
         }
-        make_room(alloc, &mut self.slots, &mut self.places, place, job)?;
-        join_at(&mut self.slots, place, job, usage);
+        self.slots.make_room(alloc, &mut self.places, place, job)?;
+        self.slots.join(place, job, usage);
         Ok(())
     }
 
@@ -220,7 +231,7 @@ impl Buffers {
         ensures table { IsTable self.new }
     {
         if let Some(noted) = forget(&mut self.places, job) {
-            leave_all(&mut self.slots, &noted, job);
+            self.slots.leave_all(&noted, job);
         }
     }
 }

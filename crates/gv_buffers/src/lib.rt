@@ -5,6 +5,7 @@
 mod buffers;
 mod counter;
 pub mod laws;
+mod live_buffer;
 mod places;
 mod slots;
 mod usage;

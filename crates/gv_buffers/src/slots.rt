@@ -1,166 +1,244 @@
 //! The places of live buffers.
-ghost use Rattle.std.specs.Prelude.{◌≡◌, ◌≢◌, ◌<◌, ℕ, Contains, IsOk, IfOk, OnOk, IsOkUnless};
-ghost use Rattle.std.specs.Prelude.{MatchOption};
+ghost use Rattle.std.specs.Prelude.{◌≡◌, ◌≢◌, ◌+◌, ◌<◌, ◌≤◌, ◌∷◌, ℕ, Contains, IfOk, OnOk, IsOkUnless};
+ghost use Rattle.std.specs.Prelude.{Some, None, false, length, reverse, drop, slice_get, unwrap_or};
+ghost use Rattle.std.specs.Prelude.{IsSomeAnd, vec_len, vec_capacity};
 ghost use Rattle.std.specs.Option.{option_copied, option_map};
-ghost use Rattle.slab.specs.Slab.{get, ContainsKey, HasRoomFor};
 ghost use Rattle.gv_buffers.specs.Places.{IsNoted};
-ghost use Rattle.gv_buffers.specs.Slots.{live_at, buffer_at, buffer_in};
-ghost use Rattle.gv_buffers.specs.Slots.{AreNoted, HasRoomForJob, IsLeftOrSame};
-ghost use Rattle.gv_buffers.specs.Table.{count, raised, lowered, most_counted};
-ghost use Rattle.gv_buffers.specs.Table.{joined_by, left_by, use_fault};
+ghost use Rattle.gv_buffers.specs.Slots.{get, live_at, live_count, buffer_at, buffer_in, next_place};
+ghost use Rattle.gv_buffers.specs.Slots.{Holds, Updates, AreNoted, AreVacant};
+ghost use Rattle.gv_buffers.specs.Slots.{HasRoomForJob, IsUserIn, IsLeftOrSame};
+ghost use Rattle.gv_buffers.specs.Table.{count, raised, lowered, most_counted, joined_by, left_by};
 
 use crate::counter::Counter;
+use crate::live_buffer::LiveBuffer;
 use crate::places::{Places, note};
-use crate::usage::{Usage, User};
+use crate::usage::Usage;
 use crate::users;
-use gv_types::{BufferId, Fault, Generation};
-use slab::Slab;
+use gv_types::{BufferId, Fault};
 use std::alloc::{AllocError, Global};
 
-/// A live buffer at its place.
+/// For each place the live buffer there, and the places that dead buffers left.
 #[derive(Drop)]
-pub struct LiveBuffer {
-    pub generation: Generation,
-    pub pages: u64,
-    pub uses: u64,
-    pub kept: u64,
-    pub users: Vec<User>,
+pub struct Slots {
+    pub entries: Vec<Option<LiveBuffer>>,
+    // The place that was left last stands last.
+    pub vacant: Vec<u32>,
 }
 
-impl LiveBuffer {
-    /// How many mappings the counter counts.
-    pub fn count(&self, counter: Counter) -> u64
-        ensures { result ≡ count counter (buffer_at 0 self.now) }
+impl Slots {
+    /// The live buffer with this id.
+    pub fn get(&self, id: BufferId) -> Option<&LiveBuffer>
+        ensures { option_copied result ≡ live_at self.now.entries.items id }
     {
-        match counter {
-            Counter::Uses => self.uses,
-            Counter::Kept => self.kept,
+        match self.entries.get(id.index as usize) {
+            Some(Some(slot)) if slot.generation == id.generation => Some(slot),
+            _ => None,
         }
     }
 
-    /// Counts one mapping more.
-    pub fn raise(&mut self, counter: Counter)
-        requires { count counter (buffer_at 0 self.old) < most_counted }
-        ensures { (index : ℕ) → buffer_at index self.new ≡ raised counter 1 (buffer_at index self.old) }
+    /// The place of the next buffer, with room for it there: the place that was left last, else the first that never had a
+    /// buffer. `OutOfMemory` where the system refuses that room, which doubles, and where an index can't number the place.
+    /// No limit asks for as many.
+    pub fn next_place(&mut self) -> Result<u32, Fault>
+        ensures place { IfOk result (λ place. place ≡ next_place self.old.entries.items self.old.vacant.items) }
+        ensures room { OnOk result (vec_len self.new.vacant ≡ 0 → vec_len self.new.entries < vec_capacity self.new.entries) }
+        ensures kept { length self.old.entries.items ≤ vec_capacity self.old.vacant
+            → length self.new.entries.items ≤ vec_capacity self.new.vacant }
+        ensures more { OnOk result (vec_len self.new.vacant ≡ 0
+            → length self.new.entries.items < vec_capacity self.new.vacant) }
+        ensures only_memory { IsOkUnless result Fault.OutOfMemory }
+        ensures entries { self.new.entries.items ≡ self.old.entries.items }
+        ensures vacant { self.new.vacant.items ≡ self.old.vacant.items }
     {
-        match counter {
-            Counter::Uses => self.uses += 1,
-            Counter::Kept => self.kept += 1,
+        if let Some(place) = self.vacant.last() {
+            return Ok(*place);
+        }
+        self.entries.reserve(1)?;
+        self.vacant.reserve(self.entries.len() + 1)?;
+        match u32::try_from(self.entries.len()) {
+            Ok(place) => Ok(place),
+            Err(_) => Err(Fault::OutOfMemory),
         }
     }
 
-    /// Counts one mapping less.
-    pub fn lower(&mut self, counter: Counter)
-        requires { 0 < count counter (buffer_at 0 self.old) }
-        ensures { (index : ℕ) → buffer_at index self.new ≡ lowered counter 1 (buffer_at index self.old) }
+    /// Puts a buffer into the next place, where there is room for it.
+    pub fn put_in(&mut self, buffer: LiveBuffer)
+        requires vacant { AreVacant self.old.entries.items self.old.vacant.items }
+        requires room { vec_len self.old.vacant ≡ 0 → vec_len self.old.entries < vec_capacity self.old.entries }
+        ensures updates { Updates self.old.entries.items self.new.entries.items
+            (next_place self.old.entries.items self.old.vacant.items) (Some buffer) }
+        ensures was_vacant { get self.old.entries.items (next_place self.old.entries.items self.old.vacant.items) ≡ None }
+        ensures count { live_count self.new.entries.items ≡ live_count self.old.entries.items + 1 }
+        ensures vacant { AreVacant self.new.entries.items self.new.vacant.items }
+        ensures rest { reverse self.new.vacant.items ≡ drop 1 (reverse self.old.vacant.items) }
+        ensures room { vec_capacity self.new.vacant ≡ vec_capacity self.old.vacant }
+        ensures length { length self.new.entries.items ≤ length self.old.entries.items + 1 }
+        ensures same_length { 0 < vec_len self.old.vacant
+            → length self.new.entries.items ≡ length self.old.entries.items }
     {
-        match counter {
-            Counter::Uses => self.uses -= 1,
-            Counter::Kept => self.kept -= 1,
+        match self.vacant.pop() {
+            Some(place) => self.entries[place as usize] = Some(buffer),
+            None => self.entries.push_reserved(Some(buffer)),
         }
     }
 
-    /// `Mapped`, `Kept` or `InUse`, in this order, where something names the buffer.
-    pub fn check_unused(&self) -> Result<(), Fault>
-        ensures { MatchOption (use_fault (buffer_at 0 self.now))
-            (IsOk result) (λ fault. result ≡ Err fault) }
+    /// Takes the buffer at a place out, and notes the place as vacant.
+    pub fn take_out(&mut self, place: u32)
+        requires lives { Holds self.old.entries.items place }
+        requires vacant { AreVacant self.old.entries.items self.old.vacant.items }
+        requires room { length self.old.entries.items ≤ vec_capacity self.old.vacant }
+        ensures updates { Updates self.old.entries.items self.new.entries.items place None }
+        ensures count { live_count self.new.entries.items + 1 ≡ live_count self.old.entries.items }
+        ensures vacant { AreVacant self.new.entries.items self.new.vacant.items }
+        ensures noted { reverse self.new.vacant.items ≡ place ∷ reverse self.old.vacant.items }
+        ensures room { length self.new.entries.items ≤ vec_capacity self.new.vacant }
     {
-        if self.uses > 0 {
-            return Err(Fault::Mapped { count: self.uses });
-        }
-        if self.kept > 0 {
-            return Err(Fault::Kept { count: self.kept });
-        }
-        if !self.users.is_empty() {
-            return Err(Fault::InUse {
-                jobs: self.users.len() as u64,
-            });
+        self.entries[place as usize] = None;
+        self.vacant.push_reserved(place);
+    }
+
+    /// Counts one mapping more of the buffer at a place.
+    pub fn raise(&mut self, place: u32, counter: Counter)
+        requires { IsSomeAnd (option_map (count counter) (buffer_in self.old.entries.items place)) (λ count. count < most_counted) }
+        ensures here { buffer_in self.new.entries.items place
+            ≡ option_map (raised counter 1) (buffer_in self.old.entries.items place) }
+        ensures others { (other : ℕ) → other ≢ place → get self.new.entries.items other ≡ get self.old.entries.items other }
+        ensures length { length self.new.entries.items ≡ length self.old.entries.items }
+        ensures vacant { self.new.vacant ≡ self.old.vacant }
+    {
+        raise_slot(&mut self.entries[place as usize], counter);
+    }
+
+    /// Counts one mapping less of the buffer at a place.
+    pub fn lower(&mut self, place: u32, counter: Counter)
+        requires { IsSomeAnd (option_map (count counter) (buffer_in self.old.entries.items place)) (λ count. 0 < count) }
+        ensures here { buffer_in self.new.entries.items place
+            ≡ option_map (lowered counter 1) (buffer_in self.old.entries.items place) }
+        ensures others { (other : ℕ) → other ≢ place → get self.new.entries.items other ≡ get self.old.entries.items other }
+        ensures length { length self.new.entries.items ≡ length self.old.entries.items }
+        ensures vacant { self.new.vacant ≡ self.old.vacant }
+    {
+        lower_slot(&mut self.entries[place as usize], counter);
+    }
+
+    /// Makes room for a job among the users of the buffer at a place, and notes the place for the job, where it is no user yet.
+    pub fn make_room(
+        &mut self,
+        alloc: Global,
+        places: &mut Places,
+        place: u32,
+        job: u64,
+    ) -> Result<(), AllocError>
+        requires lives { Holds self.old.entries.items place }
+        requires noted { AreNoted places.old place (buffer_in self.old.entries.items place) }
+        ensures same { (other : ℕ) → buffer_in self.new.entries.items other ≡ buffer_in self.old.entries.items other }
+        ensures keeps { (other at : ℕ) → IsNoted places.old other at → IsNoted places.new other at }
+        ensures noted { OnOk result (IsNoted places.new job place) }
+        ensures room { OnOk result (HasRoomForJob job (get self.new.entries.items place)) }
+        ensures length { length self.new.entries.items ≡ length self.old.entries.items }
+        ensures vacant { self.new.vacant ≡ self.old.vacant }
+    {
+        if make_room_in(&mut self.entries[place as usize], job)? {
+            note(alloc, places, job, place)?;
         }
         Ok(())
     }
-}
 
-/// The live buffer with this id.
-pub fn live_at(slots: &Slab<LiveBuffer>, id: BufferId) -> Option<&LiveBuffer>
-    ensures { option_copied result ≡ live_at slots.now id }
-{
-    let slot = slots.get(id.index as usize)?;
-    if slot.generation == id.generation {
-        Some(slot)
-    } else {
-        None
+    /// Lets the job use the buffer at a place, where there is room for it.
+    pub fn join(&mut self, place: u32, job: u64, usage: Usage)
+        requires lives { Holds self.old.entries.items place }
+        requires room { HasRoomForJob job (get self.old.entries.items place) }
+        ensures here { buffer_in self.new.entries.items place
+            ≡ option_map (joined_by job usage) (buffer_in self.old.entries.items place) }
+        ensures others { (other : ℕ) → other ≢ place → get self.new.entries.items other ≡ get self.old.entries.items other }
+        ensures length { length self.new.entries.items ≡ length self.old.entries.items }
+        ensures vacant { self.new.vacant ≡ self.old.vacant }
+    {
+        join_in(&mut self.entries[place as usize], job, usage);
+    }
+
+    /// Removes the job from the users of the buffer at one place, if there is one.
+    pub fn leave(&mut self, place: u32, job: u64)
+        ensures here { buffer_in self.new.entries.items place
+            ≡ option_map (left_by job) (buffer_in self.old.entries.items place) }
+        ensures others { (other : ℕ) → other ≢ place → get self.new.entries.items other ≡ get self.old.entries.items other }
+        ensures length { length self.new.entries.items ≡ length self.old.entries.items }
+        ensures vacant { self.new.vacant ≡ self.old.vacant }
+    {
+        if (place as usize) < self.entries.len() {
+            leave_in(&mut self.entries[place as usize], job);
+        }
+    }
+
+    /// Removes the job from the users of the buffers at some places.
+    pub fn leave_all(&mut self, places: &[u32], job: u64)
+        ensures noted { (place : ℕ) → Contains places.now place
+            → buffer_in self.new.entries.items place ≡ option_map (left_by job) (buffer_in self.old.entries.items place) }
+        ensures others { (place : ℕ) → IsLeftOrSame job self.old.entries.items self.new.entries.items place }
+        ensures length { length self.new.entries.items ≡ length self.old.entries.items }
+        ensures vacant { self.new.vacant ≡ self.old.vacant }
+    {
+        for place in places {
+            self.leave(*place, job);
+        }
     }
 }
 
-/// The place of the next buffer, with room for it there. `OutOfMemory` where the system refuses that
-/// room, which doubles, and where an index can't number the place. No limit asks for as many.
-pub fn next_place(slots: &mut Slab<LiveBuffer>) -> Result<u32, Fault>
-    ensures place { IfOk result (λ place. place ≡ slots.new.vacant_key) }
-    ensures room { OnOk result (HasRoomFor slots.new 1) }
-    ensures only_memory { IsOkUnless result Fault.OutOfMemory }
-    ensures same { slots.new ≡ record slots.old { capacity = slots.new.capacity } }
-    ensures had_room { HasRoomFor slots.old 1 → slots.new ≡ slots.old }
+/// Counts one mapping more of the buffer in a slot, where one is.
+fn raise_slot(slot: &mut Option<LiveBuffer>, counter: Counter)
+    requires { IsSomeAnd (option_map (count counter) (option_map (buffer_at 0) slot.old)) (λ count. count < most_counted) }
+    ensures { (index : ℕ) → option_map (buffer_at index) slot.new
+        ≡ option_map (raised counter 1) (option_map (buffer_at index) slot.old) }
 {
-    slots.reserve(1)?;
-    match u32::try_from(slots.vacant_key()) {
-        Ok(place) => Ok(place),
-        Err(_) => Err(Fault::OutOfMemory),
+    if let Some(buffer) = slot {
+        buffer.raise(counter);
     }
 }
 
-/// Makes room for a job among the users of the buffer at a place, and notes the place for the job,
-/// where it is no user yet.
-pub fn make_room(
-    alloc: Global,
-    slots: &mut Slab<LiveBuffer>,
-    places: &mut Places,
-    place: u32,
-    job: u64,
-) -> Result<(), AllocError>
-    requires lives { ContainsKey slots.old place }
-    requires noted { AreNoted places.old place (buffer_in slots.old place) }
-    ensures same { (other : ℕ) → buffer_in slots.new other ≡ buffer_in slots.old other }
-    ensures keeps { (other at : ℕ) → IsNoted places.old other at → IsNoted places.new other at }
-    ensures noted { OnOk result (IsNoted places.new job place) }
-    ensures room { OnOk result (HasRoomForJob job (get slots.new place)) }
+/// Counts one mapping less of the buffer in a slot, where one is.
+fn lower_slot(slot: &mut Option<LiveBuffer>, counter: Counter)
+    requires { IsSomeAnd (option_map (count counter) (option_map (buffer_at 0) slot.old)) (λ count. 0 < count) }
+    ensures { (index : ℕ) → option_map (buffer_at index) slot.new
+        ≡ option_map (lowered counter 1) (option_map (buffer_at index) slot.old) }
 {
-    let slot = &mut slots[place as usize];
-    if users::place_of(&slot.users, job).is_some() {
-        return Ok(());
-    }
-    slot.users.reserve(1)?;
-    note(alloc, places, job, place)
-}
-
-/// Lets the job use the buffer at a place, where there is room for it.
-pub fn join_at(slots: &mut Slab<LiveBuffer>, place: u32, job: u64, usage: Usage)
-    requires lives { ContainsKey slots.old place }
-    requires room { HasRoomForJob job (get slots.old place) }
-    ensures here { buffer_in slots.new place
-        ≡ option_map (joined_by job usage) (buffer_in slots.old place) }
-    ensures others { (key : ℕ) → key ≢ place → get slots.new key ≡ get slots.old key }
-{
-    users::join(&mut slots[place as usize].users, job, usage);
-}
-
-/// Removes the job from the users of the buffer at one place, if there is one.
-pub fn leave_at(slots: &mut Slab<LiveBuffer>, place: u32, job: u64)
-    ensures here { buffer_in slots.new place
-        ≡ option_map (left_by job) (buffer_in slots.old place) }
-    ensures others { (key : ℕ) → key ≢ place → get slots.new key ≡ get slots.old key }
-{
-    if let Some(slot) = slots.get_mut(place as usize) {
-        users::leave(&mut slot.users, job);
+    if let Some(buffer) = slot {
+        buffer.lower(counter);
     }
 }
 
-/// Removes the job from the users of the buffers at some places.
-pub fn leave_all(slots: &mut Slab<LiveBuffer>, places: &[u32], job: u64)
-    ensures noted { (place : ℕ) → Contains places.now place
-        → buffer_in slots.new place ≡ option_map (left_by job) (buffer_in slots.old place) }
-    ensures others { (place : ℕ) → IsLeftOrSame job slots.old slots.new place }
+/// Makes room for a job among the users of the buffer in a slot. Whether it is no user yet.
+fn make_room_in(slot: &mut Option<LiveBuffer>, job: u64) -> Result<bool, AllocError>
+    ensures same { (index : ℕ) → option_map (buffer_at index) slot.new ≡ option_map (buffer_at index) slot.old }
+    ensures room { OnOk result (HasRoomForJob job slot.new) }
+    ensures user { IfOk result (λ is_new. is_new ≡ false → IsUserIn job slot.old) }
 {
-    for place in places {
-        leave_at(slots, *place, job);
+    let Some(buffer) = slot else {
+        return Ok(true);
+    };
+    if users::place_of(&buffer.users, job).is_some() {
+        return Ok(false);
+    }
+    buffer.users.reserve(1)?;
+    Ok(true)
+}
+
+/// Lets the job use the buffer in a slot, where there is room for it.
+fn join_in(slot: &mut Option<LiveBuffer>, job: u64, usage: Usage)
+    requires { HasRoomForJob job slot.old }
+    ensures { (index : ℕ) → option_map (buffer_at index) slot.new
+        ≡ option_map (joined_by job usage) (option_map (buffer_at index) slot.old) }
+{
+    if let Some(buffer) = slot {
+        users::join(&mut buffer.users, job, usage);
+    }
+}
+
+/// Removes the job from the users of the buffer in a slot, if one is.
+fn leave_in(slot: &mut Option<LiveBuffer>, job: u64)
+    ensures { (index : ℕ) → option_map (buffer_at index) slot.new
+        ≡ option_map (left_by job) (option_map (buffer_at index) slot.old) }
+{
+    if let Some(buffer) = slot {
+        users::leave(&mut buffer.users, job);
     }
 }

@@ -11,7 +11,8 @@ use Rattle.gv_types.specs.declared.operation.PageOp.{PageOp}
 use Rattle.gv_types.specs.declared.request.Request.{Request}
 use Rattle.gv_types.proofs.IdLemmas.{IsOf-more, IsOf-last, operations_of-more}
 use Rattle.gv_ranges.specs.Edit.{edited, edited_by_all, restored}
-use Rattle.gv_buffers.specs.Table.{Buffer, Table, fresh, without, IsCreated}
+use Rattle.gv_buffers.specs.Table.{Buffer, Table, fresh, without, count_below, IsCreated}
+use Rattle.gv_buffers.proofs.FoundLemmas.{live_of_made, generation_of_made}
 use Rattle.gv_space.specs.Counts.{count_of, by_count, counted, more_kept, less_kept}
 use Rattle.gv_space.specs.Change.{changed_to}
 use Rattle.gv_space.specs.State.{AddressSpace}
@@ -103,14 +104,15 @@ numbered_more ids id numbered last k other at =
 -- where a buffer is made
 pub AreIdsOf-made : (ids : List BufferId) (old new : Table) (id : BufferId) (size : ℕ) → IsCreated old new id size → AreIdsOf ids old → AreIdsOf (ids ++ id ∷ []) new
 AreIdsOf-made ids old new id size made are =
-    let last : id.generation ≡ length ids = made.generation ∙ sym are.made in
+    let last : id.generation ≡ length ids = generation_of_made old new id size made ∙ sym are.made in
+    let place : ℕ = count_below id.index old.live in
     let older : All (λ b. IsOf (ids ++ id ∷ []) b.id) old.live = All-weaker (λ b. IsOf ids b.id) (λ b. IsOf (ids ++ id ∷ []) b.id) (λ b is. IsOf-more ids (id ∷ []) b.id is) old.live are.live in
     record {
       numbered = numbered_more ids id are.numbered last;
       made = length-append ids (id ∷ []) ∙ ap (λ n. n + 1) are.made ∙ sym (ap (λ (t : Table). t.made) made.state);
-      live = subst (λ (t : Table). All (λ b. IsOf (ids ++ id ∷ []) b.id) t.live) (sym made.state)
-          (All-append (λ b. IsOf (ids ++ id ∷ []) b.id) (take made.place old.live) (fresh id size ∷ drop made.place old.live) (All-take (λ b. IsOf (ids ++ id ∷ []) b.id) made.place old.live older)
-          (All-cons (λ b. IsOf (ids ++ id ∷ []) b.id) (fresh id size) (drop made.place old.live) (IsOf-last ids id last) (All-drop (λ b. IsOf (ids ++ id ∷ []) b.id) made.place old.live older)));
+      live = subst (All (λ b. IsOf (ids ++ id ∷ []) b.id)) (sym (live_of_made old new id size made))
+          (All-append (λ b. IsOf (ids ++ id ∷ []) b.id) (take place old.live) (fresh id size ∷ drop place old.live) (All-take (λ b. IsOf (ids ++ id ∷ []) b.id) place old.live older)
+          (All-cons (λ b. IsOf (ids ++ id ∷ []) b.id) (fresh id size) (drop place old.live) (IsOf-last ids id last) (All-drop (λ b. IsOf (ids ++ id ∷ []) b.id) place old.live older)));
     }
 
 -- where one is destroyed

@@ -44,9 +44,9 @@ table_changed : (ids : List BufferId) (new t : Table) (f : Buffer → Buffer) �
     ((id : BufferId) → IsOf ids id → option_map renamed_buffer (buffer new id) ≡ option_map f (option_map renamed_buffer (buffer t id))) →
     renamed_table ids new ≡ record (renamed_table ids t) { live = map f (renamed_table ids t).live }
 table_changed ids new t f numbered limit made finds =
-    ap (λ (bs : List Buffer). let x : Table = record new { live = bs } in x) (live_changed ids ids new t f (AreNumbered-of ids numbered) finds)
-    ∙ ap (λ n. let x : Table = record { limit = n; made = new.made; live = map f (renamed_live ids t) } in x) limit
-    ∙ ap (λ n. let x : Table = record { limit = t.limit; made = n; live = map f (renamed_live ids t) } in x) made
+    ap (λ (bs : List Buffer). let x : Table = record new { live = bs; vacant = [] } in x) (live_changed ids ids new t f (AreNumbered-of ids numbered) finds)
+    ∙ ap (λ n. let x : Table = record { limit = n; made = new.made; live = map f (renamed_live ids t); vacant = [] } in x) limit
+    ∙ ap (λ n. let x : Table = record { limit = t.limit; made = n; live = map f (renamed_live ids t); vacant = [] } in x) made
 
 -- each buffer was changed
 pub renamed_table-each : (ids : List BufferId) (change : Buffer → Buffer) (t : Table) → AreNumbered ids → IsNameless change →

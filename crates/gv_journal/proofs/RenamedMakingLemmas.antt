@@ -7,7 +7,7 @@ use Rattle.gv_types.specs.Mapping.{is_same_id}
 use Rattle.gv_types.specs.Renamed.{renamed, IsOf}
 use Rattle.gv_types.specs.declared.mapping.BufferId.{BufferId}
 use Rattle.gv_buffers.specs.Table.{Buffer, Table, buffer, has_id, fresh, without, IsCreated}
-use Rattle.gv_buffers.proofs.FoundLemmas.{found_id, destroyed_is_dead, others_stay_destroyed, made_is_found, others_stay_made, is_same_id-itself}
+use Rattle.gv_buffers.proofs.FoundLemmas.{generation_of_made, found_id, destroyed_is_dead, others_stay_destroyed, made_is_found, others_stay_made, is_same_id-itself}
 use Rattle.gv_space.proofs.CountLemmas.{same_from_is_same_id}
 use Rattle.gv_journal.specs.RenamedSpace.{renamed_buffer, renamed_live, renamed_table, AreNumbered}
 use Rattle.gv_journal.specs.Alike.{AreIdsOf}
@@ -64,9 +64,9 @@ live_without all (other ∷ ids) t id is are =
     ]) refl
 
 pub renamed_table-without : (ids : List BufferId) (id : BufferId) (t : Table) → AreNumbered ids → IsOf ids id →
-    renamed_table ids (without id t) ≡ without (renamed id) (renamed_table ids t)
+    renamed_table ids (without id t) ≡ record (without (renamed id) (renamed_table ids t)) { vacant = [] }
 renamed_table-without ids id t numbered is =
-    ap (λ (bs : List Buffer). let x : Table = record t { live = bs } in x) (live_without ids ids t id is (AreNumbered-of ids numbered))
+    ap (λ (bs : List Buffer). let x : Table = record t { live = bs; vacant = [] } in x) (live_without ids ids t id is (AreNumbered-of ids numbered))
 
 -- A buffer is made.
 
@@ -94,11 +94,11 @@ not_among ids id numbered last k d within same =
 pub renamed_table-made : (ids : List BufferId) (old new : Table) (id : BufferId) (size : ℕ) → AreIdsOf ids old → IsCreated old new id size →
     renamed_table (ids ++ id ∷ []) new ≡ record (renamed_table ids old) { made = old.made + 1; live = renamed_live ids old ++ fresh (renamed id) size ∷ [] }
 renamed_table-made ids old new id size are made =
-    let last : id.generation ≡ length ids = made.generation ∙ sym are.made in
+    let last : id.generation ≡ length ids = generation_of_made old new id size made ∙ sym are.made in
     let one : renamed_live (id ∷ []) new ≡ fresh (renamed id) size ∷ [] =
     ap (λ (o : Option Buffer). cons_option (option_map renamed_buffer o) []) (made_is_found old new id size made) in
     let live : renamed_live (ids ++ id ∷ []) new ≡ renamed_live ids old ++ fresh (renamed id) size ∷ [] =
     live_append ids (id ∷ []) new ∙ ap (λ (bs : List Buffer). bs ++ renamed_live (id ∷ []) new) (live_made ids old new id size made (not_among ids id are.numbered last))
     ∙ ap (λ (bs : List Buffer). renamed_live ids old ++ bs) one in
-    ap (λ (x : Table). let y : Table = record x { live = renamed_live (ids ++ id ∷ []) new } in y) made.state
-    ∙ ap (λ (bs : List Buffer). let y : Table = record old { made = old.made + 1; live = bs } in y) live
+    ap (λ (x : Table). let y : Table = record x { live = renamed_live (ids ++ id ∷ []) new; vacant = [] } in y) made.state
+    ∙ ap (λ (bs : List Buffer). let y : Table = record old { made = old.made + 1; live = bs; vacant = [] } in y) live

@@ -1,5 +1,5 @@
--- Tables of buffers and address spaces with their buffers renamed. A table stands in the order of the open indexes, and a
--- renamed one in that of the generations.
+-- Tables of buffers and address spaces with their buffers renamed. A table stands in the order of the indexes, and a renamed
+-- one in that of the generations; of vacant indexes it says nothing.
 use Rattle.std.specs.Prelude.{◌≡◌, ℕ, List, [], ◌∷◌, map, Some, slice_get}
 use Rattle.std.specs.List.{cons_option}
 use Rattle.std.specs.Option.{option_map}
@@ -19,7 +19,7 @@ renamed_live (id ∷ ids) t = cons_option (option_map renamed_buffer (buffer t i
 
 -- the table of them
 abbrev pub renamed_table : List BufferId → Table → Table
-renamed_table ids t = record t { live = renamed_live ids t }
+renamed_table ids t = record t { live = renamed_live ids t; vacant = [] }
 
 -- an address space with its buffers renamed
 abbrev pub renamed_space : List BufferId → AddressSpace → AddressSpace

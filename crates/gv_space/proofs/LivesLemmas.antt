@@ -13,8 +13,8 @@ use Rattle.gv_types.specs.declared.mapping.Backing.{Backing}
 use Rattle.gv_types.specs.declared.mapping.Backing.TheVariants.{Buffer as BufferPages, Zero}
 use Rattle.gv_types.specs.declared.mapping.BufferId.{BufferId}
 use Rattle.gv_types.specs.declared.mapping.Mapping.{Mapping}
-use Rattle.gv_buffers.specs.Table.{Buffer, Table, buffer, has_id, fresh, without, use_fault, destroy_fault, destroy_fault_of, IsLive, IsBuffer, IsCreated, IsTable}
-use Rattle.gv_buffers.proofs.FoundLemmas.{others_stay_made, others_stay_destroyed, is_same_id-itself, is_same_id-other}
+use Rattle.gv_buffers.specs.Table.{Buffer, Table, buffer, has_id, fresh, without, count_below, use_fault, destroy_fault, destroy_fault_of, IsLive, IsBuffer, IsCreated, IsTable}
+use Rattle.gv_buffers.proofs.FoundLemmas.{live_of_made, others_stay_made, others_stay_destroyed, is_same_id-itself, is_same_id-other}
 use Rattle.gv_buffers.proofs.FoundLemmas.{counted_lives}
 use Rattle.gv_space.specs.Counts.{count_of}
 use Rattle.gv_space.specs.State.{AddressSpace, LieInside, IsPlaced, AreKept}
@@ -61,9 +61,10 @@ count_of_made a old new id size ms made placed =
 -- what holds of each buffer and of the new one
 All-made : (P : Buffer → Type 0) (old new : Table) (id : BufferId) (size : ℕ) → IsCreated old new id size → All P old.live → P (fresh id size) → All P new.live
 All-made P old new id size made all here =
-    subst (λ (t : Table). All P t.live) (sym made.state)
-    (All-append P (take made.place old.live) (fresh id size ∷ drop made.place old.live) (All-take P made.place old.live all)
-    (All-cons P (fresh id size) (drop made.place old.live) here (All-drop P made.place old.live all)))
+    let place : ℕ = count_below id.index old.live in
+    subst (All P) (sym (live_of_made old new id size made))
+    (All-append P (take place old.live) (fresh id size ∷ drop place old.live) (All-take P place old.live all)
+    (All-cons P (fresh id size) (drop place old.live) here (All-drop P place old.live all)))
 
 -- so the counts are right for the new buffer too
 pub uses_made : (a : Area) (old new : Table) (id : BufferId) (size : ℕ) (ms : List Mapping) → IsCreated old new id size → All (IsPlaced a old) ms → UsesAre ms old → UsesAre ms new

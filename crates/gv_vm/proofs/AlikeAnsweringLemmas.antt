@@ -13,6 +13,7 @@ use Rattle.gv_types.specs.declared.operation.Op.{Op}
 use Rattle.gv_types.specs.declared.request.Request.{Request}
 use Rattle.gv_types.proofs.IdLemmas.{IsOperationOf-more}
 use Rattle.gv_buffers.specs.Table.{Table}
+use Rattle.gv_buffers.proofs.FoundLemmas.{generation_of_made}
 use Rattle.gv_journal.specs.Items.{Journaled}
 use Rattle.gv_journal.specs.Renamed.{AreRequested, AreDoneOf}
 use Rattle.gv_journal.specs.Alike.{AreAlike, AreIdsOf}
@@ -128,7 +129,7 @@ module _ (ids ids' : List BufferId) (w w' : World) (alike : AreAlikeWorlds ids i
       (λ done. done.made.allowed) (λ done. done.made.allowed)
       (λ done done'.
       let count : w.machine.space.buffers.made ≡ w'.machine.space.buffers.made = ap (λ (t : Table). t.made) (told_table ids ids' w.machine w'.machine alike.machine) in
-      let names : renamed done.id ≡ renamed done'.id = ap (λ n. buffer_id n n) (done.made.made.generation ∙ count ∙ sym done'.made.made.generation) in
+      let names : renamed done.id ≡ renamed done'.id = ap (λ n. buffer_id n n) (generation_of_made w.machine.space.buffers x.machine.space.buffers done.id size done.made.made ∙ count ∙ sym (generation_of_made w'.machine.space.buffers x'.machine.space.buffers done'.id size done'.made.made)) in
       moved ids ids' r r' (Created done.id) (Created done'.id) x x' done.is done'.is
       (record {
         replies = names;

@@ -6,6 +6,7 @@ use Rattle.gv_types.specs.Renamed.{renamed, renamed_mapping, IsOf}
 use Rattle.gv_types.specs.declared.mapping.BufferId.{BufferId}
 use Rattle.gv_types.specs.declared.mapping.Mapping.{Mapping}
 use Rattle.gv_buffers.specs.Table.{Table, fresh, without, left_everywhere, IsCreated}
+use Rattle.gv_buffers.proofs.FoundLemmas.{generation_of_made}
 use Rattle.gv_space.specs.State.{AddressSpace}
 use Rattle.gv_journal.specs.Items.{Journaled}
 use Rattle.gv_journal.specs.RenamedSpace.{renamed_table, renamed_live}
@@ -72,7 +73,7 @@ module _ (ids ids' : List BufferId) (v v' w w' : Machine) (alike : AreAlikeMachi
       HasOtherBuffers v w → HasOtherBuffers v' w' → AreAlikeMachines (ids ++ id ∷ []) (ids' ++ id' ∷ []) w w'
   created_alike id id' size are are' made made' rest rest' =
       let count : v.space.buffers.made ≡ v'.space.buffers.made = ap (λ (t : Table). t.made) (told_table ids ids' v v' alike) in
-      let names : renamed id ≡ renamed id' = ap (λ n. buffer_id n n) (made.generation ∙ count ∙ sym made'.generation) in
+      let names : renamed id ≡ renamed id' = ap (λ n. buffer_id n n) (generation_of_made v.space.buffers w.space.buffers id size made ∙ count ∙ sym (generation_of_made v'.space.buffers w'.space.buffers id' size made')) in
       let table : renamed_table (ids ++ id ∷ []) w.space.buffers ≡ renamed_table (ids' ++ id' ∷ []) w'.space.buffers =
       renamed_table-made ids v.space.buffers w.space.buffers id size are made
       ∙ ap (λ (t : Table). let x : Table = record t { made = t.made + 1; live = t.live ++ fresh (renamed id) size ∷ [] } in x) (told_table ids ids' v v' alike)
@@ -99,7 +100,8 @@ module _ (ids ids' : List BufferId) (v v' w w' : Machine) (alike : AreAlikeMachi
   destroyed_alike id id' are are' is is' same gone gone' rest rest' =
       other_buffers rest rest'
       (ap (renamed_table ids) gone ∙ renamed_table-without ids id v.space.buffers are.numbered is
-      ∙ ap (without (renamed id)) (told_table ids ids' v v' alike) ∙ ap (λ (n : BufferId). without n (renamed_table ids' v'.space.buffers)) same
+      ∙ ap (λ (t : Table). let x : Table = record (without (renamed id) t) { vacant = [] } in x) (told_table ids ids' v v' alike)
+      ∙ ap (λ (n : BufferId). let x : Table = record (without n (renamed_table ids' v'.space.buffers)) { vacant = [] } in x) same
       ∙ sym (renamed_table-without ids' id' v'.space.buffers are'.numbered is') ∙ ap (renamed_table ids') (sym gone'))
 
   -- only the jobs changed, and what they hold

@@ -12,7 +12,8 @@ use Rattle.gv_types.specs.declared.fault.Fault.{Fault}
 use Rattle.gv_types.specs.declared.operation.PageOp.{PageOp}
 use Rattle.gv_buffers.specs.declared.usage.User.{User}
 use Rattle.gv_buffers.specs.Users.{HaveNoConflict}
-use Rattle.gv_buffers.specs.Table.{Buffer, Table, buffer, fresh, without, has_id, use_fault, destroy_fault, destroy_fault_of, left_everywhere, IsBuffer, IsCreated, IsTable}
+use Rattle.gv_buffers.proofs.FoundLemmas.{live_of_made}
+use Rattle.gv_buffers.specs.Table.{Buffer, Table, buffer, fresh, without, count_below, has_id, use_fault, destroy_fault, destroy_fault_of, left_everywhere, IsBuffer, IsCreated, IsTable}
 use Rattle.gv_buffers.specs.Laws.{OthersStayWhereOneIsMade, OthersStayWhereOneIsDestroyed}
 use Rattle.gv_ranges.specs.Edit.{edited, undone}
 use Rattle.gv_space.specs.Counts.{by_count, count_of, counted, more_kept, less_kept}
@@ -91,8 +92,8 @@ All-inserted P bs place b here all = All-append P (take place bs) (b ∷ drop pl
 
 pub AreHeld-made : (law : OthersStayWhereOneIsMade) (old new : Table) (id : BufferId) (size : ℕ) (js : List RunningJob) → IsCreated old new id size → AreHeld old js → AreHeld new js
 AreHeld-made law old new id size js made held = record {
-  users = subst (λ (t : Table). All (EachRuns js) t.live) (sym made.state)
-      (All-inserted (EachRuns js) old.live made.place (fresh id size) (All-nil (λ u. list_any (λ j. eqb j.number u.job) js ≡ true)) held.users);
+  users = subst (All (EachRuns js)) (sym (live_of_made old new id size made))
+      (All-inserted (EachRuns js) old.live (count_below id.index old.live) (fresh id size) (All-nil (λ u. list_any (λ j. eqb j.number u.job) js ≡ true)) held.users);
   places = All-weaker (λ j. All (λ p. IsHeld old j.number p.target) j.places) (λ j. All (λ p. IsHeld new j.number p.target) j.places)
       (λ j h. All-weaker (λ p. IsHeld old j.number p.target) (λ p. IsHeld new j.number p.target) (λ p g. IsHeld-made law old new id size j.number p.target made g) j.places h) js held.places;
 }

@@ -1,6 +1,6 @@
 use Rattle.std.proofs.Common.{rules, ap, ◌∙◌}
 use Rattle.std.specs.Option.{option_map}
-use Rattle.gv_buffers.specs.declared.slots.LiveBuffer.{LiveBuffer}
+use Rattle.gv_buffers.specs.declared.live_buffer.LiveBuffer.{LiveBuffer}
 use Rattle.gv_buffers.specs.Slots.{buffer_at}
 use Rattle.gv_buffers.specs.Table.{count}
 use Rattle.gv_buffers.proofs.Tables.{is_table, read_from_map, field_in_slot}
@@ -8,8 +8,8 @@ use Rattle.gv_buffers.proofs.buffers.Buffers.counted.Goals as goal
 
 pub returns-clause-value : goal.returns-clause-value
 returns-clause-value c =
-    read_from_map c.live_at.result c.map.result (λ s. count c.args.counter (buffer_at c.args.id.index s)) _ c.map.ensures.cases (λ x y k. search rules)
-    ∙ ap (option_map (λ (s : LiveBuffer). count c.args.counter (buffer_at c.args.id.index s))) c.live_at.ensures
+    read_from_map c.get.result c.map.result (λ s. count c.args.counter (buffer_at c.args.id.index s)) _ c.map.ensures.cases (λ x y k. search rules)
+    ∙ ap (option_map (λ (s : LiveBuffer). count c.args.counter (buffer_at c.args.id.index s))) c.get.ensures
     ∙ field_in_slot c.self.inside c.args.self.now c.args.id (count c.args.counter) c.self.view_is
 
 pub returns-clause-table : goal.returns-clause-table

@@ -10,26 +10,26 @@ use Rattle.gv_buffers.proofs.buffers.Buffers.join.Goals as goal
 
 pub returns-in_default-clause-fault : goal.returns-in_default-clause-fault
 returns-in_default-clause-fault c =
-    let missed : live_at c.self.inside.slots c.args.id ≡ None = rw c.in_default.is at (sym c.live_at.ensures) in
+    let missed : live_at c.self.inside.slots.entries.items c.args.id ≡ None = rw c.in_default.is at (sym c.get.ensures) in
     rw (ap (join_fault_of c.args.job c.args.usage) (missed_buffer c.self.inside c.args.self.now c.args.id c.self.view_is missed)) refl
 
 pub returns-in-Some-conflict-clause-fault : goal.returns-in-Some-conflict-clause-fault
 returns-in-Some-conflict-clause-fault c =
     let slot = c.in-Some.slot.now in
-    let found : live_at c.self.inside.slots c.args.id ≡ Some c.in-Some.slot.now = rw c.in-Some.is at (sym c.live_at.ensures) in
+    let found : live_at c.self.inside.slots.entries.items c.args.id ≡ Some c.in-Some.slot.now = rw c.in-Some.is at (sym c.get.ensures) in
     let meets : conflict c.args.job c.args.usage slot.users.items ≡ Some c.in-Some-conflict.job =
     ap (conflict c.args.job c.args.usage) (sym c.deref.ensures.value) ∙ sym c.conflict.ensures ∙ c.in-Some-conflict.is in
     rw (ap (join_fault_of c.args.job c.args.usage) (found_buffer c.self.inside c.args.self.now c.args.id slot c.self.view_is found)) (rw meets refl)
 
 pub invariant_of-self : goal.invariant_of-self
 invariant_of-self c =
-    (unchanged c.self.inside c.args.self.now c.make_room.new.slots c.make_room.new.places c.self.invariant c.self.view_is
+    (unchanged c.self.inside c.args.self.now c.make_room.new.self c.make_room.new.places c.self.invariant c.self.view_is c.in_err-make_room.ensures.vacant c.in_err-make_room.ensures.length
     c.in_err-make_room.ensures.same c.in_err-make_room.ensures.keeps).sound
 
 pub returns-in_err-make_room-clause-fault : goal.returns-in_err-make_room-clause-fault
 returns-in_err-make_room-clause-fault c =
     let slot = c.in-Some.slot.now in
-    let found : live_at c.self.inside.slots c.args.id ≡ Some c.in-Some.slot.now = rw c.in-Some.is at (sym c.live_at.ensures) in
+    let found : live_at c.self.inside.slots.entries.items c.args.id ≡ Some c.in-Some.slot.now = rw c.in-Some.is at (sym c.get.ensures) in
     let meets_none : conflict c.args.job c.args.usage slot.users.items ≡ None =
     ap (conflict c.args.job c.args.usage) (sym c.deref.ensures.value) ∙ sym c.conflict.ensures ∙ c.in_default-conflict.is in
     let p = err_from_is_err_and c.from_residual.result c.from_residual.ensures.1 in
@@ -38,25 +38,25 @@ returns-in_err-make_room-clause-fault c =
 pub returns-in_err-make_room-clause-err : goal.returns-in_err-make_room-clause-err
 returns-in_err-make_room-clause-err c =
     let p = err_from_is_err_and c.from_residual.result c.from_residual.ensures.1 in
-    rw p.1 (unchanged c.self.inside c.args.self.now c.make_room.new.slots c.make_room.new.places c.self.invariant c.self.view_is
+    rw p.1 (unchanged c.self.inside c.args.self.now c.make_room.new.self c.make_room.new.places c.self.invariant c.self.view_is c.in_err-make_room.ensures.vacant c.in_err-make_room.ensures.length
     c.in_err-make_room.ensures.same c.in_err-make_room.ensures.keeps).table
 
 pub invariant_of-self-2 : goal.invariant_of-self-2
 invariant_of-self-2 c =
     let slot = c.in-Some.slot.now in
-    let found : live_at c.self.inside.slots c.args.id ≡ Some c.in-Some.slot.now = rw c.in-Some.is at (sym c.live_at.ensures) in
+    let found : live_at c.self.inside.slots.entries.items c.args.id ≡ Some c.in-Some.slot.now = rw c.in-Some.is at (sym c.get.ensures) in
     let meets_none : conflict c.args.job c.args.usage slot.users.items ≡ None =
     ap (conflict c.args.job c.args.usage) (sym c.deref.ensures.value) ∙ sym c.conflict.ensures ∙ c.in_default-conflict.is in
     let room = c.in_ok-make_room.ensures in
-    (joined_table c.self.inside c.args.self.now c.join_at.new.slots c.make_room.new.places c.args.id slot c.args.job c.args.usage c.self.invariant c.self.view_is found meets_none
-    (c.join_at.ensures.here ∙ ap (option_map (joined_by c.args.job c.args.usage)) (room.same c.args.id.index))
-    (λ (place : ℕ) (apart : place ≢ c.args.id.index). ap (option_map (buffer_at place)) (c.join_at.ensures.others place apart) ∙ room.same place)
+    (joined_table c.self.inside c.args.self.now c.join.new.self c.make_room.new.places c.args.id slot c.args.job c.args.usage c.self.invariant c.self.view_is (c.join.ensures.vacant ∙ room.vacant) (c.join.ensures.length ∙ room.length) found meets_none
+    (c.join.ensures.here ∙ ap (option_map (joined_by c.args.job c.args.usage)) (room.same c.args.id.index))
+    (λ (place : ℕ) (apart : place ≢ c.args.id.index). ap (option_map (buffer_at place)) (c.join.ensures.others place apart) ∙ room.same place)
     room.keeps room.noted).sound
 
 pub returns-clause-fault : goal.returns-clause-fault
 returns-clause-fault c =
     let slot = c.in-Some.slot.now in
-    let found : live_at c.self.inside.slots c.args.id ≡ Some c.in-Some.slot.now = rw c.in-Some.is at (sym c.live_at.ensures) in
+    let found : live_at c.self.inside.slots.entries.items c.args.id ≡ Some c.in-Some.slot.now = rw c.in-Some.is at (sym c.get.ensures) in
     let meets_none : conflict c.args.job c.args.usage slot.users.items ≡ None =
     ap (conflict c.args.job c.args.usage) (sym c.deref.ensures.value) ∙ sym c.conflict.ensures ∙ c.in_default-conflict.is in
     rw (ap (join_fault_of c.args.job c.args.usage) (found_buffer c.self.inside c.args.self.now c.args.id slot c.self.view_is found)) (rw meets_none tt)
@@ -64,13 +64,13 @@ returns-clause-fault c =
 pub returns-clause-ok : goal.returns-clause-ok
 returns-clause-ok c =
     let slot = c.in-Some.slot.now in
-    let found : live_at c.self.inside.slots c.args.id ≡ Some c.in-Some.slot.now = rw c.in-Some.is at (sym c.live_at.ensures) in
+    let found : live_at c.self.inside.slots.entries.items c.args.id ≡ Some c.in-Some.slot.now = rw c.in-Some.is at (sym c.get.ensures) in
     let meets_none : conflict c.args.job c.args.usage slot.users.items ≡ None =
     ap (conflict c.args.job c.args.usage) (sym c.deref.ensures.value) ∙ sym c.conflict.ensures ∙ c.in_default-conflict.is in
     let room = c.in_ok-make_room.ensures in
-    (joined_table c.self.inside c.args.self.now c.join_at.new.slots c.make_room.new.places c.args.id slot c.args.job c.args.usage c.self.invariant c.self.view_is found meets_none
-    (c.join_at.ensures.here ∙ ap (option_map (joined_by c.args.job c.args.usage)) (room.same c.args.id.index))
-    (λ (place : ℕ) (apart : place ≢ c.args.id.index). ap (option_map (buffer_at place)) (c.join_at.ensures.others place apart) ∙ room.same place)
+    (joined_table c.self.inside c.args.self.now c.join.new.self c.make_room.new.places c.args.id slot c.args.job c.args.usage c.self.invariant c.self.view_is (c.join.ensures.vacant ∙ room.vacant) (c.join.ensures.length ∙ room.length) found meets_none
+    (c.join.ensures.here ∙ ap (option_map (joined_by c.args.job c.args.usage)) (room.same c.args.id.index))
+    (λ (place : ℕ) (apart : place ≢ c.args.id.index). ap (option_map (buffer_at place)) (c.join.ensures.others place apart) ∙ room.same place)
     room.keeps room.noted).table
 
 pub returns-in_default-clause-table : goal.returns-in_default-clause-table
@@ -82,18 +82,18 @@ returns-in-Some-conflict-clause-table c = is_table c.self.inside c.args.self.now
 pub returns-in_err-make_room-clause-table : goal.returns-in_err-make_room-clause-table
 returns-in_err-make_room-clause-table c =
     is_table _ _
-    (unchanged c.self.inside c.args.self.now c.make_room.new.slots c.make_room.new.places c.self.invariant c.self.view_is
+    (unchanged c.self.inside c.args.self.now c.make_room.new.self c.make_room.new.places c.self.invariant c.self.view_is c.in_err-make_room.ensures.vacant c.in_err-make_room.ensures.length
     c.in_err-make_room.ensures.same c.in_err-make_room.ensures.keeps).sound refl
 
 pub returns-clause-table : goal.returns-clause-table
 returns-clause-table c =
     let slot = c.in-Some.slot.now in
-    let found : live_at c.self.inside.slots c.args.id ≡ Some c.in-Some.slot.now = rw c.in-Some.is at (sym c.live_at.ensures) in
+    let found : live_at c.self.inside.slots.entries.items c.args.id ≡ Some c.in-Some.slot.now = rw c.in-Some.is at (sym c.get.ensures) in
     let meets_none : conflict c.args.job c.args.usage slot.users.items ≡ None =
     ap (conflict c.args.job c.args.usage) (sym c.deref.ensures.value) ∙ sym c.conflict.ensures ∙ c.in_default-conflict.is in
     let room = c.in_ok-make_room.ensures in
     is_table _ _
-    (joined_table c.self.inside c.args.self.now c.join_at.new.slots c.make_room.new.places c.args.id slot c.args.job c.args.usage c.self.invariant c.self.view_is found meets_none
-    (c.join_at.ensures.here ∙ ap (option_map (joined_by c.args.job c.args.usage)) (room.same c.args.id.index))
-    (λ (place : ℕ) (apart : place ≢ c.args.id.index). ap (option_map (buffer_at place)) (c.join_at.ensures.others place apart) ∙ room.same place)
+    (joined_table c.self.inside c.args.self.now c.join.new.self c.make_room.new.places c.args.id slot c.args.job c.args.usage c.self.invariant c.self.view_is (c.join.ensures.vacant ∙ room.vacant) (c.join.ensures.length ∙ room.length) found meets_none
+    (c.join.ensures.here ∙ ap (option_map (joined_by c.args.job c.args.usage)) (room.same c.args.id.index))
+    (λ (place : ℕ) (apart : place ≢ c.args.id.index). ap (option_map (buffer_at place)) (c.join.ensures.others place apart) ∙ room.same place)
     room.keeps room.noted).sound refl

@@ -1,0 +1,13 @@
+use Rattle.std.proofs.Common.{Option, subst}
+use Rattle.std.specs.Option.{option_map}
+use Rattle.gv_buffers.specs.declared.live_buffer.LiveBuffer.{LiveBuffer}
+use Rattle.gv_buffers.specs.Slots.{buffer_at, AreNoted}
+use Rattle.gv_buffers.proofs.Rooms.{noted_in_slot}
+use Rattle.gv_buffers.proofs.Vacancy.{slot_at}
+use Rattle.gv_buffers.proofs.slots.Slots.make_room.Goals as goal
+
+pub returns-else-branch-clause-noted : goal.returns-else-branch-clause-noted
+returns-else-branch-clause-noted c =
+    noted_in_slot c.args.places.now c.args.place c.args.job c.index_mut.result.now (c.in_ok-make_room_in.ensures.user c.if-branch.false)
+    (subst (λ (o : Option LiveBuffer). AreNoted c.args.places.now c.args.place (option_map (buffer_at c.args.place) o))
+    (slot_at c.args.self.now.entries.items c.args.place c.index_mut.result.now c.requires.lives c.index_mut.ensures.value) c.requires.noted)

@@ -1,0 +1,71 @@
+//! A live buffer at its place.
+ghost use Rattle.std.specs.Prelude.{◌≡◌, ◌<◌, ℕ, IsOk, MatchOption};
+ghost use Rattle.gv_buffers.specs.Slots.{buffer_at};
+ghost use Rattle.gv_buffers.specs.Table.{count, raised, lowered, most_counted, use_fault};
+
+use crate::counter::Counter;
+use crate::usage::User;
+use gv_types::{Fault, Generation};
+
+/// A live buffer at its place.
+#[derive(Drop)]
+pub struct LiveBuffer {
+    pub generation: Generation,
+    pub pages: u64,
+    pub uses: u64,
+    pub kept: u64,
+    pub users: Vec<User>,
+}
+
+impl LiveBuffer {
+    /// How many mappings the counter counts.
+    pub fn count(&self, counter: Counter) -> u64
+        ensures { result ≡ count counter (buffer_at 0 self.now) }
+    {
+        match counter {
+            Counter::Uses => self.uses,
+            Counter::Kept => self.kept,
+        }
+    }
+
+    /// Counts one mapping more.
+    pub fn raise(&mut self, counter: Counter)
+        requires { count counter (buffer_at 0 self.old) < most_counted }
+        ensures { (index : ℕ) → buffer_at index self.new ≡ raised counter 1 (buffer_at index self.old) }
+    {
+        match counter {
+            Counter::Uses => self.uses += 1,
+            Counter::Kept => self.kept += 1,
+        }
+    }
+
+    /// Counts one mapping less.
+    pub fn lower(&mut self, counter: Counter)
+        requires { 0 < count counter (buffer_at 0 self.old) }
+        ensures { (index : ℕ) → buffer_at index self.new ≡ lowered counter 1 (buffer_at index self.old) }
+    {
+        match counter {
+            Counter::Uses => self.uses -= 1,
+            Counter::Kept => self.kept -= 1,
+        }
+    }
+
+    /// `Mapped`, `Kept` or `InUse`, in this order, where something names the buffer.
+    pub fn check_unused(&self) -> Result<(), Fault>
+        ensures { MatchOption (use_fault (buffer_at 0 self.now))
+            (IsOk result) (λ fault. result ≡ Err fault) }
+    {
+        if self.uses > 0 {
+            return Err(Fault::Mapped { count: self.uses });
+        }
+        if self.kept > 0 {
+            return Err(Fault::Kept { count: self.kept });
+        }
+        if !self.users.is_empty() {
+            return Err(Fault::InUse {
+                jobs: self.users.len() as u64,
+            });
+        }
+        Ok(())
+    }
+}
