@@ -68,3 +68,14 @@ length-restored ms saved range overlap laid saved_laid in_space is =
     let spliced : length (restored ms range saved) + overlap.count ≡ length ms + length (restored here range saved) =
     rw (restored_run_in_place ms saved range overlap.place overlap.count laid is.met) (length-splice ms (restored here range saved) overlap.place overlap.count is.met.within) in
     omega (arith, spliced, pieces, is.met.within)
+
+-- the same by the pieces that come in
+pub length-changed : (ms saved pieces : List Mapping) (range : Span) (overlap : Overlap) → IsLaidOut ms → IsOverlap ms range overlap →
+    pieces ≡ option_to_list overlap.prev ++ clipped range.first (end_of range) saved ++ option_to_list overlap.next →
+    length (restored ms range saved) + overlap.count ≡ length ms + length pieces
+length-changed ms saved pieces range overlap laid is pieces_are =
+    let here : List Mapping = run ms overlap.place overlap.count in
+    let same : pieces ≡ restored here range saved = pieces_are ∙ rw (is.prev, is.next) refl in
+    let spliced : length (restored ms range saved) + overlap.count ≡ length ms + length (restored here range saved) =
+    rw (restored_run_in_place ms saved range overlap.place overlap.count laid is.met) (length-splice ms (restored here range saved) overlap.place overlap.count is.met.within) in
+    omega (arith, spliced, ap (λ (xs : List Mapping). length xs) same)

@@ -1,5 +1,5 @@
 -- All that a change needs is there once its room was made.
-use Rattle.std.proofs.Common.{◌≡◌, ℕ, ◌+◌, ◌<◌, ◌≤◌, ◌++◌, List, Some, None, length, arith, refl, sym, subst, ap, ⊎_elim, ◌∙◌}
+use Rattle.std.proofs.Common.{◌≡◌, ℕ, ◌+◌, ◌-◌, ◌*◌, ◌<◌, ◌≤◌, ◌++◌, List, Some, None, length, max, arith, refl, sym, subst, ap, ⊎_elim, ◌∙◌}
 use Rattle.std.specs.List.{All, splice}
 use Rattle.std.specs.Option.{option_to_list}
 use Rattle.std.proofs.lemmas.Bool.{cases_lt}
@@ -18,13 +18,13 @@ use Rattle.gv_table.specs.declared.page_table.PageTable.{PageTable}
 use Rattle.gv_table.proofs.EditLemmas.{replaced-alike, replaced-pieces}
 use Rattle.gv_space.specs.State.{AddressSpace, IsSpace, IsPlaced, most_kept}
 use Rattle.gv_space.specs.Undo.{UndoValue, IsUndoOf}
-use Rattle.gv_space.specs.Change.{IsChanged}
+use Rattle.gv_space.specs.Change.{IsChanged, GrowsJustFor}
 use Rattle.gv_space.specs.Ready.{IsOverlap, IsReady}
 use Rattle.gv_space.specs.Refusal.{count_met, limit_fault}
 use Rattle.gv_space.specs.Inside.{space_of}
 use Rattle.gv_space.specs.declared.space.Space.TheInside.{Inside}
 use Rattle.gv_space.specs.declared.overlap.Overlap.{Overlap}
-use Rattle.gv_space.proofs.Lengths.{length-run, count_met-run}
+use Rattle.gv_space.proofs.Lengths.{length-run, count_met-run, length-changed}
 use Rattle.gv_space.proofs.Limits.{too_long, held_too_much}
 use Rattle.gv_space.proofs.Commits.{after_is}
 use Rattle.gv_space.proofs.Spaces.{IsSpace-room}
@@ -128,3 +128,35 @@ made_ready i now range saved space laid list reserved overlap shown taken pieces
     pieces_is same room fits
     (subst (λ (t : AddressSpace). limit_fault t range (restored t.mappings range saved) ≡ None) (sym space_is) none)
     (λ ms table laid_out alike has tree. enough ms table laid_out alike (has ∙ sym between) tree)
+
+-- where nothing was reserved the room is what it was
+pub room_kept : (ms : List Mapping) (s : AddressSpace) → GrowsJustFor ms s s
+room_kept ms s = record { enough = λ _ _. refl; double_or_need = omega arith }
+
+-- what is reserved for a change is what its list needs
+grown_for : (s new : AddressSpace) (range : Span) (saved taken pieces : List Mapping) (overlap : Overlap) (more room : ℕ) → IsSpace s → IsOverlap s.mappings range overlap →
+    taken ≡ run s.mappings overlap.place overlap.count → pieces ≡ option_to_list overlap.prev ++ clipped range.first (end_of range) saved ++ option_to_list overlap.next →
+    more ≡ length pieces - length taken → (length s.mappings + more ≤ s.room → room ≡ s.room) → room ≤ max (2 * s.room) (length s.mappings + more) → new.room ≡ room →
+    GrowsJustFor (restored s.mappings range saved) s new
+grown_for s new range saved taken pieces overlap more room space is taken_is pieces_are more_is enough most room_is =
+    let count : length taken ≡ overlap.count = ap (λ (l : List Mapping). length l) taken_is ∙ length-run s.mappings overlap.place overlap.count is.met.within in
+    let long : length (restored s.mappings range saved) + overlap.count ≡ length s.mappings + length pieces = length-changed s.mappings saved pieces range overlap space.laid_out is pieces_are in
+    record {
+      enough = λ (old_fits : length s.mappings ≤ s.room) (fits : length (restored s.mappings range saved) ≤ s.room). room_is ∙ enough (omega (arith, count, long, more_is, old_fits, fits));
+      double_or_need = omega (arith, count, long, more_is, most, room_is, is.met.within);
+    }
+
+-- the same from what each step of a change answers
+pub grown_just_for : (i : Inside) (now new : AddressSpace) (range : Span) (saved taken pieces shown : List Mapping) (list reserved : Ranges) (overlap : Overlap) (more : ℕ) → IsSpace (space_of i) →
+    space_of i ≡ now → list ≡ i.mapped → IsOverlap list.mappings range overlap → shown ≡ now.mappings → taken ≡ run shown overlap.place overlap.count →
+    pieces ≡ option_to_list overlap.prev ++ clipped range.first (end_of range) saved ++ option_to_list overlap.next → more ≡ length pieces - length taken →
+    (length i.mapped.mappings + more ≤ i.mapped.room → reserved.room ≡ i.mapped.room) → reserved.room ≤ max (2 * i.mapped.room) (length i.mapped.mappings + more) → new.room ≡ reserved.room →
+    GrowsJustFor (restored now.mappings range saved) now new
+grown_just_for i now new range saved taken pieces shown list reserved overlap more space space_is list_is is shown_is taken_is pieces_are more_is enough most room_is =
+    let s : AddressSpace = space_of i in
+    let taken_now : taken ≡ run now.mappings overlap.place overlap.count = rw shown_is at taken_is in
+    subst (λ (t : AddressSpace). GrowsJustFor (restored t.mappings range saved) t new) space_is
+    (grown_for s new range saved taken pieces overlap more reserved.room space
+    (subst (λ (l : Ranges). IsOverlap l.mappings range overlap) list_is is)
+    (subst (λ (t : AddressSpace). taken ≡ run t.mappings overlap.place overlap.count) (sym space_is) taken_now)
+    pieces_are more_is enough most room_is)

@@ -1,5 +1,5 @@
 -- What a change of the list makes of an address space.
-use Rattle.std.specs.Prelude.{◌≡◌, ◌+◌, ◌≤◌, ◌++◌, List, length}
+use Rattle.std.specs.Prelude.{◌≡◌, ◌+◌, ◌*◌, ◌≤◌, ◌++◌, List, length, max}
 use Rattle.gv_types.specs.declared.mapping.Mapping.{Mapping}
 use Rattle.gv_space.specs.Counts.{by_count, counted, more_kept}
 use Rattle.gv_space.specs.State.{AddressSpace, AreKept}
@@ -23,3 +23,9 @@ pub record IsChanged (old new : AddressSpace) (ms : List Mapping) (u : UndoValue
   pub can_revert : CanRevert new u
   pub kept : (others : List Mapping) → AreKept old others → AreKept new (u.change.taken ++ others)
   pub back : reverted new u ≡ record old { room = new.room }
+
+-- Room for a change to this list comes only where it or the list before has none, and then the room is at most the double, or
+-- what the longer of both needs.
+pub record GrowsJustFor (ms : List Mapping) (old new : AddressSpace) : Type 0 where
+  pub enough : length old.mappings ≤ old.room → length ms ≤ old.room → new.room ≡ old.room
+  pub double_or_need : new.room ≤ max (2 * old.room) (max (length old.mappings) (length ms))

@@ -1,5 +1,5 @@
 //! The list of mappings with its page table.
-ghost use Rattle.std.specs.Prelude.{◌≡◌, ◌+◌, ◌<◌, ◌≤◌, [], length, List, IfOk, IsOkUnless, OnOk, OnErr};
+ghost use Rattle.std.specs.Prelude.{◌≡◌, ◌+◌, ◌*◌, ◌<◌, ◌≤◌, [], length, List, max, IfOk, IsOkUnless, OnOk, OnErr};
 ghost use Rattle.std.specs.List.{splice};
 ghost use Rattle.gv_types.specs.Span.{end_of};
 ghost use Rattle.gv_types.specs.declared.mapping.Mapping.{Mapping};
@@ -76,11 +76,15 @@ impl ListWithTable {
         self.table.tables()
     }
 
-    /// Makes room for `more` mappings beside those in the list.
+    /// Makes room for `more` mappings beside those in the list, only where it is missing, and at most the double or the need.
     pub fn reserve(&mut self, more: usize) -> Result<(), OutOfMemory>
         ensures unchanged { IsUnchanged self.old self.new }
         ensures ok { OnOk result (length self.new.mappings + more ≤ self.new.room) }
         ensures needed { OnErr result (self.old.room < length self.old.mappings + more) }
+        ensures enough { length self.old.mappings + more ≤ self.old.room
+            → self.new.room ≡ self.old.room }
+        ensures double_or_need { self.new.room
+            ≤ max (2 * self.old.room) (length self.old.mappings + more) }
     {
         self.list.reserve(more)
     }

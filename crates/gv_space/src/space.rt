@@ -59,7 +59,7 @@ impl Space {
     ghost use Rattle.gv_space.specs.State.{new_space, AreKept, IsPlaced, IsSpace, IsUnchanged, TableMatchesList};
     ghost use Rattle.gv_space.specs.Refusal.{operation_fault, dead_fault, limit_fault, apply_fault};
     ghost use Rattle.gv_space.specs.Undo.{AreAmongKept, TookWhatWas, CanRevert, IsUndoOf, released, reverted};
-    ghost use Rattle.gv_space.specs.Change.{IsChanged};
+    ghost use Rattle.gv_space.specs.Change.{IsChanged, GrowsJustFor};
     ghost use Rattle.gv_space.specs.Ready.{IsOverlap, IsReady};
 
     /// A space of no mapping and no buffer. It is small: room for mappings, tables and buffers comes with them.
@@ -169,6 +169,7 @@ impl Space {
         ensures taken { IfOk result (TookWhatWas self.old.mappings) }
         ensures undone { IfOk result (λ undo. undone self.new.mappings undo.change ≡ self.old.mappings) }
         ensures unchanged { OnErr result (IsUnchanged self.old self.new) }
+        ensures room { GrowsJustFor (edited self.old.mappings (in_pages op.now)) self.old self.new }
     {
         let op = match self.check(op) {
             Ok(op) => op,
@@ -193,6 +194,7 @@ impl Space {
         ensures taken { IfOk result (TookWhatWas self.old.mappings) }
         ensures undone { IfOk result (λ undo. undone self.new.mappings undo.change ≡ self.old.mappings) }
         ensures unchanged { OnErr result (IsUnchanged self.old self.new) }
+        ensures room { GrowsJustFor (edited self.old.mappings op.now) self.old self.new }
     {
         match op.own_mapping() {
             Some(own) => self.change(alloc, op.range(), &[own]),
@@ -220,6 +222,7 @@ impl Space {
         ensures taken { IfOk result (TookWhatWas self.old.mappings) }
         ensures undone { IfOk result (λ undo. undone self.new.mappings undo.change ≡ self.old.mappings) }
         ensures unchanged { OnErr result (IsUnchanged self.old self.new) }
+        ensures room { GrowsJustFor (restored self.old.mappings range saved.now.change.taken) self.old self.new }
     {
         self.change(alloc, range, saved.taken.as_slice())
     }

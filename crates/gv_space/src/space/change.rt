@@ -7,7 +7,7 @@ ghost use Rattle.gv_ranges.specs.List.{IsLaidOut};
 ghost use Rattle.gv_ranges.specs.Edit.{restored};
 ghost use Rattle.gv_space.specs.State.{IsPlaced, IsUnchanged};
 ghost use Rattle.gv_space.specs.Refusal.{limit_fault};
-ghost use Rattle.gv_space.specs.Change.{IsChanged};
+ghost use Rattle.gv_space.specs.Change.{IsChanged, GrowsJustFor};
 ghost use Rattle.gv_space.specs.Ready.{IsReady};
 
 use super::Space;
@@ -35,6 +35,7 @@ impl Space {
             IsChanged self.old self.new (restored self.old.mappings range saved.now) undo) }
         ensures range { IfOk result (λ undo. undo.range ≡ range) }
         ensures unchanged { OnErr result (IsUnchanged self.old self.new) }
+        ensures room { GrowsJustFor (restored self.old.mappings range saved.now) self.old self.new }
     {
         let overlap = Overlap::of(self.mapped.list(), range);
         self.check_limits(range, &overlap, saved)?;
@@ -62,6 +63,7 @@ impl Space {
         ensures changed { IsChanged self.old self.new
             (splice self.old.mappings place (place + length taken.items) pieces.now) result }
         ensures range { result.range ≡ range }
+        ensures room { self.new.room ≡ self.old.room }
     {
         let count = taken.len();
         let run = self.mapped.list().run(place, count);

@@ -1,4 +1,4 @@
-use Rattle.std.proofs.Common.{◌≡◌, List, length, arith, sym, subst, ap, ◌∙◌}
+use Rattle.std.proofs.Common.{◌≡◌, List, length, arith, refl, sym, subst, ap, ◌∙◌}
 use Rattle.gv_types.specs.declared.mapping.Mapping.{Mapping}
 use Rattle.gv_ranges.specs.List.{IsLaidOut, Ranges}
 use Rattle.gv_ranges.specs.Edit.{restored}
@@ -7,7 +7,7 @@ use Rattle.gv_space.specs.Change.{IsChanged}
 use Rattle.gv_space.specs.Ready.{IsReady}
 use Rattle.gv_space.specs.Inside.{space_of}
 use Rattle.gv_space.proofs.FaultLemmas.{no_fault}
-use Rattle.gv_space.proofs.Readying.{inside, inside_sorted, made_ready, changed_before}
+use Rattle.gv_space.proofs.Readying.{inside, inside_sorted, made_ready, changed_before, grown_just_for}
 use Rattle.gv_space.proofs.space.Space.change.Goals as goal
 
 pub between_rests-inside-requires : goal.between_rests-inside-requires
@@ -49,3 +49,15 @@ returns-clause-changed c =
     changed_before s list c.commit.new.self within c.args.range c.of-overlap.result.place c.in_ok-taken.taken.items c.as_slice-pieces.result.now c.in_ok-spares.spares c.commit.result
     c.self.invariant c.reserve.ensures.unchanged.mappings c.reserve.ensures.unchanged.room ready c.commit.ensures.changed in
     subst (λ (t : AddressSpace). IsChanged t c.commit.new.self (restored t.mappings c.args.range c.args.saved.now) c.commit.result) c.self.view_is is
+
+pub returns-in_err-reserve-clause-room : goal.returns-in_err-reserve-clause-room
+returns-in_err-reserve-clause-room c =
+    grown_just_for c.self.inside c.args.self.now _ c.args.range c.args.saved.now c.in_ok-taken.taken.items c.as_slice-pieces.result.now c.list-2.result.now.mappings c.list.result.now c.reserve.new.self
+    c.of-overlap.result c.saturating_sub.result c.self.invariant c.self.view_is c.list.ensures c.of-overlap.ensures c.list-2.ensures.value (c.in_ok-taken.ensures ∙ c.run.ensures)
+    (c.as_slice-pieces.ensures ∙ c.in_ok-pieces.ensures) (omega (arith, c.len.ensures.value, c.saturating_sub.ensures)) c.reserve.ensures.enough c.reserve.ensures.double_or_need refl
+
+pub returns-clause-room : goal.returns-clause-room
+returns-clause-room c =
+    grown_just_for c.self.inside c.args.self.now _ c.args.range c.args.saved.now c.in_ok-taken.taken.items c.as_slice-pieces.result.now c.list-2.result.now.mappings c.list.result.now c.reserve.new.self
+    c.of-overlap.result c.saturating_sub.result c.self.invariant c.self.view_is c.list.ensures c.of-overlap.ensures c.list-2.ensures.value (c.in_ok-taken.ensures ∙ c.run.ensures)
+    (c.as_slice-pieces.ensures ∙ c.in_ok-pieces.ensures) (omega (arith, c.len.ensures.value, c.saturating_sub.ensures)) c.reserve.ensures.enough c.reserve.ensures.double_or_need c.commit.ensures.room
