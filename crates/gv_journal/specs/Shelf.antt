@@ -1,6 +1,6 @@
--- What contracts see of a `Shelf`: the items held, the oldest one first, and a note beside each.
--- No public clause cites this module.
-use Rattle.std.specs.Prelude.{◌≡◌, ℕ, ◌-◌, ◌<◌, ◌≤◌, List, [], take, drop, vec_len, vec_capacity}
+-- What contracts see of a `Shelf`: the items held, the oldest one first, and a note beside each; how many settled items have
+-- left their places in front of them, and for how many more there is room. No public clause cites this module.
+use Rattle.std.specs.Prelude.{◌≡◌, ℕ, ◌+◌, ◌-◌, ◌*◌, ◌<◌, ◌≤◌, ◌⊎◌, List, [], length, max, take, drop, vec_len, vec_capacity}
 use Rattle.std.specs.List.{All}
 use Rattle.gv_journal.specs.declared.item.Item.{Item}
 use Rattle.gv_journal.specs.Note.{Note}
@@ -9,6 +9,7 @@ use Rattle.gv_journal.specs.declared.shelf.Shelf.TheInside.{Inside}
 pub record Shelved : Type 0 where
   pub items : List Item
   pub notes : List Note
+  pub spent : ℕ
   pub item_room : ℕ
   pub note_room : ℕ
 
@@ -17,12 +18,37 @@ pub record HasPlace (s : Shelved) : Type 0 where
   pub item : 0 < s.item_room
   pub note : 0 < s.note_room
 
+-- the places that there are, those of settled items and free ones too
+abbrev pub item_places : Shelved → ℕ
+item_places s = s.spent + length s.items + s.item_room
+
+abbrev pub note_places : Shelved → ℕ
+note_places s = s.spent + length s.notes + s.note_room
+
+-- there is no room, and at least half of what stands here is spent
+pub record MustGiveWay (s : Shelved) : Type 0 where
+  pub full : (s.item_room ≡ 0) ⊎ (s.note_room ≡ 0)
+  pub half : length s.items ≤ s.spent
+  pub some : 0 < s.spent
+
+-- the settled items' places are free
+pub record HasGivenWay (old new : Shelved) : Type 0 where
+  pub spent : new.spent ≡ 0
+  pub item_places : item_places new ≡ item_places old
+  pub note_places : note_places new ≡ note_places old
+
+-- there are at most twice the places, or four
+pub record HasFewPlaces (old new : Shelved) : Type 0 where
+  pub item_places : item_places new ≤ max (2 * item_places old) 4
+  pub note_places : note_places new ≤ max (2 * note_places old) 4
+
 -- the settled items stand in front of the held ones until they give way
 abbrev pub shelved : Inside → Shelved
 shelved s =
     record {
       items = drop s.spent s.items.items;
       notes = drop s.spent s.notes.items;
+      spent = s.spent;
       item_room = vec_capacity s.items - vec_len s.items;
       note_room = vec_capacity s.notes - vec_len s.notes;
     }

@@ -1,5 +1,5 @@
 //! The items that a journal holds, in one slice that older items leave in front.
-ghost use Rattle.std.specs.Prelude.{◌≡◌, ◌++◌, ◌<◌, ◌≤◌, ◌-◌, ◌^◌, IfSome, [], ◌∷◌, List, length, take, drop, set, reverse, slice_index_or, option_to_list, vec_len, vec_capacity, MatchOption, OnOk, OnErr, ◌⊎◌};
+ghost use Rattle.std.specs.Prelude.{◌≡◌, ◌++◌, ◌<◌, ◌≤◌, ◌-◌, ◌*◌, ◌^◌, max, IfSome, [], ◌∷◌, List, length, take, drop, set, reverse, slice_index_or, option_to_list, vec_len, vec_capacity, MatchOption, OnOk, OnErr, ◌⊎◌};
 ghost use Rattle.std.specs.List.{All};
 ghost use Rattle.gv_types.specs.declared.mapping.Mapping.{Mapping};
 ghost use Rattle.gv_space.specs.State.{AreKept};
@@ -13,8 +13,11 @@ use crate::settling::release_items;
 use crate::undoing::release_all;
 use gv_space::Space;
 use gv_types::OutOfMemory;
-use std::alloc::Global;
+use std::alloc::{AllocError, Global};
 use std::marker::Model;
+
+/// So many places the first growth makes.
+const FIRST_PLACES: usize = 4;
 
 /// The items held, the oldest one first, and a note beside each. What is left of settled items stands in front of them, and
 /// gives way before the vectors grow: once at least half of what stands here is spent, the rest is moved to the front.
@@ -37,7 +40,7 @@ impl Model for Shelf {
 }
 
 impl Shelf {
-    ghost use Rattle.gv_journal.specs.Shelf.{HasPlace};
+    ghost use Rattle.gv_journal.specs.Shelf.{HasPlace, MustGiveWay, HasGivenWay, HasFewPlaces};
     ghost use Rattle.gv_journal.specs.Notes.{NamesWithin, cleared};
 
     /// No items. It takes no memory.
@@ -74,21 +77,24 @@ impl Shelf {
         self.items.len() - self.spent
     }
 
-    /// Makes room for one item more. It grows only where less than half of what stands here is spent, and `OutOfMemory` comes
-    /// only where room was missing.
+    /// Makes room for one item more, where there is none: what is left of settled items gives way where that is at least half
+    /// of what stands here, and else the places are doubled. `OutOfMemory` comes only where room was missing.
     pub fn make_room(&mut self) -> Result<(), OutOfMemory>
         ensures items { self.new.items ≡ self.old.items }
         ensures notes { self.new.notes ≡ self.old.notes }
         ensures room { OnOk result (HasPlace self.new) }
         ensures needed { OnErr result ((self.old.item_room ≡ 0) ⊎ (self.old.note_room ≡ 0)) }
+        ensures enough { HasPlace self.old → self.new ≡ self.old }
+        ensures gives_way { MustGiveWay self.old → HasGivenWay self.old self.new }
+        ensures few { HasFewPlaces self.old self.new }
     {
         let full = self.items.len() == self.items.capacity()
             || self.notes.len() == self.notes.capacity();
         if full && self.items.len() - self.spent <= self.spent {
             self.compact();
         }
-        self.items.reserve(1)?;
-        self.notes.reserve(1)?;
+        grow(&mut self.items)?;
+        grow(&mut self.notes)?;
         Ok(())
     }
 
@@ -96,6 +102,7 @@ impl Shelf {
     fn compact(&mut self)
         ensures items { self.new.items ≡ self.old.items }
         ensures notes { self.new.notes ≡ self.old.notes }
+        ensures given_way { HasGivenWay self.old self.new }
     {
         let held = self.items.len() - self.spent;
         self.items.rotate_left(self.spent);
@@ -205,4 +212,19 @@ fn drop_spent(items: &mut Vec<Item>, held: usize)
         let Item { kind: _, undos } = items.take_last();
         undos.destroy_empty();
     }
+}
+
+/// Makes room for one thing more where there is none: twice the places, and four at first.
+fn grow<T>(things: &mut Vec<T>) -> Result<(), AllocError>
+    ensures items { things.new.items ≡ things.old.items }
+    ensures ok { OnOk result (vec_len things.new < vec_capacity things.new) }
+    ensures needed { OnErr result (vec_len things.old ≡ vec_capacity things.old) }
+    ensures enough { vec_len things.old < vec_capacity things.old → vec_capacity things.new ≡ vec_capacity things.old }
+    ensures few { vec_capacity things.new ≤ max (2 * vec_capacity things.old) 4 }
+{
+    let len = things.len();
+    if len < things.capacity() {
+        return Ok(());
+    }
+    things.reserve_exact(len.saturating_mul(2).max(FIRST_PLACES) - len)
 }
