@@ -6,6 +6,7 @@ pub mod Passing
 pub mod Limits
 pub mod Named
 pub mod Turns
+pub mod Growing
 pub mod Views
 pub mod Histories
 pub mod Bindings
@@ -25,6 +26,8 @@ pub mod Leasts
 pub mod Crossings
 pub mod NotesSettled
 pub mod Entries
+pub mod PutUndos
+pub mod PutGrowing
 pub mod Withdrawn
 pub mod JournalLemmas
 pub mod RenamedListLemmas

@@ -36,7 +36,7 @@ verdict_later from s (op ∷ ops) r is =
     (verdict_later (from + 1) (after_all (reverse (does s.mappings op)) s) ops r) is
 
 -- the operations from a place on
-rest_of : (ops : List Op) (i : ℕ) (op : Op) → i < length ops → op ≡ get_or ops i op → drop i ops ≡ op ∷ drop (i + 1) ops
+pub rest_of : (ops : List Op) (i : ℕ) (op : Op) → i < length ops → op ≡ get_or ops i op → drop i ops ≡ op ∷ drop (i + 1) ops
 rest_of ops i op below is = drop_more ops i op below ∙ ap (λ (x : Op). x ∷ drop (i + 1) ops) (sym is)
 
 -- an operation's turn: the space is what the operations before it made of it, but for its room

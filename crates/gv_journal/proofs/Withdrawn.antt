@@ -17,8 +17,8 @@ use Rattle.gv_journal.specs.Items.{Journaled, numbered, entries, next, is_withdr
 use Rattle.gv_journal.specs.History.{undos_of, kept_by, back, base, IsDone, AreUndosOf, Rewinds}
 use Rattle.gv_journal.specs.State.{FitsOver, FitsSpace}
 use Rattle.gv_journal.specs.Verdict.{full_fault}
-use Rattle.gv_journal.specs.Withdrawing.{item_at, found_fault, entry_fault, after_withdrawal, withdrawal_limits, list_before, done_of, ops_at, withdraw_fault, IsWithdrawRefused, IsWithdrawn}
-use Rattle.gv_journal.specs.Restoring.{put_limits, ArePutBack}
+use Rattle.gv_journal.specs.Withdrawing.{item_at, found_fault, entry_fault, after_withdrawal, withdrawal_limits, list_before, done_of, ops_at, withdraw_fault, longest_withdrawn, GrowsForWithdrawal, AreUndosOfWithdrawal, IsWithdrawRefused, IsWithdrawn}
+use Rattle.gv_journal.specs.Restoring.{put_limits, longest_of_puts, GrowsForPuts, AreUndosOfPuts, ArePutBack}
 use Rattle.gv_journal.specs.declared.item.Item.{Item}
 use Rattle.gv_journal.specs.declared.item.ItemKind.{ItemKind}
 use Rattle.gv_journal.proofs.Bindings.{bound, base_stays}
@@ -26,6 +26,8 @@ use Rattle.gv_journal.proofs.Held.{journaled}
 use Rattle.gv_journal.proofs.Touches.{covers_any, NoneTouch, none_touch}
 use Rattle.gv_journal.proofs.Founds.{item_found}
 use Rattle.gv_journal.proofs.Entries.{IsWithdrawable, withdrawable, items_around, older_count, done_at, item_kept, after_puts_are, put_limits_are, after_withdrawal-mappings, after_withdrawal-limit}
+use Rattle.gv_journal.proofs.PutUndos.{AreUndosOfWithdrawal-puts}
+use Rattle.gv_journal.proofs.PutGrowing.{longest_of_puts-withdrawn}
 use Rattle.gv_journal.proofs.Withdrawals.{withdrawal, fits_over_withdrawn, put_is_view, others_stay}
 
 module _ (s : AddressSpace) (j : Journaled) (n place : ℕ) (item : Item) (fits : FitsSpace s j) (number : j.first + place ≡ n) (within : place < length j.items)
@@ -123,8 +125,8 @@ module _ (s : AddressSpace) (j : Journaled) (n place : ℕ) (item : Item) (fits 
         ∙ ap (λ (k : ℕ). view_without k (numbered j.first all) below page) e_is
         ∙ ap (λ (xs : List Item). view_without n (numbered j.first xs) below page) (sym all_is)
 
-    pub is_withdrawn_there : (new : Journaled) → new ≡ record j { items = withdrawal n fresh ∷ j.items } → IsWithdrawn s t j new n
-    is_withdrawn_there new added =
+    pub is_withdrawn_there : AreUndosOfPuts s.mappings (undos_of item) fresh.items → (new : Journaled) → new ≡ record j { items = withdrawal n fresh ∷ j.items } → IsWithdrawn s t j new n
+    is_withdrawn_there puts new added =
         let there : t ≡ record (after_withdrawal (list_before s j n) (ops_at j n) s) { room = t.room } =
         state ∙ ap (λ (ops : List PageOp). record (after_withdrawal (list_before s j n) ops s) { room = t.room }) (sym its_ops) in
         record {
@@ -134,10 +136,20 @@ module _ (s : AddressSpace) (j : Journaled) (n place : ℕ) (item : Item) (fits 
           state = there;
           list = ap (λ (x : AddressSpace). x.mappings) there ∙ after_withdrawal-mappings (list_before s j n) (ops_at j n) s;
           pages = pages;
+          undos = subst (λ (ops : List PageOp). AreUndosOfWithdrawal (list_before s j n) ops s.mappings fresh.items) (sym its_ops)
+              (AreUndosOfWithdrawal-puts (list_before s j n) (reverse w.done.items) (undos_of item) fresh.items s.mappings undos_here puts);
           others = λ page is_page silent.
               others_stay s t j.limit j.first newer older w.queue w.number w.request w.seen w.done item.undos fresh below fits_all live_all none_all (list_before s j n, undos_here) put limit_is page is_page
               (sym (ap (λ (ops : List PageOp). covers_any ops page) its_ops) ∙ silent);
         }
+
+  -- what is put back makes no more room than the withdrawal may
+  pub grown_there : (t : AddressSpace) → GrowsForPuts (undos_of item) s t → GrowsForWithdrawal j n s t
+  grown_there t grown =
+      let same : longest_of_puts (undos_of item) s.mappings ≡ longest_withdrawn (list_before s j n) (ops_at j n) s.mappings =
+      longest_of_puts-withdrawn (list_before s j n) (reverse w.done.items) (undos_of item) s.mappings undos_here
+      ∙ ap (λ (ops : List PageOp). longest_withdrawn (list_before s j n) ops s.mappings) (sym its_ops) in
+      omega (arith, grown, same)
 
   limits_are : put_limits (undos_of item) s ≡ withdrawal_limits (list_before s j n) (ops_at j n) s
   limits_are = put_limits_are (list_before s j n) (reverse w.done.items) (undos_of item) s undos_here ∙ ap (λ (ops : List PageOp). withdrawal_limits (list_before s j n) ops s) (sym its_ops)

@@ -1,5 +1,5 @@
 -- What operations make of an address space.
-use Rattle.std.specs.Prelude.{◌≡◌, ℕ, ◌≤◌, List, [], ◌∷◌, ◌++◌, reverse, map, filter}
+use Rattle.std.specs.Prelude.{◌≡◌, ℕ, ◌*◌, ◌≤◌, List, [], ◌∷◌, ◌++◌, length, max, reverse, map, filter}
 use Rattle.gv_types.specs.Page.{IsPage}
 use Rattle.gv_types.specs.Span.{Span, meets}
 use Rattle.gv_types.specs.Operation.{range_of, in_pages, view as view_of_ops}
@@ -42,6 +42,15 @@ does ms (UnmapBuffer id) = map UnmapPages (ranges_of id ms)
 abbrev pub all_do : List Mapping → List Op → List PageOp
 all_do ms [] = []
 all_do ms (op ∷ ops) = does ms op ++ all_do (edited_by_all (reverse (does ms op)) ms) ops
+
+-- how long the longest list is that operations meet or make in turn, the first operation first
+abbrev pub longest : List PageOp → List Mapping → ℕ
+longest [] ms = length ms
+longest (op ∷ later) ms = max (length ms) (longest later (edited ms op))
+
+-- where there was no room for that, there is now for twice that at most
+abbrev pub GrowsFor : List PageOp → AddressSpace → AddressSpace → Type 0
+GrowsFor ops old new = new.room ≤ max old.room (2 * longest ops old.mappings)
 
 -- Changes made the old space the new one, and these undo values take them back.
 pub record AreChanges (old new : AddressSpace) (us : List UndoValue) : Type 0 where

@@ -1,15 +1,16 @@
 -- Undo values put back, the newest first. No public clause cites this module.
-use Rattle.std.specs.Prelude.{◌≡◌, ℕ, if◌then◌else◌, List, [], ◌∷◌, Option, Some, None}
+use Rattle.std.specs.Prelude.{◌≡◌, ℕ, ◌*◌, ◌≤◌, if◌then◌else◌, List, [], ◌∷◌, length, max, Option, Some, None}
 use Rattle.gv_types.specs.Page.{IsPage}
 use Rattle.gv_types.specs.Span.{Span, covers}
 use Rattle.gv_types.specs.declared.operation.PageOp.{PageOp}
 use Rattle.gv_types.specs.declared.operation.PageOp.TheVariants.{Map, Unmap, UnmapBuffer}
 use Rattle.gv_types.specs.declared.fault.Fault.{Fault}
 use Rattle.gv_types.specs.declared.mapping.Entry.{Entry}
+use Rattle.gv_types.specs.declared.mapping.Mapping.{Mapping}
 use Rattle.gv_ranges.specs.List.{at}
 use Rattle.gv_ranges.specs.Edit.{restored}
 use Rattle.gv_space.specs.State.{AddressSpace}
-use Rattle.gv_space.specs.Undo.{UndoValue}
+use Rattle.gv_space.specs.Undo.{UndoValue, IsUndoOf}
 use Rattle.gv_space.specs.Refusal.{first_of, limit_fault}
 use Rattle.gv_space.specs.Change.{changed_to}
 use Rattle.gv_journal.specs.Applying.{met, AreChanges}
@@ -38,6 +39,29 @@ pub record ArePutBack (old new : AddressSpace) (saved fresh : List UndoValue) : 
   pub state : new ≡ record (after_puts saved old) { room = new.room }
   pub changes : AreChanges old new fresh
   pub pages : (page : ℕ) → IsPage page → at new.mappings page ≡ put_back saved page (at old.mappings page)
+
+-- the list once what undo values took is put back
+abbrev pub list_after_puts : List UndoValue → List Mapping → List Mapping
+list_after_puts [] ms = ms
+list_after_puts (u ∷ older) ms = list_after_puts older (restored ms u.range u.change.taken)
+
+-- how long the longest of the lists on the way is, and the room that this makes
+abbrev pub longest_of_puts : List UndoValue → List Mapping → ℕ
+longest_of_puts [] ms = length ms
+longest_of_puts (u ∷ older) ms = max (length ms) (longest_of_puts older (restored ms u.range u.change.taken))
+
+abbrev pub GrowsForPuts : List UndoValue → AddressSpace → AddressSpace → Type 0
+GrowsForPuts us old new = new.room ≤ max old.room (2 * longest_of_puts us old.mappings)
+
+-- the undo values of that, in the order in which they were put back
+abbrev pub AreUndosOfPuts : List Mapping → List UndoValue → List UndoValue → Type 0
+AreUndosOfPuts ms [] [] = Unit {0}
+AreUndosOfPuts ms (u ∷ older) (fresh ∷ later) =
+    (fresh.range ≡ u.range)
+    × IsUndoOf ms (restored ms u.range u.change.taken) fresh
+    × AreUndosOfPuts (restored ms u.range u.change.taken) older later
+AreUndosOfPuts ms [] (fresh ∷ later) = ⊥
+AreUndosOfPuts ms (u ∷ older) [] = ⊥
 
 -- the pages of an operation, if it names any
 abbrev pub pages_named : PageOp → Option Span

@@ -1,5 +1,5 @@
 -- An older item withdrawn: what refuses it, and what it makes of the list.
-use Rattle.std.specs.Prelude.{◌≡◌, ℕ, ◌+◌, ◌-◌, Bool, false, not, ◌&&◌, nat_lt, if◌then◌else◌, List, [], ◌∷◌, reverse, drop, slice_get, Option, Some, None, ◌⊎◌}
+use Rattle.std.specs.Prelude.{◌≡◌, ℕ, ◌+◌, ◌-◌, ◌*◌, ◌≤◌, Bool, false, not, ◌&&◌, nat_lt, if◌then◌else◌, List, [], ◌∷◌, length, max, reverse, drop, slice_get, Option, Some, None, ◌⊎◌}
 use Rattle.std.specs.List.{list_any}
 use Rattle.gv_types.specs.Page.{IsPage}
 use Rattle.gv_types.specs.Span.{covers, meets}
@@ -11,6 +11,7 @@ use Rattle.gv_types.specs.declared.operation.PageOp.{PageOp}
 use Rattle.gv_ranges.specs.List.{at}
 use Rattle.gv_ranges.specs.Edit.{edited_by_all, restored}
 use Rattle.gv_space.specs.State.{AddressSpace}
+use Rattle.gv_space.specs.Undo.{UndoValue, IsUndoOf}
 use Rattle.gv_space.specs.Refusal.{first_of, limit_fault}
 use Rattle.gv_space.specs.Change.{changed_to}
 use Rattle.gv_journal.specs.Items.{Journaled, entries, next, is_withdrawn, done_by, view_without}
@@ -91,6 +92,27 @@ done_of (Some item) = done_by item.kind
 abbrev pub ops_at : Journaled → ℕ → List PageOp
 ops_at j n = reverse (done_of (item_at j n))
 
+-- The undo values of a withdrawal, that of the newest operation first: each took what the pages of its operation gave up, from
+-- the list that those before it left.
+abbrev pub AreUndosOfWithdrawal : List Mapping → List PageOp → List Mapping → List UndoValue → Type 0
+AreUndosOfWithdrawal before [] ms [] = Unit {0}
+AreUndosOfWithdrawal before (op ∷ older) ms (u ∷ us) =
+    (u.range ≡ range_of op)
+    × IsUndoOf ms (restored ms (range_of op) (edited_by_all older before)) u
+    × AreUndosOfWithdrawal before older (restored ms (range_of op) (edited_by_all older before)) us
+AreUndosOfWithdrawal before [] ms (u ∷ us) = ⊥
+AreUndosOfWithdrawal before (op ∷ older) ms [] = ⊥
+
+-- how long the longest of the lists on the way is
+abbrev pub longest_withdrawn : List Mapping → List PageOp → List Mapping → ℕ
+longest_withdrawn before [] ms = length ms
+longest_withdrawn before (op ∷ older) ms =
+    max (length ms) (longest_withdrawn before older (restored ms (range_of op) (edited_by_all older before)))
+
+-- where there was no room for that, there is now for twice that at most
+abbrev pub GrowsForWithdrawal : Journaled → ℕ → AddressSpace → AddressSpace → Type 0
+GrowsForWithdrawal j n old new = new.room ≤ max old.room (2 * longest_withdrawn (list_before old j n) (ops_at j n) old.mappings)
+
 -- why an item isn't withdrawn, where memory suffices
 abbrev pub withdraw_fault : AddressSpace → Journaled → ℕ → Option Fault
 withdraw_fault s j n = first_of (entry_fault j n) (withdrawal_limits (list_before s j n) (ops_at j n) s)
@@ -108,5 +130,6 @@ pub record IsWithdrawn (s t : AddressSpace) (old new : Journaled) (n : ℕ) : Ty
   pub state : t ≡ record (after_withdrawal (list_before s old n) (ops_at old n) s) { room = t.room }
   pub list : t.mappings ≡ withdrawn (list_before s old n) (ops_at old n) s.mappings
   pub pages : (page : ℕ) → IsPage page → at t.mappings page ≡ view_without n (entries old) (base s.mappings old.items) page
+  pub undos : AreUndosOfWithdrawal (list_before s old n) (ops_at old n) s.mappings item.undos.items
   pub others : (page : ℕ) → IsPage page → list_any (λ op. covers (range_of op) page) (ops_at old n) ≡ false →
       at t.mappings page ≡ at s.mappings page

@@ -10,7 +10,7 @@ ghost use Rattle.gv_space.specs.State.{AddressSpace, AreKept, IsPlaced, IsUnchan
 ghost use Rattle.gv_space.specs.Refusal.{apply_fault, limit_fault};
 ghost use Rattle.gv_space.specs.Undo.{AreAmongKept};
 ghost use Rattle.gv_journal.specs.Undoing.{taken_by, reverted_by, AreRevertible};
-ghost use Rattle.gv_journal.specs.Applying.{after_op, after_all, does, all_do, AreApplied};
+ghost use Rattle.gv_journal.specs.Applying.{after_op, after_all, does, all_do, AreApplied, GrowsFor};
 ghost use Rattle.gv_journal.specs.Verdict.{turn_fault, verdict_from};
 ghost use Rattle.gv_journal.specs.Work.{HasRoom, Continues, IsTurnRefused, IsRefusedInTurn};
 
@@ -59,6 +59,7 @@ fn apply_pages(alloc: Global, space: &mut Space, work: &mut Work, op: &PageOp) -
     ensures state { OnOk result
         (space.new ≡ record (after_op space.old op.now) { room = space.new.room }) }
     ensures room { OnOk result ((left : ℕ) → HasRoom (1 + left) work.old → HasRoom left work.new) }
+    ensures grown { GrowsFor (op.now ∷ []) space.old space.new }
 {
     match space.apply_pages(alloc, op) {
         Ok(undo) => {
@@ -81,6 +82,7 @@ fn apply_ranged(alloc: Global, space: &mut Space, work: &mut Work, op: &Op) -> R
     ensures state { OnOk result
         (space.new ≡ record (after_op space.old (in_pages op.now)) { room = space.new.room }) }
     ensures room { OnOk result ((left : ℕ) → HasRoom (1 + left) work.old → HasRoom left work.new) }
+    ensures grown { GrowsFor (in_pages op.now ∷ []) space.old space.new }
 {
     let op = match space.check(op) {
         Ok(op) => op,
@@ -106,6 +108,7 @@ fn unmap_all(
     ensures state { OnOk result (space.new
         ≡ record (after_all (reverse (does space.old.mappings (UnmapBuffer id))) space.old) { room = space.new.room }) }
     ensures room { OnOk result (HasRoom left work.new) }
+    ensures grown { GrowsFor (does space.old.mappings (UnmapBuffer id)) space.old space.new }
 {
     let ranges = match space.buffer_ranges(alloc, id) {
         Ok(ranges) => ranges,
@@ -140,6 +143,7 @@ fn apply_named(
     ensures state { OnOk result (space.new
         ≡ record (after_all (reverse (does space.old.mappings op.now)) space.old) { room = space.new.room }) }
     ensures room { OnOk result (HasRoom left work.new) }
+    ensures grown { GrowsFor (does space.old.mappings op.now) space.old space.new }
 {
     apply_ranged(alloc, space, work, op)
 }
@@ -161,6 +165,7 @@ fn apply_op(
     ensures state { OnOk result (space.new
         ≡ record (after_all (reverse (does space.old.mappings op.now)) space.old) { room = space.new.room }) }
     ensures room { OnOk result (HasRoom left work.new) }
+    ensures grown { GrowsFor (does space.old.mappings op.now) space.old space.new }
 {
     match *op {
         Op::UnmapBuffer { buffer } => unmap_all(alloc, space, work, buffer, left),
@@ -179,6 +184,7 @@ pub fn apply_all(alloc: Global, space: &mut Space, ops: &[Op]) -> Result<Work, R
     ensures applied { IfOk result (λ w. AreApplied space.old space.new (reverse w.ops.items) (reverse w.undos.items)) }
     ensures ops { IfOk result (λ w. w.ops.items ≡ all_do space.old.mappings ops.now) }
     ensures unchanged { OnErr result (IsUnchanged space.old space.new) }
+    ensures grown { GrowsFor (all_do space.old.mappings ops.now) space.old space.new }
 {
     let mut work = match no_work(alloc, ops.len()) {
         Ok(work) => work,

@@ -51,7 +51,8 @@ impl Journal {
     ghost use Rattle.gv_journal.specs.State.{FitsSpace};
     ghost use Rattle.gv_journal.specs.Verdict.{verdict, full_fault, IsRefused};
     ghost use Rattle.gv_journal.specs.Settling.{settle_fault, later, crosses, IsSettled};
-    ghost use Rattle.gv_journal.specs.Withdrawing.{item_at, found_fault, withdraw_fault, IsWithdrawRefused, IsWithdrawn};
+    ghost use Rattle.gv_journal.specs.Withdrawing.{item_at, found_fault, withdraw_fault, IsWithdrawRefused, IsWithdrawn, GrowsForWithdrawal};
+    ghost use Rattle.gv_journal.specs.Applying.{all_do, GrowsFor};
     ghost use Rattle.gv_journal.specs.Binding.{IsBound, IsApplied, IsRewound};
 
     /// No items, and room for none: it takes no memory. It may hold `limit` items.
@@ -118,6 +119,7 @@ impl Journal {
         ensures fits { FitsSpace space.new self.new }
         ensures space_unchanged { OnErr result (IsUnchanged space.old space.new) }
         ensures unchanged { OnErr result (self.new ≡ self.old) }
+        ensures grown { GrowsFor (all_do space.old.mappings request.ops.items) space.old space.new }
     {
         if request.ops.len() > MAX_OPS {
             return Err(whole(Fault::TooManyOps));
@@ -184,6 +186,7 @@ impl Journal {
         ensures fits { FitsSpace space.new self.new }
         ensures space_unchanged { OnErr result (IsUnchanged space.old space.new) }
         ensures unchanged { OnErr result (self.new ≡ self.old) }
+        ensures grown { GrowsForWithdrawal self.old entry space.old space.new }
     {
         let place = match self.find_entry(entry) {
             Ok(place) => place,

@@ -3,7 +3,7 @@ ghost use Rattle.std.specs.Prelude.{◌≡◌, ◌⊎◌, reverse, IfOk, IfErr, 
 ghost use Rattle.gv_space.specs.State.{IsUnchanged};
 ghost use Rattle.gv_space.specs.Undo.{AreAmongKept};
 ghost use Rattle.gv_journal.specs.Undoing.{taken_by};
-ghost use Rattle.gv_journal.specs.Restoring.{put_limits, ArePutBack};
+ghost use Rattle.gv_journal.specs.Restoring.{put_limits, AreUndosOfPuts, ArePutBack, GrowsForPuts};
 
 use crate::undoing::revert_all;
 use gv_space::{OpUndo, Space};
@@ -17,7 +17,9 @@ pub fn restore_all(alloc: Global, space: &mut Space, saved: &[OpUndo]) -> Result
     ensures refused { IfErr result (λ fault.
         (put_limits (reverse saved.now) space.old ≡ Some fault) ⊎ (fault ≡ Fault.OutOfMemory)) }
     ensures restored { IfOk result (λ fresh. ArePutBack space.old space.new (reverse saved.now) (reverse fresh.items)) }
+    ensures undos { IfOk result (λ fresh. AreUndosOfPuts space.old.mappings (reverse saved.now) fresh.items) }
     ensures unchanged { OnErr result (IsUnchanged space.old space.new) }
+    ensures grown { GrowsForPuts (reverse saved.now) space.old space.new }
 {
     let mut fresh = match Vec::with_capacity(alloc, saved.len()) {
         Ok(fresh) => fresh,

@@ -1,8 +1,11 @@
-use Rattle.std.proofs.Common.{◌≡◌, ℕ, ◌+◌, ◌-◌, length, arith, ◌∙◌, subst}
+use Rattle.std.proofs.Common.{◌≡◌, ℕ, ◌+◌, ◌-◌, List, map, length, arith, ◌∙◌, subst}
 use Rattle.std.specs.List.{All}
-use Rattle.gv_types.specs.Span.{IsInSpace}
+use Rattle.gv_types.specs.Span.{Span, IsInSpace}
+use Rattle.gv_types.specs.declared.operation.PageOp.TheVariants.{Unmap}
+use Rattle.gv_journal.specs.Applying.{GrowsFor}
 use Rattle.gv_journal.specs.Work.{HasRoom}
 use Rattle.gv_journal.proofs.Limits.{ranges_refused, lives_where_given, starved_is_refused, unmap_refused, ops_more, state_more, limits_more}
+use Rattle.gv_journal.proofs.Growing.{grows_unmapped}
 use Rattle.gv_journal.proofs.applying.unmap_all.Goals as goal
 
 pub returns-in-Err-clause-err : goal.returns-in-Err-clause-err
@@ -24,6 +27,12 @@ returns-in-Err-apply_pages-clause-err c =
     (lives_where_given c.args.space.now c.args.id c.buffer_ranges.result c.in-Ok.ranges c.in-Ok.is c.buffer_ranges.ensures.fault)
     c.loop-range.invariant.limits c.in-Err-apply_pages.is c.apply_pages.ensures.fault
 
+pub returns-in-Err-apply_pages-clause-grown : goal.returns-in-Err-apply_pages-clause-grown
+returns-in-Err-apply_pages-clause-grown c =
+    subst (λ (rs : List Span). GrowsFor (map Unmap rs) c.args.space.now c.apply_pages.new.space) (c.deref-range-items.ensures.value ∙ c.in-Ok.ensures.ranges)
+    (grows_unmapped c.args.space.now c.loop-range.space c.apply_pages.new.space c.deref-range-items.result.now c.loop-range.range-index c.range-item.result c.loop-range-test.true c.range-item.is
+    c.loop-range.invariant.state c.loop-range.invariant.grown c.apply_pages.ensures.grown)
+
 pub loop-range-preserved : goal.loop-range-preserved
 loop-range-preserved c =
     let i = c.loop-range.range-index in
@@ -35,6 +44,7 @@ loop-range-preserved c =
       continues = λ origin was. c.in-Ok-apply_pages.ensures.continues origin (c.loop-range.invariant.continues origin was);
       ops = ops_more c.args.work.now.ops.items c.loop-range.work.ops.items c.apply_pages.new.work.ops.items items i r below c.range-item.is c.loop-range.invariant.ops c.in-Ok-apply_pages.ensures.ops;
       state = state_more c.args.space.now c.loop-range.space c.apply_pages.new.space items i r below c.range-item.is c.loop-range.invariant.state c.in-Ok-apply_pages.ensures.state;
+      grown = grows_unmapped c.args.space.now c.loop-range.space c.apply_pages.new.space items i r below c.range-item.is c.loop-range.invariant.state c.loop-range.invariant.grown c.apply_pages.ensures.grown;
       limits = limits_more c.args.space.now c.loop-range.space c.apply_pages.new.space items i r c.apply_pages.result c.in-Ok-apply_pages.field-0 below c.range-item.is c.in-Ok-apply_pages.is c.apply_pages.ensures.fault c.in-Ok-apply_pages.ensures.state c.loop-range.invariant.limits;
       room = c.in-Ok-apply_pages.ensures.room (length items - (i + 1) + c.args.left) (subst (λ (n : ℕ). HasRoom n c.loop-range.work) left c.loop-range.invariant.room);
     }

@@ -1,7 +1,9 @@
 use Rattle.std.proofs.Common.{◌<◌, drop, reverse, arith}
 use Rattle.gv_journal.proofs.Lists.{last_first}
 use Rattle.gv_journal.proofs.Changing.{AreChanges-room, unchanged_back}
-use Rattle.gv_journal.proofs.Puts.{ArePutBack-more, put_last, put_more, still_kept, state_put}
+use Rattle.gv_journal.proofs.Puts.{ArePutBack-more, put_last, put_more, put_refused, still_kept, state_put}
+use Rattle.gv_journal.proofs.PutUndos.{AreUndosOfPuts-more}
+use Rattle.gv_journal.proofs.PutGrowing.{grows_put, grows_put_back}
 use Rattle.gv_journal.proofs.restoring.restore_all.Goals as goal
 
 pub restore-requires : goal.restore-requires
@@ -27,6 +29,11 @@ loop-left-preserved c =
       restored = rw (put_last saved left u some within c.index-saved-left.is, grown)
           (ArePutBack-more c.args.space.now c.loop-left.space c.restore.new.self (reverse (drop left saved)) (reverse c.loop-left.fresh.items) u c.in-Ok-restore.undo
           c.loop-left.invariant.restored changed range_is says c.in-Ok-restore.ensures.undone);
+      undos = rw (put_last saved left u some within c.index-saved-left.is, c.push_reserved.ensures.items)
+          (AreUndosOfPuts-more c.args.space.now c.loop-left.space c.restore.new.self (reverse (drop left saved)) (reverse c.loop-left.fresh.items) c.loop-left.fresh.items u c.in-Ok-restore.undo
+          c.loop-left.invariant.restored c.loop-left.invariant.undos changed range_is);
+      grown = grows_put saved left u some within c.index-saved-left.is c.args.space.now c.loop-left.space c.restore.new.self (reverse c.loop-left.fresh.items) c.loop-left.invariant.restored c.loop-left.invariant.grown
+          (rw c.range.ensures at c.restore.ensures.room);
       limits = put_more saved left u some within c.index-saved-left.is c.args.space.now c.loop-left.space c.restore.new.self c.restore.result c.in-Ok-restore.undo c.in-Ok-restore.is fault
           (state_put c.loop-left.space c.restore.new.self u c.in-Ok-restore.undo changed range_is) c.loop-left.invariant.limits;
       room = omega arith;
@@ -40,4 +47,19 @@ pub returns-in-Err-restore-clause-unchanged : goal.returns-in-Err-restore-clause
 returns-in-Err-restore-clause-unchanged c =
     unchanged_back c.args.space.now c.restore.new.self c.revert_all.new.space (reverse c.loop-left.fresh.items)
     (AreChanges-room c.args.space.now c.loop-left.space c.restore.new.self (reverse c.loop-left.fresh.items) c.loop-left.invariant.restored.changes c.in-Err-restore.ensures.unchanged)
+    c.revert_all.ensures.state
+
+pub returns-in-Err-restore-clause-refused : goal.returns-in-Err-restore-clause-refused
+returns-in-Err-restore-clause-refused c =
+    let some : 0 < c.loop-left.left = omega arith in
+    put_refused c.args.saved.now c.loop-left.left c.index-saved-left.result some c.loop-left.invariant.within c.index-saved-left.is
+    c.args.space.now c.loop-left.space c.restore.result c.in-Err-restore.fault c.in-Err-restore.is (rw c.range.ensures at c.restore.ensures.fault) c.loop-left.invariant.limits
+
+pub returns-in-Err-restore-clause-grown : goal.returns-in-Err-restore-clause-grown
+returns-in-Err-restore-clause-grown c =
+    let some : 0 < c.loop-left.left = omega arith in
+    let fresh = reverse c.loop-left.fresh.items in
+    grows_put_back (reverse c.args.saved.now) c.args.space.now c.restore.new.self c.revert_all.new.space fresh
+    (grows_put c.args.saved.now c.loop-left.left c.index-saved-left.result some c.loop-left.invariant.within c.index-saved-left.is c.args.space.now c.loop-left.space c.restore.new.self fresh
+    c.loop-left.invariant.restored c.loop-left.invariant.grown (rw c.range.ensures at c.restore.ensures.room))
     c.revert_all.ensures.state

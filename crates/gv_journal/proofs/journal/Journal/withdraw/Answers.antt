@@ -12,9 +12,9 @@ use Rattle.gv_journal.specs.Notes.{notes_of}
 use Rattle.gv_journal.specs.Note.{Note}
 use Rattle.gv_journal.proofs.Lists.{last_first}
 use Rattle.gv_journal.proofs.Noting.{notes_withdrawn}
-use Rattle.gv_journal.proofs.Held.{journaled, one_more, found_at, fits_room, number_left}
+use Rattle.gv_journal.proofs.Held.{journaled, one_more, back_one_more, found_at, fits_room, number_left}
 use Rattle.gv_journal.proofs.Withdrawals.{withdrawal}
-use Rattle.gv_journal.proofs.Withdrawn.{kept_here, fits_withdrawn, is_withdrawn_there, passes, refused_there}
+use Rattle.gv_journal.proofs.Withdrawn.{kept_here, fits_withdrawn, is_withdrawn_there, grown_there, passes, refused_there}
 use Rattle.gv_journal.proofs.journal.Journal.withdraw.Goals as goal
 
 pub restore_all-requires : goal.restore_all-requires
@@ -50,7 +50,27 @@ returns-clause-withdrawn c =
     let added = one_more c.self.inside.limit c.self.inside.first c.self.inside.shelf.items c.mark.new.self.items c.push.new.self.items c.args.self.now
     (withdrawal c.args.entry c.in-Ok-restore_all.undos) c.self.view_is (c.mark.ensures.items ∙ c.make_room.ensures.items) c.push.ensures.items in
     is_withdrawn_there c.args.space.now c.args.self.now c.args.entry c.in-Ok.place c.index-items-place.result c.requires c.in-Ok.ensures.place.0 c.in-Ok.ensures.place.1 at c.in-Ok.ensures.accepted
-    c.restore_all.new.space c.in-Ok-restore_all.undos (rw (c.deref.ensures.value, sym c.index-items-place.is) at c.in-Ok-restore_all.ensures.restored) _ added
+    c.restore_all.new.space c.in-Ok-restore_all.undos (rw (c.deref.ensures.value, sym c.index-items-place.is) at c.in-Ok-restore_all.ensures.restored)
+    (rw (c.deref.ensures.value, sym c.index-items-place.is) at c.in-Ok-restore_all.ensures.undos) _ added
+
+pub returns-in-Err-restore_all-clause-grown : goal.returns-in-Err-restore_all-clause-grown
+returns-in-Err-restore_all-clause-grown c =
+    let at = found_at c.self.inside.limit c.self.inside.first c.in-Ok.place c.self.inside.shelf.items c.items.result.now c.args.self.now c.index-items-place.result c.self.view_is (c.items.ensures ∙ c.make_room.ensures.items) c.index-items-place.is in
+    grown_there c.args.space.now c.args.self.now c.args.entry c.in-Ok.place c.index-items-place.result c.requires c.in-Ok.ensures.place.0 c.in-Ok.ensures.place.1 at c.in-Ok.ensures.accepted
+    c.restore_all.new.space (rw (c.deref.ensures.value, sym c.index-items-place.is) at c.restore_all.ensures.grown)
+
+pub returns-clause-grown : goal.returns-clause-grown
+returns-clause-grown c =
+    let at = found_at c.self.inside.limit c.self.inside.first c.in-Ok.place c.self.inside.shelf.items c.items.result.now c.args.self.now c.index-items-place.result c.self.view_is (c.items.ensures ∙ c.make_room.ensures.items) c.index-items-place.is in
+    grown_there c.args.space.now c.args.self.now c.args.entry c.in-Ok.place c.index-items-place.result c.requires c.in-Ok.ensures.place.0 c.in-Ok.ensures.place.1 at c.in-Ok.ensures.accepted
+    c.restore_all.new.space (rw (c.deref.ensures.value, sym c.index-items-place.is) at c.restore_all.ensures.grown)
+
+pub returns-clause-back : goal.returns-clause-back
+returns-clause-back c = λ n.
+    let added = one_more c.self.inside.limit c.self.inside.first c.self.inside.shelf.items c.mark.new.self.items c.push.new.self.items c.args.self.now
+    (withdrawal c.args.entry c.in-Ok-restore_all.undos) c.self.view_is (c.mark.ensures.items ∙ c.make_room.ensures.items) c.push.ensures.items in
+    back_one_more c.restore_all.new.space.mappings (reverse c.push.new.self.items) c.args.self.now.items (withdrawal c.args.entry c.in-Ok-restore_all.undos) c.args.space.now.mappings n
+    (ap (λ (j : Journaled). j.items) added) c.in-Ok-restore_all.ensures.restored.changes.list
 
 pub returns-clause-fits : goal.returns-clause-fits
 returns-clause-fits c =
