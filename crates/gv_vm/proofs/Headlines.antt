@@ -113,7 +113,7 @@ reply_says before after event (Rewound item) holds h = absurd h
 reply_says before after event reply holds h = tt
 
 pub says : (before after : World) (event : Event) (reply : Reply) → IsMachine after.machine → step before event reply after → Says before event reply after
-says before after event reply holds h = (pages after.machine holds, reply_says before after event reply holds h)
+says before after event reply holds h = (pages after.machine holds, holds, reply_says before after event reply holds h)
 
 -- and so it does where a step is answered
 pub said : (before after : World) (event : Event) (r : Result Reply WantOfMemory) → IsMachine after.machine → IsStep before event r after → IfOk r (λ reply. Says before event reply after)

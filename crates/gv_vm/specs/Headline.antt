@@ -2,6 +2,8 @@
 -- newest live operation covering it says; a request refused at any operation leaves mappings, tables and buffer uses as
 -- before; taking back the newest entry restores the state before it; withdrawing an older entry that no live later one
 -- touches gives the map of the history without it.
+-- A machine has no page table here: 'by page table' is said of every tree of its list. The one that stands is given by
+-- `Vm::table`, and it is such a tree (`TableMatchesList`).
 use Rattle.std.specs.Prelude.{◌≡◌, ℕ, ◌+◌, List, Option, Some}
 use Rattle.gv_types.specs.Page.{IsPage}
 use Rattle.gv_types.specs.declared.mapping.BufferId.{BufferId}
@@ -15,7 +17,7 @@ use Rattle.gv_journal.specs.Items.{entries, view, view_without}
 use Rattle.gv_journal.specs.History.{base, back}
 use Rattle.gv_vm.specs.World.{World}
 use Rattle.gv_vm.specs.Run.{RunsWith, StoppedWith}
-use Rattle.gv_vm.specs.State.{Machine}
+use Rattle.gv_vm.specs.State.{Machine, IsMachine}
 use Rattle.gv_vm.specs.declared.event.Event.{Event}
 use Rattle.gv_vm.specs.declared.event.Event.TheVariants.{Withdraw}
 use Rattle.gv_vm.specs.declared.event.Reply.{Reply}
@@ -69,9 +71,9 @@ SaysOfReply event (Rewound item) before after = TakesBack before after
 SaysOfReply (Withdraw entry) (Withdrawn item) before after = GivesTheRest entry before after × RemembersBefore before after
 SaysOfReply event _ before after = Unit {0}
 
--- of each step: all pages translate behind it, and what its reply says of the machine
+-- of each step: all pages translate behind it, what always holds of a machine holds there, and what its reply says of it
 abbrev pub Says : World → Event → Reply → World → Type 0
-Says before event reply after = EachPageTranslates after.machine × SaysOfReply event reply before.machine after.machine
+Says before event reply after = EachPageTranslates after.machine × IsMachine after.machine × SaysOfReply event reply before.machine after.machine
 
 -- it holds along every run
 abbrev pub Headline : World → List Event → List Reply → World → Type 0
