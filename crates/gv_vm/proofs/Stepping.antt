@@ -16,7 +16,7 @@ use Rattle.gv_vm.specs.Told.{IsCarriedOut, seen_by}
 use Rattle.gv_vm.specs.State.{Machine}
 use Rattle.gv_vm.specs.World.{World, InHand, Queue, put_fault_of, new_queue, queue_at, with_queue, next_number, next_wait, seen_at}
 use Rattle.gv_vm.specs.Turns.{IsPutReply, MayTake, TookFront, wait_in, wait_of, hand_reached, with_reached, hand_lacked, with_lacked, IsReady, IsLacking, without_hand, PaidFirst, IsToldLacking}
-use Rattle.gv_vm.specs.Step.{step, IsStep, MayGrow, IsAsBefore, CanTake, CanLook, CanBind, CanGiveUp, CanPay, owed_in, owed_for}
+use Rattle.gv_vm.specs.Step.{step, IsStep, MayGrow, IsAsBefore, CanTake, CanLook, CanReach, CanBind, CanGiveUp, CanPay, owed_in, owed_for}
 use Rattle.gv_vm.specs.declared.event.Event.{Event}
 use Rattle.gv_vm.specs.declared.event.Reply.{Reply}
 use Rattle.gv_types.specs.declared.fault.OutOfMemory.{OutOfMemory as WantOfMemory}
@@ -77,11 +77,11 @@ not_looked w n none can = let some : None ≡ Some can.point = sym none ∙ wait
 abbrev can_look : (w : World) (n : ℕ) (hand : InHand) (point : Point) → n < length w.queues → (queue_at w n).hand ≡ Some hand → next_wait hand ≡ Some point → CanLook w n
 can_look w n hand point less is wait = record { has = record { there = less; hand = hand; is = is }; point = point; wait = wait }
 
-pub may_look : (w : World) (n : ℕ) (point : Point) → n < length w.queues → wait_of (queue_at w n) ≡ Some point → CanLook w n
-may_look w n point less is =
-    elim (queue_at w n).hand as (λ o. (queue_at w n).hand ≡ o → wait_in o ≡ Some point → CanLook w n) [
+pub may_reach : (w : World) (n : ℕ) (point : Point) → n < length w.queues → wait_of (queue_at w n) ≡ Some point → IsReached w.numbers point → CanReach w n
+may_reach w n point less is enough =
+    elim (queue_at w n).hand as (λ o. (queue_at w n).hand ≡ o → wait_in o ≡ Some point → CanReach w n) [
       | None ↦ (λ _ g. cc)
-      | Some hand ↦ (λ same g. can_look w n hand point less same g)
+      | Some hand ↦ (λ same g. record { look = can_look w n hand point less same g; now = enough })
     ] refl is
 
 pub reached : (w : World) (n : ℕ) (point : Point) (s : Sight) (q : Queue) → n < length w.queues → wait_of (queue_at w n) ≡ Some point → s ≡ seen_at w point → IsReached w.numbers point →

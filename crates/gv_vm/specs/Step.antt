@@ -58,6 +58,11 @@ pub record CanLook (w : World) (queue : ℕ) : Type 0 where
   pub point : Point
   pub wait : next_wait has.hand ≡ Some point
 
+-- and now it is, so that a look at it is kept
+pub record CanReach (w : World) (queue : ℕ) : Type 0 where
+  pub look : CanLook w queue
+  pub now : IsReached w.numbers look.point
+
 -- each of them is
 pub record CanBind (w : World) (queue : ℕ) : Type 0 where
   pub has : Has w queue
@@ -279,7 +284,7 @@ NoneFalls old new = (timeline : ℕ) → slice_index old.numbers timeline ≤ sl
 -- Which events may want memory: those that are enabled, are not refused before, and keep something more.
 abbrev pub MayGrow : World → Event → Type 0
 MayGrow w (Put queue request) = IsEnabled w (Put queue request) × (put_fault w queue ≡ None)
-MayGrow w (Look queue) = CanLook w queue
+MayGrow w (Look queue) = CanReach w queue
 MayGrow w (Bind queue) = CanBind w queue
 MayGrow w (GiveUp queue) = CanGiveUp w queue
 MayGrow w (Create pages) = create_fault w.machine.space.buffers pages ≡ None
