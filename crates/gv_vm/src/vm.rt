@@ -1,5 +1,6 @@
 //! One address space with its journal, its running jobs and what its queues were told.
 ghost use Rattle.std.specs.Prelude.{◌≡◌, ◌<◌, ◌+◌, [], ℕ, None, reverse, map, length, IfOk, Contains, IfErr, IsOk, IsOkUnless, OnOk, OnErr, IsErrAnd, MatchOption};
+ghost use Rattle.std.specs.Option.{option_copied};
 ghost use Rattle.gv_types.specs.Operation.{in_pages};
 ghost use Rattle.gv_split.specs.Steps.{steps};
 ghost use Rattle.gv_split.specs.CarriedOut.{carried_out, ArePresent, list_after};
@@ -51,7 +52,7 @@ impl Vm {
     ghost use Rattle.gv_journal.specs.History.{back};
     ghost use Rattle.gv_journal.specs.Binding.{IsRewound};
     ghost use Rattle.gv_vm.specs.State.{new_machine, IsMachine, HasOtherJobs};
-    ghost use Rattle.gv_vm.specs.Jobs.{begin_fault, end_fault, IsBegun, IsEnded, IsBeginRefused};
+    ghost use Rattle.gv_vm.specs.Jobs.{begin_fault, end_fault, places_in, IsBegun, IsEnded, IsBeginRefused};
 
     /// A machine of no mapping, no buffer, no entry and no job. `OutOfMemory` where the system refuses its first room.
     pub fn new(alloc: Global, bounds: Bounds, limits: Limits) -> Result<Vm, OutOfMemory>
@@ -161,6 +162,14 @@ impl Vm {
         // For the prover: what always holds of the space.
         let _list = self.space.list();
         begun
+    }
+
+    /// Where the accesses of a running job led when it began, whatever was unmapped or taken back since. None where no such job
+    /// runs.
+    pub fn job_places(&self, number: u64) -> Option<&[Place]>
+        ensures { option_copied result ≡ places_in self.now.running.jobs number }
+    {
+        self.jobs.places(number)
     }
 
     /// Ends a job, and gives up what it holds. `NoJob` exactly where no such job runs. It takes no memory.
