@@ -11,6 +11,7 @@ pub mod World
 pub mod Queues
 pub mod WorldInside
 pub mod HandInside
+pub mod QueueInside
 pub mod Turns
 pub mod Step
 pub mod Run

@@ -1,5 +1,6 @@
 //! One queue of requests: those that wait, the one in hand, and the signals owed.
-ghost use Rattle.std.specs.Prelude.{◌≡◌, ◌≢◌, ◌≤◌, ◌+◌, ◌++◌, ◌∷◌, [], true, false, Some, None, IfOk, IsOk, IfErr, IsErrAnd, OnOk, OnErr, IfSome, IfNone, MatchOption, length, map, reverse};
+ghost use Rattle.std.specs.Prelude.{◌≡◌, ◌≢◌, ◌≤◌, ◌+◌, ◌*◌, ◌++◌, ◌∷◌, [], true, false, Some, None, IfOk, IsOk, IfErr, IsErrAnd, OnOk, OnErr, IfSome, IfNone, MatchOption, length, map, max, reverse};
+ghost use Rattle.std.specs.VecDeque.{deque_len, deque_capacity};
 ghost use Rattle.gv_types.specs.declared.request.Point.{Point};
 ghost use Rattle.gv_vm.specs.World.{new_queue, taken, put_fault_of, next_wait};
 ghost use Rattle.gv_vm.specs.Queues.{IsInOrder};
@@ -8,7 +9,7 @@ ghost use Rattle.gv_vm.specs.Turns.{MayTake, TookFront, wait_of, with_reached, w
 use crate::outcome::NotTold;
 use gv_sync::{Lacking, Reached};
 use gv_types::{Fault, OutOfMemory, Point, Request};
-use std::alloc::{AllocFailed, Global};
+use std::alloc::Global;
 use std::collections::VecDeque;
 use std::marker::Model;
 
@@ -32,6 +33,9 @@ impl Model for Hand {
     ghost invariant = { IsSound };
 }
 
+/// So many places the first request makes.
+const FIRST_PLACES: usize = 4;
+
 /// One queue. Room for requests comes with them. The signals owed stand the first one last.
 #[derive(Drop)]
 pub struct Queue {
@@ -48,6 +52,10 @@ impl Model for Queue {
     ghost Value = { QueueState };
 
     ghost view = { λ q. record { put = q.put; waiting = q.waiting.items; hand = q.hand; owed = reverse q.owed.items } };
+
+    ghost use Rattle.gv_vm.specs.QueueInside.{IsSound};
+
+    ghost invariant = { IsSound };
 }
 
 impl Hand {
@@ -87,7 +95,7 @@ impl Queue {
     {
         Queue {
             put: 0,
-            waiting: VecDeque::new(alloc),
+            waiting: VecDeque::from_vec(Vec::new(alloc)),
             hand: None,
             owed: Vec::new(alloc),
         }
@@ -237,18 +245,26 @@ impl Queue {
     }
 }
 
-/// Puts a request at the back. `OutOfMemory` hands it back.
+/// Puts a request at the back. Where there is no room there are twice the places after it, and four at first. `OutOfMemory`
+/// hands the request back.
 fn push(waiting: &mut VecDeque<Request>, request: Request) -> Result<(), NotTold>
     ensures back { IfOk result (λ _. waiting.new.items ≡ waiting.old.items ++ request ∷ []) }
     ensures fault { IfErr result (λ n. n.fault ≡ Fault.OutOfMemory) }
     ensures request { IfErr result (λ n. n.request ≡ request) }
     ensures err { OnErr result (waiting.new.items ≡ waiting.old.items) }
+    ensures places { deque_capacity waiting.new ≤ max (deque_capacity waiting.old) (max (2 * deque_len waiting.old) 4) }
+    ensures kept { OnErr result (deque_capacity waiting.new ≡ deque_capacity waiting.old) }
 {
-    match waiting.push_back(request) {
-        Ok(()) => Ok(()),
-        Err(AllocFailed { value }) => Err(NotTold {
-            fault: Fault::OutOfMemory,
-            request: value,
-        }),
+    let len = waiting.len();
+    if len == waiting.capacity() {
+        let wanted = len.saturating_mul(2).max(FIRST_PLACES);
+        if waiting.reserve_exact(wanted - len).is_err() {
+            return Err(NotTold {
+                fault: Fault::OutOfMemory,
+                request,
+            });
+        }
     }
+    waiting.push_back_reserved(request);
+    Ok(())
 }
