@@ -33,24 +33,33 @@ all_owed-more (g' ∷ gave) (r' ∷ taken) g r even =
 -- one request more was served
 pub owed_more : (gave : List Outcome) (taken : List Request) (g : Outcome) (r : Request) (old new : SeatState)
     → length taken ≡ length gave → RaisedJustOwed gave taken old → RaisedJust (owed g r.signals.items) old new → RaisedJustOwed (gave ++ g ∷ []) (taken ++ r ∷ []) new
-owed_more gave taken g r old new even was step t =
-    let signals : List Point = owed g r.signals.items in
-    step.raises t
-    ∙ (ap (λ (n : ℕ). max n (raised (values_on t signals))) (was t)
-    ∙ (sym (raised-append (values_on t (all_owed gave taken)) (values_on t signals))
-    ∙ (ap raised (sym (values_on-append t (all_owed gave taken) signals))
-    ∙ ap (λ (l : List Point). raised (values_on t l)) (sym (all_owed-more gave taken g r even)))))
+owed_more gave taken g r old new even was step =
+    let signals : List Point = owed g r.signals.items in record {
+      raises = step.raises ∙ (ap (λ (l : List Point). l ++ signals) was.raises ∙ sym (all_owed-more gave taken g r even));
+      raised = λ t.
+          step.raised t
+          ∙ (ap (λ (n : ℕ). max n (raised (values_on t signals))) (was.raised t)
+          ∙ (sym (raised-append (values_on t (all_owed gave taken)) (values_on t signals))
+          ∙ (ap raised (sym (values_on-append t (all_owed gave taken) signals))
+          ∙ ap (λ (l : List Point). raised (values_on t l)) (sym (all_owed-more gave taken g r even)))));
+    }
 
 -- one request more was taken, and nothing is owed for it
 pub owed_same : (gave : List Outcome) (taken : List Request) (r : Request) (seat : SeatState)
     → length gave ≤ length taken → RaisedJustOwed gave taken seat → RaisedJustOwed gave (taken ++ r ∷ []) seat
-owed_same gave taken r seat few was t =
-    was t ∙ ap (λ (l : List Point). raised (values_on t l)) (sym (all_owed-longer gave taken (r ∷ []) few))
+owed_same gave taken r seat few was =
+    let longer : all_owed gave taken ≡ all_owed gave (taken ++ r ∷ []) = sym (all_owed-longer gave taken (r ∷ []) few) in record {
+      raises = was.raises ∙ longer;
+      raised = λ t. was.raised t ∙ ap (λ (l : List Point). raised (values_on t l)) longer;
+    }
 
 -- a seat that raised nothing more
 pub owed_still : (gave : List Outcome) (taken : List Request) (old new : SeatState)
     → RaisedJustOwed gave taken old → RaisedJust [] old new → RaisedJustOwed gave taken new
-owed_still gave taken old new was step t = let a = step.raises t in let b = was t in omega (arith, a, b)
+owed_still gave taken old new was step = record {
+  raises = step.raises ∙ (append-nil old.raises ∙ was.raises);
+  raised = λ t. let a = step.raised t in let b = was.raised t in omega (arith, a, b);
+}
 
 -- one request more was taken and is left
 pub left_more : (taken : List Request) (gave : List Outcome) (left : List Request) (r : Request) → AreLeft taken gave left → AreLeft (taken ++ r ∷ []) gave (left ++ r ∷ [])

@@ -29,14 +29,15 @@ IsPaid signals old new (Accepted entry) = HasRaised signals old new
 IsPaid signals old new (Refused op fault) = new ≡ old
 IsPaid signals old new (NotReady point have) = new ≡ old
 
--- Among any number of loads, the seat raised just these points. No seat was split off it.
+-- Among any number of loads, the seat raised just these points, in order, each by one step. No seat was split off it.
 pub record RaisedJust (points : List Point) (old new : SeatState) : Type 0 where
   pub of : new.of ≡ old.of
   pub halvings : new.halvings ≡ old.halvings
-  pub raises : (timeline : ℕ) → (mark_of new timeline).raised
+  pub raises : new.raises ≡ old.raises ++ points
+  pub raised : (timeline : ℕ) → (mark_of new timeline).raised
       ≡ max (mark_of old timeline).raised (raised (values_on timeline points))
 
--- the signals of the requests that were accepted
+-- the signals of the requests that were accepted, in the order of the requests and of their signals
 abbrev pub all_owed : List Outcome → List Request → List Point
 all_owed [] requests = []
 all_owed (outcome ∷ outcomes) [] = []

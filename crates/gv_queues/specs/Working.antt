@@ -11,7 +11,8 @@ use Rattle.gv_vm.specs.declared.outcome.NotTold.{NotTold}
 use Rattle.gv_queues.specs.Paying.{all_owed, owed}
 use Rattle.gv_queues.specs.Submitting.{ChannelId, no_channel}
 
--- a worker that took nothing yet: its queue, its channel, and of its seat the timelines, what it knows of them, and its share
+-- a worker that took nothing yet: its queue, its channel, and of its seat the timelines, what it knows of them, and its share.
+-- It raised nothing
 pub record WorkerState : Type 0 where
   pub queue : ℕ
   pub channel : ChannelId
@@ -20,13 +21,14 @@ pub record WorkerState : Type 0 where
   pub halvings : ℕ
 
 -- what a worker that ended leaves: the requests that it took, the outcomes that it gave the first of them, and the others; and
--- the share of its seat
+-- of its seat the raises, in order, and the share
 pub record WorkerEndState : Type 0 where
   pub queue : ℕ
   pub channel : ChannelId
   pub taken : List Request
   pub gave : List Outcome
   pub left : List Request
+  pub raises : List Point
   pub halvings : ℕ
 
 -- those of the requests taken that got no outcome are left
@@ -34,10 +36,10 @@ pub record AreLeft (taken : List Request) (gave : List Outcome) (left : List Req
   pub few : length gave ≤ length taken
   pub left_is : drop (length gave) taken ≡ left
 
--- the seat raised just the signals of those requests that were accepted
-abbrev pub RaisedJustOwed : List Outcome → List Request → SeatState → Type 0
-RaisedJustOwed gave taken seat =
-    (timeline : ℕ) → (mark_of seat timeline).raised ≡ raised (values_on timeline (all_owed gave taken))
+-- the seat raised just the signals of those requests that were accepted, in order, each by one step
+pub record RaisedJustOwed (gave : List Outcome) (taken : List Request) (seat : SeatState) : Type 0 where
+  pub raises : seat.raises ≡ all_owed gave taken
+  pub raised : (timeline : ℕ) → (mark_of seat timeline).raised ≡ raised (values_on timeline (all_owed gave taken))
 
 -- what a request is owed where it was seen to: nothing, unless it was accepted
 abbrev pub owed_by : Result Outcome NotTold → List Point → List Point
@@ -58,16 +60,18 @@ abbrev pub worker_at : List WorkerState → ℕ → WorkerState
 worker_at workers queue = slice_index_or workers queue no_worker
 
 abbrev pub no_end : WorkerEndState
-no_end = record { queue = 0; channel = no_channel; taken = []; gave = []; left = []; halvings = 0 }
+no_end = record { queue = 0; channel = no_channel; taken = []; gave = []; left = []; raises = []; halvings = 0 }
 
 abbrev pub end_at : List WorkerEndState → ℕ → WorkerEndState
 end_at ends queue = slice_index_or ends queue no_end
 
--- the end is that of this worker: it has its queue, its channel and its seat's share
+-- the end is that of this worker: it has its queue, its channel and its seat's share. With that seat just the signals of the
+-- requests that were accepted were raised, in order
 pub record IsEndOfWorker (worker : WorkerState) (end : WorkerEndState) : Type 0 where
   pub queue : end.queue ≡ worker.queue
   pub channel : end.channel ≡ worker.channel
   pub halvings : end.halvings ≡ worker.halvings
+  pub raises : end.raises ≡ all_owed end.gave end.taken
 
 -- at each place is the end of the worker that stood there
 abbrev pub AreEndsOfWorkers : List WorkerState → List WorkerEndState → Type 0

@@ -70,6 +70,7 @@ pub fn open_all(
     requires depth { IsFromOneTo most_places depth }
     ensures own { IsSeatOf timelines.now seat.new }
     ensures marks { seat.new.marks ≡ seat.old.marks }
+    ensures raises { seat.new.raises ≡ seat.old.raises }
     ensures share { IfOk result (λ _. seat.new.halvings ≡ seat.old.halvings + (count + 1)) }
     ensures seats { IfOk result (λ o. IsSeatOf timelines.now o.seat
         × All (λ w. w.of ≡ timelines.now) o.workers.items) }

@@ -42,6 +42,7 @@ pub fn run_queues<G: Gate + Sync, D: Driver, R: Threads + Wait + Sync>(
     requires relied { D.relies_on driver.old vm.space.limits.told depth count }
     ensures own { IsSeatOf timelines.now seat.new }
     ensures marks { seat.new.marks ≡ seat.old.marks }
+    ensures raises { seat.new.raises ≡ seat.old.raises }
     ensures share { result.1 ≢ Err QueuesFault.NotMade → seat.new.halvings ≡ seat.old.halvings + (count + 1) }
     ensures sound { IsMachine result.0 }
     ensures not_made { result.1 ≡ Err QueuesFault.NotMade → result.0 ≡ vm }

@@ -2,7 +2,7 @@
 ghost use Rattle.std.specs.Prelude.{◌≡◌, ◌<◌, ℕ, [], length, vec_capacity, IfErr};
 ghost use Rattle.gv_types.specs.Request.{Fits as FitsTimelines};
 ghost use Rattle.gv_sync.specs.Seats.{IsSeatOf, count_of, mark_of};
-ghost use Rattle.gv_queues.specs.Paying.{RaisedJust};
+ghost use Rattle.gv_queues.specs.Paying.{RaisedJust, all_owed};
 ghost use Rattle.gv_queues.specs.Working.{owed_by};
 
 use crate::gate::Gate;
@@ -52,6 +52,7 @@ impl Model for Worker {
     ghost invariant = { λ w.
         (w.taker.taken ≡ [])
         × (w.taker.timelines ≡ count_of w.seat.of)
+        × (w.seat.raises ≡ [])
         × ((timeline : ℕ) → (mark_of w.seat timeline).raised ≡ 0)
         × (w.left.items ≡ [])
         × (0 < vec_capacity w.left) };
@@ -61,6 +62,7 @@ impl Worker {
     pub fn new(taker: Taker, seat: Seat, left: Vec<Request>) -> Worker
         requires none { taker.taken ≡ [] }
         requires timelines { taker.timelines ≡ count_of seat.of }
+        requires raises { seat.raises ≡ [] }
         requires raised { (timeline : ℕ) → (mark_of seat timeline).raised ≡ 0 }
         requires left { (left.items ≡ []) × (0 < vec_capacity left) }
         ensures { result ≡ record {
@@ -133,6 +135,8 @@ pub fn work<G: Gate, R: Wait>(
     requires { worker.of ≡ shared.timelines.now }
     ensures queue { result.queue ≡ worker.queue }
     ensures channel { result.channel ≡ worker.channel }
+    // The signals of the requests that were accepted were raised, each by one step, in order, and nothing else was.
+    ensures raises { result.raises ≡ all_owed result.gave result.taken }
     // No seat was split off the worker's own, with which it could have raised unseen.
     ensures share { result.halvings ≡ worker.halvings }
 {

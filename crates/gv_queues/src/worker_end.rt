@@ -1,6 +1,7 @@
 //! What a worker leaves when it ends.
 ghost use Rattle.std.specs.Prelude.{◌≡◌, ◌↔◌, ◌≤◌, IsTrue, length, vec_capacity};
 ghost use Rattle.gv_queues.specs.Ending.{Agrees};
+ghost use Rattle.gv_queues.specs.Paying.{all_owed};
 ghost use Rattle.gv_queues.specs.Working.{AreLeft, RaisedJustOwed};
 
 use crate::put_end::PutEnd;
@@ -31,6 +32,7 @@ impl Model for WorkerEnd {
       taken = e.taker.taken;
       gave = e.gave.items;
       left = e.left.items;
+      raises = e.seat.raises;
       halvings = e.seat.halvings;
     } };
 
@@ -48,6 +50,7 @@ impl WorkerEnd {
           taken = taker.taken;
           gave = gave.items;
           left = left.items;
+          raises = seat.raises;
           halvings = seat.halvings;
         } }
     {
@@ -78,6 +81,7 @@ impl WorkerEnd {
         ensures queue { result.queue ≡ self.queue }
         ensures channel { result.channel ≡ self.channel }
         ensures gave { result.gave ≡ self.gave }
+        ensures raises { result.raises ≡ all_owed result.gave result.taken }
         ensures share { result.halvings ≡ self.halvings }
     {
         let Self {

@@ -12,6 +12,7 @@ use Rattle.gv_sync.specs.Turns.{HasLooked}
 pub no_looks : (seat : SeatState) → HasLooked seat seat
 no_looks seat = record {
   of = refl;
+  raises = refl;
   halvings = refl;
   counted = refl;
   raised = λ t. refl;
@@ -21,6 +22,7 @@ no_looks seat = record {
 pub looks_after_looks : (first second third : SeatState) → HasLooked first second → HasLooked second third → HasLooked first third
 looks_after_looks first second third a b = record {
   of = b.of ∙ a.of;
+  raises = b.raises ∙ a.raises;
   halvings = b.halvings ∙ a.halvings;
   counted = b.counted ∙ a.counted;
   raised = λ t. b.raised t ∙ a.raised t;
@@ -60,6 +62,7 @@ module _ (timeline number : ℕ) (old : SeatState) (named : timeline < length ol
 pub one_look : (timeline number : ℕ) (old : SeatState) → timeline < length old.marks → IsNoLess (mark_of old timeline) number → HasLooked old (after_load old timeline number)
 one_look timeline number old named no_less = record {
   of = refl;
+  raises = refl;
   halvings = refl;
   counted = length-set old.marks timeline _;
   raised = λ t. (at_one timeline number old named no_less t).raised;

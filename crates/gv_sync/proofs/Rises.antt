@@ -9,6 +9,7 @@ use native.Mathlib.Decide.{ℕ_discrete, dec_le}
 use lib.ListN.{get_elem?}
 use Rattle.atomic_table.specs.Table.{Allows, Splits, keeps, State, opening, step}
 use Rattle.atomic_table.proofs.Lists.{at_set, at_snoc, set_else, at_longer}
+use Rattle.gv_types.specs.declared.request.Point.{Point}
 use Rattle.gv_sync.specs.declared.marks.Mark.{Mark}
 use Rattle.gv_sync.specs.declared.marks.Known.{Known}
 use Rattle.gv_sync.specs.Marks.{mark, fresh_mark, mark_at, marks_after_load, marks_after_raise, marks_split_off, known, first_known, known_after_split, known_split_off}
@@ -24,7 +25,7 @@ set_cases P xs i x d j lt here else =
     ]
 
 -- one step of a seat on a timeline whose number goes from n to m. The seat's mark there becomes one that raised r and saw m
-module _ (words : List ℕ) (seats : List Known) (seat timeline : ℕ) (old_known : Known) (m r taken : ℕ)
+module _ (words : List ℕ) (seats : List Known) (seat timeline : ℕ) (old_known : Known) (points : List Point) (m r taken : ℕ)
     (within : (j : ℕ) (u : Known) → get_elem? seats j ≡ some u → IsWithin words u.marks)
     (raised : (t : ℕ) → IsRaised words seats t)
     (here : get_elem? seats seat ≡ some old_known)
@@ -43,7 +44,7 @@ module _ (words : List ℕ) (seats : List Known) (seat timeline : ℕ) (old_know
   new_marks = set marks timeline (mark m r taken)
 
   abbrev new_known : Known
-  new_known = known new_marks old_known.halvings
+  new_known = known new_marks points old_known.halvings
 
   abbrev new_seats : List Known
   new_seats = set seats seat new_known
@@ -123,16 +124,16 @@ loads count slots seat timeline before out named s kept deep here fits =
     let n : ℕ = slice_index s.words timeline in
     let lt : timeline < length s.words = subst (λ (k : ℕ). timeline < k) (sym kept.counted) named in
     let reaches : old_mark.raised ≤ n = le_trans (old.raised timeline) (old.seen timeline) in (
-      known (marks_after_load before.marks timeline n) before.halvings,
+      known (marks_after_load before.marks timeline n) before.raises before.halvings,
       keeps,
       tt,
       record {
         counted = simp length-set kept.counted;
-        within = within_after s.words s.views seat timeline before n old_mark.raised (old_mark.taken + 1) kept.within kept.raised here lt (le_refl n) (le_refl _) reaches (inl refl);
-        raised = raised_after s.words s.views seat timeline before n old_mark.raised (old_mark.taken + 1) kept.within kept.raised here lt (le_refl n) (le_refl _) reaches (inl refl);
-        shared = stepped_on s.views seat before (known (marks_after_load before.marks timeline n) before.halvings) here refl kept.shared;
+        within = within_after s.words s.views seat timeline before before.raises n old_mark.raised (old_mark.taken + 1) kept.within kept.raised here lt (le_refl n) (le_refl _) reaches (inl refl);
+        raised = raised_after s.words s.views seat timeline before before.raises n old_mark.raised (old_mark.taken + 1) kept.within kept.raised here lt (le_refl n) (le_refl _) reaches (inl refl);
+        shared = stepped_on s.views seat before (known (marks_after_load before.marks timeline n) before.raises before.halvings) here refl kept.shared;
       },
-      record { marks = refl; halvings = refl; no_less = record { seen = old.seen timeline; raised = reaches }; alone = own_raise count seat timeline before s kept here },
+      record { marks = refl; raises = refl; halvings = refl; no_less = record { seen = old.seen timeline; raised = reaches }; alone = own_raise count seat timeline before s kept here },
     )
 
 -- the greater of the number and the value is the number, or what the seat then raised to
@@ -150,17 +151,18 @@ raises count slots seat timeline value before out named s kept deep here fits =
     let n : ℕ = slice_index s.words timeline in
     let lt : timeline < length s.words = subst (λ (k : ℕ). timeline < k) (sym kept.counted) named in
     let reaches : old_mark.raised ≤ n = le_trans (old.raised timeline) (old.seen timeline) in
+    let point : Point = record { timeline = timeline; value = value } in
     let top : max old_mark.raised value ≤ max n value = max-le (le_trans reaches (le-max_left n value)) (le-max_right n value) in (
-      known (marks_after_raise before.marks timeline value (max n value)) before.halvings,
+      known (marks_after_raise before.marks timeline value (max n value)) (before.raises ++ point ∷ []) before.halvings,
       keeps,
       tt,
       record {
         counted = simp length-set kept.counted;
-        within = within_after s.words s.views seat timeline before (max n value) (max old_mark.raised value) (old_mark.taken + 1) kept.within kept.raised here lt (le-max_left n value) (le-max_left old_mark.raised value) top (max_by n old_mark.raised value reaches);
-        raised = raised_after s.words s.views seat timeline before (max n value) (max old_mark.raised value) (old_mark.taken + 1) kept.within kept.raised here lt (le-max_left n value) (le-max_left old_mark.raised value) top (max_by n old_mark.raised value reaches);
-        shared = stepped_on s.views seat before (known (marks_after_raise before.marks timeline value (max n value)) before.halvings) here refl kept.shared;
+        within = within_after s.words s.views seat timeline before (before.raises ++ point ∷ []) (max n value) (max old_mark.raised value) (old_mark.taken + 1) kept.within kept.raised here lt (le-max_left n value) (le-max_left old_mark.raised value) top (max_by n old_mark.raised value reaches);
+        raised = raised_after s.words s.views seat timeline before (before.raises ++ point ∷ []) (max n value) (max old_mark.raised value) (old_mark.taken + 1) kept.within kept.raised here lt (le-max_left n value) (le-max_left old_mark.raised value) top (max_by n old_mark.raised value reaches);
+        shared = stepped_on s.views seat before (known (marks_after_raise before.marks timeline value (max n value)) (before.raises ++ point ∷ []) before.halvings) here refl kept.shared;
       },
-      record { marks = refl; halvings = refl; no_less = record { seen = old.seen timeline; raised = reaches }; alone = own_raise count seat timeline before s kept here },
+      record { marks = refl; raises = refl; halvings = refl; no_less = record { seen = old.seen timeline; raised = reaches }; alone = own_raise count seat timeline before s kept here },
     )
 
 split_within : (words : List ℕ) (marks : List Mark) → IsWithin words marks → IsWithin words (marks_split_off marks)

@@ -1,5 +1,5 @@
 -- What a list of raises makes of a seat.
-use Rattle.std.proofs.Common.{◌≡◌, ◌≢◌, ℕ, ◌+◌, ◌<◌, ◌≤◌, List, [], ◌∷◌, ◌++◌, true, false, nat_eq, length, get_or, set, max, sym, refl, ap, ◌∙◌, subst, ⊎_elim, le_refl, le_trans, arith}
+use Rattle.std.proofs.Common.{◌≡◌, ◌≢◌, ℕ, ◌+◌, ◌<◌, ◌≤◌, List, [], ◌∷◌, ◌++◌, true, false, nat_eq, length, get_or, set, max, sym, refl, ap, ◌∙◌, subst, ⊎_elim, le_refl, le_trans, arith, append-nil, append_assoc}
 use Rattle.std.proofs.lemmas.List.{get_or-set_same, get_or-set_other, length-append}
 use Rattle.std.proofs.lemmas.Bool.Decides.{eqb_tells}
 use Rattle.std.proofs.Math.ListN.{length-set}
@@ -14,6 +14,7 @@ use Rattle.gv_sync.proofs.Raised.{once_more, values_on-other, values_on-same}
 pub none_yet : NoRaisesYet
 none_yet seat = record {
   of = refl;
+  raises = sym (append-nil seat.raises);
   halvings = refl;
   counted = refl;
   taken = λ t. none_taken (mark_of seat t).taken;
@@ -79,6 +80,7 @@ module _ (points : List Point) (point : Point) (number : ℕ) (old seat : SeatSt
 pub one_more : OneMoreRaise
 one_more points point number old seat so_far named no_less = record {
   of = so_far.of;
+  raises = ap (λ (l : List Point). l ++ point ∷ []) so_far.raises ∙ append_assoc old.raises points (point ∷ []);
   halvings = so_far.halvings;
   counted = length-set seat.marks point.timeline _ ∙ so_far.counted;
   taken = λ t. (at_one points point number old seat so_far named no_less t).taken;

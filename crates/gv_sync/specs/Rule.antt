@@ -1,5 +1,5 @@
 -- The rule of the timelines: of each seat, dropped ones too, raised ≤ seen ≤ word, a word is 0 or what some seat raised it to, and the seats' shares are one whole.
-use Rattle.std.specs.Prelude.{◌≡◌, ◌⊎◌, ℕ, ◌-◌, ◌^◌, ◌≤◌, List, length, max, slice_index, sum_by}
+use Rattle.std.specs.Prelude.{◌≡◌, ◌⊎◌, ℕ, ◌-◌, ◌^◌, ◌≤◌, List, [], ◌∷◌, ◌++◌, length, max, slice_index, sum_by}
 use mathlib.Core.Option.{some}
 use lib.ListN.{get_elem?}
 use Rattle.atomic_table.specs.Table.{State, Me, Step}
@@ -53,16 +53,18 @@ abbrev pub IsOwnRaise : Known → ℕ → ℕ → Type 0
 IsOwnRaise known timeline number =
     known.halvings ≡ 0 → number ≡ (mark_at known.marks timeline).raised
 
--- what a load tells: the number found is now seen, and no lower than what was seen
+-- what a load tells: the number found is now seen, and no lower than what was seen. Nothing was raised
 pub record Loaded (s : Step ℕ) (before : Holder) (found : ℕ) (after : Holder) : Type 0 where
   pub marks : after.0.marks ≡ marks_after_load before.0.marks s.word found
+  pub raises : after.0.raises ≡ before.0.raises
   pub halvings : after.0.halvings ≡ before.0.halvings
   pub no_less : IsNoLess (mark_at before.0.marks s.word) found
   pub alone : IsOwnRaise before.0 s.word found
 
--- what a fetch_max tells: the greater of the number found and the value is now seen
+-- what a fetch_max tells: the greater of the number found and the value is now seen, and that was the seat's last raise
 pub record Raised (s : Step ℕ) (before : Holder) (found : ℕ) (after : Holder) : Type 0 where
   pub marks : after.0.marks ≡ marks_after_raise before.0.marks s.word s.first (max found s.first)
+  pub raises : after.0.raises ≡ before.0.raises ++ record { timeline = s.word; value = s.first } ∷ []
   pub halvings : after.0.halvings ≡ before.0.halvings
   pub no_less : IsNoLess (mark_at before.0.marks s.word) found
   pub alone : IsOwnRaise before.0 s.word found

@@ -8,6 +8,7 @@ use Rattle.gv_sync.specs.Seats.{SeatState, after_raise, mark_of}
 -- the seat after raises to these points in order, each by one step, and no other steps
 pub record HasRaised (points : List Point) (old new : SeatState) : Type 0 where
   pub of : new.of ≡ old.of
+  pub raises : new.raises ≡ old.raises ++ points
   pub halvings : new.halvings ≡ old.halvings
   pub counted : length new.marks ≡ length old.marks
   pub taken : (timeline : ℕ) → (mark_of new timeline).taken
@@ -31,6 +32,7 @@ OneMoreRaise =
 -- the seat after any number of loads, each by one step, and no other steps: it raised nothing, and no seat was split off it
 pub record HasLooked (old new : SeatState) : Type 0 where
   pub of : new.of ≡ old.of
+  pub raises : new.raises ≡ old.raises
   pub halvings : new.halvings ≡ old.halvings
   pub counted : length new.marks ≡ length old.marks
   pub raised : (timeline : ℕ) → (mark_of new timeline).raised ≡ (mark_of old timeline).raised

@@ -1,4 +1,5 @@
 //! What a seat knows. Both types exist in proofs alone.
+use gv_types::Point;
 use std::collections::LinkedList;
 
 /// Of one timeline: the number seen last, the greatest number raised to, and the count of steps
@@ -9,9 +10,10 @@ pub struct Mark {
     pub taken: u64,
 }
 
-/// A mark for each timeline, and how often the seat's share was halved: the first seat has the
-/// whole, and each split halves a share.
+/// A mark for each timeline, the points that the seat raised to, in order, and how often its share
+/// was halved: the first seat has the whole, and each split halves a share.
 pub struct Known {
     pub marks: LinkedList<Mark>,
+    pub raises: LinkedList<Point>,
     pub halvings: u64,
 }

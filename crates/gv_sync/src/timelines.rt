@@ -104,6 +104,7 @@ impl Model for Seat {
     ghost view = { λ s. record {
       of = s.pass.table_id;
       marks = s.pass.me.0.marks;
+      raises = s.pass.me.0.raises;
       halvings = s.pass.me.0.halvings;
     } };
 

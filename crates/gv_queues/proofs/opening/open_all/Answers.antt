@@ -1,4 +1,4 @@
-use Rattle.std.proofs.Common.{rules, ◌≡◌, ◌∙◌, ◌+◌, ℕ, length, vec_len, sym, ap, arith}
+use Rattle.std.proofs.Common.{rules, ◌≡◌, ◌∙◌, ◌+◌, ℕ, length, vec_len, sym, refl, ap, arith}
 use Rattle.gv_sync.specs.Seats.{SeatState, count_of, mark_of, split_from}
 use Rattle.gv_sync.proofs.LookLemmas.{split_raised}
 use Rattle.gv_queues.specs.Sharing.{after_splits, seat_of, split_behind}
@@ -10,8 +10,8 @@ use Rattle.gv_queues.proofs.Ends.{each_more, one_more, opened_more, in_order_mor
 use Rattle.gv_queues.proofs.opening.open_all.Goals as goal
 
 -- two seats that agree in each part are one
-seats_one : (a b : SeatState) → a.of ≡ b.of → a.marks ≡ b.marks → a.halvings ≡ b.halvings → a ≡ b
-seats_one a b of marks halvings i = record { of = of i; marks = marks i; halvings = halvings i }
+seats_one : (a b : SeatState) → a.of ≡ b.of → a.marks ≡ b.marks → a.raises ≡ b.raises → a.halvings ≡ b.halvings → a ≡ b
+seats_one a b of marks raises halvings i = record { of = of i; marks = marks i; raises = raises i; halvings = halvings i }
 
 pub new-requires-in-loop-queue-2-clause-raised : goal.new-requires-in-loop-queue-2-clause-raised
 new-requires-in-loop-queue-2-clause-raised c t =
@@ -37,9 +37,13 @@ loop-queue-preserved c =
     let taker_channel = ap (λ (t : TakerState). t.channel) c.new-in-loop-queue.ensures in
     let worker_channel = ap (λ (w : WorkerState). w.channel) c.new-in-loop-queue-2.ensures in
     let submitter_channel = ap (λ (s : SubmitterState). s.channel) c.new.ensures in
-    let lent : c.loop-queue.seat ≡ after_splits c.args.seat.now c.loop-queue.queue = seats_one _ _ (was.0 ∙ sym c.requires.own) was.1 was.2 in
+    let lent : c.loop-queue.seat ≡ after_splits c.args.seat.now c.loop-queue.queue = seats_one _ _ (was.0 ∙ sym c.requires.own) was.1 was.12 was.2 in
+    let given : c.in_ok-own.own ≡ split_behind c.args.seat.now (length c.loop-queue.workers.items) =
+    c.in_ok-own.ensures.given ∙ (ap split_from lent ∙ ap (λ (n : ℕ). split_behind c.args.seat.now n) (sym was.4 ∙ wide)) in
     let own : seat_of c.new-in-loop-queue-2.result ≡ split_behind c.args.seat.now (length c.loop-queue.workers.items) =
-    ap seat_of c.new-in-loop-queue-2.ensures ∙ (c.in_ok-own.ensures.given ∙ (ap split_from lent ∙ ap (λ (n : ℕ). split_behind c.args.seat.now n) (sym was.4 ∙ wide))) in
+    seats_one (seat_of c.new-in-loop-queue-2.result) _ (ap (λ (w : WorkerState). w.of) c.new-in-loop-queue-2.ensures ∙ ap (λ (s : SeatState). s.of) given)
+    (ap (λ (w : WorkerState). w.marks) c.new-in-loop-queue-2.ensures ∙ ap (λ (s : SeatState). s.marks) given) refl
+    (ap (λ (w : WorkerState). w.halvings) c.new-in-loop-queue-2.ensures ∙ ap (λ (s : SeatState). s.halvings) given) in
     let one : c.new.result.channel ≡ c.new-in-loop-queue-2.result.channel = search rules in (
       search rules,
       search rules,
@@ -56,6 +60,7 @@ loop-queue-preserved c =
           c.push_reserved-in-loop-queue.ensures.items own was.9,
       search rules,
       search rules,
+      search rules,
     )
 
 pub returns-clause-channels : goal.returns-clause-channels
@@ -65,6 +70,6 @@ returns-clause-channels c =
 pub returns-clause-given : goal.returns-clause-given
 returns-clause-given c =
     let was = c.loop-queue.invariant in
-    let lent : c.loop-queue.seat ≡ after_splits c.args.seat.now c.loop-queue.queue = seats_one _ _ (was.0 ∙ sym c.requires.own) was.1 was.2 in
+    let lent : c.loop-queue.seat ≡ after_splits c.args.seat.now c.loop-queue.queue = seats_one _ _ (was.0 ∙ sym c.requires.own) was.1 was.12 was.2 in
     let all : c.loop-queue.queue ≡ c.args.count = search rules in
     (was.9, c.in_ok-own-2.ensures.given ∙ (ap split_from lent ∙ ap (λ (n : ℕ). split_behind c.args.seat.now n) all))

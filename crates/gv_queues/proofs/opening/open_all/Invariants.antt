@@ -21,3 +21,4 @@ invariant-loop-queue l =
     × HaveSplits l.fn.seat l.workers.items
     × (l.fn.count ≤ vec_capacity l.submitters)
     × (l.fn.count ≤ vec_capacity l.workers)
+    × (l.seat.raises ≡ l.fn.seat.raises)

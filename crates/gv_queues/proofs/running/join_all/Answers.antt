@@ -17,6 +17,7 @@ loop-handle-preserved g c =
     let here : IsEndOfWorker (worker_at all done) end = record {
       queue = c.drained.ensures.queue ∙ (kept.queue ∙ ap (λ (w : WorkerState). w.queue) next);
       channel = c.drained.ensures.channel ∙ (kept.channel ∙ ap (λ (w : WorkerState). w.channel) next);
+      raises = c.drained.ensures.raises;
       halvings = c.drained.ensures.share ∙ (kept.halvings ∙ ap (λ (w : WorkerState). w.halvings) next);
     } in
     let long : done ≡ length c.loop-handle.workers.items = search rules in (
