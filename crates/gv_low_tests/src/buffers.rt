@@ -140,6 +140,27 @@ fn an_index_used_again(rt: HostRuntime) -> Result<(), Fail> {
 }
 
 #[test]
+fn the_index_left_last_is_used_first(rt: HostRuntime) -> Result<(), Fail> {
+    let rows = [
+        (0, Call::Create(1), Ok(()), sight(1, 0, 0)),
+        (1, Call::Create(2), Ok(()), sight(2, 0, 0)),
+        (2, Call::Create(3), Ok(()), sight(3, 0, 0)),
+        (1, Call::Destroy, Ok(()), DEAD),
+        (0, Call::Destroy, Ok(()), DEAD),
+        (3, Call::Create(4), Ok(()), sight(4, 0, 0)),
+        (4, Call::Create(5), Ok(()), sight(5, 0, 0)),
+        (5, Call::Create(6), Ok(()), sight(6, 0, 0)),
+    ];
+    let ids = play(&rt, 4, &rows)?;
+    let indexes = [0, 1, 2, 0, 1, 3];
+    assert_eq!(rt; ids.len(), indexes.len());
+    for (id, index) in ids.iter().zip(indexes.iter()) {
+        assert_eq!(rt; id.index, *index);
+    }
+    Ok(())
+}
+
+#[test]
 fn what_names_a_buffer(rt: HostRuntime) -> Result<(), Fail> {
     let all = sight(4, 2, 1);
     let kept = Fault::Kept { count: 1 };
