@@ -1,9 +1,9 @@
 -- Each queue has a channel of its own: when it is opened, and when its submitter and its worker have ended.
 use Rattle.std.proofs.Common.{◌≡◌, ℕ, ◌+◌, ◌<◌, List, [], ◌∷◌, ◌++◌, length, map, get_or, sym, ap, ◌∙◌, subst, append_assoc, arith}
-use Rattle.std.proofs.lemmas.List.{append-nil, get_or_append_left, get_or-map, length-append, length-map, map-append}
+use Rattle.std.proofs.lemmas.List.{get_or_append_left, get_or-map, length-map, map-append}
 use Rattle.gv_queues.specs.Ending.{AreClosed, AreInOrder, AreOnOwnChannels, EndOnOwnChannels, no_put, put_at}
 use Rattle.gv_queues.specs.Submitting.{AreOpened, AreSameSubmitters, ChannelId, PutEndState, SubmitterState, no_channel, no_submitter, put_end_of, submitter_at}
-use Rattle.gv_queues.specs.Working.{AreEndsOfWorkers, IsEndOfWorker, WorkerEndState, WorkerState, end_at, no_end, no_worker, worker_at}
+use Rattle.gv_queues.specs.Working.{AreEndsOfWorkers, IsEndOfWorker, WorkerEndState, WorkerState, no_end, no_worker, worker_at}
 use Rattle.gv_queues.proofs.Ends.{each_more}
 
 abbrev pub of_submitters : List SubmitterState → List ChannelId

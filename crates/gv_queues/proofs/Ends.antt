@@ -9,9 +9,9 @@ use Rattle.gv_vm.specs.Outcomes.{told_to}
 use Rattle.gv_vm.specs.declared.outcome.Outcome.{Outcome}
 use Rattle.gv_vm.specs.State.{Machine}
 use Rattle.gv_queues.specs.declared.finishing.QueueEnd.{QueueEnd}
-use Rattle.gv_queues.specs.Ending.{AreClosed, AreCountedEnds, AreEndsOf, AreInOrder, AreOnOwnChannels, ArePuts, EndOnOwnChannels, IsEndOf, no_put, put_at}
+use Rattle.gv_queues.specs.Ending.{AreCountedEnds, AreEndsOf, AreInOrder, ArePuts, IsEndOf, no_put, put_at}
 use Rattle.gv_queues.specs.Submitting.{AreCounted, AreOpened, AreSameSubmitters, IsOpened, PutEndState, SubmitterState, no_submitter, put_end_of, submitter_at}
-use Rattle.gv_queues.specs.Working.{AreEndsOfWorkers, AreLeft, IsEndOfWorker, WorkerEndState, WorkerState, end_at, no_end, no_worker, worker_at}
+use Rattle.gv_queues.specs.Working.{AreLeft, WorkerEndState, end_at, no_end}
 
 -- what holds at each place of a list and at its end holds at each place of the longer list
 pub one_more : {X : Type 0} (P : ℕ → X → Type 0) (xs ys : List X) (x d : X) → ys ≡ xs ++ x ∷ [] → P (length xs) x

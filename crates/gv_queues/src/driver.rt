@@ -1,6 +1,6 @@
 //! What puts requests while the workers run.
 ghost use Rattle.std.specs.Prelude.{◌≡◌, ◌≤◌, ℕ, length};
-ghost use Rattle.gv_sync.specs.Seats.{IsSeatOf, count_of};
+ghost use Rattle.gv_sync.specs.Seats.{IsSeatOf, SeatState, count_of};
 ghost use Rattle.gv_queues.specs.Submitting.{AreCounted, AreOpened, AreSameSubmitters};
 
 use crate::submitter::Submitter;
@@ -17,6 +17,9 @@ pub trait Driver {
     /// are.
     ghost relies_on: { Self → ℕ → ℕ → ℕ → Type 0 };
 
+    /// What the driver did with the seat that it was lent: of the seat as it got it, and as it left it.
+    ghost does_with: { Self → SeatState → SeatState → Type 0 };
+
     /// Each place has the submitter of its queue, which put nothing yet; all have one limit and one depth, which are such as
     /// the driver relies on. Afterwards the same submitters stand there, on the same channels.
     fn drive<R: Wait>(
@@ -32,6 +35,7 @@ pub trait Driver {
             × AreOpened limit depth (count_of timelines.now) submitters.old
             × relies_on self.old limit depth (length submitters.old) }
         ensures own { IsSeatOf timelines.now seat.new }
+        ensures driven { does_with self.new seat.old seat.new }
         ensures same { AreSameSubmitters submitters.old submitters.new }
         ensures counts { AreCounted (put_on self.new) submitters.new };
 

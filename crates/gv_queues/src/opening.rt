@@ -1,11 +1,11 @@
 //! All that running queues takes, asked for before any of them starts.
-ghost use Rattle.std.specs.Prelude.{◌≡◌, ◌<◌, ◌≤◌, ◌+◌, ℕ, [], IfOk, IfErr, vec_len, vec_capacity};
+ghost use Rattle.std.specs.Prelude.{◌≡◌, ◌<◌, ◌≤◌, ℕ, [], IfOk, IfErr, vec_len, vec_capacity};
 ghost use Rattle.std.specs.List.{All};
 ghost use Rattle.gv_sync.specs.Seats.{IsSeatOf, count_of};
 ghost use Rattle.gv_types.specs.Limits.{IsFromOneTo};
 ghost use Rattle.gv_vm.specs.Outcomes.{queues};
 ghost use Rattle.gv_queues.specs.Ending.{AreInOrder, AreOnOwnChannels};
-ghost use Rattle.gv_queues.specs.Sharing.{HaveSplits, split_behind};
+ghost use Rattle.gv_queues.specs.Sharing.{HaveSplits, TookNoStep, after_splits};
 ghost use Rattle.gv_queues.specs.Submitting.{AreOpened, most_places};
 
 use crate::channel::{Ends, open};
@@ -28,12 +28,11 @@ pub struct Rooms {
     pub workers: Vec<WorkerEnd>,
 }
 
-/// Queues of which nothing was put or taken, and a seat for the driver.
+/// Queues of which nothing was put or taken.
 #[derive(Drop)]
 pub struct Opened {
     pub submitters: Vec<Submitter>,
     pub workers: Vec<Worker>,
-    pub seat: Seat,
 }
 
 /// Room for so many queues.
@@ -55,8 +54,8 @@ pub fn make_rooms(alloc: Global, count: u64) -> Result<Rooms, QueuesFault>
     })
 }
 
-/// Opens so many queues of so many places each, on which so many requests may be put, with a seat for each worker and one
-/// for the driver split off the seat that is lent.
+/// Opens so many queues of so many places each, on which so many requests may be put, with a seat for each worker, split off
+/// the seat that is lent.
 pub fn open_all(
     alloc: Global,
     timelines: &Timelines,
@@ -69,12 +68,10 @@ pub fn open_all(
     requires count { count ≤ queues }
     requires depth { IsFromOneTo most_places depth }
     ensures own { IsSeatOf timelines.now seat.new }
-    ensures marks { seat.new.marks ≡ seat.old.marks }
-    ensures raises { seat.new.raises ≡ seat.old.raises }
-    ensures share { IfOk result (λ _. seat.new.halvings ≡ seat.old.halvings + (count + 1)) }
-    ensures seats { IfOk result (λ o. IsSeatOf timelines.now o.seat
-        × All (λ w. w.of ≡ timelines.now) o.workers.items) }
-    ensures given { IfOk result (λ o. HaveSplits seat.old o.workers.items × (o.seat ≡ split_behind seat.old count)) }
+    ensures no_step { TookNoStep seat.old seat.new }
+    ensures share { IfOk result (λ _. seat.new ≡ after_splits seat.old count) }
+    ensures seats { IfOk result (λ o. All (λ w. w.of ≡ timelines.now) o.workers.items) }
+    ensures given { IfOk result (λ o. HaveSplits seat.old o.workers.items) }
     ensures opened { IfOk result (λ o. AreOpened limit depth (count_of timelines.now) o.submitters.items) }
     ensures order { IfOk result (λ o. AreInOrder (λ w. w.queue) o.workers.items) }
     ensures channels { IfOk result (λ o. AreOnOwnChannels o.submitters.items o.workers.items) }
@@ -97,10 +94,8 @@ pub fn open_all(
         submitters.push_reserved(Submitter::new(sends, puts, queue, limit, named));
         workers.push_reserved(Worker::new(Taker::new(receives, takes, queue), own, left));
     }
-    let own = timelines.split(seat)?;
     Ok(Opened {
         submitters,
         workers,
-        seat: own,
     })
 }

@@ -71,11 +71,14 @@ fn put_all<R: Wait>(
 }
 
 impl Driver for PutAll {
+    ghost use Rattle.std.specs.Prelude.{◌≡◌};
     ghost use Rattle.gv_queues.specs.Counts.{count_at};
 
     ghost put_on = { λ d. count_at d.counts };
 
     ghost relies_on = { λ d limit depth count. Unit {0} };
+
+    ghost does_with = { λ d old new. new ≡ old };
 
     fn drive<R: Wait>(
         &mut self,

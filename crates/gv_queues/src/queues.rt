@@ -1,10 +1,11 @@
 //! Queues that are opened, run and finished.
-ghost use Rattle.std.specs.Prelude.{◌≡◌, ◌≢◌, ◌<◌, ◌≤◌, ◌+◌, ℕ, [], Err, IfOk, IfErr, vec_len};
+ghost use Rattle.std.specs.Prelude.{◌≡◌, ◌<◌, ◌≤◌, ℕ, [], Err, IfOk, IfErr, vec_len};
 ghost use Rattle.gv_sync.specs.Seats.{IsSeatOf};
 ghost use Rattle.gv_types.specs.Limits.{IsFromOneTo};
 ghost use Rattle.gv_vm.specs.Outcomes.{queues};
 ghost use Rattle.gv_vm.specs.State.{IsMachine};
 ghost use Rattle.gv_queues.specs.Ending.{AreCountedEnds, HasNotRun, IsOfQueueBelow, IsUntold};
+ghost use Rattle.gv_queues.specs.Sharing.{ComesBack};
 ghost use Rattle.gv_queues.specs.Submitting.{most_places};
 
 use crate::driver::Driver;
@@ -41,9 +42,8 @@ pub fn run_queues<G: Gate + Sync, D: Driver, R: Threads + Wait + Sync>(
     requires untold { IsUntold vm }
     requires relied { D.relies_on driver.old vm.space.limits.told depth count }
     ensures own { IsSeatOf timelines.now seat.new }
-    ensures marks { seat.new.marks ≡ seat.old.marks }
-    ensures raises { seat.new.raises ≡ seat.old.raises }
-    ensures share { result.1 ≢ Err QueuesFault.NotMade → seat.new.halvings ≡ seat.old.halvings + (count + 1) }
+    // The driver's steps are seen on the seat that was lent, and no others were taken with it.
+    ensures lent { ComesBack count (D.does_with driver.new) seat.old seat.new result.1 }
     ensures sound { IsMachine result.0 }
     ensures not_made { result.1 ≡ Err QueuesFault.NotMade → result.0 ≡ vm }
     ensures not_run { IfErr result.1 (λ fault. HasNotRun fault → driver.new ≡ driver.old) }
@@ -69,7 +69,7 @@ pub fn run_queues<G: Gate + Sync, D: Driver, R: Threads + Wait + Sync>(
         timelines,
         gate,
     };
-    let ran = run_workers(rt, alloc, around, driver, opened, rooms);
+    let ran = run_workers(rt, alloc, around, driver, seat, opened, rooms);
     let vm = lock.into_inner();
     // For the prover: what always holds of the machine.
     let _space = vm.space();

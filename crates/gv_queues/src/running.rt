@@ -57,19 +57,22 @@ fn drive_all<D: Driver, R: Wait>(
     lock: &VmLock,
     mut submitters: Vec<Submitter>,
     timelines: &Timelines,
-    mut seat: Seat,
+    seat: &mut Seat,
     puts: Vec<PutEnd>,
 ) -> Vec<PutEnd>
-    requires own { IsSeatOf timelines.now seat }
+    requires own { IsSeatOf timelines.now seat.old }
     requires opened { (limit : ℕ) × (depth : ℕ) × AreOpened limit depth (count_of timelines.now) submitters.items
         × D.relies_on driver.old limit depth (vec_len submitters) }
     requires none { puts.items ≡ [] }
     requires room { vec_len submitters ≤ vec_capacity puts }
+    ensures own { IsSeatOf timelines.now seat.new }
+    // With the driver's seat no step is taken but by the driver.
+    ensures driven { D.does_with driver.new seat.old seat.new }
     ensures puts { ArePuts (D.put_on driver.new) result.items }
     ensures closed { AreClosed submitters.items result.items }
     ensures len { vec_len result ≡ vec_len submitters }
 {
-    driver.drive(rt, lock, submitters.as_mut_slice(), timelines, &mut seat);
+    driver.drive(rt, lock, submitters.as_mut_slice(), timelines, seat);
     close_all(submitters, puts)
 }
 
@@ -105,10 +108,11 @@ pub fn run_workers<L: Locked + Sync, G: Gate + Sync, D: Driver, R: Threads + Wai
     alloc: Global,
     around: Around<'_, L, G>,
     driver: &mut D,
+    seat: &mut Seat,
     opened: Opened,
     rooms: Rooms,
 ) -> Ran
-    requires own { IsSeatOf around.timelines.now opened.seat
+    requires own { IsSeatOf around.timelines.now seat.old
         × All (λ w. w.of ≡ around.timelines.now) opened.workers.items }
     requires opened { (limit : ℕ) × (depth : ℕ)
         × AreOpened limit depth (count_of around.timelines.now) opened.submitters.items
@@ -120,6 +124,8 @@ pub fn run_workers<L: Locked + Sync, G: Gate + Sync, D: Driver, R: Threads + Wai
     requires room { (vec_len opened.workers ≤ vec_capacity rooms.handles)
         × (vec_len opened.workers ≤ vec_capacity rooms.puts)
         × (vec_len opened.workers ≤ vec_capacity rooms.workers) }
+    ensures own { IsSeatOf around.entry.timelines.now seat.new }
+    ensures driven { IfNone result.refused (D.does_with driver.new seat.old seat.new) }
     ensures order { AreInOrder (λ w. w.queue) result.workers.items }
     ensures puts { IfNone result.refused (ArePuts (D.put_on driver.new) result.puts.items) }
     ensures even { IfNone result.refused ((vec_len result.puts ≡ vec_len opened.submitters)
@@ -127,7 +133,7 @@ pub fn run_workers<L: Locked + Sync, G: Gate + Sync, D: Driver, R: Threads + Wai
     ensures ends { IfNone result.refused (AreEndsOfWorkers opened.workers.items result.workers.items) }
     ensures channels { IfNone result.refused (EndOnOwnChannels result.puts.items result.workers.items) }
     ensures refused { IfSome result.refused (λ queue. (queue < vec_len opened.submitters)
-        × (driver.new ≡ driver.old)) }
+        × (driver.new ≡ driver.old) × (seat.new ≡ seat.old)) }
 {
     let Around {
         lock,
@@ -137,18 +143,17 @@ pub fn run_workers<L: Locked + Sync, G: Gate + Sync, D: Driver, R: Threads + Wai
     let Opened {
         submitters,
         workers,
-        seat,
     } = opened;
     let Rooms {
         mut handles,
         puts,
         workers: worker_ends,
     } = rooms;
-    let (again, ran) = thread::scope(
+    let (again, lent, ran) = thread::scope(
         thread::scope_env(),
         rt,
-        move |scope| -> (&mut D, Ran)
-            requires own { IsSeatOf timelines.now seat × All (λ w. w.of ≡ timelines.now) workers.items }
+        move |scope| -> (&mut D, &mut Seat, Ran)
+            requires own { IsSeatOf timelines.now seat.now × All (λ w. w.of ≡ timelines.now) workers.items }
             requires opened { (limit : ℕ) × (depth : ℕ)
                 × AreOpened limit depth (count_of timelines.now) submitters.items
                 × D.relies_on driver.now limit depth (vec_len submitters) }
@@ -158,15 +163,18 @@ pub fn run_workers<L: Locked + Sync, G: Gate + Sync, D: Driver, R: Threads + Wai
             requires none { (handles.items ≡ []) × (puts.items ≡ []) × (worker_ends.items ≡ []) }
             requires room { (vec_len workers ≤ vec_capacity handles) × (vec_len workers ≤ vec_capacity puts)
                 × (vec_len workers ≤ vec_capacity worker_ends) }
-            ensures order { AreInOrder (λ w. w.queue) result.1.workers.items }
-            ensures puts { IfNone result.1.refused (ArePuts (D.put_on result.0.now) result.1.puts.items) }
-            ensures even { IfNone result.1.refused ((vec_len result.1.puts ≡ vec_len submitters)
-                × (vec_len result.1.workers ≡ vec_len submitters)) }
-            ensures ends { IfNone result.1.refused (AreEndsOfWorkers workers.items result.1.workers.items) }
-            ensures channels { IfNone result.1.refused (EndOnOwnChannels result.1.puts.items result.1.workers.items) }
-            ensures refused { IfSome result.1.refused (λ queue. (queue < vec_len submitters)
-                × (result.0.now ≡ driver.entry.now)) }
+            ensures own { IsSeatOf timelines.entry.now result.1.now }
+            ensures driven { IfNone result.2.refused (D.does_with result.0.now seat.entry.now result.1.now) }
+            ensures order { AreInOrder (λ w. w.queue) result.2.workers.items }
+            ensures puts { IfNone result.2.refused (ArePuts (D.put_on result.0.now) result.2.puts.items) }
+            ensures even { IfNone result.2.refused ((vec_len result.2.puts ≡ vec_len submitters)
+                × (vec_len result.2.workers ≡ vec_len submitters)) }
+            ensures ends { IfNone result.2.refused (AreEndsOfWorkers workers.items result.2.workers.items) }
+            ensures channels { IfNone result.2.refused (EndOnOwnChannels result.2.puts.items result.2.workers.items) }
+            ensures refused { IfSome result.2.refused (λ queue. (queue < vec_len submitters)
+                × (result.0.now ≡ driver.entry.now) × (result.1.now ≡ seat.entry.now)) }
             ensures same { result.0.ghost_name ≡ driver.entry.ghost_name }
+            ensures same_seat { result.1.ghost_name ≡ seat.entry.ghost_name }
         {
             let mut refused = None;
             for worker in workers {
@@ -212,9 +220,10 @@ pub fn run_workers<L: Locked + Sync, G: Gate + Sync, D: Driver, R: Threads + Wai
                 workers,
                 refused,
             };
-            (driver, ran)
+            (driver, seat, ran)
         },
     );
     let _ = &*again;
+    let _ = &*lent;
     ran
 }

@@ -66,6 +66,8 @@ impl Driver for Plan<'_> {
 
     ghost relies_on = { λ d limit depth count. Unit {0} };
 
+    ghost does_with = { λ d old new. Unit {0} };
+
     fn drive<R: Wait>(
         &mut self,
         rt: &R,

@@ -67,9 +67,9 @@ pub returns-clause-channels : goal.returns-clause-channels
 returns-clause-channels c =
     let was = c.loop-queue.invariant in own_channels c.args.limit c.args.depth (count_of c.args.timelines.now) c.loop-queue.submitters.items c.loop-queue.workers.items was.5 was.8
 
-pub returns-clause-given : goal.returns-clause-given
-returns-clause-given c =
+pub returns-clause-share : goal.returns-clause-share
+returns-clause-share c =
     let was = c.loop-queue.invariant in
     let lent : c.loop-queue.seat ≡ after_splits c.args.seat.now c.loop-queue.queue = seats_one _ _ (was.0 ∙ sym c.requires.own) was.1 was.12 was.2 in
     let all : c.loop-queue.queue ≡ c.args.count = search rules in
-    (was.9, c.in_ok-own-2.ensures.given ∙ (ap split_from lent ∙ ap (λ (n : ℕ). split_behind c.args.seat.now n) all))
+    lent ∙ ap (λ (n : ℕ). after_splits c.args.seat.now n) all

@@ -1,9 +1,5 @@
-use Rattle.std.proofs.Common.{rules, ◌≡◌, ◌+◌, ◌∙◌, ℕ, List, map, sym, ap, subst, vec_len, length}
-use Rattle.std.proofs.lemmas.List.{get_or-map}
-use Rattle.std.specs.declared.thread.PromisedHandle.{PromisedHandle}
-use Rattle.gv_queues.specs.declared.worker_end.WorkerEnd.{WorkerEnd}
-use Rattle.gv_queues.specs.declared.running.OfWorker.{OfWorker}
-use Rattle.gv_queues.specs.Working.{IsEndOfWorker, WorkerEndState, WorkerState, no_worker, worker_at}
+use Rattle.std.proofs.Common.{rules, ◌≡◌, ◌+◌, ◌∙◌, ℕ, List, map, ap, subst, vec_len, length}
+use Rattle.gv_queues.specs.Working.{IsEndOfWorker, WorkerEndState, WorkerState, worker_at}
 use Rattle.gv_queues.proofs.Channels.{ended_more}
 use Rattle.gv_queues.proofs.running.join_all.Goals as goal
 

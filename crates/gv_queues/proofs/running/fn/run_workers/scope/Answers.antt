@@ -43,6 +43,14 @@ returns g c =
     let total = ap (λ (l : List WorkerState). length l) all in
     let sum = length-append first rest in
     let few : length done.items < length workers + 1 = omega (arith, long, total, sum) in record {
+      own = elim c.if-is_none.branch [
+        | then-is_none w ↦ search rules
+        | else-is_none w ↦ search rules
+      ];
+      driven = elim c.if-is_none.branch [
+        | then-is_none w ↦ search rules
+        | else-is_none w ↦ search rules
+      ];
       order = ended_in_order workers done.items few c.requires.order ended;
       puts = elim c.if-is_none.branch [
         | then-is_none w ↦ search rules
@@ -73,8 +81,9 @@ returns g c =
               let was = c.loop-worker.invariant in let step = w'.in-Some.ensures.steps in
               let next : w'.in-Some.worker.queue ≡ vec_len c.loop-worker.handles = let h = was.1 0 w'.in-Some.worker in grind rules in
               let queue = w'.queue-queue.ensures in let all = was.0 in let rest = step.1 in
-              if_some_of _ _ _ w'.refused-is (omega (arith, queue, next, all, rest), w.driver-is))
+              if_some_of _ _ _ w'.refused-is (omega (arith, queue, next, all, rest), w.driver-is, w.seat-is))
         ])
       ];
       same = refl;
+      same_seat = refl;
     }
