@@ -7,7 +7,7 @@ use std::process::Abort;
 use std::test::Fail;
 
 /// A world with 16 queues of depth 1 and one timeline.
-fn wide(alloc: Global) -> Result<World, Fail> {
+pub fn wide(alloc: Global) -> Result<World, Fail> {
     match World::new(alloc, Bounds::whole(), Limits::full(), 16, 1, 1) {
         Ok(world) => Ok(world),
         Err(_) => Err("memory".into()),
@@ -15,7 +15,7 @@ fn wide(alloc: Global) -> Result<World, Fail> {
 }
 
 /// What one event answers.
-fn answer(alloc: Global, world: &mut World, event: Event) -> Result<Reply, Fail> {
+pub fn answer(alloc: Global, world: &mut World, event: Event) -> Result<Reply, Fail> {
     match world.step(alloc, event) {
         Ok(reply) => Ok(reply),
         Err(_) => Err("memory".into()),

@@ -7,6 +7,8 @@ mod calls;
 #[cfg(test)]
 mod chance;
 #[cfg(test)]
+mod counts;
+#[cfg(test)]
 mod entries;
 #[cfg(test)]
 mod events;
