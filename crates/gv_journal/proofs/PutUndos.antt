@@ -1,5 +1,5 @@
 -- The undo values of what was put back, and so of a withdrawal.
-use Rattle.std.proofs.Common.{◌≡◌, List, [], ◌∷◌, ◌++◌, refl, ap, sym, ◌∙◌, subst}
+use Rattle.std.proofs.Common.{◌≡◌, List, [], ◌∷◌, ◌++◌, refl, ap, ◌∙◌, subst}
 use Rattle.gv_types.specs.Span.{Span}
 use Rattle.gv_types.specs.Operation.{range_of}
 use Rattle.gv_types.specs.declared.mapping.Mapping.{Mapping}
