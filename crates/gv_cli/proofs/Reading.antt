@@ -1,5 +1,5 @@
 -- From what clap says of the words to what the program says.
-use Rattle.std.proofs.Common.{◌≡◌, ◌≢◌, ℕ, List, [], ◌∷◌, true, Option, Some, None, option_map, Result, Ok, Err, refl, sym, subst, codes, inl, inr, ap, ◌∙◌, arith}
+use Rattle.std.proofs.Common.{◌≡◌, ◌≢◌, ◌⊎◌, ℕ, List, [], ◌∷◌, true, Option, Some, None, option_map, Result, Ok, Err, refl, sym, subst, codes, inl, inr, ap, ◌∙◌, arith}
 use Rattle.std.specs.Prelude.{IsErrAnd}
 use Rattle.clap.specs.Kinds.{Kinds, HasKind, IsAmong}
 use Rattle.clap.specs.Simple.{App, HasMatchesOf, is_simple, subcommand_of, subcommand_rows_of}
@@ -12,8 +12,10 @@ use Rattle.clap.specs.Faults.{fault_of, is_simple_and_free}
 use Rattle.clap.specs.Values.{kind_of}
 use Rattle.clap.proofs.OnLiterals.{clap_on_literals}
 use Rattle.clap.specs.declared.error.Error.{Error}
+use Rattle.clap.specs.declared.error.kind.ErrorKind.{ErrorKind}
 use Rattle.clap.specs.declared.error.kind.ErrorKind.TheVariants as kind
-use Rattle.gv_cli.specs.CommandLine.{IsEntered, IsFaultOf, ReadsBy, command_line, entered}
+use Rattle.gv_cli.specs.CommandLine.{AreReadAs, IsEntered, IsFaultOf, IsStatusOfKind, IsStatusOfOne, ReadsBy, command_line, entered}
+use Rattle.gv_cli.specs.Status.{bad_words, broken_stream, done}
 use Rattle.gv_cli.specs.declared.words.Task.{Task}
 use Rattle.gv_cli.specs.declared.words.Task.TheVariants.{Run, Threads}
 use Rattle.gv_cli.specs.declared.words.WordsFault.{WordsFault}
@@ -91,7 +93,7 @@ abbrev begins_with : Option (List ℕ) → ℕ
 begins_with (Some (letter ∷ more)) = letter
 begins_with other = 0
 
-run_apart : Some (codes "threads") ≡ Some (codes "run") → ⊥
+pub run_apart : Some (codes "threads") ≡ Some (codes "run") → ⊥
 unfolding clap_on_literals
 run_apart same = let bad : ◌≡◌ {A = ℕ} 116 114 = ap begins_with same in omega (arith, bad)
 
@@ -112,3 +114,24 @@ pub run_is_not_threads : (app : App) (words : List (List ℕ)) (name : List ℕ)
     → HasMatchesOf app words m → subcommand_name_of m ≡ Some (codes "threads") → ⊥
 run_is_not_threads app words name m e f has is =
     run_apart (sym is ∙ entered_by app words m e has ∙ rw f (entered_run name))
+
+-- words that are read as `run` are not of `threads`, and none of their errors is printed
+pub read_as_run_only : {T : Type 0} (words : List (List ℕ)) → AreReadAs (codes "run") words → entered words ≡ Some (codes "threads") → T
+read_as_run_only words read is = absurd (run_apart (sym is ∙ read.1))
+
+pub read_has_no_error : {T : Type 0} (name : List ℕ) (words : List (List ℕ)) (error : Error)
+    → AreReadAs name words → IsAmong (kind_of error) (fault_of command_line words) → T
+read_has_no_error name words error read among = absurd (subst (λ kinds. IsAmong (kind_of error) kinds) read.0 among)
+
+-- the status of what is printed is that of its kind
+status_of_kind : (k : ErrorKind) (status : ℕ) → (k ≢ kind.DisplayHelp → k ≢ kind.DisplayVersion → status ≡ bad_words)
+    → ((k ≡ kind.DisplayHelp) ⊎ (k ≡ kind.DisplayVersion) → (status ≡ done) ⊎ (status ≡ broken_stream)) → IsStatusOfKind k status
+status_of_kind kind.DisplayHelp status refused shown = shown (inl refl)
+status_of_kind kind.DisplayVersion status refused shown = shown (inr refl)
+status_of_kind other status refused shown = refused (λ e. absurd cc) (λ e. absurd cc)
+
+pub status_of_one : (words : List (List ℕ)) (error : Error) (status : ℕ) → IsAmong (kind_of error) (fault_of command_line words)
+    → (kind_of error ≢ kind.DisplayHelp → kind_of error ≢ kind.DisplayVersion → status ≡ bad_words)
+    → ((kind_of error ≡ kind.DisplayHelp) ⊎ (kind_of error ≡ kind.DisplayVersion) → (status ≡ done) ⊎ (status ≡ broken_stream))
+    → IsStatusOfOne (fault_of command_line words) status
+status_of_one words error status among refused shown = inr (kind_of error, among, status_of_kind (kind_of error) status refused shown)

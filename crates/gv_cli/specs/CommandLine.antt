@@ -2,14 +2,17 @@
 use Rattle.std.specs.Prelude.{◌≡◌, ◌≢◌, ◌⊎◌, List, [], ◌∷◌, ℕ, map, option_map, true, codes, Option, Some, Result, Ok, Err, String, string_bytes}
 use Rattle.std.specs.declared.alloc.Global.{Global}
 use Rattle.clap.specs.Kinds.{Kinds, IsAmong}
+use Rattle.clap.specs.Words.{fault_of}
 use Rattle.clap.specs.Simple.{App, new_app, new_rule, new_shape, on_top, subcommand_of, with_rule, with_subcommand}
 use Rattle.clap.specs.Walk.{Rule}
 use Rattle.clap.specs.Values.{kind_of}
 use Rattle.clap.specs.declared.builder.value_parser.ValueParser.TheVariants.{Unsigned}
 use Rattle.clap.specs.declared.error.Error.{Error}
+use Rattle.clap.specs.declared.error.kind.ErrorKind.{ErrorKind}
 use Rattle.clap.specs.declared.error.kind.ErrorKind.TheVariants as kind
 use Rattle.gv_types.specs.Limits.{IsFromOneTo}
 use Rattle.gv_vm.specs.Outcomes.{queues}
+use Rattle.gv_cli.specs.Status.{bad_words, broken_stream, done, no_memory}
 use Rattle.gv_cli.specs.declared.words.Task.{Task}
 use Rattle.gv_cli.specs.declared.words.Task.TheVariants.{Run, Threads}
 use Rattle.gv_cli.specs.declared.words.WordsFault.{WordsFault}
@@ -65,6 +68,20 @@ entered words = option_map (λ found. found.0) (subcommand_of command_line words
 abbrev pub IsEntered : Option (List ℕ) → Task → Type 0
 IsEntered name Run = name ≢ Some (codes "threads")
 IsEntered name (Threads asked turns) = name ≡ Some (codes "threads")
+
+-- the command line refuses nothing of the words, and they enter this subcommand
+abbrev pub AreReadAs : List ℕ → List (List ℕ) → Type 0
+AreReadAs name words = (fault_of command_line words ≡ []) × (entered words ≡ Some name)
+
+-- The exit status for an error of this kind. Help and the version are printed, if somebody takes them; all else is bad words.
+abbrev pub IsStatusOfKind : ErrorKind → ℕ → Type 0
+IsStatusOfKind kind.DisplayHelp status = (status ≡ done) ⊎ (status ≡ broken_stream)
+IsStatusOfKind kind.DisplayVersion status = (status ≡ done) ⊎ (status ≡ broken_stream)
+IsStatusOfKind other status = status ≡ bad_words
+
+-- the exit status for an error that has one of these kinds, or for want of memory
+abbrev pub IsStatusOfOne : Kinds → ℕ → Type 0
+IsStatusOfOne kinds status = (status ≡ no_memory) ⊎ ((one : ErrorKind) × IsAmong one kinds × IsStatusOfKind one status)
 
 -- nothing is refused: help is asked for, or the version
 abbrev pub AskForText : Kinds → Type 0

@@ -6,7 +6,7 @@ ghost use Rattle.gv_text.specs.declared.fault.ScriptFault.{ScriptFault};
 ghost use Rattle.clap.specs.Words.{fault_of, kind_of};
 ghost use Rattle.clap.specs.declared.error.kind.ErrorKind.TheVariants as kind;
 ghost use Rattle.gv_types.specs.Limits.{IsFromOneTo};
-ghost use Rattle.gv_cli.specs.CommandLine.{command_line, most_queues, texts, AskForText};
+ghost use Rattle.gv_cli.specs.CommandLine.{AreReadAs, AskForText, IsStatusOfOne, command_line, most_queues, texts};
 ghost use Rattle.gv_cli.specs.Fault.{status_of};
 ghost use Rattle.gv_cli.specs.Run.{HasRun, exit_status};
 ghost use Rattle.gv_cli.specs.Status.{IsStatus, bad_words, broken_stream, done, no_memory};
@@ -56,9 +56,17 @@ fn obey<R: AllocGlobal + Print + Eprint, T: Threads + Wait + Sync, S: Source, K:
         → ((result ≡ no_memory) × (reader.new ≡ reader.old) × (writer.new ≡ writer.old))
         ⊎ ((answer : Result (Unit {0}) ScriptFault) × HasRun S.remaining S.failed K.written K.failed
         reader.old reader.new writer.old writer.new answer × (result ≡ exit_status answer)) }
+    // So do all other words that are read as `run`.
+    ensures read_as_run { AreReadAs (codes "run") (texts words.now)
+        → ((result ≡ no_memory) × (reader.new ≡ reader.old) × (writer.new ≡ writer.old))
+        ⊎ ((answer : Result (Unit {0}) ScriptFault) × HasRun S.remaining S.failed K.written K.failed
+        reader.old reader.new writer.old writer.new answer × (result ≡ exit_status answer)) }
     // Other words touch no device.
     ensures refused { fault_of command_line (texts words.now) ≢ []
         → (reader.new ≡ reader.old) × (writer.new ≡ writer.old) }
+    // Words that are refused end with the status of their error.
+    ensures refused_status { fault_of command_line (texts words.now) ≢ []
+        → IsStatusOfOne (fault_of command_line (texts words.now)) result }
     // Words that ask for help or for the version: it is printed, or there is no memory for it, or nobody takes it.
     ensures shown { AskForText (fault_of command_line (texts words.now))
         → (result ≡ done) ⊎ (result ≡ no_memory) ⊎ (result ≡ broken_stream) }
