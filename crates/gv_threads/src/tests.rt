@@ -82,6 +82,45 @@ told 0\njournal\n",
     );
 }
 
+/// The requests of one queue are served in the order of their lines.
+#[test]
+fn requests_come_in_the_order_of_their_lines(rt: HostRuntime) {
+    expect(
+        &rt,
+        rt.alloc(),
+        b"buffer a 8\nbind map 0x0 0x2000 a 0x0\nbind map 0x1000 0x1000 a 0x4000\nbind unmap 0x0 0x1000\nmap\n",
+        1,
+        TURNS,
+        Ok(()),
+        b"ok\nqueue 0 put 3 told 3 left 0\n0000000000001000 0000000000002000 a 0000000000004000 rw\n",
+    );
+}
+
+/// All 64 timelines: one that nobody raised is 0, and the last is what a signal raised it to.
+#[test]
+fn values_of_the_first_and_the_last_timeline(rt: HostRuntime) -> Result<(), Fail> {
+    let mut script = String::new(rt.alloc());
+    let mut replies = String::new(rt.alloc());
+    for timeline in 10..74 {
+        script.push_str("timeline t")?;
+        script.push_str(timeline.to_string(rt.alloc())?.as_str())?;
+        script.push_str("\n")?;
+        replies.push_str("ok\n")?;
+    }
+    script.push_str("bind signal t73 9\nvalue t10\nvalue t72\nvalue t73\n")?;
+    replies.push_str("queue 0 put 1 told 1 left 0\nt10 0\nt72 0\nt73 9\n")?;
+    expect(
+        &rt,
+        rt.alloc(),
+        script.as_bytes(),
+        1,
+        TURNS,
+        Ok(()),
+        replies.as_bytes(),
+    );
+    Ok(())
+}
+
 /// A request on one queue waits for the signal of one on another, whichever is served first.
 #[test]
 fn one_queue_waits_for_another(rt: HostRuntime) {
