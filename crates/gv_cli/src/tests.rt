@@ -43,6 +43,10 @@ fn runs_a_script(rt: HostRuntime) {
     let script = Stream::Text(b"# two buffers\nbuffer a 4\nbuffer b 0x10\n");
     let got = ended(&rt, Fake::new(rt.alloc(), &RUN, script));
     expect(&rt, &got, 0, b"ok\nok\n", b"");
+    // Other words that are read as `run`.
+    let words: [&[u8]; 3] = [b"vmbind", b"run", b"--"];
+    let got = ended(&rt, Fake::new(rt.alloc(), &words, script));
+    expect(&rt, &got, 0, b"ok\nok\n", b"");
 }
 
 #[test]
