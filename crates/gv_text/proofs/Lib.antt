@@ -18,4 +18,4 @@ pub mod Held
 pub mod Numbers
 pub mod Journals
 pub mod Within
-pub mod LineFaults
+pub mod Asks

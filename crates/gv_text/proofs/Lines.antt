@@ -1,6 +1,7 @@
 -- What single lines do.
 use Rattle.std.proofs.Common.{◌≡◌, ◌≢◌, ℕ, List, [], ◌∷◌, ◌++◌, true, false, Option, Some, None, is_some, Result, Ok, Err, MatchOption, IsOkUnless, String, string_bytes, refl, sym, ap, ◌∙◌, subst, append-nil, ◌<◌, nat_lt, arith}
 use Rattle.std.proofs.lemmas.Bool.Decides.{nat_tests}
+use Rattle.std.specs.Prelude.{ok_or}
 use Rattle.std.specs.List.{flat_map, list_any}
 use Rattle.std.specs.declared.alloc.Global.{Global}
 use Rattle.gv_types.specs.declared.fault.Fault.{Fault}
@@ -10,11 +11,16 @@ use Rattle.gv_vm.specs.Jobs.{Running, most_accesses, many_fault}
 use Rattle.gv_vm.specs.World.{World}
 use Rattle.gv_vm.specs.declared.event.Event.{Event}
 use Rattle.gv_vm.specs.declared.event.Reply.{Reply}
-use Rattle.gv_text.specs.State.{State, begun}
+use Rattle.gv_vm.specs.State.{Machine}
+use Rattle.gv_lines.specs.declared.line.Line.{Line}
+use Rattle.gv_text.specs.declared.fault.LineFault.{LineFault}
+use Rattle.gv_text.specs.declared.fault.LineFault.TheVariants.{Bad, OutOfMemory as NoMemory}
+use Rattle.gv_text.specs.State.{State, Buffers, begun}
 use Rattle.gv_text.specs.Events.{once, IsCarriedOut, Steps}
 use Rattle.gv_text.specs.Reply.{reply}
 use Rattle.gv_text.specs.Said.{is_lacking}
-use Rattle.gv_text.specs.Line.{Written, plain, Does, Of}
+use Rattle.gv_text.specs.Line.{Written, plain, Does, Of, Runs}
+use Rattle.gv_text.specs.Question.{IsAnswer, with_machine}
 use Rattle.gv_text.specs.Serving.{nothing, Wrote}
 use Rattle.gv_text.proofs.Servings.{goes_first, carried_out}
 
@@ -54,6 +60,10 @@ pub none_from_ok : {T : Type 0} (o : Option Fault) (done : T) → MatchOption o 
 none_from_ok None done is = refl
 none_from_ok (Some fault) done is = absurd cc
 
+pub ok_or_some : {T E : Type 0} (o : Option T) (e : E) (x : T) → Ok x ≡ ok_or o e → o ≡ Some x
+ok_or_some None e x is = absurd cc
+ok_or_some (Some y) e x is = let same : x ≡ y = cc in ap (λ (z : _). Some z) (sym same)
+
 pub none_of : {X : Type 0} (o : Option X) → is_some o ≡ false → o ≡ None
 none_of None none = refl
 none_of (Some x) none = absurd cc
@@ -61,3 +71,18 @@ none_of (Some x) none = absurd cc
 -- a job with more accesses than any job may have
 pub too_many : (r : Running) (count : ℕ) → most_accesses < count → many_fault r count ≡ Some TooManyAccesses
 too_many r count many = let test : nat_lt most_accesses count ≡ true = grind (arith, nat_tests) in rw test refl
+
+-- Questions of the address space.
+
+pub with_same : (buffers : Buffers) (timelines : List (List ℕ)) (m : Machine) (s : State) → buffers ≡ s.buffers → timelines ≡ s.timelines → m ≡ s.world.machine →
+    with_machine buffers timelines m s ≡ s
+with_same buffers timelines m s same_buffers same_timelines same_machine = rw (same_buffers, same_timelines, same_machine) refl
+
+-- what is the answer on every such state is that on this one
+pub answer_runs : (question : Line) (buffers : Buffers) (timelines : List (List ℕ)) (m : Machine) (text : List ℕ) (s t : State) →
+    with_machine buffers timelines m s ≡ s → t ≡ begun s → IsAnswer question buffers timelines m text → Runs question s (plain text) t
+answer_runs question buffers timelines m text s t same is answer =
+    subst (λ (x : State). Runs question s (plain text) x) (sym is) (subst (λ (x : State). Runs question x (plain text) (begun x)) same (answer s))
+
+pub memory_not_bad : (T : Type 0) (r : Result T LineFault) → r ≡ Err NoMemory → r ≡ Err Bad → ⊥
+memory_not_bad T r is bad = let same : ◌≡◌ {A = Result T LineFault} (Err NoMemory) (Err Bad) = sym is ∙ bad in cc

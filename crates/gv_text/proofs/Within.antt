@@ -1,17 +1,14 @@
 -- The points of a request are on timelines that are declared.
-use Rattle.std.proofs.Common.{◌≡◌, ℕ, Bool, ◌<◌, ◌≤◌, List, [], ◌∷◌, ◌++◌, length, Option, Some, None, refl, arith}
+use Rattle.std.proofs.Common.{◌≡◌, ℕ, Bool, ◌<◌, List, [], ◌∷◌, length, Option, Some, None, refl}
 use Rattle.std.specs.Prelude.{position, bytes_eq, option_map}
 use Rattle.std.specs.Prelude.{IfSome}
 use Rattle.std.specs.List.{All}
-use Rattle.std.proofs.lemmas.List.Elements.{All-nil, All-cons, All-push}
+use Rattle.std.proofs.lemmas.List.Elements.{All-nil, All-cons}
 use Rattle.std.proofs.lemmas.List.Quantifiers.{position-Some}
 use Rattle.gv_types.specs.declared.request.Point.{Point}
-use Rattle.gv_types.specs.declared.request.Request.{Request}
-use Rattle.gv_types.specs.Request.{Fits}
 use Rattle.gv_lines.specs.Chain.{◌>>=◌, all_read}
 use Rattle.gv_lines.specs.declared.point.NamedPoint.{NamedPoint}
 use Rattle.gv_text.specs.Asking.{point_named, point_on}
-use Rattle.gv_text.specs.Threads.{IsFor}
 
 -- the timeline of a point is below this count
 abbrev pub IsBelow : ℕ → Point → Type 0
@@ -46,16 +43,3 @@ points_below names (first ∷ more) =
 pub read_below : (names : List (List ℕ)) (points : List NamedPoint) (read : List Point) → all_read (point_named names) points ≡ Some read →
     All (IsBelow (length names)) read
 read_below names points read is = rw is at (points_below names points)
-
-all_more : (count more : ℕ) (points : List Point) → count ≤ more → All (IsBelow count) points → All (IsBelow more) points
-all_more count more points few each k d inside = omega (arith, each k d inside)
-
--- a request that fits some timelines fits more of them, and is one more of a script's
-pub one_more : (queues timelines count queue : ℕ) (request : Request) (before after : List (ℕ × Request)) → queue < queues → count ≤ timelines →
-    Fits count request → after ≡ before ++ (queue, request) ∷ [] → All (IsFor queues timelines) before → All (IsFor queues timelines) after
-one_more queues timelines count queue request before after below few fits is each =
-    let here : IsFor queues timelines (queue, request) = record {
-      queue = below;
-      fits = (all_more count timelines request.waits.items few fits.0, all_more count timelines request.signals.items few fits.1);
-    } in
-    rw is (All-push (IsFor queues timelines) before (queue, request) each here)

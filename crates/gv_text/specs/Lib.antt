@@ -4,9 +4,9 @@ pub mod Events
 pub mod Reply
 pub mod Said
 pub mod Line
+pub mod Question
 pub mod Inside
 pub mod Serving
 pub mod Reading
 pub mod Script
 pub mod AlikePlans
-pub mod Threads

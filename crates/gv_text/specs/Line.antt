@@ -111,6 +111,10 @@ pub record Serves (clauses : List Clause) (s : State) (w : Written) (t : State) 
 abbrev pub caps_of : ℕ → ℕ → ℕ → Caps
 caps_of buffers mappings items = caps buffers mappings items greatest.told
 
+-- a name is not declared, and not all timelines are
+abbrev pub MayDeclare : List (List ℕ) → List ℕ → Type 0
+MayDeclare names name = (timeline_named names name ≡ None) × (length names < most_timelines)
+
 -- a line may be carried out so
 abbrev pub Runs : Line → State → Written → State → Type 0
 Runs line.Silent s w t = (w ≡ plain []) × (t ≡ s)
@@ -142,10 +146,10 @@ Runs (line.Job accesses) s w t = BeginsJob (map access_of accesses) s w t ⊎ Ha
 Runs (line.End job) s w t = DoesOnce (JobEnd job) s w t
 
 -- every name in the clauses of a request is declared
-pub record AreDeclared (s : State) (clauses : List Clause) : Type 0 where
-  pub ops : IsSome (all_read (op_named s.buffers) (operations_of clauses))
-  pub waits : IsSome (all_read (point_named s.timelines) (waits_of clauses))
-  pub signals : IsSome (all_read (point_named s.timelines) (signals_of clauses))
+pub record AreDeclared (buffers : Buffers) (timelines : List (List ℕ)) (clauses : List Clause) : Type 0 where
+  pub ops : IsSome (all_read (op_named buffers) (operations_of clauses))
+  pub waits : IsSome (all_read (point_named timelines) (waits_of clauses))
+  pub signals : IsSome (all_read (point_named timelines) (signals_of clauses))
 
 -- A line is not bad: it stands at its place, what it names is declared, and what it declares is not. Whether it is depends on no
 -- memory.
@@ -159,7 +163,7 @@ IsGood (line.Uses name) s = IsSome (buffer_named s.buffers name)
 IsGood (line.Timeline name) s = (timeline_named s.timelines name ≡ None) × (length s.timelines < most_timelines)
 IsGood (line.Raise point) s = IsSome (point_named s.timelines point)
 IsGood (line.Value name) s = IsSome (timeline_named s.timelines name)
-IsGood (line.Bind clauses) s = AreDeclared s clauses
+IsGood (line.Bind clauses) s = AreDeclared s.buffers s.timelines clauses
 IsGood (line.Plan operation) s = IsSome (op_named s.buffers operation)
 IsGood line.Map s = Unit {0}
 IsGood (line.At addr) s = Unit {0}

@@ -5,6 +5,8 @@ use Rattle.gv_lines.specs.Words.{parts}
 use Rattle.gv_text.specs.Reading.{script_limit}
 use Rattle.gv_text.specs.State.{State, start}
 use Rattle.gv_text.specs.Line.{Written, RunsText, IsGoodText}
+use Rattle.gv_text.specs.declared.fault.LineFault.{LineFault}
+use Rattle.gv_text.specs.declared.fault.LineFault.TheVariants.{Bad, OutOfMemory as NoMemory}
 use Rattle.gv_text.specs.declared.fault.ScriptFault.{ScriptFault}
 use Rattle.gv_text.specs.declared.fault.ScriptFault.TheVariants.{BadLine, ScriptTooLong, ReadFault, WriteFault, OutOfMemory}
 
@@ -91,6 +93,11 @@ pub record IsStart (script text : List ℕ) : Type 0 where
   pub now : State
   pub front : IsFront script text (next ∷ more) count refusals now
   pub good : (count ≡ 0) ⊎ IsGoodBefore now next more
+
+-- why a script ends at the line of this number
+abbrev pub fault_at : ℕ → LineFault → ScriptFault
+fault_at number Bad = BadLine number
+fault_at number NoMemory = OutOfMemory
 
 -- What a run of this script may answer, with what was written before it and after it.
 abbrev pub Ends : {T : Type 0} → List ℕ → Option (List ℕ) → Option (List ℕ) → Result T ScriptFault → Type 0

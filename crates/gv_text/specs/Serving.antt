@@ -1,21 +1,24 @@
 -- How far a line has come with its events. No public clause cites this module.
-use Rattle.std.specs.Prelude.{◌≡◌, ℕ, Bool, true, false, List, [], ◌++◌, None, IsSome, String, string_bytes}
+use Rattle.std.specs.Prelude.{◌≡◌, ℕ, Bool, true, false, List, [], ◌∷◌, ◌++◌, Some, None, IsSome, unwrap_or, String, string_bytes}
 use Rattle.std.specs.List.{flat_map}
 use Rattle.std.specs.declared.alloc.Global.{Global}
+use Rattle.gv_types.specs.declared.operation.Op.{Op}
 use Rattle.gv_types.specs.declared.request.Point.{Point}
 use Rattle.gv_vm.specs.World.{World}
 use Rattle.gv_vm.specs.declared.event.Event.TheVariants.{GiveUp}
 use Rattle.gv_vm.specs.declared.event.Reply.{Reply}
 use Rattle.gv_vm.specs.declared.event.Reply.TheVariants.{Put, Taken, Reached, Lacking, Told, Raised}
 use Rattle.gv_vm.specs.declared.outcome.Outcome.TheVariants.{Accepted}
-use Rattle.gv_text.specs.State.{State, begun}
+use Rattle.gv_text.specs.State.{State, Buffers, begun}
 use Rattle.gv_text.specs.Events.{Plan, once, carrying_out, IsUnderWay}
 use Rattle.gv_text.specs.Said.{told}
 use Rattle.gv_text.specs.Line.{Written}
 use Rattle.gv_text.specs.Asking.{op_named, point_named}
 use Rattle.gv_text.specs.declared.serve.Looked.{Looked}
 use Rattle.gv_text.specs.declared.serve.Looked.TheVariants.{AllReached, Lacked, Other}
-use Rattle.gv_lines.specs.Clause.{queue_asked, waits_of, signals_of}
+use Rattle.gv_text.specs.declared.request.Asked.{Asked}
+use Rattle.gv_lines.specs.Chain.{all_read}
+use Rattle.gv_lines.specs.Clause.{queue_asked, operations_of, waits_of, signals_of}
 use Rattle.gv_lines.specs.declared.clause.Clause.{Clause}
 use Rattle.gv_lines.specs.declared.clause.Clause.TheVariants.{Change, Wait, Signal, Queue}
 
@@ -72,14 +75,23 @@ pub record Wrote (Run : State → Written → State → Type 0) (s : State) (old
   pub runs : Run s written t
 
 -- the name in a clause, if there is one, is declared
-abbrev pub IsDeclared : State → Clause → Type 0
-IsDeclared s (Change operation) = IsSome (op_named s.buffers operation)
-IsDeclared s (Wait point) = IsSome (point_named s.timelines point)
-IsDeclared s (Signal point) = IsSome (point_named s.timelines point)
-IsDeclared s (Queue queue) = Unit {0}
+abbrev pub IsDeclared : Buffers → List (List ℕ) → Clause → Type 0
+IsDeclared buffers timelines (Change operation) = IsSome (op_named buffers operation)
+IsDeclared buffers timelines (Wait point) = IsSome (point_named timelines point)
+IsDeclared buffers timelines (Signal point) = IsSome (point_named timelines point)
+IsDeclared buffers timelines (Queue queue) = Unit {0}
 
--- Nothing but operations is asked for, on the first queue.
-pub record AreOperations (clauses : List Clause) : Type 0 where
-  pub waits : waits_of clauses ≡ []
-  pub signals : signals_of clauses ≡ []
-  pub queue : queue_asked clauses ≡ 0
+-- What some clauses ask for is what was asked for so far, and what those that are left ask for.
+pub record IsAskedTo (buffers : Buffers) (timelines : List (List ℕ)) (clauses left : List Clause) (asked : Asked) : Type 0 where
+  pub ops : (rest : List Op) → all_read (op_named buffers) (operations_of left) ≡ Some rest →
+      all_read (op_named buffers) (operations_of clauses) ≡ Some (asked.request.ops.items ++ rest)
+  pub waits : (rest : List Point) → all_read (point_named timelines) (waits_of left) ≡ Some rest →
+      all_read (point_named timelines) (waits_of clauses) ≡ Some (asked.request.waits.items ++ rest)
+  pub signals : (rest : List Point) → all_read (point_named timelines) (signals_of left) ≡ Some rest →
+      all_read (point_named timelines) (signals_of clauses) ≡ Some (asked.request.signals.items ++ rest)
+  pub queue : queue_asked clauses ≡ unwrap_or asked.queue (queue_asked left)
+
+-- One more clause is asked for.
+abbrev pub Adds : Buffers → List (List ℕ) → Clause → Asked → Asked → Type 0
+Adds buffers timelines clause old new =
+    (clauses more : List Clause) → IsAskedTo buffers timelines clauses (clause ∷ more) old → IsAskedTo buffers timelines clauses more new

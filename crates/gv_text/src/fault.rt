@@ -2,7 +2,7 @@
 ghost use Rattle.std.specs.Prelude.{◌≡◌};
 ghost use Rattle.gv_text.specs.declared.fault.ScriptFault.TheVariants as fault;
 ghost use Rattle.gv_text.specs.declared.fault.LineFault.TheVariants as line_fault;
-ghost use Rattle.gv_text.specs.Threads.{fault_at};
+ghost use Rattle.gv_text.specs.Script.{fault_at};
 
 use crate::device::{ReadFault, WriteFault};
 use gv_types::OutOfMemory;

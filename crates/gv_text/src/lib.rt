@@ -2,17 +2,12 @@
 #![tactic(auto)]
 
 mod accesses;
-mod asked;
-mod checks;
 mod device;
 mod fault;
 mod journal;
 mod memory;
 mod names;
-mod naming;
-mod numbered;
 mod output;
-mod part;
 mod question;
 mod reply;
 mod request;
@@ -21,17 +16,21 @@ mod said;
 mod script;
 mod serve;
 mod session;
-mod setup;
 mod stage;
 mod standard;
-mod threads;
 mod timeline_names;
 mod transfer;
 
 pub use device::{ReadFault, Sink, Source, WriteFault};
-pub use fault::ScriptFault;
+pub use fault::{LineFault, ScriptFault};
 pub use memory::{MemorySink, MemorySource};
+pub use names::Names;
+pub use output::Output;
+pub use question::answer;
+pub use request::{asked_by, point_named};
+pub use said::{write_number, write_refused};
 pub use script::run_script;
+pub use stage::Stage;
 pub use standard::{ReadCalls, ReadSource, WriteCalls, WriteSink};
-pub use threads::ThreadsScript;
-pub use transfer::{SCRIPT_LIMIT, write_all};
+pub use timeline_names::TimelineNames;
+pub use transfer::{SCRIPT_LIMIT, read_script, write_all};

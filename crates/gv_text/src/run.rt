@@ -2,15 +2,16 @@
 ghost use Rattle.std.specs.Prelude.{◌≡◌, ◌≢◌, OnOk};
 ghost use Rattle.gv_lines.specs.declared.line.Line.TheVariants as line;
 ghost use Rattle.gv_text.specs.Line.{Runs, RunsText, IsGood, IsGoodText, DoesOnce, SetsBounds, MaySetBounds};
+ghost use Rattle.gv_text.specs.Question.{IsQuestion};
 ghost use Rattle.gv_text.specs.Serving.{Wrote};
 
 use crate::accesses::{accesses_of, are_too_many};
 use crate::fault::LineFault;
-use crate::question::{at, journal, map, plan, tables, told, uses, value};
+use crate::question::answer;
 use crate::request::{asked_by, point_named};
-use crate::said::{write_refused, write_said, write_withdrawn};
+use crate::said::{write_number, write_refused, write_said, write_withdrawn};
 use crate::serve::serve;
-use crate::session::{Session, TIMELINES};
+use crate::session::Session;
 use crate::stage::Stage;
 use gv_lines::{AccessList, ClauseList, Line, Name, NamedPoint, parse_line};
 use gv_types::{Bounds, Fault, Limits, MAX_TOLD};
@@ -63,22 +64,16 @@ fn run(
         } => limits(alloc, session, buffers, mappings, items, out),
         Line::Buffer { name, pages } => buffer(alloc, session, name, pages, out),
         Line::Destroy { name } => destroy(alloc, session, &name, out),
-        Line::Uses { name } => uses(session, &name, out),
         Line::Timeline { name } => timeline(session, name, out),
         Line::Raise { point } => raise(alloc, session, &point, out),
         Line::Value { name } => value(session, &name, out),
         Line::Bind { clauses } => bind(alloc, session, &clauses, out),
-        Line::Plan { operation } => plan(alloc, session, &operation, out),
-        Line::Map => map(session, out),
-        Line::At { addr } => at(session, addr, out),
-        Line::Tables => tables(session, out),
         Line::Rewind => once(alloc, session, Event::Rewind, out),
-        Line::Journal => journal(alloc, session, out),
         Line::Withdraw { entry } => withdraw(alloc, session, entry, out),
         Line::Settle { to } => once(alloc, session, Event::Settle { to }, out),
-        Line::Told { queue } => told(session, queue, out),
         Line::Job { accesses } => job(alloc, session, accesses, out),
         Line::End { job } => once(alloc, session, Event::JobEnd { job }, out),
+        question => ask(alloc, session, &question, out),
     }
 }
 
@@ -158,9 +153,7 @@ fn destroy(
     ensures bad { result ≡ Err LineFault.Bad → ¬ IsGood (line.Destroy name.now) session.old }
     ensures memory { result ≡ Err LineFault.OutOfMemory → IsGood (line.Destroy name.now) session.old }
 {
-    let Some(id) = session.buffers().id_of(name) else {
-        return Err(LineFault::Bad);
-    };
+    let id = session.buffers().id_of(name).ok_or(LineFault::Bad)?;
     once(alloc, session, Event::Destroy { id }, out)
 }
 
@@ -170,10 +163,6 @@ fn timeline(session: &mut Session, name: Name, out: &mut String) -> Result<(), L
     ensures bad { result ≡ Err LineFault.Bad → ¬ IsGood (line.Timeline name) session.old }
     ensures memory { result ≡ Err LineFault.OutOfMemory → IsGood (line.Timeline name) session.old }
 {
-    let timelines = session.timelines();
-    if timelines.place_of(&name).is_some() || timelines.len() as u64 >= TIMELINES {
-        return Err(LineFault::Bad);
-    }
     session.declare_timeline(name)?;
     Ok(out.push_str("ok\n")?)
 }
@@ -189,10 +178,44 @@ fn raise(
     ensures bad { result ≡ Err LineFault.Bad → ¬ IsGood (line.Raise point.now) session.old }
     ensures memory { result ≡ Err LineFault.OutOfMemory → IsGood (line.Raise point.now) session.old }
 {
-    let Some(point) = point_named(session.timelines(), point) else {
-        return Err(LineFault::Bad);
-    };
+    let point = point_named(session.timelines(), point).ok_or(LineFault::Bad)?;
     once(alloc, session, Event::Raise { point }, out)
+}
+
+/// Writes the number of a timeline.
+fn value(session: &mut Session, name: &Name, out: &mut String) -> Result<(), LineFault>
+    ensures done { OnOk result (Wrote (Runs (line.Value name.now)) session.old out.old out.new session.new) }
+    ensures bad { result ≡ Err LineFault.Bad → ¬ IsGood (line.Value name.now) session.old }
+    ensures memory { result ≡ Err LineFault.OutOfMemory → IsGood (line.Value name.now) session.old }
+{
+    let timeline = session.timelines().place_of(name).ok_or(LineFault::Bad)?;
+    session.begin();
+    let number = session.world().clock().value(timeline);
+    Ok(write_number(out, session.timelines(), timeline, number)?)
+}
+
+/// Asks, and changes nothing.
+fn ask(
+    alloc: Global,
+    session: &mut Session,
+    question: &Line<'_>,
+    out: &mut String,
+) -> Result<(), LineFault>
+    requires { IsQuestion question.now }
+    ensures done { OnOk result (Wrote (Runs question.now) session.old out.old out.new session.new) }
+    ensures bad { result ≡ Err LineFault.Bad → ¬ IsGood question.now session.old }
+    ensures memory { result ≡ Err LineFault.OutOfMemory → IsGood question.now session.old }
+{
+    session.begin();
+    let vm = session.world().vm();
+    answer(
+        alloc,
+        question,
+        session.buffers(),
+        session.timelines(),
+        vm,
+        out,
+    )
 }
 
 /// Puts a request on its queue, and serves it.
@@ -206,8 +229,8 @@ fn bind(
     ensures bad { result ≡ Err LineFault.Bad → ¬ IsGood (line.Bind clauses.now) session.old }
     ensures memory { result ≡ Err LineFault.OutOfMemory → IsGood (line.Bind clauses.now) session.old }
 {
-    let asked = asked_by(alloc, session, clauses)?;
-    serve(alloc, session, asked.queue, asked.request, out)
+    let asked = asked_by(alloc, session.buffers(), session.timelines(), clauses)?;
+    serve(alloc, session, asked.0, asked.1, out)
 }
 
 /// One call of the world, and what it replies.

@@ -1,16 +1,16 @@
 //! What stands between two lines of a script.
-ghost use Rattle.std.specs.Prelude.{◌≡◌, ◌++◌, ◌∷◌, [], None, false, IfOk, OnOk, bytes_eq, length, ◌<◌};
+ghost use Rattle.std.specs.Prelude.{◌≡◌, ◌≢◌, ◌++◌, ◌∷◌, [], None, Err, IfOk, OnOk, bytes_eq, length};
 ghost use Rattle.gv_sync.specs.Seats.{most_timelines};
 ghost use Rattle.gv_text.specs.Inside.{HasTimelines};
-ghost use Rattle.std.specs.List.{list_any};
 ghost use Rattle.std.specs.Map.{lookup};
 ghost use Rattle.gv_text.specs.Events.{Steps};
-ghost use Rattle.gv_text.specs.Line.{declared};
+ghost use Rattle.gv_text.specs.Line.{declared, MayDeclare};
 ghost use Rattle.gv_text.specs.State.{start, begun, empty_world};
 
+use crate::fault::LineFault;
 use crate::names::Names;
 use crate::stage::Stage;
-use crate::timeline_names::TimelineNames;
+use crate::timeline_names::{TIMELINES, TimelineNames};
 use gv_lines::Name;
 use gv_types::{Bounds, BufferId, Limits, OutOfMemory};
 use gv_vm::{Event, QUEUES, Reply, World};
@@ -20,9 +20,6 @@ use std::mem;
 
 /// How many requests may wait on a queue.
 const DEPTH: u64 = 1;
-
-/// How many timelines there are.
-pub const TIMELINES: u64 = 64;
 
 /// How far a script has come with its settings, the world that it runs on, and the names that it has declared. It has to be
 /// closed: it is not `Drop`.
@@ -162,16 +159,14 @@ impl Session {
         Ok(reply)
     }
 
-    /// Declares a timeline.
-    pub fn declare_timeline(&mut self, name: Name) -> Result<(), OutOfMemory>
-        requires undeclared { list_any (bytes_eq name) self.old.timelines ≡ false }
-        requires few { length self.old.timelines < most_timelines }
-        ensures { OnOk result (self.new ≡ record (begun self.old) { timelines = self.old.timelines ++ name ∷ [] }) }
+    /// Declares the next timeline, unless its name is declared already or all are.
+    pub fn declare_timeline(&mut self, name: Name) -> Result<(), LineFault>
+        ensures done { OnOk result (self.new ≡ record (begun self.old) { timelines = self.old.timelines ++ name ∷ [] }) }
+        ensures bad { result ≡ Err LineFault.Bad → ¬ MayDeclare self.old.timelines name }
+        ensures memory { result ≢ Err LineFault.Bad → MayDeclare self.old.timelines name }
     {
         self.stage = Stage::Begun;
-        self.timelines.reserve()?;
-        self.timelines.declare(name);
-        Ok(())
+        self.timelines.add(name)
     }
 
     /// Closes the world. It takes no memory.

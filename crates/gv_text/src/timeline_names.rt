@@ -1,13 +1,17 @@
 //! The names of the timelines that a script has declared.
-ghost use Rattle.std.specs.Prelude.{◌≡◌, ◌<◌, ◌∷◌, ◌++◌, [], false, is_some, bytes_eq, OnOk, IfSome, option_map, slice_get, length};
+ghost use Rattle.std.specs.Prelude.{◌≡◌, ◌≢◌, ◌<◌, ◌∷◌, ◌++◌, [], Err, is_some, bytes_eq, OnOk, OnErr, IfSome, option_map, slice_get, length};
 ghost use Rattle.std.specs.List.{list_any};
 ghost use Rattle.gv_text.specs.State.{timeline_named};
+ghost use Rattle.gv_text.specs.Line.{MayDeclare};
 
+use crate::fault::LineFault;
 use gv_lines::Name;
-use gv_types::OutOfMemory;
 use indexmap::IndexSet;
 use std::alloc::Global;
 use std::marker::Model;
+
+/// How many timelines there are.
+pub const TIMELINES: u64 = 64;
 
 /// The declared names, in the order of their lines: a timeline is the place of its name. A name is found by its hash.
 #[derive(Drop)]
@@ -59,23 +63,20 @@ impl TimelineNames {
         self.names.get_index(timeline as usize)
     }
 
-    /// Makes room for one more.
-    pub fn reserve(&mut self) -> Result<(), OutOfMemory>
-        ensures names { self.new.names ≡ self.old.names }
-        ensures ok { OnOk result (0 < self.new.room) }
+    /// Declares the next timeline, unless its name is declared already or all are.
+    pub fn add(&mut self, name: Name) -> Result<(), LineFault>
+        ensures done { OnOk result (self.new.names ≡ self.old.names ++ name ∷ []) }
+        ensures same { OnErr result (self.new.names ≡ self.old.names) }
+        ensures bad { result ≡ Err LineFault.Bad → ¬ MayDeclare self.old.names name }
+        ensures memory { result ≢ Err LineFault.Bad → MayDeclare self.old.names name }
     {
+        if self.place_of(&name).is_some() || self.len() as u64 >= TIMELINES {
+            return Err(LineFault::Bad);
+        }
         self.names.reserve(1)?;
-        Ok(())
-    }
-
-    /// Declares a name. It takes no memory.
-    pub fn declare(&mut self, name: Name)
-        requires room { 0 < self.old.room }
-        requires undeclared { list_any (bytes_eq name) self.old.names ≡ false }
-        ensures { self.new.names ≡ self.old.names ++ name ∷ [] }
-    {
         let Ok(_) = self.names.insert(name) else {
             unreachable!()
         };
+        Ok(())
     }
 }

@@ -1,1 +1,3 @@
 pub mod Ending
+pub mod Script
+pub mod Inside

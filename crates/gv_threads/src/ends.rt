@@ -2,7 +2,7 @@
 ghost use Rattle.std.specs.Prelude.{◌≡◌, ◌≢◌, ◌++◌, ℕ, Err, OnOk, string_bytes};
 ghost use Rattle.std.specs.Io.KnownBytes.{Appends};
 ghost use Rattle.gv_text.specs.Reading.{TellsWrites};
-ghost use Rattle.gv_text.specs.Threads.{EndsByLine};
+ghost use Rattle.gv_threads.specs.Script.{EndsByLine};
 ghost use Rattle.gv_threads.specs.Ending.{end_line, end_lines};
 
 use gv_queues::QueueEnd;

@@ -4,7 +4,9 @@
 mod ends;
 mod fault;
 mod gate;
+mod parts;
 mod run;
+mod script;
 
 pub use fault::ThreadsFault;
 pub use run::run_threads;

@@ -3,16 +3,18 @@ ghost use Rattle.std.specs.Prelude.{◌≡◌, Bool, Err, IfErr};
 ghost use Rattle.gv_types.specs.Limits.{IsFromOneTo};
 ghost use Rattle.gv_sync.specs.Seats.{IsSeatOf, count_of, most_timelines};
 ghost use Rattle.gv_vm.specs.Outcomes.{queues};
-ghost use Rattle.gv_text.specs.Threads.{most_places};
+ghost use Rattle.gv_threads.specs.Script.{most_places};
 ghost use Rattle.gv_queues.specs.Ending.{IsOfQueueBelow, IsUntold};
 ghost use Rattle.gv_threads.specs.Ending.{HasNotBegun, RunsAs};
 
 use crate::ends::write_ends;
 use crate::fault::ThreadsFault;
 use crate::gate::TurnLimit;
+use crate::parts::Ground;
+use crate::script::ThreadsScript;
 use gv_queues::{PutAll, QueueEnd, QueuesFault, run_queues};
-use gv_sync::{MAX_TIMELINES, Seat, Timelines};
-use gv_text::{ScriptFault, Sink, Source, ThreadsScript};
+use gv_sync::{MAX_TIMELINES, Timelines};
+use gv_text::{Names, ScriptFault, Sink, Source, read_script};
 use gv_vm::Vm;
 use std::alloc::Global;
 use std::sync::Wait;
@@ -37,7 +39,11 @@ pub fn run_threads<R: Threads + Wait + Sync, S: Source, K: Sink>(
     ensures ends { RunsAs (S.failed reader.old) (S.failed reader.new) (K.failed writer.old) (K.failed writer.new) count result }
     ensures silent { IfErr result (λ fault. HasNotBegun fault → writer.new ≡ writer.old) }
 {
-    let script = match ThreadsScript::read(alloc, reader, count) {
+    let text = match read_script(alloc, reader) {
+        Ok(text) => text,
+        Err(fault) => return Err(ThreadsFault::Script(fault)),
+    };
+    let script = match ThreadsScript::read(alloc, text.as_slice(), count) {
         Ok(script) => script,
         Err(fault) => return Err(ThreadsFault::Script(fault)),
     };
@@ -46,50 +52,46 @@ pub fn run_threads<R: Threads + Wait + Sync, S: Source, K: Sink>(
     };
     match Vm::new(alloc, script.bounds(), script.limits()) {
         Ok(vm) => {
-            let made = Made {
+            let ground = Ground {
                 vm,
+                buffers: Names::new(alloc),
                 timelines,
                 seat,
             };
-            run_on(rt, alloc, script, made, writer, count, turns)
+            run_on(rt, alloc, script, ground, writer, count, turns)
         }
         Err(_) => Err(ThreadsFault::Script(ScriptFault::OutOfMemory)),
     }
-}
-
-/// What a script runs on: a new address space, and new timelines with their first seat.
-struct Made {
-    vm: Vm,
-    timelines: Timelines,
-    seat: Seat,
 }
 
 /// Runs a script that was read on what was made for it, and closes the address space.
 fn run_on<R: Threads + Wait + Sync, K: Sink>(
     rt: &R,
     alloc: Global,
-    mut script: ThreadsScript,
-    made: Made,
+    mut script: ThreadsScript<'_>,
+    mut ground: Ground,
     writer: &mut K,
     count: u64,
     turns: u64,
 ) -> Result<(), ThreadsFault>
     requires queues { IsFromOneTo queues count }
     requires read { script.queues ≡ count }
-    requires own { IsSeatOf made.timelines made.seat }
-    requires all { count_of made.timelines ≡ most_timelines }
-    requires untold { IsUntold made.vm }
+    requires own { IsSeatOf ground.timelines ground.seat }
+    requires all { count_of ground.timelines ≡ most_timelines }
+    requires untold { IsUntold ground.vm }
     requires depth { IsFromOneTo most_places script.depth }
     // The reader has nothing to do with it.
     ensures ends { (read : Bool) → RunsAs read read (K.failed writer.old) (K.failed writer.new) count result }
     ensures begun { IfErr result (λ fault. HasNotBegun fault → ⊥) }
 {
-    let Made {
-        mut vm,
+    let begun = script.begin(alloc, &mut ground, writer);
+    let Ground {
+        vm,
+        buffers,
         timelines,
         mut seat,
-    } = made;
-    let requests = match script.begin(alloc, &mut vm, &timelines, &mut seat, writer) {
+    } = ground;
+    let requests = match begun {
         Ok(requests) => requests,
         Err(fault) => {
             vm.close();
@@ -110,7 +112,19 @@ fn run_on<R: Threads + Wait + Sync, K: Sink>(
         &gate,
         &mut driver,
     );
-    let ended = end(alloc, &script, ran, &vm, &timelines, &mut seat, writer);
+    let mut ground = Ground {
+        vm,
+        buffers,
+        timelines,
+        seat,
+    };
+    let ended = end(alloc, &script, ran, &mut ground, writer);
+    let Ground {
+        vm,
+        buffers: _,
+        timelines: _,
+        seat: _,
+    } = ground;
     vm.close();
     ended
 }
@@ -118,15 +132,13 @@ fn run_on<R: Threads + Wait + Sync, K: Sink>(
 /// Writes what each queue came to, where the queues ran to their end, and the replies of the last part.
 fn end<K: Sink>(
     alloc: Global,
-    script: &ThreadsScript,
+    script: &ThreadsScript<'_>,
     ran: Result<Vec<QueueEnd>, QueuesFault>,
-    vm: &Vm,
-    timelines: &Timelines,
-    seat: &mut Seat,
+    ground: &mut Ground,
     writer: &mut K,
 ) -> Result<(), ThreadsFault>
-    requires own { IsSeatOf timelines.now seat.old }
-    requires all { count_of timelines.now ≡ most_timelines }
+    requires own { IsSeatOf ground.old.timelines ground.old.seat }
+    requires all { count_of ground.old.timelines ≡ most_timelines }
     requires queue { IfErr ran (IsOfQueueBelow script.now.queues) }
     ensures ran { IfErr ran (λ fault. result ≡ Err (ThreadsFault.Queues fault)) }
     ensures ends { (read : Bool) → RunsAs read read (K.failed writer.old) (K.failed writer.new) script.now.queues result }
@@ -139,7 +151,7 @@ fn end<K: Sink>(
     if let Err(fault) = write_ends(alloc, ends.as_slice(), writer) {
         return Err(ThreadsFault::Script(fault));
     }
-    match script.end(alloc, vm, timelines, seat, writer) {
+    match script.end(alloc, ground, writer) {
         Ok(()) => Ok(()),
         Err(fault) => Err(ThreadsFault::Script(fault)),
     }

@@ -13,11 +13,15 @@ returns-clause-done c =
       written = record { text = flat_map (told s.timelines) ran.0; lacking = list_any is_lacking ran.0 };
       text = ran.1.wrote;
       runs = record {
-        request = asked.request;
-        asked = c.in_ok-asked.ensures.request;
+        request = asked.1;
+        asked = record {
+          ops = rw c.buffers.ensures at c.in_ok-asked.ensures.ops;
+          waits = rw c.timelines.ensures.names at c.in_ok-asked.ensures.waits;
+          signals = rw c.timelines.ensures.names at c.in_ok-asked.ensures.signals;
+        };
         does = record {
           replies = ran.0;
-          carried_out = subst (λ (q : ℕ). IsCarriedOut (serving q asked.request) s.world ran.0 c.serve.new.session.world) c.in_ok-asked.ensures.queue ran.2;
+          carried_out = subst (λ (q : ℕ). IsCarriedOut (serving q asked.1) s.world ran.0 c.serve.new.session.world) c.in_ok-asked.ensures.queue ran.2;
           written = refl;
           state = ran.1.state;
         };

@@ -1,0 +1,40 @@
+-- What contracts see of a `ThreadsScript` (`ThreadsState`), and what its lines give to the queues.
+use Rattle.std.specs.Prelude.{ℕ, ◌<◌, Result, Ok, Err}
+use Rattle.gv_types.specs.Bounds.{Area}
+use Rattle.gv_types.specs.Limits.{Caps}
+use Rattle.gv_types.specs.Request.{Fits}
+use Rattle.gv_types.specs.declared.request.Request.{Request}
+use Rattle.gv_text.specs.declared.fault.ScriptFault.{ScriptFault}
+use Rattle.gv_text.specs.declared.fault.ScriptFault.TheVariants.{BadLine, ScriptTooLong, ReadFault, WriteFault, OutOfMemory}
+
+-- the bounds and the limits that it sets, for how many queues it was read, and how many requests wait on one at most
+pub record ThreadsState : Type 0 where
+  pub bounds : Area
+  pub limits : Caps
+  pub queues : ℕ
+  pub depth : ℕ
+
+-- how many requests may wait on a queue of threads
+abbrev pub most_places : ℕ
+most_places = 65536
+
+-- a request for one of so many queues: each timeline that it names is below this count
+pub record IsFor (queues timelines : ℕ) (entry : ℕ × Request) : Type 0 where
+  pub queue : entry.0 < queues
+  pub fits : Fits timelines entry.1
+
+-- a script that was read ends by a bad line, a failed write or want of memory alone
+abbrev pub EndsByLine : {T : Type 0} → Result T ScriptFault → Type 0
+EndsByLine (Ok done) = Unit {0}
+EndsByLine (Err (BadLine line)) = Unit {0}
+EndsByLine (Err WriteFault) = Unit {0}
+EndsByLine (Err OutOfMemory) = Unit {0}
+EndsByLine (Err ReadFault) = ⊥
+EndsByLine (Err ScriptTooLong) = ⊥
+
+-- a line is bad, or wants memory, and no device has failed
+abbrev pub IsOfLine : {T : Type 0} → Result T ScriptFault → Type 0
+IsOfLine (Ok done) = Unit {0}
+IsOfLine (Err (BadLine line)) = Unit {0}
+IsOfLine (Err OutOfMemory) = Unit {0}
+IsOfLine (Err fault) = ⊥
