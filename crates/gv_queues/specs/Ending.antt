@@ -54,7 +54,7 @@ pub record IsFirstOther (vm : Machine) (puts : List PutEndState) (workers : List
   pub before : (other : ℕ) → other < queue → AgreesAt vm puts workers other
 
 -- what a queue comes to: how many its submitter put, how many outcomes the address space tells, and what its worker left.
--- Each request that was put was told, or is left
+-- As many requests were put as were told and are left
 pub record IsEndOf (vm : Machine) (submitted : PutEndState) (worker : WorkerEndState) (end : QueueEnd) : Type 0 where
   pub put : end.put ≡ length submitted.put
   pub told : end.told ≡ length (told_to vm.told worker.queue)
@@ -67,8 +67,8 @@ AreEndsOf vm puts workers ends =
     (queue : ℕ) (d : QueueEnd) → queue < length ends
     → IsEndOf vm (put_at puts queue) (end_at workers queue) (slice_index_or ends queue d)
 
--- Of each queue, what was put was told or is left. So many requests did the driver put, and so many outcomes the address
--- space tells.
+-- Of each queue, as many requests were put as were told and are left. So many did the driver put, and so many outcomes the
+-- address space tells.
 pub record IsCounted (vm : Machine) (count : ℕ → ℕ) (queue : ℕ) (end : QueueEnd) : Type 0 where
   pub each : end.put ≡ end.told + length end.left.items
   pub driven : end.put ≡ count queue
