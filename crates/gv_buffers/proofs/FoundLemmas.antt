@@ -85,10 +85,6 @@ has_id_found id (x ∷ bs) b found =
       | false ↦ (λ _ h. has_id_found id bs b h)
     ] refl found
 
--- the buffer that an id finds has that id
-pub found_id : (t : Table) (id : BufferId) (b : Buffer) → buffer t id ≡ Some b → b.id ≡ id
-found_id t id b found = same_id b.id id (has_id_found id t.live b found)
-
 lives_from : (count : Buffer → ℕ) (P : ℕ → Type 0) (o : Option Buffer) → IsSomeAnd (option_map count o) P → IsSome o
 lives_from count P None holds = absurd holds
 lives_from count P (Some b) holds = refl
@@ -114,7 +110,7 @@ live_of_made old new id pages made =
     ap (λ (t : Table). t.live) made.state ∙ ap (λ (i : BufferId). insert old.live (count_below i.index old.live) (fresh i pages)) (sym made.id_is)
 
 -- how many were made before it is its generation
-pub generation_of_made : (old new : Table) (id : BufferId) (pages : ℕ) → IsCreated old new id pages → id.generation ≡ old.made
+generation_of_made : (old new : Table) (id : BufferId) (pages : ℕ) → IsCreated old new id pages → id.generation ≡ old.made
 generation_of_made old new id pages made = ap (λ (i : BufferId). i.generation) made.id_is
 
 pub made_is_found : (old new : Table) (id : BufferId) (pages : ℕ) → IsCreated old new id pages → buffer new id ≡ Some (fresh id pages)

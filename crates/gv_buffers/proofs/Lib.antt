@@ -11,4 +11,3 @@ pub mod Using
 pub mod FoundLemmas
 pub mod Counts
 pub mod TakenBack
-pub mod RenamingLemmas

@@ -1,112 +1,197 @@
--- For callers: address spaces with their journals that tell the same by the new names answer the same faults.
-use Rattle.std.proofs.Common.{◌≡◌, ℕ, ◌-◌, List, [], ◌∷◌, map, refl, sym, ap, ◌∙◌, subst}
-use Rattle.gv_types.specs.Operation.{in_pages}
-use Rattle.gv_types.specs.Renamed.{renamed_mapping, renamed_op, renamed_bytes, AreOf, IsOperationOf}
-use Rattle.gv_types.specs.declared.mapping.BufferId.{BufferId}
+-- For callers: spaces with their journals that are the same, bare of memory, answer the same faults, and go on to be the same after
+-- the same change.
+use Rattle.std.proofs.Common.{◌≡◌, ℕ, zero, suc, ◌-◌, List, [], ◌∷◌, ◌++◌, map, take, drop, reverse, Option, Some, Vec, Global, refl, sym, ap, ◌∙◌, subst}
+use Rattle.std.proofs.lemmas.List.{take-map, drop-map}
+use Rattle.gv_types.specs.declared.fault.Fault.{Fault}
+use Rattle.gv_types.specs.declared.mapping.Mapping.{Mapping}
 use Rattle.gv_types.specs.declared.operation.Op.{Op}
+use Rattle.gv_types.specs.declared.operation.PageOp.{PageOp}
+use Rattle.gv_types.specs.declared.request.Request.{Request}
 use Rattle.gv_space.specs.State.{AddressSpace}
-use Rattle.gv_space.specs.Refusal.{operation_fault}
-use Rattle.gv_space.proofs.RenamingLemmas.{IsRenamed, operation_fault-renamed}
-use Rattle.gv_journal.specs.Items.{Journaled, entries, next, is_withdrawn}
-use Rattle.gv_journal.specs.History.{back}
-use Rattle.gv_journal.specs.Verdict.{full_fault, verdict}
-use Rattle.gv_journal.specs.Withdrawing.{entry_fault, withdraw_fault, list_before, ops_at}
-use Rattle.gv_journal.specs.Settling.{settle_fault}
-use Rattle.gv_journal.specs.Renamed.{said_by, renamed_said, all_said, renamed_undo, renamed_kind, renamed_item, renamed_journal, HaveRenamedUndos, IsRenamedJournal}
-use Rattle.gv_journal.specs.RenamedSpace.{renamed_table, seen_space, AreNumbered}
-use Rattle.gv_journal.specs.Alike.{SeenItem, seen_item, AreAlike}
+use Rattle.gv_space.specs.Undo.{released}
+use Rattle.gv_space.specs.Refusal.{first_of}
+use Rattle.gv_journal.specs.Undoing.{taken_by, undone_by, reverted_by}
+use Rattle.gv_journal.specs.Items.{Journaled, next, done_by}
+use Rattle.gv_journal.specs.History.{undos_of, kept_by, back, AreUndosOf}
+use Rattle.gv_journal.specs.Applying.{all_do, after_all}
+use Rattle.gv_journal.specs.Verdict.{request_fault, refused_or, verdict_from, verdict}
+use Rattle.gv_journal.specs.Binding.{IsBound, IsApplied, IsRewound}
+use Rattle.gv_journal.specs.Settling.{earlier, IsSettled}
+use Rattle.gv_journal.specs.Withdrawing.{list_before, ops_at, withdrawal_limits, entry_fault, withdraw_fault, after_withdrawal, AreUndosOfWithdrawal, IsWithdrawn}
+use Rattle.gv_journal.specs.Bare.{BareRequest, BareBind, BareUndo, BareItem, BareJournal, bare_request, bare_undo, bare_item, bare_journal, bare_space, bind_of, withdrawn_by}
 use Rattle.gv_journal.specs.declared.item.Item.{Item}
-use Rattle.gv_journal.specs.declared.item.ItemKind.{ItemKind}
-use Rattle.gv_journal.specs.declared.item.ItemKind.TheVariants.{Bind, Withdrawal}
-use Rattle.gv_journal.specs.Renamed.{AreRequested}
-use Rattle.gv_journal.proofs.RenamedListLemmas.{reverse-map}
-use Rattle.gv_journal.proofs.RenamedItemLemmas.{next-renamed, full_fault-renamed, is_withdrawn-renamed, entry_fault-renamed, settle_fault-renamed, ops_at-renamed}
-use Rattle.gv_journal.proofs.RenamedHistoryLemmas.{back-renamed}
-use Rattle.gv_journal.proofs.RenamedSpaceLemmas.{IsRenamed-seen}
-use Rattle.gv_journal.proofs.RenamingLemmas.{verdict-renamed, withdraw_fault-renamed}
+use Rattle.gv_journal.proofs.MapLemmas.{reverse-map}
+use Rattle.gv_journal.proofs.BareItemLemmas.{limit_alike, first_alike, items_alike, next_alike, full_fault_alike, entry_fault_alike, ops_at_alike}
+use Rattle.gv_journal.proofs.BareUndoLemmas.{all_filled, undos_alike, withdrawal_undos_alike, taken_by_bare, undone_by_bare, reverted_by_bare}
+use Rattle.gv_journal.proofs.BareSpaceLemmas.{after_all_bare, verdict_from_bare, after_withdrawal_bare, withdrawal_limits_bare, reverted_by_roomless}
+
+-- What bare items keep, and the lists before them.
+
+abbrev kept_bare : List BareItem → List Mapping
+kept_bare [] = []
+kept_bare (item ∷ older) = taken_by (all_filled item.undos) ++ kept_bare older
+
+kept_by_bare : (items : List Item) → kept_by items ≡ kept_bare (map bare_item items)
+kept_by_bare [] = refl
+kept_by_bare (item ∷ older) =
+    ap (λ (ms : List Mapping). ms ++ kept_by older) (taken_by_bare (undos_of item))
+    ∙ ap (λ (ms : List Mapping). taken_by (all_filled (map bare_undo (undos_of item))) ++ ms) (kept_by_bare older)
+
+abbrev back_of : List Mapping → List BareItem → ℕ → List Mapping
+back_of ms items zero = ms
+back_of ms [] (suc n) = ms
+back_of ms (item ∷ older) (suc n) = back_of (undone_by ms (all_filled item.undos)) older n
+
+back_bare : (ms : List Mapping) (items : List Item) (n : ℕ) → back ms items n ≡ back_of ms (map bare_item items) n
+back_bare ms items zero = refl
+back_bare ms [] (suc n) = refl
+back_bare ms (item ∷ older) (suc n) =
+    ap (λ (l : List Mapping). back l older n) (undone_by_bare ms (undos_of item)) ∙ back_bare (undone_by ms (all_filled (map bare_undo (undos_of item)))) older n
 
 pub cons_same : {X : Type 0} {x y : X} {xs ys : List X} → x ≡ y → xs ≡ ys → x ∷ xs ≡ y ∷ ys
 cons_same first rest = cc
 
-said_kind : (kind : ItemKind) → said_by (renamed_kind kind) ≡ renamed_said (said_by kind)
-said_kind (Bind queue number request seen done) = refl
-said_kind (Withdrawal of) = refl
+head_same : {X : Type 0} (x y : X) (xs ys : List X) → x ∷ xs ≡ y ∷ ys → x ≡ y
+head_same x y xs ys same = cc
 
-said_renamed : (items : List Item) → all_said (map renamed_item items) ≡ map renamed_said (all_said items)
-said_renamed [] = refl
-said_renamed (item ∷ items) = cons_same (said_kind item.kind) (said_renamed items)
+tail_same : {X : Type 0} (x y : X) (xs ys : List X) → x ∷ xs ≡ y ∷ ys → xs ≡ ys
+tail_same x y xs ys same = cc
 
--- the journal with its buffers renamed
-pub IsRenamedJournal-renamed : (j : Journaled) → IsRenamedJournal (renamed_journal j) j
-IsRenamedJournal-renamed j = record { limit = refl; first = refl; items = said_renamed j.items }
+item_same : (one other : Item) → bind_of one.kind ≡ bind_of other.kind → withdrawn_by one.kind ≡ withdrawn_by other.kind → done_by one.kind ≡ done_by other.kind →
+    map bare_undo (undos_of one) ≡ map bare_undo (undos_of other) → bare_item one ≡ bare_item other
+item_same one other bind withdraws done undos = rw (bind, withdraws, done, undos) refl
 
-pub HaveRenamedUndos-renamed : (items : List Item) → HaveRenamedUndos (map renamed_item items) items
-HaveRenamedUndos-renamed [] = refl
-HaveRenamedUndos-renamed (item ∷ items) = cons_same (reverse-map renamed_undo item.undos.items) (HaveRenamedUndos-renamed items)
+journal_same : (limit limit' first first' : ℕ) (items items' : List BareItem) → limit ≡ limit' → first ≡ first' → items ≡ items' →
+    let one : BareJournal = record { limit = limit; first = first; items = items } in
+    let other : BareJournal = record { limit = limit'; first = first'; items = items' } in
+    one ≡ other
+journal_same limit limit' first first' items items' limits firsts all = rw (limits, firsts, all) refl
 
-says_seen : (items : List Item) → map (λ (x : SeenItem). x.says) (map seen_item items) ≡ map renamed_said (all_said items)
-says_seen [] = refl
-says_seen (item ∷ items) = cons_same refl (says_seen items)
+module _ (s s' : AddressSpace) (j j' : Journaled) (space : bare_space s ≡ bare_space s') (journal : bare_journal j ≡ bare_journal j') where
+  pub list_alike : s.mappings ≡ s'.mappings
+  list_alike = ap (λ (t : AddressSpace). t.mappings) space
 
--- what is alike
-module _ (ids ids' : List BufferId) (s s' : AddressSpace) (j j' : Journaled) (alike : AreAlike ids ids' s s' j j') where
-  pub list_alike : map renamed_mapping s.mappings ≡ map renamed_mapping s'.mappings
-  list_alike = ap (λ (x : AddressSpace). x.mappings) alike.space
+  -- the lists before the items
+  pub back_alike : (n : ℕ) → back s.mappings j.items n ≡ back s'.mappings j'.items n
+  back_alike n =
+      back_bare s.mappings j.items n ∙ ap (λ (items : List BareItem). back_of s.mappings items n) (items_alike j j' journal)
+      ∙ ap (λ (ms : List Mapping). back_of ms (map bare_item j'.items) n) list_alike ∙ sym (back_bare s'.mappings j'.items n)
 
-  pub table_alike : renamed_table ids s.buffers ≡ renamed_table ids' s'.buffers
-  table_alike = ap (λ (x : AddressSpace). x.buffers) alike.space
-
-  pub said_alike : map renamed_said (all_said j.items) ≡ map renamed_said (all_said j'.items)
-  said_alike = sym (says_seen j.items) ∙ ap (map (λ (x : SeenItem). x.says)) alike.items ∙ says_seen j'.items
-
-  -- so one journal is both with their buffers renamed
-  one_journal : IsRenamedJournal (renamed_journal j) j'
-  one_journal = record { limit = alike.limit; first = alike.first; items = said_renamed j.items ∙ said_alike }
-
-  one_space : AreNumbered ids' → IsRenamed ids' (seen_space ids s) s'
-  one_space numbered = subst (λ (x : AddressSpace). IsRenamed ids' x s') (sym alike.space) (IsRenamed-seen ids' s' numbered)
-
-  pub next_alike : next j ≡ next j'
-  next_alike = sym (next-renamed (renamed_journal j) j (IsRenamedJournal-renamed j)) ∙ next-renamed (renamed_journal j) j' one_journal
-
-  pub full_fault_alike : full_fault j ≡ full_fault j'
-  full_fault_alike = sym (full_fault-renamed (renamed_journal j) j (IsRenamedJournal-renamed j)) ∙ full_fault-renamed (renamed_journal j) j' one_journal
-
-  pub is_withdrawn_alike : (n : ℕ) → is_withdrawn (entries j) n ≡ is_withdrawn (entries j') n
-  is_withdrawn_alike n = sym (is_withdrawn-renamed (renamed_journal j) j n (IsRenamedJournal-renamed j)) ∙ is_withdrawn-renamed (renamed_journal j) j' n one_journal
-
-  pub entry_fault_alike : (n : ℕ) → entry_fault j n ≡ entry_fault j' n
-  entry_fault_alike n = sym (entry_fault-renamed (renamed_journal j) j n (IsRenamedJournal-renamed j)) ∙ entry_fault-renamed (renamed_journal j) j' n one_journal
-
-  pub settle_fault_alike : (to : ℕ) → settle_fault j to ≡ settle_fault j' to
-  settle_fault_alike to = sym (settle_fault-renamed (renamed_journal j) j to (IsRenamedJournal-renamed j)) ∙ settle_fault-renamed (renamed_journal j) j' to one_journal
-
-  pub ops_at_alike : (n : ℕ) → map renamed_op (ops_at j n) ≡ map renamed_op (ops_at j' n)
-  ops_at_alike n = sym (ops_at-renamed (renamed_journal j) j n (IsRenamedJournal-renamed j)) ∙ ops_at-renamed (renamed_journal j) j' n one_journal
-
-  pub list_before_alike : (n : ℕ) → map renamed_mapping (list_before s j n) ≡ map renamed_mapping (list_before s' j' n)
-  list_before_alike n = alike.lists (next j - n) ∙ ap (λ (at : ℕ). map renamed_mapping (back s'.mappings j'.items (at - n))) next_alike
-
-  -- why a withdrawal is refused
-  pub withdraw_fault_alike : (n : ℕ) → AreNumbered ids → AreNumbered ids' → withdraw_fault s j n ≡ withdraw_fault s' j' n
-  withdraw_fault_alike n numbered numbered' =
-      let list : list_before (seen_space ids s) (renamed_journal j) n ≡ map renamed_mapping (list_before s j n) =
-      ap (λ (at : ℕ). back (map renamed_mapping s.mappings) (map renamed_item j.items) (at - n)) (next-renamed (renamed_journal j) j (IsRenamedJournal-renamed j))
-      ∙ back-renamed s.mappings (map renamed_item j.items) j.items (next j - n) (HaveRenamedUndos-renamed j.items) in
-      sym (withdraw_fault-renamed ids (seen_space ids s) s (renamed_journal j) j n (IsRenamed-seen ids s numbered) (IsRenamedJournal-renamed j) list)
-      ∙ withdraw_fault-renamed ids' (seen_space ids s) s' (renamed_journal j) j' n (one_space numbered') one_journal (list ∙ list_before_alike n)
+  pub list_before_alike : (n : ℕ) → list_before s j n ≡ list_before s' j' n
+  list_before_alike n = back_alike (next j - n) ∙ ap (λ k. back s'.mappings j'.items (k - n)) (next_alike j j' journal)
 
   -- the verdict on a request
-  pub verdict_alike : (ops ops' : List Op) → AreNumbered ids → AreNumbered ids' → AreOf ids s.mappings → AreOf ids' s'.mappings → AreRequested ids ops → AreRequested ids' ops' →
-      map renamed_bytes ops ≡ map renamed_bytes ops' → verdict s j ops ≡ verdict s' j' ops'
-  verdict_alike ops ops' numbered numbered' are are' all all' same =
-      sym (verdict-renamed ids (seen_space ids s) s (renamed_journal j) j ops (IsRenamed-seen ids s numbered) (IsRenamedJournal-renamed j) are all)
-      ∙ ap (verdict (seen_space ids s) (renamed_journal j)) same
-      ∙ verdict-renamed ids' (seen_space ids s) s' (renamed_journal j) j' ops' (one_space numbered') one_journal are' all'
+  pub verdict_alike : (ops : List Op) → verdict s j ops ≡ verdict s' j' ops
+  verdict_alike ops =
+      let turns : verdict_from 0 s ops ≡ verdict_from 0 s' ops =
+      sym (verdict_from_bare 0 s ops) ∙ ap (λ (t : AddressSpace). verdict_from 0 t ops) space ∙ verdict_from_bare 0 s' ops in
+      let whole : request_fault j ops ≡ request_fault j' ops = rw (full_fault_alike j j' journal) refl in
+      ap (refused_or 0 (request_fault j ops)) turns ∙ ap (λ (o : Option Fault). refused_or 0 o (verdict_from 0 s' ops)) whole
 
-  -- why an operation is refused
-  pub operation_fault_alike : (op op' : Op) → AreNumbered ids → AreNumbered ids' → IsOperationOf ids (in_pages op) → IsOperationOf ids' (in_pages op') → renamed_bytes op ≡ renamed_bytes op' →
-      operation_fault s op ≡ operation_fault s' op'
-  operation_fault_alike op op' numbered numbered' is is' same =
-      sym (operation_fault-renamed ids (seen_space ids s) s op (IsRenamed-seen ids s numbered) is)
-      ∙ ap (operation_fault (seen_space ids s)) same ∙ operation_fault-renamed ids' (seen_space ids s) s' op' (one_space numbered') is'
+  -- why a withdrawal is refused
+  pub withdraw_fault_alike : (n : ℕ) → withdraw_fault s j n ≡ withdraw_fault s' j' n
+  withdraw_fault_alike n =
+      let limits : withdrawal_limits (list_before s j n) (ops_at j n) s ≡ withdrawal_limits (list_before s' j' n) (ops_at j' n) s' =
+      ap (λ (ms : List Mapping). withdrawal_limits ms (ops_at j n) s) (list_before_alike n)
+      ∙ ap (λ (ops : List PageOp). withdrawal_limits (list_before s' j' n) ops s) (ops_at_alike j j' journal n)
+      ∙ sym (withdrawal_limits_bare (list_before s' j' n) (ops_at j' n) s) ∙ ap (withdrawal_limits (list_before s' j' n) (ops_at j' n)) space
+      ∙ withdrawal_limits_bare (list_before s' j' n) (ops_at j' n) s' in
+      ap (first_of (entry_fault j n)) limits ∙ ap (λ (o : Option Fault). first_of o (withdrawal_limits (list_before s' j' n) (ops_at j' n) s')) (entry_fault_alike j j' journal n)
+
+  -- one item more
+  more_alike : (new new' : Journaled) (item item' : Item) → new ≡ record j { items = item ∷ j.items } → new' ≡ record j' { items = item' ∷ j'.items } →
+      bare_item item ≡ bare_item item' → bare_journal new ≡ bare_journal new'
+  more_alike new new' item item' is is' same =
+      ap bare_journal is
+      ∙ journal_same j.limit j'.limit j.first j'.first (map bare_item (item ∷ j.items)) (map bare_item (item' ∷ j'.items))
+      (limit_alike j j' journal) (first_alike j j' journal) (cons_same same (items_alike j j' journal))
+      ∙ sym (ap bare_journal is')
+
+  -- the same request was accepted
+  pub bound_alike : (new new' : Journaled) (queue number : ℕ) (request request' : Request) (saw saw' : Vec ℕ Global) → bare_request request ≡ bare_request request' → saw.items ≡ saw'.items →
+      IsBound s j new queue number request saw → IsBound s' j' new' queue number request' saw' → bare_journal new ≡ bare_journal new'
+  bound_alike new new' queue number request request' saw saw' same seen now now' =
+      let did : now.done.items ≡ now'.done.items =
+      now.did ∙ ap (λ (ms : List Mapping). all_do ms request.ops.items) list_alike ∙ ap (λ (r : BareRequest). all_do s'.mappings r.ops) same ∙ sym now'.did in
+      let bind : bind_of now.item.kind ≡ bind_of now'.item.kind =
+      ap bind_of now.kind
+      ∙ ap (λ (r : BareRequest). let o : Option BareBind = Some (record { queue = queue; number = number; request = r; saw = saw.items }) in o) same
+      ∙ ap (λ (ns : List ℕ). let o : Option BareBind = Some (record { queue = queue; number = number; request = bare_request request'; saw = ns }) in o) seen
+      ∙ sym (ap bind_of now'.kind) in
+      let undos : map bare_undo (undos_of now.item) ≡ map bare_undo (undos_of now'.item) =
+      undos_alike s.mappings (reverse now.done.items) (undos_of now.item) (undos_of now'.item) now.undos
+      (subst (λ (ms : List Mapping). AreUndosOf ms (reverse now.done.items) (undos_of now'.item)) (sym list_alike)
+      (subst (λ (ops : List PageOp). AreUndosOf s'.mappings (reverse ops) (undos_of now'.item)) (sym did) now'.undos)) in
+      more_alike new new' now.item now'.item now.items now'.items
+      (item_same now.item now'.item bind (ap withdrawn_by now.kind ∙ sym (ap withdrawn_by now'.kind)) (ap done_by now.kind ∙ did ∙ sym (ap done_by now'.kind)) undos)
+
+  pub applied_alike : (t t' : AddressSpace) (request request' : Request) → bare_request request ≡ bare_request request' → IsApplied s t request → IsApplied s' t' request' → bare_space t ≡ bare_space t'
+  applied_alike t t' request request' same now now' =
+      let ops : all_do s.mappings request.ops.items ≡ all_do s'.mappings request'.ops.items =
+      ap (λ (ms : List Mapping). all_do ms request.ops.items) list_alike ∙ ap (λ (r : BareRequest). all_do s'.mappings r.ops) same in
+      ap bare_space now.state ∙ sym (after_all_bare (reverse (all_do s.mappings request.ops.items)) s)
+      ∙ ap (after_all (reverse (all_do s.mappings request.ops.items))) space
+      ∙ ap (λ (done : List PageOp). after_all (reverse done) (bare_space s')) ops
+      ∙ after_all_bare (reverse (all_do s'.mappings request'.ops.items)) s' ∙ sym (ap bare_space now'.state)
+
+  -- the same item was withdrawn
+  pub withdrawn_alike : (t t' : AddressSpace) (new new' : Journaled) (n : ℕ) → IsWithdrawn s t j new n → IsWithdrawn s' t' j' new' n →
+      (bare_space t ≡ bare_space t') × (bare_journal new ≡ bare_journal new')
+  withdrawn_alike t t' new new' n out out' =
+      let before : list_before s j n ≡ list_before s' j' n = list_before_alike n in
+      let ops : ops_at j n ≡ ops_at j' n = ops_at_alike j j' journal n in
+      let undos : map bare_undo out.item.undos.items ≡ map bare_undo out'.item.undos.items =
+      withdrawal_undos_alike (list_before s j n) (ops_at j n) s.mappings out.item.undos.items out'.item.undos.items out.undos
+      (subst (λ (ms : List Mapping). AreUndosOfWithdrawal ms (ops_at j n) s.mappings out'.item.undos.items) (sym before)
+      (subst (λ (done : List PageOp). AreUndosOfWithdrawal (list_before s' j' n) done s.mappings out'.item.undos.items) (sym ops)
+      (subst (λ (ms : List Mapping). AreUndosOfWithdrawal (list_before s' j' n) (ops_at j' n) ms out'.item.undos.items) (sym list_alike) out'.undos))) in
+      (
+        ap bare_space out.state ∙ sym (after_withdrawal_bare (list_before s j n) (ops_at j n) s)
+        ∙ ap (after_withdrawal (list_before s j n) (ops_at j n)) space
+        ∙ ap (λ (ms : List Mapping). after_withdrawal ms (ops_at j n) (bare_space s')) before
+        ∙ ap (λ (done : List PageOp). after_withdrawal (list_before s' j' n) done (bare_space s')) ops
+        ∙ after_withdrawal_bare (list_before s' j' n) (ops_at j' n) s' ∙ sym (ap bare_space out'.state),
+        more_alike new new' out.item out'.item out.items out'.items
+        (item_same out.item out'.item (ap bind_of out.kind ∙ sym (ap bind_of out'.kind)) (ap withdrawn_by out.kind ∙ sym (ap withdrawn_by out'.kind))
+        (ap done_by out.kind ∙ sym (ap done_by out'.kind))
+        (sym (reverse-map bare_undo out.item.undos.items) ∙ ap (λ (us : List BareUndo). reverse us) undos ∙ reverse-map bare_undo out'.item.undos.items)),
+      )
+
+  -- the newest item was taken back
+  pub rewound_alike : (t t' : AddressSpace) (new new' : Journaled) → IsRewound s t j new → IsRewound s' t' j' new' → (bare_space t ≡ bare_space t') × (bare_journal new ≡ bare_journal new')
+  rewound_alike t t' new new' now now' =
+      let items : bare_item now.item ∷ map bare_item new.items ≡ bare_item now'.item ∷ map bare_item new'.items =
+      ap (λ (x : Journaled). map bare_item x.items) (sym now.items) ∙ items_alike j j' journal ∙ ap (λ (x : Journaled). map bare_item x.items) now'.items in
+      let undos : map bare_undo (undos_of now.item) ≡ map bare_undo (undos_of now'.item) =
+      ap (λ (item : BareItem). item.undos) (head_same (bare_item now.item) (bare_item now'.item) (map bare_item new.items) (map bare_item new'.items) items) in
+      (
+        ap bare_space now.space ∙ sym (reverted_by_roomless s (undos_of now.item))
+        ∙ ap (λ (x : AddressSpace). reverted_by x (undos_of now.item)) space
+        ∙ reverted_by_bare (bare_space s') (undos_of now.item) ∙ ap (λ (us : List BareUndo). reverted_by (bare_space s') (all_filled us)) undos
+        ∙ sym (reverted_by_bare (bare_space s') (undos_of now'.item))
+        ∙ reverted_by_roomless s' (undos_of now'.item) ∙ sym (ap bare_space now'.space),
+        journal_same new.limit new'.limit new.first new'.first (map bare_item new.items) (map bare_item new'.items)
+        (ap (λ (x : Journaled). x.limit) (sym now.items) ∙ limit_alike j j' journal ∙ ap (λ (x : Journaled). x.limit) now'.items)
+        (ap (λ (x : Journaled). x.first) (sym now.items) ∙ first_alike j j' journal ∙ ap (λ (x : Journaled). x.first) now'.items)
+        (tail_same (bare_item now.item) (bare_item now'.item) (map bare_item new.items) (map bare_item new'.items) items),
+      )
+
+  earlier_alike : (to : ℕ) → kept_by (earlier j to) ≡ kept_by (earlier j' to)
+  earlier_alike to =
+      kept_by_bare (earlier j to)
+      ∙ ap kept_bare (sym (drop-map bare_item (next j - to) j.items) ∙ ap (drop (next j - to)) (items_alike j j' journal)
+      ∙ ap (λ n. drop (n - to) (map bare_item j'.items)) (next_alike j j' journal) ∙ drop-map bare_item (next j' - to) j'.items)
+      ∙ sym (kept_by_bare (earlier j' to))
+
+  -- the items below the same number were settled
+  pub settled_alike : (t t' : AddressSpace) (new new' : Journaled) (to : ℕ) → IsSettled s t j new to → IsSettled s' t' j' new' to →
+      (bare_space t ≡ bare_space t') × (bare_journal new ≡ bare_journal new')
+  settled_alike t t' new new' to now now' = (
+    ap bare_space now.space ∙ ap (λ (x : AddressSpace). released x (kept_by (earlier j to))) space
+    ∙ ap (released (bare_space s')) (earlier_alike to) ∙ sym (ap bare_space now'.space),
+    ap bare_journal now.items
+    ∙ journal_same j.limit j'.limit to to (map bare_item (take (next j - to) j.items)) (map bare_item (take (next j' - to) j'.items)) (limit_alike j j' journal) refl
+    (sym (take-map bare_item (next j - to) j.items) ∙ ap (take (next j - to)) (items_alike j j' journal)
+    ∙ ap (λ n. take (n - to) (map bare_item j'.items)) (next_alike j j' journal) ∙ take-map bare_item (next j' - to) j'.items)
+    ∙ sym (ap bare_journal now'.items),
+  )

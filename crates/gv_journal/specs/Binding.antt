@@ -7,18 +7,19 @@ use Rattle.gv_ranges.specs.Edit.{edited_by_all}
 use Rattle.gv_space.specs.State.{AddressSpace}
 use Rattle.gv_journal.specs.Items.{Journaled}
 use Rattle.gv_journal.specs.Undoing.{reverted_by}
-use Rattle.gv_journal.specs.History.{undos_of}
+use Rattle.gv_journal.specs.History.{undos_of, AreUndosOf}
 use Rattle.gv_journal.specs.Applying.{all_do, after_all}
 use Rattle.gv_journal.specs.declared.item.Item.{Item}
 use Rattle.gv_journal.specs.declared.item.ItemKind.TheVariants.{Bind}
 
--- One item more: a Bind of this request, with what its operations did to the list.
+-- One item more: a Bind of this request, with what its operations did to the list, and the undo values of that.
 pub record IsBound (s : AddressSpace) (old new : Journaled) (queue number : ℕ) (request : Request) (seen : Vec ℕ Global) : Type 0 where
   pub item : Item
   pub items : new ≡ record old { items = item ∷ old.items }
   pub done : Vec PageOp Global
   pub kind : item.kind ≡ Bind queue number request seen done
   pub did : done.items ≡ all_do s.mappings request.ops.items
+  pub undos : AreUndosOf s.mappings (reverse done.items) (undos_of item)
 
 -- the space after all operations of a request
 pub record IsApplied (old new : AddressSpace) (request : Request) : Type 0 where

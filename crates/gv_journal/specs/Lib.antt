@@ -14,6 +14,4 @@ pub mod Settling
 pub mod Withdrawing
 pub mod Restoring
 pub mod Laws
-pub mod Renamed
-pub mod RenamedSpace
-pub mod Alike
+pub mod Bare

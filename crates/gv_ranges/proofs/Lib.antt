@@ -12,4 +12,3 @@ pub mod OverlapLemmas
 pub mod RestLemmas
 pub mod OverlappingLemmas
 pub mod PlaceLemmas
-pub mod RenamingLemmas

@@ -1,13 +1,13 @@
--- The mappings that meet a range are a run.
-use Rattle.std.proofs.Common.{◌≡◌, ℕ, ◌+◌, take, drop, ◌++◌, List, [], ◌∷◌, Bool, true, false, refl, ◌∙◌, ap, inl, inr}
-use Rattle.std.proofs.lemmas.Bool.{le-ltb, and_left, and_right}
+-- The mappings that meet a range are a run, and it has one place.
+use Rattle.std.proofs.Common.{◌≡◌, ℕ, zero, suc, ◌+◌, ◌<◌, ◌≤◌, IsTrue, nat_lt, take, drop, ◌++◌, List, [], ◌∷◌, Bool, true, false, arith, refl, ◌∙◌, ap, subst, inl, inr}
+use Rattle.std.proofs.lemmas.Bool.{le-ltb, ltb-true, and_left, and_right, and_parts}
 use Rattle.std.proofs.lemmas.List.{append-nil}
 use Rattle.std.proofs.lemmas.List.Elements.{All-head, All-tail, filter-append, filter_map-append}
 use Rattle.std.specs.List.{All, filter}
 use Rattle.gv_types.specs.Span.{Span, end_of, meets}
 use Rattle.gv_types.specs.Mapping.{clip}
 use Rattle.gv_types.specs.declared.mapping.Mapping.{Mapping}
-use Rattle.gv_ranges.specs.List.{IsOverlappingRun, run}
+use Rattle.gv_ranges.specs.List.{IsLaidOutFrom, IsOverlappingRun, run}
 use Rattle.gv_ranges.specs.Edit.{clipped}
 use Rattle.gv_ranges.proofs.ReplacedLemmas.{clipped_none, split_at_run}
 
@@ -53,3 +53,35 @@ clipped_run ms range place count is =
     ∙ ap (λ (xs : List Mapping). clipped range.first (end_of range) (run ms place count) ++ xs)
     (clipped_none range.first (end_of range) (drop (place + count) ms) (λ k d below. inr (is.beyond k d below)))
     ∙ append-nil (clipped range.first (end_of range) (run ms place count))
+
+-- the run has one place
+
+ended : (ms : List Mapping) (m : Mapping) (range : Span) (low place count : ℕ) → IsLaidOutFrom low (m ∷ ms) → IsOverlappingRun (m ∷ ms) range 0 count → end_of m.range ≤ range.first → ⊥
+ended ms m range low place zero laid is before =
+    let behind : end_of range ≤ m.range.first = All-head (λ (x : Mapping). end_of range ≤ x.range.first) m ms is.beyond in
+    omega (arith, behind, before, laid.1.0.0)
+ended ms m range low place (suc count) laid is before =
+    let here = All-head (λ (x : Mapping). IsTrue (meets x.range range)) m (run ms 0 count) is.meeting in
+    let reaches : range.first < end_of m.range = ltb-true range.first (end_of m.range) (and_parts (nat_lt m.range.first (end_of range)) (nat_lt range.first (end_of m.range)) here).1 in
+    omega (arith, reaches, before)
+
+later : (ms : List Mapping) (m : Mapping) (range : Span) (place count : ℕ) → IsOverlappingRun (m ∷ ms) range (suc place) count → IsOverlappingRun ms range place count
+later ms m range place count is =
+    let up : suc place + count ≡ suc (place + count) = omega arith in
+    record {
+      within = omega (arith, is.within);
+      before = All-tail (λ (x : Mapping). end_of x.range ≤ range.first) m (take place ms) is.before;
+      meeting = is.meeting;
+      beyond = subst (λ k. All (λ (x : Mapping). end_of range ≤ x.range.first) (drop k (m ∷ ms))) up is.beyond;
+    }
+
+pub place_alike : (ms : List Mapping) (range : Span) (low place other count : ℕ) → IsLaidOutFrom low ms → IsOverlappingRun ms range place count → IsOverlappingRun ms range other count → place ≡ other
+place_alike ms range low zero zero count laid is also = refl
+place_alike [] range low zero (suc other) count laid is also = absurd (omega (arith, also.within))
+place_alike [] range low (suc place) other count laid is also = absurd (omega (arith, is.within))
+place_alike (m ∷ ms) range low zero (suc other) count laid is also =
+    absurd (ended ms m range low 0 count laid is (All-head (λ (x : Mapping). end_of x.range ≤ range.first) m _ also.before))
+place_alike (m ∷ ms) range low (suc place) zero count laid is also =
+    absurd (ended ms m range low 0 count laid also (All-head (λ (x : Mapping). end_of x.range ≤ range.first) m _ is.before))
+place_alike (m ∷ ms) range low (suc place) (suc other) count laid is also =
+    ap suc (place_alike ms range (end_of m.range) place other count laid.2 (later ms m range place count is) (later ms m range other count also))

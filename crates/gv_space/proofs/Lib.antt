@@ -19,7 +19,6 @@ pub mod Jobs
 pub mod Spaces
 pub mod UnchangedLemmas
 pub mod UsesFound
-pub mod RenamingLemmas
 pub mod ReleasedLemmas
 pub mod BufferRanges
 pub mod Walked

@@ -1,3 +1,2 @@
 pub mod CarriedOutLemmas
 pub mod WithoutBuffer
-pub mod RenamingLemmas

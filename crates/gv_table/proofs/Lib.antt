@@ -19,4 +19,3 @@ pub mod EditLemmas
 pub mod LikenessLemmas
 pub mod Fewness
 pub mod Counting
-pub mod RenamingLemmas

@@ -1,8 +1,7 @@
--- Whether a line is bad is the same in states that tell the same, and no bad line is run.
-use Rattle.std.proofs.Common.{◌≡◌, ◌<◌, ℕ, List, length, map, Option, Some, None, IsSome, option_map, false, refl, sym, ap, ◌∙◌, subst}
+-- Whether a line is bad is the same in states that are the same, bare of memory, and no bad line is run.
+use Rattle.std.proofs.Common.{◌≡◌, ◌<◌, ℕ, List, length, Option, Some, None, IsSome, false, refl, sym, ◌∙◌, subst}
 use Rattle.std.specs.Prelude.{IsSomeAnd}
 use Rattle.gv_types.specs.Bounds.{Area, byte_area}
-use Rattle.gv_types.specs.Renamed.{renamed, renamed_bytes}
 use Rattle.gv_sync.specs.Seats.{most_timelines}
 use Rattle.gv_lines.specs.Chain.{all_read}
 use Rattle.gv_lines.specs.Clause.{operations_of, waits_of, signals_of}
@@ -10,10 +9,9 @@ use Rattle.gv_lines.specs.Grammar.{parsed}
 use Rattle.gv_lines.specs.declared.line.Line.{Line}
 use Rattle.gv_lines.specs.declared.line.Line.TheVariants as line
 use Rattle.gv_text.specs.Asking.{op_named, point_named}
-use Rattle.gv_text.specs.Line.{Written, Of, MaySetBounds, SetsBounds, Runs, IsGood, RunsText, IsGoodText}
-use Rattle.gv_text.specs.State.{State, buffer_named, timeline_named}
-use Rattle.gv_text.proofs.AlikeNames.{buffer_named_same, op_named_same, ops_named_same}
-use Rattle.gv_text.proofs.AlikeStates.{AreAlikeStates, WriteAlike, limits_may}
+use Rattle.gv_text.specs.Line.{Written, Of, MaySetLimits, MaySetBounds, SetsBounds, Runs, IsGood, RunsText, IsGoodText}
+use Rattle.gv_text.specs.State.{State, Buffers, buffer_named, timeline_named}
+use Rattle.gv_text.proofs.AlikeStates.{AreAlikeStates, WriteAlike}
 use Rattle.gv_text.proofs.AlikeLines.{line_alike}
 
 some_of : {X : Type 0} (o : Option X) (x : X) → o ≡ Some x → IsSome o
@@ -22,16 +20,6 @@ some_of o x is = subst (λ p. IsSome p) (sym is) refl
 there_of : {X : Type 0} (o : Option X) (P : X → Type 0) → Of o P → IsSome o
 there_of None P it = absurd it
 there_of (Some x) P it = refl
-
--- what is shown of it is there as well
-there_both : {X Y : Type 0} (shown : X → Y) (o o' : Option X) → option_map shown o ≡ option_map shown o' → IsSome o → IsSome o'
-there_both shown None o' same it = absurd cc
-there_both shown (Some x) None same it = absurd cc
-there_both shown (Some x) (Some x') same it = refl
-
-none_both : {X Y : Type 0} (shown : X → Y) (o o' : Option X) → option_map shown o ≡ option_map shown o' → o ≡ None → o' ≡ None
-none_both shown o None same none = refl
-none_both shown o (Some x') same none = let nothing : option_map shown o ≡ None = ap (option_map shown) none in absurd cc
 
 bounds_there : (asked : Option Area) (s : State) (w : Written) (t : State) → SetsBounds asked s w t → MaySetBounds asked s
 bounds_there None s w t here = absurd here.1
@@ -66,15 +54,9 @@ good_if_run (line.Job accesses) s t w here = tt
 good_if_run (line.End job) s t w here = tt
 
 module _ (s s' : State) (alike : AreAlikeStates s s') where
-  undeclared_same : (name : List ℕ) → buffer_named s.buffers name ≡ None → buffer_named s'.buffers name ≡ None
-  undeclared_same name none =
-      none_both renamed (buffer_named s.buffers name) (buffer_named s'.buffers name)
-      (buffer_named_same s.buffers s'.buffers alike.of.named.numbered alike.other_of.named.numbered alike.names name) none
-
-  declared_same : (name : List ℕ) → IsSome (buffer_named s.buffers name) → IsSome (buffer_named s'.buffers name)
-  declared_same name =
-      there_both renamed (buffer_named s.buffers name) (buffer_named s'.buffers name)
-      (buffer_named_same s.buffers s'.buffers alike.of.named.numbered alike.other_of.named.numbered alike.names name)
+  -- what a buffer's name is asked for
+  by_buffers : (P : Buffers → Type 0) → P s.buffers → P s'.buffers
+  by_buffers P it = subst P alike.buffers it
 
   -- what a timeline's name is asked for
   by_timelines : (P : List (List ℕ) → Type 0) → P s.timelines → P s'.timelines
@@ -83,22 +65,19 @@ module _ (s s' : State) (alike : AreAlikeStates s s') where
   good_alike : (l : Line) → IsGood l s → IsGood l s'
   good_alike line.Silent good = tt
   good_alike (line.Space start len reserved_start reserved_len) good = (sym alike.stage ∙ good.0, good.1)
-  good_alike (line.Limits buffers mappings items) good = (limits_may s s' alike good.0, good.1)
-  good_alike (line.Buffer name pages) good = undeclared_same name good
-  good_alike (line.Destroy name) good = declared_same name good
-  good_alike (line.Uses name) good = declared_same name good
+  good_alike (line.Limits buffers mappings items) good = (subst MaySetLimits alike.stage good.0, good.1)
+  good_alike (line.Buffer name pages) good = by_buffers (λ buffers. buffer_named buffers name ≡ None) good
+  good_alike (line.Destroy name) good = by_buffers (λ buffers. IsSome (buffer_named buffers name)) good
+  good_alike (line.Uses name) good = by_buffers (λ buffers. IsSome (buffer_named buffers name)) good
   good_alike (line.Timeline name) good = by_timelines (λ timelines. (timeline_named timelines name ≡ None) × (length timelines < most_timelines)) good
   good_alike (line.Raise point) good = by_timelines (λ timelines. IsSome (point_named timelines point)) good
   good_alike (line.Value name) good = by_timelines (λ timelines. IsSome (timeline_named timelines name)) good
   good_alike (line.Bind clauses) good = record {
-    ops = there_both (map renamed_bytes) (all_read (op_named s.buffers) (operations_of clauses)) (all_read (op_named s'.buffers) (operations_of clauses))
-        (ops_named_same s.buffers s'.buffers alike.of.named.numbered alike.other_of.named.numbered alike.names (operations_of clauses)) good.ops;
+    ops = by_buffers (λ buffers. IsSome (all_read (op_named buffers) (operations_of clauses))) good.ops;
     waits = by_timelines (λ timelines. IsSome (all_read (point_named timelines) (waits_of clauses))) good.waits;
     signals = by_timelines (λ timelines. IsSome (all_read (point_named timelines) (signals_of clauses))) good.signals;
   }
-  good_alike (line.Plan operation) good =
-      there_both renamed_bytes (op_named s.buffers operation) (op_named s'.buffers operation)
-      (op_named_same s.buffers s'.buffers alike.of.named.numbered alike.other_of.named.numbered alike.names operation) good
+  good_alike (line.Plan operation) good = by_buffers (λ buffers. IsSome (op_named buffers operation)) good
   good_alike line.Map good = tt
   good_alike (line.At addr) good = tt
   good_alike line.Tables good = tt

@@ -1,58 +1,40 @@
--- Replies that tell the same are written as the same text.
-use Rattle.std.proofs.Common.{◌≡◌, ℕ, Bool, ◌||◌, List, [], ◌∷◌, ◌++◌, map, Option, codes, decimal, refl, ap, ◌∙◌}
+-- The same replies are written as the same text.
+use Rattle.std.proofs.Common.{◌≡◌, ℕ, List, [], ◌∷◌, ◌++◌, refl, ap, ◌∙◌}
 use Rattle.std.specs.Global.{Vec}
-use Rattle.std.specs.List.{flat_map, list_any}
+use Rattle.std.specs.List.{flat_map}
 use Rattle.gv_types.specs.declared.fault.Fault.{Fault}
-use Rattle.gv_types.specs.declared.mapping.BufferId.{BufferId}
 use Rattle.gv_types.specs.declared.request.Request.{Request}
 use Rattle.gv_vm.specs.Alike.{AreAlikeReplies}
-use Rattle.gv_vm.specs.Renamed.{renamed_place}
 use Rattle.gv_vm.specs.declared.event.Reply.{Reply}
-use Rattle.gv_vm.specs.declared.event.Reply.TheVariants.{NotPut, Created, Begun, Found}
+use Rattle.gv_vm.specs.declared.event.Reply.TheVariants.{NotPut, Begun}
 use Rattle.gv_vm.specs.declared.places.Place.{Place}
 use Rattle.gv_text.specs.AlikePlans.{AreAllAlike}
-use Rattle.gv_text.specs.Reply.{reply as reply_line}
-use Rattle.gv_text.specs.Said.{said, said_of_withdrawal, told, is_lacking}
-use Rattle.gv_text.proofs.AlikeTexts.{places_alike}
+use Rattle.gv_text.specs.Reply.{begun_reply}
+use Rattle.gv_text.specs.Said.{said, said_of_withdrawal, told}
 
--- What replies to an event say is the same where it leaves out the requests, the ids and the places that they name, and takes
--- the places of jobs by their new names.
+-- What replies to an event say is the same where it leaves out the requests that they give back, and the memory of places.
 pub record ReadsAlike {Y : Type 0} (say : Reply → Y) : Type 0 where
   pub not_put : (fault : Fault) (request request' : Request) → say (NotPut fault request) ≡ say (NotPut fault request')
-  pub created : (id id' : BufferId) → say (Created id) ≡ say (Created id')
-  pub begun : (job : ℕ) (places places' : Vec Place) → map renamed_place places.items ≡ map renamed_place places'.items → say (Begun job places) ≡ say (Begun job places')
-  pub found : (place place' : Option Place) → say (Found place) ≡ say (Found place')
+  pub begun : (job : ℕ) (places places' : Vec Place) → places.items ≡ places'.items → say (Begun job places) ≡ say (Begun job places')
 
 pub same_said : {Y : Type 0} (say : Reply → Y) → ReadsAlike say → (r r' : Reply) → AreAlikeReplies r r' → say r ≡ say r'
 same_said say reads (NotPut fault request) (NotPut fault' request') alike =
     ap (λ (f : Fault). say (NotPut f request)) alike.0 ∙ reads.not_put fault' request request'
-same_said say reads (Created id) (Created id') alike = reads.created id id'
 same_said say reads (Begun job places) (Begun job' places') alike =
     ap (λ (n : ℕ). say (Begun n places)) alike.0 ∙ reads.begun job' places places' alike.1
-same_said say reads (Found place) (Found place') alike = reads.found place place'
 same_said say reads r r' alike = ap say alike
 
--- what is written, and whether a reply is want of memory
+-- what is written
 
 said_reads : (names timelines : List (List ℕ)) → ReadsAlike (said names timelines)
-said_reads names timelines = record {
-  not_put = λ fault request request'. refl;
-  created = λ id id'. refl;
-  begun = λ job places places' same. ap (λ (rest : List ℕ). reply_line (codes "job " ∷ decimal job ∷ []) ++ rest) (places_alike names places.items places'.items same);
-  found = λ place place'. refl;
-}
+said_reads names timelines =
+    record { not_put = λ fault request request'. refl; begun = λ job places places' same. ap (λ (ps : List Place). begun_reply names job ps) same }
 
 told_reads : (timelines : List (List ℕ)) → ReadsAlike (told timelines)
-told_reads timelines =
-    record { not_put = λ fault request request'. refl; created = λ id id'. refl; begun = λ job places places' same. refl; found = λ place place'. refl }
+told_reads timelines = record { not_put = λ fault request request'. refl; begun = λ job places places' same. refl }
 
 withdrawal_reads : (entry : ℕ) → ReadsAlike (said_of_withdrawal entry)
-withdrawal_reads entry =
-    record { not_put = λ fault request request'. refl; created = λ id id'. refl; begun = λ job places places' same. refl; found = λ place place'. refl }
-
-lacking_reads : ReadsAlike is_lacking
-lacking_reads =
-    record { not_put = λ fault request request'. refl; created = λ id id'. refl; begun = λ job places places' same. refl; found = λ place place'. refl }
+withdrawal_reads entry = record { not_put = λ fault request request'. refl; begun = λ job places places' same. refl }
 
 pub said_alike : (names timelines : List (List ℕ)) (r r' : Reply) → AreAlikeReplies r r' → said names timelines r ≡ said names timelines r'
 said_alike names timelines = same_said (said names timelines) (said_reads names timelines)
@@ -63,9 +45,6 @@ told_alike timelines = same_said (told timelines) (told_reads timelines)
 pub said_of_withdrawal_alike : (entry : ℕ) (r r' : Reply) → AreAlikeReplies r r' → said_of_withdrawal entry r ≡ said_of_withdrawal entry r'
 said_of_withdrawal_alike entry = same_said (said_of_withdrawal entry) (withdrawal_reads entry)
 
-pub is_lacking_alike : (r r' : Reply) → AreAlikeReplies r r' → is_lacking r ≡ is_lacking r'
-is_lacking_alike = same_said is_lacking lacking_reads
-
 -- all that is written for such replies
 pub all_said_alike : {Y : Type 0} (say : Reply → List Y) → ((r r' : Reply) → AreAlikeReplies r r' → say r ≡ say r') → (rs rs' : List Reply) → AreAllAlike rs rs' →
     flat_map say rs ≡ flat_map say rs'
@@ -74,11 +53,3 @@ all_said_alike say same (r ∷ rs) (r' ∷ rs') alike =
     ap (λ text. text ++ flat_map say rs) (same r r' alike.0) ∙ ap (λ rest. say r' ++ rest) (all_said_alike say same rs rs' alike.1)
 all_said_alike say same [] (r' ∷ rs') alike = absurd alike
 all_said_alike say same (r ∷ rs) [] alike = absurd alike
-
--- whether one of them is want of memory
-pub are_lacking_alike : (rs rs' : List Reply) → AreAllAlike rs rs' → list_any is_lacking rs ≡ list_any is_lacking rs'
-are_lacking_alike [] [] alike = refl
-are_lacking_alike (r ∷ rs) (r' ∷ rs') alike =
-    ap (λ (lacks : Bool). lacks || list_any is_lacking rs) (is_lacking_alike r r' alike.0) ∙ ap (λ (rest : Bool). is_lacking r' || rest) (are_lacking_alike rs rs' alike.1)
-are_lacking_alike [] (r' ∷ rs') alike = absurd alike
-are_lacking_alike (r ∷ rs) [] alike = absurd alike

@@ -4,7 +4,7 @@ use Rattle.std.specs.List.{flat_map}
 use Rattle.std.specs.declared.alloc.Global.{Global}
 use Rattle.gv_types.specs.declared.request.Point.{Point}
 use Rattle.gv_types.specs.declared.request.Request.{Request}
-use Rattle.gv_vm.specs.Alike.{IsSoundStep}
+use Rattle.gv_vm.specs.Headline.{IsSoundStep}
 use Rattle.gv_vm.specs.World.{World}
 use Rattle.gv_vm.specs.Run.{RunsWith}
 use Rattle.gv_vm.specs.declared.event.Event.{Event}

@@ -3,7 +3,7 @@ use Rattle.std.specs.Prelude.{◌≡◌, ℕ, List, [], ◌∷◌, Option, Some,
 use Rattle.gv_types.specs.declared.request.Point.{Point}
 use Rattle.gv_types.specs.declared.request.Request.{Request}
 use Rattle.gv_vm.specs.Run.{RunsWith}
-use Rattle.gv_vm.specs.Alike.{IsSoundStep}
+use Rattle.gv_vm.specs.Headline.{IsSoundStep}
 use Rattle.gv_vm.specs.Step.{step}
 use Rattle.gv_vm.specs.World.{World}
 use Rattle.gv_vm.specs.declared.event.Event.{Event}

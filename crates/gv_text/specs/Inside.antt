@@ -1,5 +1,5 @@
 -- How a `Session` is seen as a `State`, and what it keeps of its parts. No public clause cites this module.
-use Rattle.std.specs.Prelude.{◌≡◌, ℕ, ◌≤◌, List, length}
+use Rattle.std.specs.Prelude.{◌≡◌, ◌≤◌, length}
 use Rattle.gv_sync.specs.Seats.{most_timelines}
 use Rattle.gv_text.specs.State.{State}
 use Rattle.gv_text.specs.declared.session.Session.TheInside.{Inside}

@@ -1,3 +1,0 @@
-pub mod OperationLemmas
-pub mod RenamingLemmas
-pub mod IdLemmas

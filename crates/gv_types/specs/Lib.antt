@@ -7,4 +7,3 @@ pub mod Fault
 pub mod Bounds
 pub mod Limits
 pub mod Request
-pub mod Renamed

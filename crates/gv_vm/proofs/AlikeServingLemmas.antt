@@ -1,20 +1,17 @@
 -- For callers: the same look, the same request carried out or given up, the same signal paid and the same raise, in worlds that tell the same.
-use Rattle.std.proofs.Common.{◌≡◌, ℕ, List, inl, inr, refl, sym, ap, ◌∙◌, subst}
+use Rattle.std.proofs.Common.{◌≡◌, ℕ, inl, inr, refl, ap, ◌∙◌, subst}
 use Rattle.std.specs.Prelude.{◌⊎◌}
 use Rattle.std.proofs.lemmas.Option.{none-some}
-use Rattle.gv_types.specs.declared.mapping.BufferId.{BufferId}
 use Rattle.gv_types.specs.declared.request.Point.{Point}
-use Rattle.gv_vm.specs.State.{Machine, IsMachine}
-use Rattle.gv_vm.specs.Outcomes.{with_outcome}
 use Rattle.gv_vm.specs.World.{World}
 use Rattle.gv_vm.specs.Step.{IsEnabled, IsReachedNow, IsLackingNow, IsBoundNow, IsGivenUp, IsPaid, IsRaised, step}
-use Rattle.gv_vm.specs.Alike.{AreAlikeWorlds, IsWorldOf, IsAmple, IsAmpleReply, StaysAlike}
+use Rattle.gv_vm.specs.Alike.{AreAlikeWorlds, IsAmple, IsAmpleReply, StaysAlike}
 use Rattle.gv_vm.specs.declared.event.Event.TheVariants.{Look, Bind, GiveUp, Pay, Raise}
 use Rattle.gv_vm.specs.declared.event.Reply.{Reply}
 use Rattle.gv_vm.specs.declared.event.Reply.TheVariants.{Idle, Reached, Lacking, Told, Raised, Refused}
 use Rattle.gv_vm.specs.declared.outcome.Outcome.{Outcome}
-use Rattle.gv_vm.proofs.AlikeQueueLemmas.{queue_of, with_queue_of, reached_alike, lacking_alike, reached_or_lacking}
-use Rattle.gv_vm.proofs.AlikeTurnLemmas.{hand_of, raised_alike, paid_alike, given_up_alike, bound_alike, bound_of}
+use Rattle.gv_vm.proofs.AlikeQueueLemmas.{reached_alike, lacking_alike, reached_or_lacking}
+use Rattle.gv_vm.proofs.AlikeTurnLemmas.{raised_alike, paid_alike, given_up_alike, bound_alike}
 use Rattle.gv_vm.proofs.AlikeEnabledLemmas.{AreAlikeWorlds-sym, look_enabled, bind_enabled, give_up_enabled, pay_enabled, raise_enabled}
 use Rattle.gv_vm.proofs.AlikeTakingLemmas.{IsIdle, moved, pair}
 
@@ -43,43 +40,31 @@ look_enabled_by : (w x : World) (n : ℕ) (r : Reply) → (LookReached w n r x �
 look_enabled_by w x n r (inl done) = done.now.enabled
 look_enabled_by w x n r (inr done) = done.now.enabled
 
-reached_of : (ids : List BufferId) (w x : World) (n : ℕ) (point : Point) (seen : ℕ) → IsWorldOf ids w → IsReachedNow w n point seen x → IsWorldOf ids x
-reached_of ids w x n point seen of now =
-    with_queue_of ids w x n _ now.state of (record { waiting = (queue_of ids w n of).waiting; hand = hand_of ids w n now.enabled.has.hand of now.enabled.has.is })
-
-lacking_of : (ids : List BufferId) (w x : World) (n : ℕ) (point : Point) (have : ℕ) → IsWorldOf ids w → IsLackingNow w n point have x → IsWorldOf ids x
-lacking_of ids w x n point have of now =
-    with_queue_of ids w x n _ now.state of (record { waiting = (queue_of ids w n of).waiting; hand = hand_of ids w n now.enabled.has.hand of now.enabled.has.is })
-
-module _ (ids ids' : List BufferId) (w w' : World) (alike : AreAlikeWorlds ids ids' w w') (of : IsWorldOf ids w) (of' : IsWorldOf ids' w') where
-  look_both : (n : ℕ) (r r' : Reply) (x x' : World) → (LookReached w n r x ⊎ LookLacked w n r x) → (LookReached w' n r' x' ⊎ LookLacked w' n r' x') → StaysAlike ids ids' r r' x x'
+module _ (w w' : World) (alike : AreAlikeWorlds w w') where
+  look_both : (n : ℕ) (r r' : Reply) (x x' : World) → (LookReached w n r x ⊎ LookLacked w n r x) → (LookReached w' n r' x' ⊎ LookLacked w' n r' x') → StaysAlike r r' x x'
   look_both n r r' x x' (inl done) (inl done') =
-      let now = reached_alike ids ids' w w' alike n done.point done'.point done.seen done'.seen x x' done.now done'.now in
-      moved ids ids' r r' (Reached done.point done.seen) (Reached done'.point done'.seen) x x' done.is done'.is
+      let now = reached_alike w w' alike n done.point done'.point done.seen done'.seen x x' done.now done'.now in
+      moved r r' (Reached done.point done.seen) (Reached done'.point done'.seen) x x' done.is done'.is
       (record {
         replies = ap (λ p. Reached p done.seen) now.0 ∙ ap (Reached done'.point) now.1;
         worlds = now.2;
-        of = reached_of ids w x n done.point done.seen of done.now;
-        other_of = reached_of ids' w' x' n done'.point done'.seen of' done'.now;
       })
-  look_both n r r' x x' (inl done) (inr done') = absurd (reached_or_lacking ids ids' w w' alike n done.point done'.point done.seen done'.have x x' done.now done'.now)
+  look_both n r r' x x' (inl done) (inr done') = absurd (reached_or_lacking w w' alike n done.point done'.point done.seen done'.have x x' done.now done'.now)
   look_both n r r' x x' (inr done) (inl done') =
-      absurd (reached_or_lacking ids' ids w' w (AreAlikeWorlds-sym ids ids' w w' alike) n done'.point done.point done'.seen done.have x' x done'.now done.now)
+      absurd (reached_or_lacking w' w (AreAlikeWorlds-sym w w' alike) n done'.point done.point done'.seen done.have x' x done'.now done.now)
   look_both n r r' x x' (inr done) (inr done') =
-      let now = lacking_alike ids ids' w w' alike n done.point done'.point done.have done'.have x x' done.now done'.now in
-      moved ids ids' r r' (Lacking done.point done.have) (Lacking done'.point done'.have) x x' done.is done'.is
+      let now = lacking_alike w w' alike n done.point done'.point done.have done'.have x x' done.now done'.now in
+      moved r r' (Lacking done.point done.have) (Lacking done'.point done'.have) x x' done.is done'.is
       (record {
         replies = ap (λ p. Lacking p done.have) now.0 ∙ ap (Lacking done'.point) now.1;
         worlds = now.2;
-        of = lacking_of ids w x n done.point done.have of done.now;
-        other_of = lacking_of ids' w' x' n done'.point done'.have of' done'.now;
       })
 
-  pub look_step : (n : ℕ) (r r' : Reply) (x x' : World) → step w (Look n) r x → step w' (Look n) r' x' → StaysAlike ids ids' r r' x x'
+  pub look_step : (n : ℕ) (r r' : Reply) (x x' : World) → step w (Look n) r x → step w' (Look n) r' x' → StaysAlike r r' x x'
   look_step n r r' x x' is is' =
-      pair ids ids' w w' alike of of' (Look n) (Look n) r r' x x' (look_cases w x n r is) (look_cases w' x' n r' is')
+      pair w w' alike (Look n) (Look n) r r' x x' (look_cases w x n r is) (look_cases w' x' n r' is')
       (look_enabled_by w x n r) (look_enabled_by w' x' n r')
-      (look_enabled ids ids' w w' alike n) (look_enabled ids' ids w' w (AreAlikeWorlds-sym ids ids' w w' alike) n)
+      (look_enabled w w' alike n) (look_enabled w' w (AreAlikeWorlds-sym w w' alike) n)
       (look_both n r r' x x')
 
 -- A request is carried out.
@@ -110,14 +95,6 @@ give_up_cases w x n (Refused fault) is = absurd (none-some fault is.0)
 give_up_cases w x n (Told number outcome) is = inr (record { number = number; outcome = outcome; is = refl; given = is })
 give_up_cases w x n r is = absurd is
 
-given_up_of : (ids : List BufferId) (w x : World) (n number : ℕ) (outcome : Outcome) → IsWorldOf ids w → IsMachine x.machine → IsGivenUp w n number outcome x → IsWorldOf ids x
-given_up_of ids w x n number outcome of sound given =
-    let m : Machine = record w.machine { told = with_outcome w.machine.told n outcome } in
-    let same : x.machine ≡ m = ap (λ (z : World). z.machine) given.state in
-    let mid : IsWorldOf ids (record w { machine = m }) =
-    record { named = of.named; done = of.done; queues = of.queues; machine = subst IsMachine same sound } in
-    with_queue_of ids (record w { machine = m }) x n _ given.state mid (record { waiting = (queue_of ids w n of).waiting; hand = tt })
-
 -- A signal is paid.
 
 pub record PayDone (w : World) (n : ℕ) (r : Reply) (x : World) : Type 0 where
@@ -131,11 +108,6 @@ pay_cases w x n Idle is = inl (record { is = refl; disabled = is.0; same = is.1 
 pay_cases w x n (Refused fault) is = absurd (none-some fault is.0)
 pay_cases w x n (Raised point now) is = inr (record { point = point; now = now; is = refl; paid = is })
 pay_cases w x n r is = absurd is
-
-paid_of : (ids : List BufferId) (w x : World) (n : ℕ) (point : Point) (now : ℕ) → IsWorldOf ids w → IsPaid w n point now x → IsWorldOf ids x
-paid_of ids w x n point now of paid =
-    with_queue_of ids _ x n _ paid.state (record { named = of.named; done = of.done; queues = of.queues; machine = of.machine })
-    (record { waiting = (queue_of ids w n of).waiting; hand = (queue_of ids w n of).hand })
 
 -- A timeline is raised.
 
@@ -151,71 +123,60 @@ raise_cases w x asked (Refused fault) is = absurd (none-some fault is.0)
 raise_cases w x asked (Raised point now) is = inr (record { point = point; now = now; is = refl; up = is })
 raise_cases w x asked r is = absurd is
 
-raised_of : (ids : List BufferId) (w x : World) (asked point : Point) (now : ℕ) → IsWorldOf ids w → IsRaised w asked point now x → IsWorldOf ids x
-raised_of ids w x asked point now of up = subst (IsWorldOf ids) (sym up.state) (record { named = of.named; done = of.done; queues = of.queues; machine = of.machine })
-
 ample_told : (r : Reply) (number : ℕ) (outcome : Outcome) → r ≡ Told number outcome → IsAmpleReply r → IsAmple outcome
 ample_told r number outcome is ample = subst IsAmpleReply is ample
 
-module _ (ids ids' : List BufferId) (w w' : World) (alike : AreAlikeWorlds ids ids' w w') (of : IsWorldOf ids w) (of' : IsWorldOf ids' w') where
-  pub bind_step : (n : ℕ) (r r' : Reply) (x x' : World) → IsMachine x.machine → IsMachine x'.machine → IsAmpleReply r → IsAmpleReply r' → step w (Bind n) r x → step w' (Bind n) r' x' →
-      StaysAlike ids ids' r r' x x'
-  bind_step n r r' x x' sound sound' ample ample' is is' =
-      pair ids ids' w w' alike of of' (Bind n) (Bind n) r r' x x' (bind_cases w x n r is) (bind_cases w' x' n r' is')
+module _ (w w' : World) (alike : AreAlikeWorlds w w') where
+  pub bind_step : (n : ℕ) (r r' : Reply) (x x' : World) → IsAmpleReply r → IsAmpleReply r' → step w (Bind n) r x → step w' (Bind n) r' x' →
+      StaysAlike r r' x x'
+  bind_step n r r' x x' ample ample' is is' =
+      pair w w' alike (Bind n) (Bind n) r r' x x' (bind_cases w x n r is) (bind_cases w' x' n r' is')
       (λ done. done.bound.enabled) (λ done. done.bound.enabled)
-      (bind_enabled ids ids' w w' alike n) (bind_enabled ids' ids w' w (AreAlikeWorlds-sym ids ids' w w' alike) n)
+      (bind_enabled w w' alike n) (bind_enabled w' w (AreAlikeWorlds-sym w w' alike) n)
       (λ done done'.
-      let now = bound_alike ids ids' w w' alike n done.number done'.number done.outcome done'.outcome x x' of of' sound sound' done.bound done'.bound
+      let now = bound_alike w w' alike n done.number done'.number done.outcome done'.outcome x x' done.bound done'.bound
       (ample_told r done.number done.outcome done.is ample) (ample_told r' done'.number done'.outcome done'.is ample') in
-      moved ids ids' r r' (Told done.number done.outcome) (Told done'.number done'.outcome) x x' done.is done'.is
+      moved r r' (Told done.number done.outcome) (Told done'.number done'.outcome) x x' done.is done'.is
       (record {
         replies = ap (λ k. Told k done.outcome) now.0 ∙ ap (Told done'.number) now.1;
         worlds = now.2;
-        of = bound_of ids w x n done.number done.outcome of sound done.bound;
-        other_of = bound_of ids' w' x' n done'.number done'.outcome of' sound' done'.bound;
       }))
 
-  pub give_up_step : (n : ℕ) (r r' : Reply) (x x' : World) → IsMachine x.machine → IsMachine x'.machine → step w (GiveUp n) r x → step w' (GiveUp n) r' x' → StaysAlike ids ids' r r' x x'
-  give_up_step n r r' x x' sound sound' is is' =
-      pair ids ids' w w' alike of of' (GiveUp n) (GiveUp n) r r' x x' (give_up_cases w x n r is) (give_up_cases w' x' n r' is')
+  pub give_up_step : (n : ℕ) (r r' : Reply) (x x' : World) → step w (GiveUp n) r x → step w' (GiveUp n) r' x' → StaysAlike r r' x x'
+  give_up_step n r r' x x' is is' =
+      pair w w' alike (GiveUp n) (GiveUp n) r r' x x' (give_up_cases w x n r is) (give_up_cases w' x' n r' is')
       (λ done. done.given.enabled) (λ done. done.given.enabled)
-      (give_up_enabled ids ids' w w' alike n) (give_up_enabled ids' ids w' w (AreAlikeWorlds-sym ids ids' w w' alike) n)
+      (give_up_enabled w w' alike n) (give_up_enabled w' w (AreAlikeWorlds-sym w w' alike) n)
       (λ done done'.
-      let now = given_up_alike ids ids' w w' alike n done.number done'.number done.outcome done'.outcome x x' done.given done'.given in
-      moved ids ids' r r' (Told done.number done.outcome) (Told done'.number done'.outcome) x x' done.is done'.is
+      let now = given_up_alike w w' alike n done.number done'.number done.outcome done'.outcome x x' done.given done'.given in
+      moved r r' (Told done.number done.outcome) (Told done'.number done'.outcome) x x' done.is done'.is
       (record {
         replies = ap (λ k. Told k done.outcome) now.0 ∙ ap (Told done'.number) now.1;
         worlds = now.2;
-        of = given_up_of ids w x n done.number done.outcome of sound done.given;
-        other_of = given_up_of ids' w' x' n done'.number done'.outcome of' sound' done'.given;
       }))
 
-  pub pay_step : (n : ℕ) (r r' : Reply) (x x' : World) → step w (Pay n) r x → step w' (Pay n) r' x' → StaysAlike ids ids' r r' x x'
+  pub pay_step : (n : ℕ) (r r' : Reply) (x x' : World) → step w (Pay n) r x → step w' (Pay n) r' x' → StaysAlike r r' x x'
   pay_step n r r' x x' is is' =
-      pair ids ids' w w' alike of of' (Pay n) (Pay n) r r' x x' (pay_cases w x n r is) (pay_cases w' x' n r' is')
+      pair w w' alike (Pay n) (Pay n) r r' x x' (pay_cases w x n r is) (pay_cases w' x' n r' is')
       (λ done. done.paid.enabled) (λ done. done.paid.enabled)
-      (pay_enabled ids ids' w w' alike n) (pay_enabled ids' ids w' w (AreAlikeWorlds-sym ids ids' w w' alike) n)
+      (pay_enabled w w' alike n) (pay_enabled w' w (AreAlikeWorlds-sym w w' alike) n)
       (λ done done'.
-      let now = paid_alike ids ids' w w' alike n done.point done'.point done.now done'.now x x' done.paid done'.paid in
-      moved ids ids' r r' (Raised done.point done.now) (Raised done'.point done'.now) x x' done.is done'.is
+      let now = paid_alike w w' alike n done.point done'.point done.now done'.now x x' done.paid done'.paid in
+      moved r r' (Raised done.point done.now) (Raised done'.point done'.now) x x' done.is done'.is
       (record {
         replies = ap (λ p. Raised p done.now) now.0 ∙ ap (Raised done'.point) now.1;
         worlds = now.2;
-        of = paid_of ids w x n done.point done.now of done.paid;
-        other_of = paid_of ids' w' x' n done'.point done'.now of' done'.paid;
       }))
 
-  pub raise_step : (asked : Point) (r r' : Reply) (x x' : World) → step w (Raise asked) r x → step w' (Raise asked) r' x' → StaysAlike ids ids' r r' x x'
+  pub raise_step : (asked : Point) (r r' : Reply) (x x' : World) → step w (Raise asked) r x → step w' (Raise asked) r' x' → StaysAlike r r' x x'
   raise_step asked r r' x x' is is' =
-      pair ids ids' w w' alike of of' (Raise asked) (Raise asked) r r' x x' (raise_cases w x asked r is) (raise_cases w' x' asked r' is')
+      pair w w' alike (Raise asked) (Raise asked) r r' x x' (raise_cases w x asked r is) (raise_cases w' x' asked r' is')
       (λ done. done.up.enabled) (λ done. done.up.enabled)
-      (raise_enabled ids ids' w w' alike asked) (raise_enabled ids' ids w' w (AreAlikeWorlds-sym ids ids' w w' alike) asked)
+      (raise_enabled w w' alike asked) (raise_enabled w' w (AreAlikeWorlds-sym w w' alike) asked)
       (λ done done'.
-      let now = raised_alike ids ids' w w' alike asked done.point done'.point done.now done'.now x x' done.up done'.up in
-      moved ids ids' r r' (Raised done.point done.now) (Raised done'.point done'.now) x x' done.is done'.is
+      let now = raised_alike w w' alike asked done.point done'.point done.now done'.now x x' done.up done'.up in
+      moved r r' (Raised done.point done.now) (Raised done'.point done'.now) x x' done.is done'.is
       (record {
         replies = ap (λ p. Raised p done.now) now.0 ∙ ap (Raised done'.point) now.1;
         worlds = now.2;
-        of = raised_of ids w x asked done.point done.now of done.up;
-        other_of = raised_of ids' w' x' asked done'.point done'.now of' done'.up;
       }))

@@ -75,6 +75,10 @@ SaysOfReply event _ before after = Unit {0}
 abbrev pub Says : World → Event → Reply → World → Type 0
 Says before event reply after = EachPageTranslates after.machine × IsMachine after.machine × SaysOfReply event reply before.machine after.machine
 
+-- a step leads to a machine as it has to be, and its reply says of it what it has to say
+abbrev pub IsSoundStep : World → Event → Reply → World → Type 0
+IsSoundStep old event reply new = IsMachine new.machine × SaysOfReply event reply old.machine new.machine
+
 -- it holds along every run
 abbrev pub Headline : World → List Event → List Reply → World → Type 0
 Headline old events replies new = RunsWith Says old events replies new

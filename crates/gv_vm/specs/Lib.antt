@@ -16,7 +16,6 @@ pub mod Turns
 pub mod Step
 pub mod Run
 pub mod Headline
-pub mod Renamed
 pub mod Alike
 pub mod Past
 pub mod Laws

@@ -32,7 +32,7 @@ did : (c : goal.After-push) → c.in-Ok.work.ops.items ≡ all_do c.args.space.n
 did c = c.in-Ok.ensures.ops ∙ ap (λ (ops : List Op). all_do c.args.space.now.mappings ops) c.deref.ensures.value
 
 pub returns-clause-item : goal.returns-clause-item
-returns-clause-item c = record { item = item_of c; items = journal_is c; done = c.in-Ok.work.ops; kind = refl; did = did c }
+returns-clause-item c = record { item = item_of c; items = journal_is c; done = c.in-Ok.work.ops; kind = refl; did = did c; undos = c.in-Ok.ensures.applied.undos }
 
 pub returns-clause-space : goal.returns-clause-space
 returns-clause-space c =
