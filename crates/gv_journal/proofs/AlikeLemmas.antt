@@ -1,4 +1,4 @@
--- For callers: spaces with their journals that are the same, bare of memory, answer the same faults, and go on to be the same after
+-- For callers: spaces that are the same, with journals that are the same bare of memory, answer the same faults, and go on to be the same after
 -- the same change.
 use Rattle.std.proofs.Common.{◌≡◌, ℕ, zero, suc, ◌-◌, List, [], ◌∷◌, ◌++◌, map, take, drop, reverse, Option, Some, Vec, Global, refl, sym, ap, ◌∙◌, subst}
 use Rattle.std.proofs.lemmas.List.{take-map, drop-map}
@@ -18,12 +18,11 @@ use Rattle.gv_journal.specs.Verdict.{request_fault, refused_or, verdict_from, ve
 use Rattle.gv_journal.specs.Binding.{IsBound, IsApplied, IsRewound}
 use Rattle.gv_journal.specs.Settling.{earlier, IsSettled}
 use Rattle.gv_journal.specs.Withdrawing.{list_before, ops_at, withdrawal_limits, entry_fault, withdraw_fault, after_withdrawal, AreUndosOfWithdrawal, IsWithdrawn}
-use Rattle.gv_journal.specs.Bare.{BareRequest, BareBind, BareUndo, BareItem, BareJournal, bare_request, bare_undo, bare_item, bare_journal, bare_space, bind_of, withdrawn_by}
+use Rattle.gv_journal.specs.Bare.{BareRequest, BareBind, BareUndo, BareItem, BareJournal, bare_request, bare_undo, bare_item, bare_journal, bind_of, withdrawn_by}
 use Rattle.gv_journal.specs.declared.item.Item.{Item}
 use Rattle.gv_journal.proofs.MapLemmas.{reverse-map}
 use Rattle.gv_journal.proofs.BareItemLemmas.{limit_alike, first_alike, items_alike, next_alike, full_fault_alike, entry_fault_alike, ops_at_alike}
 use Rattle.gv_journal.proofs.BareUndoLemmas.{all_filled, undos_alike, withdrawal_undos_alike, taken_by_bare, undone_by_bare, reverted_by_bare}
-use Rattle.gv_journal.proofs.BareSpaceLemmas.{after_all_bare, verdict_from_bare, after_withdrawal_bare, withdrawal_limits_bare, reverted_by_roomless}
 
 -- What bare items keep, and the lists before them.
 
@@ -67,7 +66,7 @@ journal_same : (limit limit' first first' : ℕ) (items items' : List BareItem) 
     one ≡ other
 journal_same limit limit' first first' items items' limits firsts all = rw (limits, firsts, all) refl
 
-module _ (s s' : AddressSpace) (j j' : Journaled) (space : bare_space s ≡ bare_space s') (journal : bare_journal j ≡ bare_journal j') where
+module _ (s s' : AddressSpace) (j j' : Journaled) (space : s ≡ s') (journal : bare_journal j ≡ bare_journal j') where
   pub list_alike : s.mappings ≡ s'.mappings
   list_alike = ap (λ (t : AddressSpace). t.mappings) space
 
@@ -83,8 +82,7 @@ module _ (s s' : AddressSpace) (j j' : Journaled) (space : bare_space s ≡ bare
   -- the verdict on a request
   pub verdict_alike : (ops : List Op) → verdict s j ops ≡ verdict s' j' ops
   verdict_alike ops =
-      let turns : verdict_from 0 s ops ≡ verdict_from 0 s' ops =
-      sym (verdict_from_bare 0 s ops) ∙ ap (λ (t : AddressSpace). verdict_from 0 t ops) space ∙ verdict_from_bare 0 s' ops in
+      let turns : verdict_from 0 s ops ≡ verdict_from 0 s' ops = ap (λ (t : AddressSpace). verdict_from 0 t ops) space in
       let whole : request_fault j ops ≡ request_fault j' ops = rw (full_fault_alike j j' journal) refl in
       ap (refused_or 0 (request_fault j ops)) turns ∙ ap (λ (o : Option Fault). refused_or 0 o (verdict_from 0 s' ops)) whole
 
@@ -94,8 +92,7 @@ module _ (s s' : AddressSpace) (j j' : Journaled) (space : bare_space s ≡ bare
       let limits : withdrawal_limits (list_before s j n) (ops_at j n) s ≡ withdrawal_limits (list_before s' j' n) (ops_at j' n) s' =
       ap (λ (ms : List Mapping). withdrawal_limits ms (ops_at j n) s) (list_before_alike n)
       ∙ ap (λ (ops : List PageOp). withdrawal_limits (list_before s' j' n) ops s) (ops_at_alike j j' journal n)
-      ∙ sym (withdrawal_limits_bare (list_before s' j' n) (ops_at j' n) s) ∙ ap (withdrawal_limits (list_before s' j' n) (ops_at j' n)) space
-      ∙ withdrawal_limits_bare (list_before s' j' n) (ops_at j' n) s' in
+      ∙ ap (withdrawal_limits (list_before s' j' n) (ops_at j' n)) space in
       ap (first_of (entry_fault j n)) limits ∙ ap (λ (o : Option Fault). first_of o (withdrawal_limits (list_before s' j' n) (ops_at j' n) s')) (entry_fault_alike j j' journal n)
 
   -- one item more
@@ -125,19 +122,19 @@ module _ (s s' : AddressSpace) (j j' : Journaled) (space : bare_space s ≡ bare
       more_alike new new' now.item now'.item now.items now'.items
       (item_same now.item now'.item bind (ap withdrawn_by now.kind ∙ sym (ap withdrawn_by now'.kind)) (ap done_by now.kind ∙ did ∙ sym (ap done_by now'.kind)) undos)
 
-  pub applied_alike : (t t' : AddressSpace) (request request' : Request) → bare_request request ≡ bare_request request' → IsApplied s t request → IsApplied s' t' request' → bare_space t ≡ bare_space t'
-  applied_alike t t' request request' same now now' =
+  pub applied_alike : (t t' : AddressSpace) (request request' : Request) → bare_request request ≡ bare_request request' → t.room ≡ t'.room → IsApplied s t request → IsApplied s' t' request' → t ≡ t'
+  applied_alike t t' request request' same room now now' =
       let ops : all_do s.mappings request.ops.items ≡ all_do s'.mappings request'.ops.items =
       ap (λ (ms : List Mapping). all_do ms request.ops.items) list_alike ∙ ap (λ (r : BareRequest). all_do s'.mappings r.ops) same in
-      ap bare_space now.state ∙ sym (after_all_bare (reverse (all_do s.mappings request.ops.items)) s)
-      ∙ ap (after_all (reverse (all_do s.mappings request.ops.items))) space
-      ∙ ap (λ (done : List PageOp). after_all (reverse done) (bare_space s')) ops
-      ∙ after_all_bare (reverse (all_do s'.mappings request'.ops.items)) s' ∙ sym (ap bare_space now'.state)
+      now.state ∙ ap (λ k. record (after_all (reverse (all_do s.mappings request.ops.items)) s) { room = k }) room
+      ∙ ap (λ (x : AddressSpace). record (after_all (reverse (all_do s.mappings request.ops.items)) x) { room = t'.room }) space
+      ∙ ap (λ (done : List PageOp). record (after_all (reverse done) s') { room = t'.room }) ops
+      ∙ sym now'.state
 
   -- the same item was withdrawn
-  pub withdrawn_alike : (t t' : AddressSpace) (new new' : Journaled) (n : ℕ) → IsWithdrawn s t j new n → IsWithdrawn s' t' j' new' n →
-      (bare_space t ≡ bare_space t') × (bare_journal new ≡ bare_journal new')
-  withdrawn_alike t t' new new' n out out' =
+  pub withdrawn_alike : (t t' : AddressSpace) (new new' : Journaled) (n : ℕ) → t.room ≡ t'.room → IsWithdrawn s t j new n → IsWithdrawn s' t' j' new' n →
+      (t ≡ t') × (bare_journal new ≡ bare_journal new')
+  withdrawn_alike t t' new new' n room out out' =
       let before : list_before s j n ≡ list_before s' j' n = list_before_alike n in
       let ops : ops_at j n ≡ ops_at j' n = ops_at_alike j j' journal n in
       let undos : map bare_undo out.item.undos.items ≡ map bare_undo out'.item.undos.items =
@@ -146,11 +143,11 @@ module _ (s s' : AddressSpace) (j j' : Journaled) (space : bare_space s ≡ bare
       (subst (λ (done : List PageOp). AreUndosOfWithdrawal (list_before s' j' n) done s.mappings out'.item.undos.items) (sym ops)
       (subst (λ (ms : List Mapping). AreUndosOfWithdrawal (list_before s' j' n) (ops_at j' n) ms out'.item.undos.items) (sym list_alike) out'.undos))) in
       (
-        ap bare_space out.state ∙ sym (after_withdrawal_bare (list_before s j n) (ops_at j n) s)
-        ∙ ap (after_withdrawal (list_before s j n) (ops_at j n)) space
-        ∙ ap (λ (ms : List Mapping). after_withdrawal ms (ops_at j n) (bare_space s')) before
-        ∙ ap (λ (done : List PageOp). after_withdrawal (list_before s' j' n) done (bare_space s')) ops
-        ∙ after_withdrawal_bare (list_before s' j' n) (ops_at j' n) s' ∙ sym (ap bare_space out'.state),
+        out.state ∙ ap (λ k. record (after_withdrawal (list_before s j n) (ops_at j n) s) { room = k }) room
+        ∙ ap (λ (x : AddressSpace). record (after_withdrawal (list_before s j n) (ops_at j n) x) { room = t'.room }) space
+        ∙ ap (λ (ms : List Mapping). record (after_withdrawal ms (ops_at j n) s') { room = t'.room }) before
+        ∙ ap (λ (done : List PageOp). record (after_withdrawal (list_before s' j' n) done s') { room = t'.room }) ops
+        ∙ sym out'.state,
         more_alike new new' out.item out'.item out.items out'.items
         (item_same out.item out'.item (ap bind_of out.kind ∙ sym (ap bind_of out'.kind)) (ap withdrawn_by out.kind ∙ sym (ap withdrawn_by out'.kind))
         (ap done_by out.kind ∙ sym (ap done_by out'.kind))
@@ -158,18 +155,16 @@ module _ (s s' : AddressSpace) (j j' : Journaled) (space : bare_space s ≡ bare
       )
 
   -- the newest item was taken back
-  pub rewound_alike : (t t' : AddressSpace) (new new' : Journaled) → IsRewound s t j new → IsRewound s' t' j' new' → (bare_space t ≡ bare_space t') × (bare_journal new ≡ bare_journal new')
+  pub rewound_alike : (t t' : AddressSpace) (new new' : Journaled) → IsRewound s t j new → IsRewound s' t' j' new' → (t ≡ t') × (bare_journal new ≡ bare_journal new')
   rewound_alike t t' new new' now now' =
       let items : bare_item now.item ∷ map bare_item new.items ≡ bare_item now'.item ∷ map bare_item new'.items =
       ap (λ (x : Journaled). map bare_item x.items) (sym now.items) ∙ items_alike j j' journal ∙ ap (λ (x : Journaled). map bare_item x.items) now'.items in
       let undos : map bare_undo (undos_of now.item) ≡ map bare_undo (undos_of now'.item) =
       ap (λ (item : BareItem). item.undos) (head_same (bare_item now.item) (bare_item now'.item) (map bare_item new.items) (map bare_item new'.items) items) in
       (
-        ap bare_space now.space ∙ sym (reverted_by_roomless s (undos_of now.item))
-        ∙ ap (λ (x : AddressSpace). reverted_by x (undos_of now.item)) space
-        ∙ reverted_by_bare (bare_space s') (undos_of now.item) ∙ ap (λ (us : List BareUndo). reverted_by (bare_space s') (all_filled us)) undos
-        ∙ sym (reverted_by_bare (bare_space s') (undos_of now'.item))
-        ∙ reverted_by_roomless s' (undos_of now'.item) ∙ sym (ap bare_space now'.space),
+        now.space ∙ ap (λ (x : AddressSpace). reverted_by x (undos_of now.item)) space
+        ∙ reverted_by_bare s' (undos_of now.item) ∙ ap (λ (us : List BareUndo). reverted_by s' (all_filled us)) undos
+        ∙ sym (reverted_by_bare s' (undos_of now'.item)) ∙ sym now'.space,
         journal_same new.limit new'.limit new.first new'.first (map bare_item new.items) (map bare_item new'.items)
         (ap (λ (x : Journaled). x.limit) (sym now.items) ∙ limit_alike j j' journal ∙ ap (λ (x : Journaled). x.limit) now'.items)
         (ap (λ (x : Journaled). x.first) (sym now.items) ∙ first_alike j j' journal ∙ ap (λ (x : Journaled). x.first) now'.items)
@@ -185,10 +180,9 @@ module _ (s s' : AddressSpace) (j j' : Journaled) (space : bare_space s ≡ bare
 
   -- the items below the same number were settled
   pub settled_alike : (t t' : AddressSpace) (new new' : Journaled) (to : ℕ) → IsSettled s t j new to → IsSettled s' t' j' new' to →
-      (bare_space t ≡ bare_space t') × (bare_journal new ≡ bare_journal new')
+      (t ≡ t') × (bare_journal new ≡ bare_journal new')
   settled_alike t t' new new' to now now' = (
-    ap bare_space now.space ∙ ap (λ (x : AddressSpace). released x (kept_by (earlier j to))) space
-    ∙ ap (released (bare_space s')) (earlier_alike to) ∙ sym (ap bare_space now'.space),
+    now.space ∙ ap (λ (x : AddressSpace). released x (kept_by (earlier j to))) space ∙ ap (released s') (earlier_alike to) ∙ sym now'.space,
     ap bare_journal now.items
     ∙ journal_same j.limit j'.limit to to (map bare_item (take (next j - to) j.items)) (map bare_item (take (next j' - to) j'.items)) (limit_alike j j' journal) refl
     (sym (take-map bare_item (next j - to) j.items) ∙ ap (take (next j - to)) (items_alike j j' journal)

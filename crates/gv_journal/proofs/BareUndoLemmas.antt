@@ -1,15 +1,12 @@
 -- For callers: undo values of the same change are the same, bare of memory, and those that are take the same back.
-use Rattle.std.proofs.Common.{◌≡◌, ℕ, zero, suc, ◌+◌, ◌<◌, ◌≤◌, IsTrue, nat_lt, List, [], ◌∷◌, ◌++◌, map, take, drop, length, arith, refl, sym, ap, ◌∙◌, subst}
-use Rattle.std.proofs.lemmas.Bool.{and_parts, ltb-true}
+use Rattle.std.proofs.Common.{◌≡◌, ℕ, ◌+◌, List, [], ◌∷◌, ◌++◌, map, length, arith, refl, sym, ap, ◌∙◌, subst}
 use Rattle.std.proofs.lemmas.List.{length-append}
-use Rattle.std.proofs.lemmas.List.Elements.{All-head, All-tail}
 use Rattle.gv_types.specs.Page.{PAGES}
-use Rattle.gv_types.specs.Span.{Span, end_of, meets}
+use Rattle.gv_types.specs.Span.{Span, end_of}
 use Rattle.gv_types.specs.Operation.{range_of}
 use Rattle.gv_types.specs.declared.mapping.Mapping.{Mapping}
 use Rattle.gv_types.specs.declared.operation.PageOp.{PageOp}
-use Rattle.std.specs.List.{All}
-use Rattle.gv_ranges.specs.List.{IsLaidOutFrom, IsOverlappingRun, run}
+use Rattle.gv_ranges.specs.List.{IsOverlappingRun}
 use Rattle.gv_ranges.specs.Edit.{clipped, replaced, edited, edited_by_all, restored, undone}
 use Rattle.gv_ranges.proofs.OverlapLemmas.{filter_meets, place_alike}
 use Rattle.gv_space.specs.State.{AddressSpace}

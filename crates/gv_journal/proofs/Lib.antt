@@ -33,6 +33,6 @@ pub mod JournalLemmas
 pub mod MapLemmas
 pub mod BareItemLemmas
 pub mod BareUndoLemmas
-pub mod BareSpaceLemmas
+pub mod RoomLemmas
 pub mod AlikeLemmas
 pub mod WithoutLemmas

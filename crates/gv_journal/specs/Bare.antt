@@ -1,5 +1,5 @@
--- An address space and its journal bare of memory: without room, without what a vector has beside its contents, and without the
--- tables that undo values own. All that calls answer follows from what is left, but for want of memory.
+-- A journal bare of memory: without what a vector has beside its contents, and without the tables that undo values own. All that
+-- calls answer follows from what is left, but for want of memory.
 use Rattle.std.specs.Prelude.{ℕ, List, map, Option, Some, None}
 use Rattle.gv_types.specs.Span.{Span}
 use Rattle.gv_types.specs.declared.operation.Op.{Op}
@@ -7,7 +7,6 @@ use Rattle.gv_types.specs.declared.operation.PageOp.{PageOp}
 use Rattle.gv_types.specs.declared.request.Point.{Point}
 use Rattle.gv_types.specs.declared.request.Request.{Request}
 use Rattle.gv_ranges.specs.Edit.{Undo}
-use Rattle.gv_space.specs.State.{AddressSpace}
 use Rattle.gv_space.specs.Undo.{UndoValue}
 use Rattle.gv_journal.specs.Items.{Journaled, done_by}
 use Rattle.gv_journal.specs.History.{undos_of}
@@ -70,7 +69,3 @@ pub record BareJournal : Type 0 where
 
 abbrev pub bare_journal : Journaled → BareJournal
 bare_journal j = record { limit = j.limit; first = j.first; items = map bare_item j.items }
-
--- a space without its room
-abbrev pub bare_space : AddressSpace → AddressSpace
-bare_space s = record s { room = 0 }

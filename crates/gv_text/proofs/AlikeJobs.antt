@@ -26,7 +26,7 @@ use Rattle.gv_text.proofs.AlikeStates.{AreAlikeStates, WriteAlike, moved_states,
 refused_job : (list : Vec Access Global) (w : World) → many_fault w.machine.running (length list.items) ≡ Some TooManyAccesses → step w (JobBegin list) (Refused TooManyAccesses) w
 refused_job list w many = (
   ap (λ (o : Option Fault). first_of o (accesses_fault w.machine.space.mappings w.machine.running.begun w.machine.space.buffers 0 list.items)) many,
-  record { state = refl; space = record { state = refl; room = omega arith } },
+  refl,
 )
 
 -- what is refused for the number of its accesses alone is no other than a job that the world refuses

@@ -11,7 +11,7 @@ use Rattle.gv_vm.specs.declared.event.Reply.TheVariants.{Idle, Put as IsPut, Not
 
 pub numbers_stay : (old : World) (event : Event) (reply : Reply) (new : World) → step old event reply new → length new.numbers ≡ length old.numbers
 numbers_stay old event Idle new is = ap (λ (w : World). length w.numbers) is.1
-numbers_stay old event (Refused fault) new is = ap (λ (w : World). length w.numbers) is.1.state
+numbers_stay old event (Refused fault) new is = ap (λ (w : World). length w.numbers) is.1
 numbers_stay old (Put queue request) (IsPut number) new is = ap (λ (w : World). length w.numbers) is.state
 numbers_stay old (Put queue request) (NotPut fault back) new is = ap (λ (w : World). length w.numbers) is.state
 numbers_stay old (Take queue) (Taken number) new is = ap (λ (w : World). length w.numbers) is.state
@@ -34,4 +34,4 @@ numbers_stay old event reply new is = absurd is
 -- nor does want of memory
 pub numbers_after : (old : World) (event : Event) (r : Result Reply OutOfMemory) (new : World) → IsStep old event r new → length new.numbers ≡ length old.numbers
 numbers_after old event (Ok reply) new is = numbers_stay old event reply new is
-numbers_after old event (Err why) new is = ap (λ (w : World). length w.numbers) is.1.state
+numbers_after old event (Err why) new is = ap (λ (w : World). length w.numbers) is.1

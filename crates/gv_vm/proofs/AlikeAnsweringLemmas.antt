@@ -5,19 +5,17 @@ use Rattle.std.proofs.lemmas.Option.{none-some, same_Some}
 use Rattle.gv_types.specs.declared.fault.Fault.{Fault}
 use Rattle.gv_types.specs.declared.mapping.BufferId.{BufferId}
 use Rattle.gv_types.specs.declared.mapping.Mapping.{Mapping}
-use Rattle.gv_journal.specs.Bare.{bare_journal}
-use Rattle.gv_journal.proofs.BareSpaceLemmas.{unchanged_bare}
 use Rattle.gv_vm.specs.Places.{place_at}
 use Rattle.gv_vm.specs.State.{Machine}
 use Rattle.gv_vm.specs.World.{World}
-use Rattle.gv_vm.specs.Step.{event_fault, IsAsBefore, IsCreatedNow, IsDestroyedNow, HasOtherEntries, step}
+use Rattle.gv_vm.specs.Step.{event_fault, IsCreatedNow, IsDestroyedNow, HasOtherEntries, step}
 use Rattle.gv_vm.specs.Alike.{AreAlikeWorlds, StaysAlike}
 use Rattle.gv_vm.specs.declared.event.Event.{Event}
 use Rattle.gv_vm.specs.declared.event.Event.TheVariants.{Create, Destroy, Translate}
 use Rattle.gv_vm.specs.declared.event.Reply.{Reply}
 use Rattle.gv_vm.specs.declared.event.Reply.TheVariants.{Idle, Created, Destroyed, Found, Refused}
 use Rattle.gv_vm.specs.declared.places.Place.{Place}
-use Rattle.gv_vm.proofs.AlikeMachineLemmas.{list_alike, event_fault_alike, other_entries, id_alike, created_alike, destroyed_alike}
+use Rattle.gv_vm.proofs.AlikeMachineLemmas.{list_alike, event_fault_alike, id_alike, created_alike, destroyed_alike}
 use Rattle.gv_vm.proofs.AlikeTurnLemmas.{machines_alike}
 use Rattle.gv_vm.proofs.AlikeTakingLemmas.{moved}
 
@@ -26,27 +24,17 @@ pub record IsRefusal (w : World) (event : Event) (reply : Reply) (x : World) : T
   pub fault : Fault
   pub is : reply ≡ Refused fault
   pub why : event_fault w.machine event ≡ Some fault
-  pub rest : IsAsBefore w x
+  pub rest : x ≡ w
 
 -- a world of which only the space and the journal of the machine changed
 pub entries_state : (w x : World) → HasOtherEntries w x → x ≡ record w { machine = x.machine }
 entries_state w x is = is ∙ ap (λ (m : Machine). record w { machine = m }) (sym (ap (λ (z : World). z.machine) is))
 
-before_state : (w x : World) → IsAsBefore w x → x ≡ record w { machine = x.machine }
-before_state w x rest = rest.state ∙ ap (λ (m : Machine). record w { machine = m }) (sym (ap (λ (z : World). z.machine) rest.state))
-
 module _ (w w' : World) (alike : AreAlikeWorlds w w') where
-  refused_both : (fault fault' : Fault) (x x' : World) → fault ≡ fault' → IsAsBefore w x → IsAsBefore w' x' → StaysAlike (Refused fault) (Refused fault') x x'
-  refused_both fault fault' x x' same rest rest' = record {
+  refused_both : (fault fault' : Fault) (x x' : World) → fault ≡ fault' → x ≡ w → x' ≡ w' → StaysAlike (Refused fault) (Refused fault') x x'
+  refused_both fault fault' x x' same is is' = record {
     replies = ap (λ f. Refused f) same;
-    worlds = machines_alike w w' alike x x' (before_state w x rest) (before_state w' x' rest')
-        (other_entries w.machine w'.machine alike.machine x.machine x'.machine
-        (
-          unchanged_bare w.machine.space x.machine.space rest.space ∙ alike.machine.space ∙ sym (unchanged_bare w'.machine.space x'.machine.space rest'.space),
-          ap (λ (z : World). bare_journal z.machine.journal) rest.state ∙ alike.machine.journal ∙ sym (ap (λ (z : World). bare_journal z.machine.journal) rest'.state),
-        )
-        (ap (λ (z : World). z.machine.running) rest.state) (ap (λ (z : World). z.machine.running) rest'.state)
-        (ap (λ (z : World). z.machine.told) rest.state) (ap (λ (z : World). z.machine.told) rest'.state));
+    worlds = subst (λ z. AreAlikeWorlds z x') (sym is) (subst (AreAlikeWorlds w) (sym is') alike);
   }
 
   -- a call is refused in both worlds or in none

@@ -15,11 +15,10 @@ use Rattle.gv_journal.specs.Binding.{IsRewound}
 use Rattle.gv_journal.specs.Settling.{IsSettled}
 use Rattle.gv_journal.specs.Verdict.{verdict, refusal, IsRefused}
 use Rattle.gv_journal.specs.Withdrawing.{IsWithdrawn}
-use Rattle.gv_journal.specs.Bare.{BareRequest, BareItem, BareJournal, bare_request, bare_item, bare_journal, bare_space}
+use Rattle.gv_journal.specs.Bare.{BareRequest, BareItem, BareJournal, bare_request, bare_item, bare_journal}
 use Rattle.gv_journal.specs.declared.item.Item.{Item}
 use Rattle.gv_journal.specs.declared.refusal.Refusal.{Refusal}
 use Rattle.gv_journal.proofs.BareItemLemmas.{next_alike, settle_fault_alike}
-use Rattle.gv_journal.proofs.BareSpaceLemmas.{unchanged_bare}
 use Rattle.gv_journal.proofs.AlikeLemmas.{verdict_alike, withdraw_fault_alike, bound_alike, applied_alike, withdrawn_alike, rewound_alike, settled_alike}
 use Rattle.gv_vm.specs.Places.{place_at}
 use Rattle.gv_vm.specs.Jobs.{Running, RunningJob, begin_fault, end_fault, without_job, all_held, running_job, IsBegun, IsEnded}
@@ -93,8 +92,8 @@ module _ (v v' : Machine) (alike : AreAlikeMachines v v') where
     other_buffers : HasOtherBuffers v w → HasOtherBuffers v' w' → w.space.buffers ≡ w'.space.buffers → AreAlikeMachines w w'
     other_buffers rest rest' table = record {
       space =
-          ap (λ (m : Machine). bare_space m.space) rest ∙ ap (λ (s : AddressSpace). record s { buffers = w.space.buffers }) alike.space
-          ∙ ap (λ (t : Table). record (bare_space v'.space) { buffers = t }) table ∙ sym (ap (λ (m : Machine). bare_space m.space) rest');
+          ap (λ (m : Machine). m.space) rest ∙ ap (λ (s : AddressSpace). record s { buffers = w.space.buffers }) alike.space
+          ∙ ap (λ (t : Table). record v'.space { buffers = t }) table ∙ sym (ap (λ (m : Machine). m.space) rest');
       journal = ap (λ (m : Machine). bare_journal m.journal) rest ∙ alike.journal ∙ sym (ap (λ (m : Machine). bare_journal m.journal) rest');
       running = ap (λ (m : Machine). m.running) rest ∙ alike.running ∙ sym (ap (λ (m : Machine). m.running) rest');
       told = ap (λ (m : Machine). m.told) rest ∙ alike.told ∙ sym (ap (λ (m : Machine). m.told) rest');
@@ -104,15 +103,15 @@ module _ (v v' : Machine) (alike : AreAlikeMachines v v') where
     other_jobs : HasOtherJobs v w → HasOtherJobs v' w' → w.space.buffers ≡ w'.space.buffers → w.running ≡ w'.running → AreAlikeMachines w w'
     other_jobs rest rest' table running = record {
       space =
-          ap (λ (m : Machine). bare_space m.space) rest ∙ ap (λ (s : AddressSpace). record s { buffers = w.space.buffers }) alike.space
-          ∙ ap (λ (t : Table). record (bare_space v'.space) { buffers = t }) table ∙ sym (ap (λ (m : Machine). bare_space m.space) rest');
+          ap (λ (m : Machine). m.space) rest ∙ ap (λ (s : AddressSpace). record s { buffers = w.space.buffers }) alike.space
+          ∙ ap (λ (t : Table). record v'.space { buffers = t }) table ∙ sym (ap (λ (m : Machine). m.space) rest');
       journal = ap (λ (m : Machine). bare_journal m.journal) rest ∙ alike.journal ∙ sym (ap (λ (m : Machine). bare_journal m.journal) rest');
       running = running;
       told = ap (λ (m : Machine). m.told) rest ∙ alike.told ∙ sym (ap (λ (m : Machine). m.told) rest');
     }
 
     -- only the space and the journal changed
-    pub other_entries : (bare_space w.space ≡ bare_space w'.space) × (bare_journal w.journal ≡ bare_journal w'.journal) →
+    pub other_entries : (w.space ≡ w'.space) × (bare_journal w.journal ≡ bare_journal w'.journal) →
         w.running ≡ v.running → w'.running ≡ v'.running → w.told ≡ v.told → w'.told ≡ v'.told → AreAlikeMachines w w'
     other_entries entries running running' told told' = record {
       space = entries.0;
@@ -176,9 +175,11 @@ module _ (v v' : Machine) (alike : AreAlikeMachines v v') where
         w.running ≡ v.running → w'.running ≡ v'.running → w.told ≡ v.told → w'.told ≡ v'.told → AreAlikeMachines w w'
     machine_rewound done done' = other_entries (rewound_alike v.space v'.space v.journal v'.journal alike.space alike.journal w.space w'.space w.journal w'.journal done done')
 
-    pub machine_withdrawn : (n : ℕ) → IsWithdrawn v.space w.space v.journal w.journal n → IsWithdrawn v'.space w'.space v'.journal w'.journal n →
+    pub machine_withdrawn : (n : ℕ) → w.space.room ≡ v.space.room → w'.space.room ≡ v'.space.room → IsWithdrawn v.space w.space v.journal w.journal n → IsWithdrawn v'.space w'.space v'.journal w'.journal n →
         w.running ≡ v.running → w'.running ≡ v'.running → w.told ≡ v.told → w'.told ≡ v'.told → AreAlikeMachines w w'
-    machine_withdrawn n done done' = other_entries (withdrawn_alike v.space v'.space v.journal v'.journal alike.space alike.journal w.space w'.space w.journal w'.journal n done done')
+    machine_withdrawn n room room' done done' =
+        other_entries (withdrawn_alike v.space v'.space v.journal v'.journal alike.space alike.journal w.space w'.space w.journal w'.journal n
+        (room ∙ ap (λ (s : AddressSpace). s.room) alike.space ∙ sym room') done done')
 
     pub machine_settled : (to : ℕ) → IsSettled v.space w.space v.journal w.journal to → IsSettled v'.space w'.space v'.journal w'.journal to →
         w.running ≡ v.running → w'.running ≡ v'.running → w.told ≡ v.told → w'.told ≡ v'.told → AreAlikeMachines w w'
@@ -209,14 +210,15 @@ module _ (v v' : Machine) (alike : AreAlikeMachines v v') where
       outcome_alike (NotReady point have) outcome' came came' ample ample' = absurd came
 
       entries_alike : (outcome : Outcome) → CameTo v.space w.space v.journal w.journal queue number request seen outcome →
-          CameTo v'.space w'.space v'.journal w'.journal queue number request' seen outcome → (bare_space w.space ≡ bare_space w'.space) × (bare_journal w.journal ≡ bare_journal w'.journal)
+          CameTo v'.space w'.space v'.journal w'.journal queue number request' seen outcome → (w.space ≡ w'.space) × (bare_journal w.journal ≡ bare_journal w'.journal)
       entries_alike (Accepted entry) came came' = (
-        applied_alike v.space v'.space v.journal v'.journal alike.space alike.journal w.space w'.space request request' same came.space came'.space,
+        applied_alike v.space v'.space v.journal v'.journal alike.space alike.journal w.space w'.space request request' same
+            (came.room ∙ ap (λ (s : AddressSpace). s.room) alike.space ∙ sym came'.room) came.space came'.space,
         bound_alike v.space v'.space v.journal v'.journal alike.space alike.journal w.journal w'.journal queue number request request' came.saw came'.saw same (came.saw_is ∙ sym came'.saw_is)
             came.item came'.item,
       )
       entries_alike (RefusedAt op fault) came came' = (
-        unchanged_bare v.space w.space came.space ∙ alike.space ∙ sym (unchanged_bare v'.space w'.space came'.space),
+        came.space ∙ alike.space ∙ sym came'.space,
         ap bare_journal came.journal ∙ alike.journal ∙ sym (ap bare_journal came'.journal),
       )
       entries_alike (NotReady point have) came came' = absurd came

@@ -82,7 +82,7 @@ module _ (w w' : World) (alike : AreAlikeWorlds w w') where
       (record {
         replies = ap (λ n. Withdrawn n) number;
         worlds = machines_alike w w' alike x x' (entries_state w x done.done.state) (entries_state w' x' done'.done.state)
-            (machine_withdrawn w.machine w'.machine alike.machine x.machine x'.machine entry done.done.withdrawn done'.done.withdrawn
+            (machine_withdrawn w.machine w'.machine alike.machine x.machine x'.machine entry done.done.room done'.done.room done.done.withdrawn done'.done.withdrawn
             (ap (λ (z : World). z.machine.running) done.done.state) (ap (λ (z : World). z.machine.running) done'.done.state)
             (ap (λ (z : World). z.machine.told) done.done.state) (ap (λ (z : World). z.machine.told) done'.done.state));
       }))

@@ -20,7 +20,7 @@ use Rattle.gv_journal.specs.declared.item.ItemKind.TheVariants.{Bind, Withdrawal
 use Rattle.gv_vm.specs.Jobs.{RunningJob, AreHeld}
 use Rattle.gv_vm.specs.Outcomes.{told_to, with_outcome, tell_fault}
 use Rattle.gv_vm.specs.Told.{CameTo, seen_by}
-use Rattle.gv_vm.specs.State.{Machine, IsMachine, WasTold, ToldMatchesJournal, SawItsWaits, WaitsWereReached}
+use Rattle.gv_vm.specs.State.{Machine, roomless, IsMachine, WasTold, ToldMatchesJournal, SawItsWaits, WaitsWereReached}
 use Rattle.gv_vm.specs.declared.outcome.Outcome.{Outcome}
 use Rattle.gv_vm.specs.declared.outcome.Outcome.TheVariants.{Accepted, Refused, NotReady}
 use Rattle.gv_vm.proofs.Machines.{fits_space, IsMachine-of, AreHeld-after_all}
@@ -77,7 +77,7 @@ came_held : (s t : AddressSpace) (old new : Journaled) (queue number : ℕ) (req
 came_held s t old new queue number request seen (Accepted entry) js came held =
     let ops : List PageOp = reverse (all_do s.mappings request.ops.items) in
     subst (λ (x : AddressSpace). AreHeld x.buffers js) (sym came.space.state) (AreHeld-after_all s ops js held)
-came_held s t old new queue number request seen (Refused op fault) js came held = subst (λ (x : AddressSpace). AreHeld x.buffers js) (sym came.space.state) held
+came_held s t old new queue number request seen (Refused op fault) js came held = subst (λ (x : AddressSpace). AreHeld x.buffers js) (sym came.space) held
 came_held s t old new queue number request seen (NotReady point have) js came held = absurd came
 
 came_told : (s t : AddressSpace) (old new : Journaled) (queue number : ℕ) (request : Request) (seen : List ℕ) (outcome : Outcome) (told : List (List Outcome)) →
@@ -111,7 +111,7 @@ turn_from_none : (limit : ℕ) (told : List (List Outcome)) (queue number : ℕ)
 turn_from_none limit told queue number none = grind arith
 
 pub IsMachine-carried_out : (v : Machine) (t : AddressSpace) (j : Journaled) (queue number : ℕ) (request : Request) (sights : List Sight) (outcome : Outcome) (told : List (List Outcome)) → IsMachine v →
-    FitsSpace t j → IsSpace t → CameTo v.space t v.journal j queue number request (seen_by sights) outcome → queue < 16 → tell_fault v.space.limits.told v.told queue number ≡ None →
+    FitsSpace t j → IsSpace t → CameTo (roomless v.space) (roomless t) v.journal j queue number request (seen_by sights) outcome → queue < 16 → tell_fault v.space.limits.told v.told queue number ≡ None →
     map (λ r. r.point) sights ≡ request.waits.items → All (λ r. r.point.value ≤ r.number) sights → told ≡ with_outcome v.told queue outcome →
     IsMachine (record { space = t; journal = j; running = v.running; told = told })
 IsMachine-carried_out v t j queue number request sights outcome told holds fits space came less none points reached is =
@@ -121,9 +121,9 @@ IsMachine-carried_out v t j queue number request sights outcome told holds fits 
     subst (λ (ps : List Point). AllZip (λ (p : Point) n. p.value ≤ n) ps (seen_by sights)) points (saw_waits sights reached) in
     subst (λ (x : List (List Outcome)). IsMachine (record { space = t; journal = j; running = v.running; told = x })) (sym is)
     (IsMachine-of t j v.running (with_outcome v.told queue outcome) fits space
-    (came_held v.space t v.journal j queue number request (seen_by sights) outcome v.running.jobs came holds.buffers_counted.held)
-    (came_told v.space t v.journal j queue number request (seen_by sights) outcome v.told came within turn holds.told_matches_journal)
-    (came_saw v.space t v.journal j queue number request (seen_by sights) outcome came saw holds.waits_were_reached)
+    (came_held (roomless v.space) (roomless t) v.journal j queue number request (seen_by sights) outcome v.running.jobs came holds.buffers_counted.held)
+    (came_told (roomless v.space) (roomless t) v.journal j queue number request (seen_by sights) outcome v.told came within turn holds.told_matches_journal)
+    (came_saw (roomless v.space) (roomless t) v.journal j queue number request (seen_by sights) outcome came saw holds.waits_were_reached)
     (length-set v.told queue (told_to v.told queue ++ outcome ∷ []) ∙ holds.queues))
 
 abbrev made : Unit {0} → Result (Unit {0}) Fault

@@ -16,7 +16,7 @@ use Rattle.gv_vm.specs.State.{Machine}
 use Rattle.gv_vm.specs.World.{World, InHand, Queue, new_queue, new_world, queue_at, next_number}
 use Rattle.gv_vm.specs.Outcomes.{told_to, with_outcome}
 use Rattle.gv_vm.specs.Told.{CameTo}
-use Rattle.gv_vm.specs.Step.{step, owed_for, IsAsBefore, CanBind, IsBoundNow, IsGivenUp, IsPaid, IsReachedNow, IsLackingNow, IsRewoundNow, IsWithdrawnNow, IsSettledNow}
+use Rattle.gv_vm.specs.Step.{step, owed_for, CanBind, IsBoundNow, IsGivenUp, IsPaid, IsReachedNow, IsLackingNow, IsRewoundNow, IsWithdrawnNow, IsSettledNow}
 use Rattle.gv_vm.specs.Run.{run}
 use Rattle.gv_vm.specs.Past.{Past, HasReached, IsInTurn, HasReachedAll, no_past, one_more, past_from, due_for, HoldsPut, IsQueueAfter, AreHeldAsPut, AreAfter, IsAfterPast}
 use Rattle.gv_vm.specs.declared.event.Event.{Event}
@@ -113,10 +113,8 @@ refused_past queue event fault p = refl
 idles : (queue : ℕ) (p : Past) (old new : World) (event : Event) → new ≡ old → IsAfterPast queue p old → IsAfterPast queue (one_more queue event Idle p) new
 idles queue p old new event is h = subst (λ (x : Past). IsAfterPast queue x new) (sym (idle_past queue event p)) (subst (IsAfterPast queue p) (sym is) h)
 
-refuses : (queue : ℕ) (p : Past) (old new : World) (event : Event) (fault : Fault) → IsAsBefore old new → IsAfterPast queue p old → IsAfterPast queue (one_more queue event (Refused fault) p) new
-refuses queue p old new event fault before h =
-    subst (λ (x : Past). IsAfterPast queue x new) (sym (refused_past queue event fault p))
-    (still queue p old new (ap queues_in before.state) (ap told_in before.state) (ap journal_in before.state) h)
+refuses : (queue : ℕ) (p : Past) (old new : World) (event : Event) (fault : Fault) → new ≡ old → IsAfterPast queue p old → IsAfterPast queue (one_more queue event (Refused fault) p) new
+refuses queue p old new event fault is h = subst (λ (x : Past). IsAfterPast queue x new) (sym (refused_past queue event fault p)) (subst (IsAfterPast queue p) (sym is) h)
 
 others_come : (queue n : ℕ) (p : Past) (v w : Machine) (request : Request) (number : ℕ) (seen : List ℕ) (outcome : Outcome) → CameTo v.space w.space v.journal w.journal n number request seen outcome →
     n ≢ queue → AreHeldAsPut queue p.puts v.journal.items → AreHeldAsPut queue p.puts w.journal.items

@@ -10,7 +10,7 @@ use Rattle.gv_types.specs.declared.mapping.Mapping.{Mapping}
 use Rattle.gv_table.specs.Table.{IsTree}
 use Rattle.gv_buffers.specs.Table.{Buffer, uses, kept, buffer}
 use Rattle.gv_space.specs.Counts.{count_of}
-use Rattle.gv_space.specs.State.{AddressSpace, IsUnchanged}
+use Rattle.gv_space.specs.State.{AddressSpace}
 use Rattle.gv_space.specs.Undo.{UndoValue, reverted}
 use Rattle.gv_space.proofs.TableLemmas.{IsFound, found_buffer}
 use Rattle.gv_journal.specs.Items.{Journaled}
@@ -34,20 +34,17 @@ use Rattle.gv_vm.specs.declared.outcome.Outcome.TheVariants.{Accepted, Refused, 
 pages : (v : Machine) → IsMachine v → EachPageTranslates v
 pages v holds page is = (holds.translates page is, λ table held tree h. h v.space.mappings holds.buffers_counted.used.laid_out tree)
 
--- a request that left the space but for room
-leaves : (before after : Machine) → IsUnchanged before.space after.space → after.journal ≡ before.journal → LeavesAll before after
+-- a request that left the space
+leaves : (before after : Machine) → after.space ≡ before.space → after.journal ≡ before.journal → LeavesAll before after
 leaves before after same journal =
-    let list : after.space.mappings ≡ before.space.mappings = ap (λ (s : AddressSpace). s.mappings) same.state in
+    let list : after.space.mappings ≡ before.space.mappings = ap (λ (s : AddressSpace). s.mappings) same in
     record {
       list = list;
       tree = λ table tree. subst (λ (ms : List Mapping). IsTree ms table) (sym list) tree;
-      used = λ id. ap (λ (s : AddressSpace). uses s.buffers id) same.state;
-      kept = λ id. ap (λ (s : AddressSpace). kept s.buffers id) same.state;
+      used = λ id. ap (λ (s : AddressSpace). uses s.buffers id) same;
+      kept = λ id. ap (λ (s : AddressSpace). kept s.buffers id) same;
       items = journal;
     }
-
-unchanged : (before after : Machine) → after.space ≡ before.space → IsUnchanged before.space after.space
-unchanged before after same = subst (λ (s : AddressSpace). IsUnchanged before.space s) (sym same) (record { state = refl; room = omega arith })
 
 came : (before after : Machine) (queue number : ℕ) (request : Request) (seen : List ℕ) (outcome : Outcome) →
     CameTo before.space after.space before.journal after.journal queue number request seen outcome → SaysOfOutcome outcome before after
@@ -58,7 +55,7 @@ came before after queue number request seen (NotReady point have) h = absurd h
 given_up : (before after : World) (queue number : ℕ) (outcome : Outcome) → IsGivenUp before queue number outcome after → SaysOfOutcome outcome before.machine after.machine
 given_up before after queue number outcome h =
     subst (λ (o : Outcome). SaysOfOutcome o before.machine after.machine) (sym h.outcome_is)
-    (leaves before.machine after.machine (unchanged before.machine after.machine (ap (λ (w : World). w.machine.space) h.state)) (ap (λ (w : World). w.machine.journal) h.state))
+    (leaves before.machine after.machine (ap (λ (w : World). w.machine.space) h.state) (ap (λ (w : World). w.machine.journal) h.state))
 
 list_reverted : (s : AddressSpace) (us : List UndoValue) → (reverted_by s us).mappings ≡ undone_by s.mappings us
 list_reverted s [] = refl

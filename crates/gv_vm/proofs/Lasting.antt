@@ -83,7 +83,7 @@ step_lasts number old new (Withdraw entry) (Withdrawn item) st below other = las
 step_lasts number old new (Settle to) (Settled count) st below other = lasts number _ _ (ap running_in st.state)
 step_lasts number old new (Translate addr) (Found place) st below other = lasts number _ _ (ap running_in st.1)
 step_lasts number old new event Idle st below other = lasts number _ _ (ap running_in st.1)
-step_lasts number old new event (Refused fault) st below other = lasts number _ _ (ap running_in st.1.state)
+step_lasts number old new event (Refused fault) st below other = lasts number _ _ (ap running_in st.1)
 step_lasts number old new event reply st below other = absurd st
 
 pub keeps_places : (old new : World) (events : List Event) (replies : List Reply) (number : ℕ) → run old events replies new → number < old.machine.running.begun →

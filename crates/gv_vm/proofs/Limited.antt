@@ -7,7 +7,7 @@ use Rattle.gv_types.specs.declared.mapping.Mapping.{Mapping}
 use Rattle.gv_types.specs.declared.operation.PageOp.{PageOp}
 use Rattle.gv_types.specs.declared.request.Request.{Request}
 use Rattle.gv_ranges.specs.Edit.{edited_by_all}
-use Rattle.gv_space.specs.State.{AddressSpace, IsUnchanged}
+use Rattle.gv_space.specs.State.{AddressSpace}
 use Rattle.gv_space.specs.Undo.{UndoValue, reverted}
 use Rattle.gv_journal.specs.Items.{Journaled}
 use Rattle.gv_journal.specs.History.{undos_of}
@@ -20,36 +20,33 @@ use Rattle.gv_vm.specs.Told.{CameTo}
 use Rattle.gv_vm.specs.declared.outcome.Outcome.{Outcome}
 use Rattle.gv_vm.specs.declared.outcome.Outcome.TheVariants.{Accepted, Refused, NotReady}
 
-limits-after_all : (ops : List PageOp) (s : AddressSpace) → (after_all ops s).limits ≡ s.limits
+pub limits-after_all : (ops : List PageOp) (s : AddressSpace) → (after_all ops s).limits ≡ s.limits
 limits-after_all [] s = refl
 limits-after_all (op ∷ older) s = limits-after_all older s
 
-limits-reverted_by : (s : AddressSpace) (us : List UndoValue) → (reverted_by s us).limits ≡ s.limits
+pub limits-reverted_by : (s : AddressSpace) (us : List UndoValue) → (reverted_by s us).limits ≡ s.limits
 limits-reverted_by s [] = refl
 limits-reverted_by s (u ∷ older) = limits-reverted_by (reverted s u) older
 
-limits-after_withdrawal : (before : List Mapping) (ops : List PageOp) (s : AddressSpace) → (after_withdrawal before ops s).limits ≡ s.limits
+pub limits-after_withdrawal : (before : List Mapping) (ops : List PageOp) (s : AddressSpace) → (after_withdrawal before ops s).limits ≡ s.limits
 limits-after_withdrawal before [] s = refl
 limits-after_withdrawal before (op ∷ older) s = limits-after_withdrawal before older (after_restore s op (edited_by_all older before))
 
 abbrev limits_in : AddressSpace → Caps
 limits_in s = s.limits
 
-limits-unchanged : (s t : AddressSpace) → IsUnchanged s t → t.limits ≡ s.limits
-limits-unchanged s t same = ap limits_in same.state
-
 pub limits-came : (s t : AddressSpace) (old new : Journaled) (queue number : ℕ) (request : Request) (seen : List ℕ) (outcome : Outcome) → CameTo s t old new queue number request seen outcome → t.limits ≡ s.limits
 limits-came s t old new queue number request seen (Accepted entry) came = ap limits_in came.space.state ∙ limits-after_all (reverse (all_do s.mappings request.ops.items)) s
-limits-came s t old new queue number request seen (Refused op fault) came = limits-unchanged s t came.space
+limits-came s t old new queue number request seen (Refused op fault) came = ap limits_in came.space
 limits-came s t old new queue number request seen (NotReady point have) came = absurd came
 
 pub limits-rewound : (s t : AddressSpace) (old new : Journaled) (r : Result ℕ Fault) → OnOk r (IsRewound s t old new) → OnErr r (t ≡ s) → t.limits ≡ s.limits
 limits-rewound s t old new (Ok n) rewound same = ap limits_in rewound.space ∙ limits-reverted_by s (undos_of rewound.item)
 limits-rewound s t old new (Err fault) rewound same = ap limits_in same
 
-pub limits-withdrawn : (s t : AddressSpace) (old new : Journaled) (n : ℕ) (r : Result ℕ Fault) → OnOk r (IsWithdrawn s t old new n) → OnErr r (IsUnchanged s t) → t.limits ≡ s.limits
+pub limits-withdrawn : (s t : AddressSpace) (old new : Journaled) (n : ℕ) (r : Result ℕ Fault) → OnOk r (IsWithdrawn s t old new n) → OnErr r (t ≡ s) → t.limits ≡ s.limits
 limits-withdrawn s t old new n (Ok item) withdrawn same = ap limits_in withdrawn.state ∙ limits-after_withdrawal (list_before s old n) (ops_at old n) s
-limits-withdrawn s t old new n (Err fault) withdrawn same = limits-unchanged s t same
+limits-withdrawn s t old new n (Err fault) withdrawn same = ap limits_in same
 
 pub same_space : (v w : Machine) (r : Result ℕ Fault) → OnErr r (v ≡ w) → OnErr r (v.space ≡ w.space)
 same_space v w (Ok n) same = tt

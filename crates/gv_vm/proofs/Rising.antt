@@ -45,7 +45,7 @@ moved old new (JobBegin accesses) (Begun number places) st = ap numbers_in st.st
 moved old new (JobEnd asked) (Ended job) st = ap numbers_in st.state
 moved old new (Translate addr) (Found place) st = ap numbers_in st.1
 moved old new event Idle st = ap numbers_in st.1
-moved old new event (Refused fault) st = ap numbers_in st.1.state
+moved old new event (Refused fault) st = ap numbers_in st.1
 moved old new event reply st = absurd st
 
 -- one raise
@@ -84,7 +84,7 @@ never_falls old new (event ∷ events) [] timeline ran = absurd ran
 -- a step lowers no timeline, and want of memory none
 pub none_falls : (old new : World) (event : Event) (answer : Result Reply WantOfMemory) → IsStep old event answer new → NoneFalls old new
 none_falls old new event (Ok reply) st timeline = subst (λ (ns : List ℕ). slice_index old.numbers timeline ≤ slice_index ns timeline) (sym (moved old new event reply st)) (rises reply old.numbers timeline)
-none_falls old new event (Err want) st timeline = subst (λ (ns : List ℕ). slice_index old.numbers timeline ≤ slice_index ns timeline) (sym (ap numbers_in st.1.state)) (omega arith)
+none_falls old new event (Err want) st timeline = subst (λ (ns : List ℕ). slice_index old.numbers timeline ≤ slice_index ns timeline) (sym (ap numbers_in st.1)) (omega arith)
 
 -- the raises of one more point
 under : (t : Bool) (v : ℕ) (vs : List ℕ) (value : ℕ) → v ∷ cond t (vs ++ value ∷ []) vs ≡ cond t ((v ∷ vs) ++ value ∷ []) (v ∷ vs)

@@ -16,7 +16,7 @@ use Rattle.gv_vm.specs.Told.{IsCarriedOut, seen_by}
 use Rattle.gv_vm.specs.State.{Machine}
 use Rattle.gv_vm.specs.World.{World, InHand, Queue, put_fault_of, new_queue, queue_at, with_queue, next_number, next_wait, seen_at}
 use Rattle.gv_vm.specs.Turns.{IsPutReply, MayTake, TookFront, wait_in, wait_of, hand_reached, with_reached, hand_lacked, with_lacked, IsReady, IsLacking, without_hand, PaidFirst, IsToldLacking}
-use Rattle.gv_vm.specs.Step.{step, IsStep, MayGrow, IsAsBefore, CanTake, CanLook, CanReach, CanBind, CanGiveUp, CanPay, owed_in, owed_for}
+use Rattle.gv_vm.specs.Step.{step, IsStep, MayGrow, CanTake, CanLook, CanReach, CanBind, CanGiveUp, CanPay, owed_in, owed_for}
 use Rattle.gv_vm.specs.declared.event.Event.{Event}
 use Rattle.gv_vm.specs.declared.event.Reply.{Reply}
 use Rattle.gv_types.specs.declared.fault.OutOfMemory.{OutOfMemory as WantOfMemory}
@@ -221,16 +221,12 @@ was_not_put w n request q e less fits named back came = record {
   state = same_world w n q came.err;
 }
 
--- all is as it was, also its room
-pub as_before : (w : World) → IsAsBefore w w
-as_before w = record { state = refl; space = record { state = refl; room = omega arith } }
-
 pub put_wanted : (w : World) (n : ℕ) (request : Request) (q : Queue) (e : NotTold) → n < length w.queues → Fits (length w.numbers) request → e.fault ≡ OutOfMemory →
-    PutCameTo w.machine.space.limits.told w.depth request (queue_at w n) q (Err e) → MayGrow w (Put n request) × IsAsBefore w (with_queue w n q)
+    PutCameTo w.machine.space.limits.told w.depth request (queue_at w n) q (Err e) → MayGrow w (Put n request) × (with_queue w n q ≡ w)
 put_wanted w n request q e less fits memory came =
-    (((less, fits), put_allowed w.machine.space.limits.told w.depth (queue_at w n) e memory came.fault), subst (IsAsBefore w) (sym (same_world w n q came.err)) (as_before w))
+    (((less, fits), put_allowed w.machine.space.limits.told w.depth (queue_at w n) e memory came.fault), same_world w n q came.err)
 
-wanted : (w new : World) (event : Event) (a : Result Reply WantOfMemory) → IsErr a → MayGrow w event × IsAsBefore w new → IsStep w event a new
+wanted : (w new : World) (event : Event) (a : Result Reply WantOfMemory) → IsErr a → MayGrow w event × (new ≡ w) → IsStep w event a new
 wanted w new event (Ok reply) is h = cc
 wanted w new event (Err e) is h = h
 
@@ -258,9 +254,8 @@ owed_fit timelines request (Refused op fault) all = All-nil (λ p. p.timeline < 
 owed_fit timelines request (NotReady point have) all = All-nil (λ p. p.timeline < timelines)
 
 -- nothing came of it
-pub came_back : (w : World) (v : Machine) (n : ℕ) (q : Queue) → q ≡ queue_at w n → v ≡ w.machine → IsAsBefore w (with_machine w v n q)
-came_back w v n q same machine =
-    subst (IsAsBefore w) (sym (ap (λ (x : Machine). with_machine w x n q) machine ∙ same_world w n q same)) (as_before w)
+pub came_back : (w : World) (v : Machine) (n : ℕ) (q : Queue) → q ≡ queue_at w n → v ≡ w.machine → with_machine w v n q ≡ w
+came_back w v n q same machine = ap (λ (x : Machine). with_machine w x n q) machine ∙ same_world w n q same
 
 pub bound_keeps : (w : World) (v : Machine) (n number : ℕ) (hand : InHand) (outcome : Outcome) → AreQueues w → n < length w.queues → (queue_at w n).hand ≡ Some hand →
     IsCarriedOut w.machine v n number hand.request (seen_by hand.reached) outcome → AreQueues (with_machine w v n (record (queue_at w n) { hand = None; owed = owed_for hand.request outcome }))

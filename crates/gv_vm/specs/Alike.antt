@@ -1,10 +1,10 @@
--- Two worlds that are the same, bare of memory: spaces may have other room, undo values other tables, and vectors other places.
+-- Two worlds that are the same, bare of memory: undo values may own other tables, and vectors may lie elsewhere.
 use Rattle.std.specs.Prelude.{◌≡◌, ◌≢◌, ℕ, List, map, Option}
 use Rattle.std.specs.Option.{option_map}
 use Rattle.gv_types.specs.declared.fault.Fault.TheVariants.{OutOfMemory}
 use Rattle.gv_types.specs.declared.request.Point.{Point}
 use Rattle.gv_sync.specs.Sights.{Sight}
-use Rattle.gv_journal.specs.Bare.{BareRequest, bare_request, bare_journal, bare_space}
+use Rattle.gv_journal.specs.Bare.{BareRequest, bare_request, bare_journal}
 use Rattle.gv_vm.specs.State.{Machine}
 use Rattle.gv_vm.specs.World.{World, Queue, InHand}
 use Rattle.gv_vm.specs.declared.event.Event.{Event}
@@ -32,7 +32,7 @@ abbrev pub bare_queue : Queue → BareQueue
 bare_queue q = record { put = q.put; waiting = map bare_request q.waiting; hand = option_map bare_hand q.hand; owed = q.owed }
 
 pub record AreAlikeMachines (v v' : Machine) : Type 0 where
-  pub space : bare_space v.space ≡ bare_space v'.space
+  pub space : v.space ≡ v'.space
   pub journal : bare_journal v.journal ≡ bare_journal v'.journal
   pub running : v.running ≡ v'.running
   pub told : v.told ≡ v'.told

@@ -1,18 +1,40 @@
--- Laws of runs from a new world.
-use Rattle.std.specs.Prelude.{◌≡◌, ◌≢◌, ℕ, ◌<◌, ◌≤◌, List, slice_get, slice_index, Some}
+-- Laws of steps, and of runs from a new world.
+use Rattle.std.specs.Prelude.{◌≡◌, ◌≢◌, ℕ, ◌<◌, ◌≤◌, List, slice_get, slice_index, Some, Result}
 use Rattle.std.specs.List.{All}
 use Rattle.gv_types.specs.Bounds.{Area}
 use Rattle.gv_types.specs.Limits.{Caps}
+use Rattle.gv_types.specs.declared.fault.OutOfMemory.{OutOfMemory as WantOfMemory}
 use Rattle.gv_sync.specs.Raises.{IsAfter}
 use Rattle.gv_vm.specs.Jobs.{places_in}
 use Rattle.gv_vm.specs.Outcomes.{queues as most_queues}
 use Rattle.gv_vm.specs.World.{World, InHand, queue_at, next_number, new_world}
-use Rattle.gv_vm.specs.Step.{CanBind}
-use Rattle.gv_vm.specs.Run.{run}
+use Rattle.gv_vm.specs.Step.{CanBind, step}
+use Rattle.gv_vm.specs.Run.{run, GoesOnWith, replied_to, replies_in}
+use Rattle.gv_vm.specs.Headline.{Says, Headline}
+use Rattle.gv_vm.specs.Alike.{AreAlikeWorlds, AreAlikeEvents, IsAmpleReply, StaysAlike}
 use Rattle.gv_vm.specs.Past.{no_past, past_from, raised_by, HasReachedAll, IsAfterPast}
 use Rattle.gv_vm.specs.declared.event.Event.{Event}
 use Rattle.gv_vm.specs.declared.event.Event.TheVariants.{JobEnd}
 use Rattle.gv_vm.specs.declared.event.Reply.{Reply}
+
+-- A step is a function: the same event in the same world gets the same reply and leads to the same world, but for the memory of
+-- vectors and of undo values, and for want of memory.
+abbrev pub StepIsAFunction : Type 0
+StepIsAFunction =
+    (w w' x x' : World) (event event' : Event) (reply reply' : Reply) → AreAlikeWorlds w w' → AreAlikeEvents event event'
+    → IsAmpleReply reply → IsAmpleReply reply' → step w event reply x → step w' event' reply' x' → StaysAlike reply reply' x x'
+
+-- A world that goes on after want of memory comes to what it comes to by the other events alone: so each law of runs holds of it,
+abbrev pub WantOfMemoryIsNoStep : Type 0
+WantOfMemoryIsNoStep =
+    (old new : World) (events : List Event) (answers : List (Result Reply WantOfMemory))
+    → GoesOnWith (λ before event reply after. Unit {0}) old events answers new → run old (replied_to events answers) (replies_in answers) new
+
+-- and the headline
+abbrev pub HeadlineGoesOn : Type 0
+HeadlineGoesOn =
+    (old new : World) (events : List Event) (answers : List (Result Reply WantOfMemory))
+    → GoesOnWith Says old events answers new → Headline old (replied_to events answers) (replies_in answers) new
 
 -- Of the requests that were put on a queue the first ones are told, each once, in order, and the others are the one in hand and
 -- those that wait. What is paid and owed are the signals of the accepted ones, each once, in order. The one in hand had those

@@ -1,7 +1,8 @@
 -- Runs of a world: one step after another.
-use Rattle.std.specs.Prelude.{◌≡◌, List, [], ◌∷◌, ◌++◌, ◌⊎◌}
+use Rattle.std.specs.Prelude.{◌≡◌, List, [], ◌∷◌, ◌++◌, ◌⊎◌, Result, Ok, Err}
+use Rattle.gv_types.specs.declared.fault.OutOfMemory.{OutOfMemory as WantOfMemory}
 use Rattle.gv_vm.specs.World.{World}
-use Rattle.gv_vm.specs.Step.{step, MayGrow, IsAsBefore}
+use Rattle.gv_vm.specs.Step.{step, MayGrow}
 use Rattle.gv_vm.specs.declared.event.Event.{Event}
 use Rattle.gv_vm.specs.declared.event.Reply.{Reply}
 
@@ -22,13 +23,33 @@ abbrev pub NextMayGrow : World → List Event → Type 0
 NextMayGrow w [] = ⊥
 NextMayGrow w (event ∷ later) = MayGrow w event
 
--- Want of memory stopped the events: those before ran and gave these replies, and the world is after them, but for room.
+-- Want of memory stopped the events: those before ran and gave these replies, and the world is after them.
 -- What wanted memory is the next event, which may grow, or the room of all replies, which is asked for before the first.
 pub record StoppedWith (Asked : World → Event → Reply → World → Type 0) (old : World) (events : List Event) (replies : List Reply) (new : World) : Type 0 where
   pub ran : List Event
   pub rest : List Event
   pub events_are : events ≡ ran ++ rest
-  pub last : World
-  pub runs : RunsWith Asked old ran replies last
-  pub state : IsAsBefore last new
-  pub wanted : NextMayGrow last rest ⊎ (replies ≡ [])
+  pub runs : RunsWith Asked old ran replies new
+  pub wanted : NextMayGrow new rest ⊎ (replies ≡ [])
+
+-- What a world answers to events where it goes on after want of memory, which changes nothing; and of each step holds what is asked.
+abbrev pub GoesOnWith : (World → Event → Reply → World → Type 0) → World → List Event → List (Result Reply WantOfMemory) → World → Type 0
+GoesOnWith Asked old [] [] new = new ≡ old
+GoesOnWith Asked old (event ∷ events) (Ok reply ∷ answers) new =
+    (mid : World) × step old event reply mid × Asked old event reply mid × GoesOnWith Asked mid events answers new
+GoesOnWith Asked old (event ∷ events) (Err want ∷ answers) new = MayGrow old event × GoesOnWith Asked old events answers new
+GoesOnWith Asked old [] (answer ∷ answers) new = ⊥
+GoesOnWith Asked old (event ∷ events) [] new = ⊥
+
+-- the events that got a reply
+abbrev pub replied_to : List Event → List (Result Reply WantOfMemory) → List Event
+replied_to [] answers = []
+replied_to (event ∷ events) [] = []
+replied_to (event ∷ events) (Ok reply ∷ answers) = event ∷ replied_to events answers
+replied_to (event ∷ events) (Err want ∷ answers) = replied_to events answers
+
+-- and the replies
+abbrev pub replies_in : List (Result Reply WantOfMemory) → List Reply
+replies_in [] = []
+replies_in (Ok reply ∷ answers) = reply ∷ replies_in answers
+replies_in (Err want ∷ answers) = replies_in answers

@@ -23,11 +23,15 @@ pub record Machine : Type 0 where
   pub running : Running
   pub told : List (List Outcome)
 
+-- The room for mappings isn't told: a machine's is told as the limit, which no list passes.
+abbrev pub roomless : AddressSpace → AddressSpace
+roomless s = record s { room = s.limits.mappings }
+
 -- a machine of no mapping, no buffer, no item and no job, of which no queue was told anything
 abbrev pub new_machine : Area → Caps → Machine
 new_machine area limits =
     record {
-      space = new_space area limits;
+      space = roomless (new_space area limits);
       journal = record { limit = limits.items; first = 0; items = [] };
       running = no_jobs;
       told = replicate queues [];

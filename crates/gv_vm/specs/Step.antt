@@ -9,7 +9,6 @@ use Rattle.gv_types.specs.declared.mapping.BufferId.{BufferId}
 use Rattle.gv_types.specs.declared.request.Point.{Point}
 use Rattle.gv_types.specs.declared.request.Request.{Request}
 use Rattle.gv_buffers.specs.Table.{create_fault, destroy_fault, without, IsCreated}
-use Rattle.gv_space.specs.State.{IsUnchanged}
 use Rattle.gv_sync.specs.Raises.{IsReached, with_raise}
 use Rattle.gv_sync.specs.Sights.{Sight, sight}
 use Rattle.gv_journal.specs.Items.{next}
@@ -211,6 +210,7 @@ pub record IsWithdrawnNow (old : World) (entry item : ℕ) (new : World) : Type 
   pub allowed : withdraw_fault old.machine.space old.machine.journal entry ≡ None
   pub number_is : item ≡ next old.machine.journal
   pub withdrawn : IsWithdrawn old.machine.space new.machine.space old.machine.journal new.machine.journal entry
+  pub room : new.machine.space.room ≡ old.machine.space.room
   pub rewinds : (n : ℕ) → back new.machine.space.mappings new.machine.journal.items (n + 1) ≡ back old.machine.space.mappings old.machine.journal.items n
   pub state : HasOtherEntries old new
 
@@ -249,15 +249,10 @@ event_fault v (JobBegin accesses) = begin_fault v.space v.running accesses.items
 event_fault v (JobEnd job) = end_fault v.running job
 event_fault v _ = None
 
--- all is as it was, but for room
-pub record IsAsBefore (old new : World) : Type 0 where
-  pub state : new ≡ record old { machine = record old.machine { space = new.machine.space } }
-  pub space : IsUnchanged old.machine.space new.machine.space
-
 -- From `old` the world may give this reply to the event and go on to `new`.
 abbrev pub step : World → Event → Reply → World → Type 0
 step old event Idle new = (¬ IsEnabled old event) × (new ≡ old)
-step old event (Refused fault) new = (event_fault old.machine event ≡ Some fault) × IsAsBefore old new
+step old event (Refused fault) new = (event_fault old.machine event ≡ Some fault) × (new ≡ old)
 step old (Put queue request) (IsPut number) new = IsPutAs old queue request number new
 step old (Put queue request) (NotPut fault back) new = IsNotPut old queue request fault back new
 step old (Take queue) (Taken number) new = IsTaken old queue number new
@@ -292,8 +287,7 @@ MayGrow w (Withdraw entry) = entry_fault w.machine.journal entry ≡ None
 MayGrow w (JobBegin accesses) = IsBeginRefused w.machine.space w.machine.running accesses.items OutOfMemory
 MayGrow w _ = ⊥
 
--- What a world answers to an event: a reply of a step; or want of memory, at an event that may grow, and all is as it was,
--- but for room.
+-- What a world answers to an event: a reply of a step; or want of memory, at an event that may grow, and all is as it was.
 abbrev pub IsStep : World → Event → Result Reply WantOfMemory → World → Type 0
 IsStep old event (Ok reply) new = step old event reply new
-IsStep old event (Err _) new = MayGrow old event × IsAsBefore old new
+IsStep old event (Err _) new = MayGrow old event × (new ≡ old)

@@ -4,7 +4,7 @@ use Rattle.std.specs.Global.{Global}
 use Rattle.gv_types.specs.declared.fault.Fault.{Fault}
 use Rattle.gv_types.specs.declared.request.Request.{Request}
 use Rattle.gv_sync.specs.Sights.{Sight}
-use Rattle.gv_space.specs.State.{AddressSpace, IsUnchanged}
+use Rattle.gv_space.specs.State.{AddressSpace}
 use Rattle.gv_journal.specs.Items.{Journaled, next}
 use Rattle.gv_journal.specs.History.{back}
 use Rattle.gv_journal.specs.Verdict.{verdict, IsRefused, refusal}
@@ -23,12 +23,13 @@ pub record IsAccepted (s t : AddressSpace) (old new : Journaled) (queue number :
   pub saw_is : saw.items ≡ seen
   pub item : IsBound s old new queue number request saw
   pub space : IsApplied s t request
+  pub room : t.room ≡ s.room
   pub rewinds : (n : ℕ) → back t.mappings new.items (n + 1) ≡ back s.mappings old.items n
 
--- The request is refused by its verdict or for want of memory, and nothing changed but room.
+-- The request is refused by its verdict or for want of memory, and nothing changed.
 pub record IsRefusedWhole (s t : AddressSpace) (old new : Journaled) (request : Request) (op : ℕ) (fault : Fault) : Type 0 where
   pub refused : IsRefused s old request.ops.items (refusal op fault)
-  pub space : IsUnchanged s t
+  pub space : t ≡ s
   pub journal : new ≡ old
 
 -- what a request came to, where it was carried out

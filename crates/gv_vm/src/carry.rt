@@ -2,6 +2,7 @@
 ghost use Rattle.std.specs.Prelude.{◌≡◌, ◌≤◌, map, take, IfOk, OnOk};
 ghost use Rattle.std.specs.List.{All};
 ghost use Rattle.gv_journal.specs.State.{FitsSpace};
+ghost use Rattle.gv_vm.specs.State.{roomless};
 ghost use Rattle.gv_vm.specs.Told.{CameTo, seen_by};
 
 use crate::outcome::Outcome;
@@ -34,7 +35,8 @@ pub fn carry_out(
     seen: Vec<u64>,
 ) -> Outcome
     requires { FitsSpace space.old journal.old }
-    ensures came { CameTo space.old space.new journal.old journal.new queue number request seen.items result }
+    ensures came { CameTo (roomless space.old) (roomless space.new) journal.old journal.new queue number request
+        seen.items result }
     ensures fits { FitsSpace space.new journal.new }
 {
     match journal.bind(alloc, space, queue, number, request, seen) {

@@ -1,5 +1,13 @@
 //! Laws of worlds, each proved once for all callers.
-ghost use Rattle.gv_vm.specs.Laws.{RequestsStayInOrder, WhatIsToldWasPut, WaitsAreReachedFirst, NoTimelineFalls, TimelinesFollowRaises, JobsKeepTheirPlaces};
+ghost use Rattle.gv_vm.specs.Laws.{StepIsAFunction, WantOfMemoryIsNoStep, HeadlineGoesOn, RequestsStayInOrder, WhatIsToldWasPut, WaitsAreReachedFirst, NoTimelineFalls, TimelinesFollowRaises, JobsKeepTheirPlaces};
+
+/// What each step has: the same event in the same world gets the same reply, but for want of memory, after which a world goes on
+/// as if it had not been asked.
+pub fn steps()
+    ensures function { StepIsAFunction }
+    ensures wanting { WantOfMemoryIsNoStep }
+    ensures headline { HeadlineGoesOn }
+{}
 
 /// What a queue has after any run of a new world: requests are told in the order in which they were put, each once, and only
 /// accepted ones are signalled.

@@ -51,7 +51,7 @@ impl Vm {
     ghost use Rattle.gv_journal.specs.Items.{next};
     ghost use Rattle.gv_journal.specs.History.{back};
     ghost use Rattle.gv_journal.specs.Binding.{IsRewound};
-    ghost use Rattle.gv_vm.specs.State.{new_machine, IsMachine, HasOtherJobs};
+    ghost use Rattle.gv_vm.specs.State.{new_machine, roomless, IsMachine, HasOtherJobs};
     ghost use Rattle.gv_vm.specs.Jobs.{begin_fault, end_fault, places_in, IsBegun, IsEnded, IsBeginRefused};
 
     /// A machine of no mapping, no buffer, no entry and no job. `OutOfMemory` where the system refuses its first room.
@@ -82,7 +82,7 @@ impl Vm {
 
     /// The address space, and what always holds of the whole.
     pub fn space(&self) -> &Space
-        ensures value { result.now ≡ self.now.space }
+        ensures value { self.now.space ≡ roomless result.now }
         ensures holds { IsMachine self.now }
     {
         &self.space

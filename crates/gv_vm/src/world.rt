@@ -92,8 +92,8 @@ impl World {
 
     /// Carries out one event and answers it. `Idle` exactly where it is not enabled, and then nothing changes. `OutOfMemory`
     /// comes only at an event that may grow (`Put`, `Look` where the wait is reached, `Bind`, `GiveUp`, `Create`, `Withdraw`,
-    /// `JobBegin`, where it is enabled and not refused before), and all is as it was, but for room; a request that was to be put
-    /// is dropped.
+    /// `JobBegin`, where it is enabled and not refused before), and all is as it was; a request that was to be put is
+    /// dropped.
     pub fn step(&mut self, alloc: Global, event: Event) -> Result<Reply, OutOfMemory>
         ensures step { IsStep self.old event result self.new }
         ensures says { IfOk result (λ reply. Says self.old event reply self.new) }

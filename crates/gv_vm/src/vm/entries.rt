@@ -5,7 +5,6 @@ ghost use Rattle.gv_journal.specs.History.{back};
 ghost use Rattle.gv_journal.specs.Binding.{IsRewound};
 ghost use Rattle.gv_journal.specs.Settling.{settle_fault, IsSettled};
 ghost use Rattle.gv_journal.specs.Withdrawing.{withdraw_fault, IsWithdrawRefused, IsWithdrawn};
-ghost use Rattle.gv_space.specs.State.{IsUnchanged};
 
 use super::Vm;
 use gv_types::Fault;
@@ -37,7 +36,7 @@ impl Vm {
     /// held before each of them, and each page is what the other entries say. The withdrawal is an entry of its own, whose
     /// number is answered. `NoEntry`, `NotABind`, `Withdrawn`, `Touched` with the least live later entry that touches it,
     /// `JournalFull`, `OutOfMemory` for the entry's place, then for each operation from the last to the first
-    /// `TooManyMappings` and `OutOfMemory`. After a refusal all is as before, but for room.
+    /// `TooManyMappings` and `OutOfMemory`. After a refusal all is as before.
     pub fn withdraw(&mut self, alloc: Global, entry: u64) -> Result<u64, Fault>
         ensures accepted { OnOk result (withdraw_fault self.old.space self.old.journal entry ≡ None) }
         ensures refused { IfErr result (IsWithdrawRefused self.old.space self.old.journal entry) }
@@ -49,8 +48,8 @@ impl Vm {
             ≡ back self.old.space.mappings self.old.journal.items n) }
         ensures rest { self.new
             ≡ record self.old { space = self.new.space; journal = self.new.journal } }
-        ensures space_unchanged { OnErr result (IsUnchanged self.old.space self.new.space) }
-        ensures journal_unchanged { OnErr result (self.new.journal ≡ self.old.journal) }
+        ensures room { self.new.space.room ≡ self.old.space.room }
+        ensures err { OnErr result (self.new ≡ self.old) }
     {
         let withdrawn = self.journal.withdraw(alloc, &mut self.space, entry);
         // For the prover: what always holds of the space.

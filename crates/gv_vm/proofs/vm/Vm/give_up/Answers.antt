@@ -1,5 +1,5 @@
 use Rattle.std.proofs.Common.{◌∙◌, ap, List}
-use Rattle.gv_vm.specs.VmInside.{machine_of}
+use Rattle.gv_vm.specs.VmInside.{parts_of}
 use Rattle.gv_vm.specs.Telling.{lists_of}
 use Rattle.gv_vm.specs.Outcomes.{with_outcome}
 use Rattle.gv_vm.specs.declared.outcome.Outcome.{Outcome}
@@ -10,5 +10,5 @@ use Rattle.gv_vm.proofs.vm.Vm.give_up.Goals as goal
 pub invariant_of-self-2 : goal.invariant_of-self-2
 invariant_of-self-2 c =
     let outcome : Outcome = NotReady c.point.result c.have.result in
-    IsMachine-told (machine_of c.self.inside) c.args.queue outcome (lists_of c.tell.new.told) c.self.invariant c.requires.queue
+    IsMachine-told (parts_of c.self.inside) c.args.queue outcome (lists_of c.tell.new.told) c.self.invariant c.requires.queue
     (c.tell.ensures ∙ ap (λ (ls : List (List Outcome)). with_outcome ls c.args.queue outcome) c.prepare.ensures.same)

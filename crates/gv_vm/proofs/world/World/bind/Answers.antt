@@ -6,7 +6,7 @@ use Rattle.gv_vm.specs.Queues.{AreQueues}
 use Rattle.gv_vm.specs.Told.{IsCarriedOut, seen_by}
 use Rattle.gv_vm.specs.declared.outcome.Outcome.{Outcome}
 use Rattle.gv_vm.specs.Turns.{IsReady}
-use Rattle.gv_vm.specs.Step.{step, CanBind, IsAsBefore, owed_for}
+use Rattle.gv_vm.specs.Step.{step, CanBind, owed_for}
 use Rattle.gv_vm.specs.declared.event.Event.TheVariants.{Bind}
 use Rattle.gv_vm.specs.declared.event.Reply.TheVariants.{Idle, Told}
 use Rattle.gv_vm.proofs.Stepping.{queue_read, same_world, not_bound, may_bind, bound, bound_keeps, came_back}
@@ -34,7 +34,7 @@ returns-in-Err c =
     c.hold.ensures ∙ ap (λ (q : Queue). record q { hand = Some c.in-Err.hand }) c.in-Some.ensures.gone
     ∙ ap (λ (h : InHand). record c.index_mut-place.result.now { hand = Some h }) c.in-Err.ensures.hand
     ∙ ap (λ (q : Queue). record q { hand = Some hand }) read ∙ ap (λ o. record (queue_at w n) { hand = o }) (sym is) in
-    subst (λ (v : World). CanBind v n × IsAsBefore v (with_queue (record w { machine = c.bind_hand.new.vm }) n c.hold.new.self)) c.self.view_is
+    subst (λ (v : World). CanBind v n × (with_queue (record w { machine = c.bind_hand.new.vm }) n c.hold.new.self ≡ v)) c.self.view_is
     (may_bind w n hand less is c.in-Some.ensures.reached, came_back w c.bind_hand.new.vm n c.hold.new.self same c.in-Err.ensures.err)
 
 pub invariant_of-self-2 : goal.invariant_of-self-2

@@ -3,7 +3,7 @@ use Rattle.gv_vm.specs.World.{World, Queue, InHand, queue_at, with_queue, next_n
 use Rattle.gv_vm.specs.WorldInside.{world_of}
 use Rattle.gv_vm.specs.Queues.{AreQueues}
 use Rattle.gv_vm.specs.Turns.{IsLacking, without_hand}
-use Rattle.gv_vm.specs.Step.{step, CanGiveUp, IsAsBefore}
+use Rattle.gv_vm.specs.Step.{step, CanGiveUp}
 use Rattle.gv_vm.specs.declared.outcome.Outcome.{Outcome}
 use Rattle.gv_vm.specs.declared.event.Event.TheVariants.{GiveUp}
 use Rattle.gv_vm.specs.declared.event.Reply.TheVariants.{Idle, Told}
@@ -46,7 +46,7 @@ returns-in-Err c =
     c.hold.ensures ∙ ap (λ (q : Queue). record q { hand = Some c.in-Err.hand }) c.in-Some.ensures.gone
     ∙ ap (λ (h : InHand). record c.index_mut-place.result.now { hand = Some h }) c.in-Err.ensures.hand
     ∙ ap (λ (q : Queue). record q { hand = Some hand }) read ∙ ap (λ o. record (queue_at w n) { hand = o }) (sym is) in
-    subst (λ (v : World). CanGiveUp v n × IsAsBefore v (with_queue (record w { machine = c.give_up_hand.new.vm }) n c.hold.new.self)) c.self.view_is
+    subst (λ (v : World). CanGiveUp v n × (with_queue (record w { machine = c.give_up_hand.new.vm }) n c.hold.new.self ≡ v)) c.self.view_is
     (may_give_up w n hand less is c.in-Some.ensures.lacked, came_back w c.give_up_hand.new.vm n c.hold.new.self same c.in-Err.ensures.err)
 
 pub invariant_of-self-2 : goal.invariant_of-self-2

@@ -3,12 +3,12 @@ use Rattle.gv_sync.specs.Sights.{Sight}
 use Rattle.gv_sync.specs.Raises.{IsReached}
 use Rattle.gv_vm.specs.World.{World, Queue, queue_at, with_queue, seen_at}
 use Rattle.gv_vm.specs.WorldInside.{world_of}
-use Rattle.gv_vm.specs.Step.{step, CanReach, IsAsBefore}
+use Rattle.gv_vm.specs.Step.{step, CanReach}
 use Rattle.gv_vm.specs.Turns.{wait_of, with_reached, with_lacked}
 use Rattle.gv_vm.specs.declared.event.Event.TheVariants.{Look}
 use Rattle.gv_vm.specs.declared.event.Reply.TheVariants.{Reached, Lacking}
 use Rattle.gv_vm.proofs.Worlds.{IsOf, AreQueues-with_queue}
-use Rattle.gv_vm.proofs.Stepping.{from_err, from_ok, queue_read, same_world, reached, lacked, may_reach, as_before}
+use Rattle.gv_vm.proofs.Stepping.{from_err, from_ok, queue_read, same_world, reached, lacked, may_reach}
 use Rattle.gv_vm.proofs.Turning.{IsQueueOf-reached, IsQueueOf-lacked}
 use Rattle.gv_vm.proofs.world.World.look.Goals as goal
 
@@ -47,8 +47,8 @@ returns-then-is_err c =
     let wait : wait_of (queue_at w n) ≡ Some c.in-Some.point = subst (λ (q : Queue). wait_of q ≡ Some c.in-Some.point) read (sym c.in-Some.ensures) in
     let same : c.reach.new.self ≡ queue_at w n = from_err (c.reach.new.self ≡ c.index_mut-hand.result.now) c.reach.result (sym c.is_err.ensures.value ∙ c.if-is_err.true) c.reach.ensures.err ∙ read in
     let enough : IsReached w.numbers c.in-Some.point = c.in-Ok.ensures.reached.0 refl in
-    subst (λ (v : World). CanReach v n × IsAsBefore v (with_queue w n c.reach.new.self)) c.self.view_is
-    (may_reach w n c.in-Some.point less wait enough, subst (IsAsBefore w) (sym (same_world w n c.reach.new.self same)) (as_before w))
+    subst (λ (v : World). CanReach v n × (with_queue w n c.reach.new.self ≡ v)) c.self.view_is
+    (may_reach w n c.in-Some.point less wait enough, same_world w n c.reach.new.self same)
 
 pub invariant_of-self-2 : goal.invariant_of-self-2
 invariant_of-self-2 c =

@@ -2,7 +2,6 @@ use Rattle.std.proofs.Common.{◌≡◌, ◌∷◌, [], ◌++◌, List, length, 
 use Rattle.std.specs.Vec.Iter.{into_iter_items}
 use Rattle.gv_vm.specs.Headline.{Says, Headline}
 use Rattle.gv_vm.specs.declared.event.Reply.{Reply}
-use Rattle.gv_vm.proofs.Stepping.{as_before}
 use Rattle.gv_vm.proofs.Running.{RunsWith-more}
 use Rattle.gv_vm.proofs.world.World.run_events.Goals as goal
 
@@ -11,9 +10,7 @@ returns-in-Err-clause-stopped c = record {
   ran = [];
   rest = c.args.events.items;
   events_are = refl;
-  last = c.args.self.now;
   runs = subst (λ (replies : List Reply). Headline c.args.self.now [] replies c.args.self.now) (sym c.new.ensures.items) refl;
-  state = as_before c.args.self.now;
   wanted = inr c.new.ensures.items;
 }
 
