@@ -10,24 +10,25 @@ SOURCES := crates.txt HANDLES $(shell find crates -type f \( -name '*.rt' -o -na
 build: vmbind
 
 vmbind: $(SOURCES)
-	@echo 'Proves the program and the fourteen crates below it, then builds it: 56 minutes of processor time, half an hour on four cores, less where'
-	@echo 'an earlier run has left its proofs. "make try" runs it before any proof.'
+	@echo 'Proves the program and the fourteen crates below it, then builds it: 56 minutes of processor time, less where an'
+	@echo 'earlier run has left its proofs. "make run" shows the first example without them.'
+	@RT="$(RT)" tools/prove gv_cli
 	cd $(PROGRAM) && $(RT) run -- --help > /dev/null
 	cp $(PROGRAM)/out/gv_cli vmbind
 
-# The first example before any proof, in half a minute. It shows what the program answers, and says nothing of its proof.
-try:
+# The first example and its replies, by a build without proofs: it shows what the program answers, and proves nothing.
+run:
 	@echo '--- examples/first.vmb'
 	@cat examples/first.vmb
-	@echo '--- vmbind run < examples/first.vmb, unproved'
-	@cd $(PROGRAM) && $(RT) try -- run < ../../examples/first.vmb
+	@echo '--- its replies, from a build without proofs: that takes one to three minutes'
+	@RT="$(RT)" tools/try run < examples/first.vmb
+	@echo '--- "make" proves the program and leaves it at ./vmbind; "make try SCRIPT=my.vmb" runs your own script as this one'
 
-# The first example: the script, and what the program answers.
-run: vmbind
-	@echo '--- examples/first.vmb'
-	@cat examples/first.vmb
-	@echo '--- vmbind run < examples/first.vmb'
-	@./vmbind run < examples/first.vmb
+# A script of your own without proofs: its replies alone on standard output.
+SCRIPT ?= examples/first.vmb
+WORDS ?= run
+try:
+	@RT="$(RT)" tools/try $(WORDS) < "$(SCRIPT)"
 
 # The gate: every proof from nothing, the must-fail edits, the tests and the programs. Before it, what no contract can
 # say: that the functions of the timelines wait for nobody. A function may wait only under a bound of that name.
