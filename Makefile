@@ -4,7 +4,7 @@ RT ?= rt
 PROGRAM := crates/gv_cli
 SOURCES := crates.txt HANDLES $(shell find crates -type f \( -name '*.rt' -o -name '*.antt' \) -not -path '*/out/*')
 
-.PHONY: build try run test fuzz refuse-memory measure clean
+.PHONY: build try run test check-documents fuzz refuse-memory measure clean
 
 # The proved program, at ./vmbind.
 build: vmbind
@@ -31,13 +31,18 @@ try:
 	@RT="$(RT)" tools/try $(WORDS) < "$(SCRIPT)"
 
 # The gate: every proof from nothing, the must-fail edits, the tests and the programs. Before it, what no contract can
-# say: that the functions of the timelines wait for nobody. A function may wait only under a bound of that name.
+# say: that the functions of the timelines wait for nobody (a function may wait only under a bound of that name), and that
+# the documents name what there is.
 # Where each core has 4 GiB of free memory, which no part was seen to hold, as many parts run at once as there are cores; else
 # the toolchain chooses, which reckons up to 7.4 GB for a part.
 LANES = $(shell awk -v cores="$$(nproc)" '/^MemAvailable:/ && $$2 >= cores * 4194304 { print cores }' /proc/meminfo 2>/dev/null)
-test:
+test: check-documents
 	@! grep -rnw Wait crates/gv_sync/src
 	RT_JOBS=$(LANES) $(RT) ci
+
+# Paths, names of the code, links and counts in the documents.
+check-documents:
+	@tools/check-documents
 
 # Scripts by chance, from a seed on and for so many seconds, each run by the program's own call and by a model that is written
 # from the definitions. What differs is shrunk and printed; the last line is 'N passed, M failed'. The gate runs a few.
