@@ -1,1 +1,6 @@
 pub mod Flags
+pub mod Texts
+pub mod Kept
+pub mod Firsts
+pub mod Asks
+pub mod Served

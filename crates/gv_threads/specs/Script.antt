@@ -1,18 +1,27 @@
 -- What contracts see of a `ThreadsScript` (`ThreadsState`), and what its lines give to the queues.
-use Rattle.std.specs.Prelude.{ℕ, ◌<◌, Result, Ok, Err}
+use Rattle.std.specs.Prelude.{ℕ, ◌<◌, Bool, List, Result, Ok, Err}
 use Rattle.gv_types.specs.Bounds.{Area}
 use Rattle.gv_types.specs.Limits.{Caps}
 use Rattle.gv_types.specs.Request.{Fits}
 use Rattle.gv_types.specs.declared.request.Request.{Request}
+use Rattle.gv_lines.specs.declared.clause.Clause.{Clause}
+use Rattle.gv_lines.specs.declared.line.Line.{Line}
 use Rattle.gv_text.specs.declared.fault.ScriptFault.{ScriptFault}
 use Rattle.gv_text.specs.declared.fault.ScriptFault.TheVariants.{BadLine, ScriptTooLong, ReadFault, WriteFault, OutOfMemory}
+use Rattle.gv_threads.specs.declared.setting.Setting.{Setting}
 
--- the bounds and the limits that it sets, for how many queues it was read, and how many requests wait on one at most
+-- the bounds and the limits that it sets, for how many queues it was read, and how many requests wait on one at most; the timelines
+-- that it declares, the lines of its parts, each with its number, and whether there was memory for each of these
 pub record ThreadsState : Type 0 where
   pub bounds : Area
   pub limits : Caps
   pub queues : ℕ
   pub depth : ℕ
+  pub timelines : List (List ℕ)
+  pub settings : List (ℕ × Setting)
+  pub requests : List (ℕ × List Clause)
+  pub questions : List (ℕ × Line)
+  pub whole : Bool
 
 -- how many requests may wait on a queue of threads
 abbrev pub most_places : ℕ

@@ -3,10 +3,14 @@
 
 mod ends;
 mod fault;
+mod first;
 mod gate;
-mod parts;
+mod ground;
+mod last;
+mod requests;
 mod run;
 mod script;
+mod setting;
 
 pub use fault::ThreadsFault;
 pub use run::run_threads;

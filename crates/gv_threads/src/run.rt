@@ -1,20 +1,28 @@
 //! A threads script from its bytes to its replies.
-ghost use Rattle.std.specs.Prelude.{◌≡◌, Bool, Err, IfErr};
+ghost use Rattle.std.specs.Prelude.{◌≡◌, ◌++◌, ℕ, List, Vec, Bool, Ok, Err, IfErr, IfSome, OnOk};
+ghost use Rattle.std.specs.List.{All};
+ghost use Rattle.std.specs.Io.KnownBytes.{Appends};
+ghost use Rattle.std.specs.declared.alloc.Global.{Global as TheGlobal};
 ghost use Rattle.gv_types.specs.Limits.{IsFromOneTo};
 ghost use Rattle.gv_sync.specs.Seats.{IsSeatOf, count_of, most_timelines};
 ghost use Rattle.gv_vm.specs.Outcomes.{queues};
 ghost use Rattle.gv_threads.specs.Script.{most_places};
 ghost use Rattle.gv_queues.specs.Ending.{IsOfQueueBelow, IsUntold};
-ghost use Rattle.gv_threads.specs.Ending.{HasNotBegun, RunsAs};
+ghost use Rattle.gv_lines.specs.declared.line.Line.{Line as TheLine};
+ghost use Rattle.gv_queues.specs.declared.finishing.QueueEnd.{QueueEnd as TheEnd};
+ghost use Rattle.gv_threads.specs.Ending.{HasNotBegun, RunsAs, end_lines};
+ghost use Rattle.gv_threads.specs.Parts.{IsAsked, Keeps, unnumbered};
+ghost use Rattle.gv_threads.specs.Running.{AreAnswered, IsFirst, IsServed, IsTextOf, IsThreadsRun, ready_of};
 
 use crate::ends::write_ends;
 use crate::fault::ThreadsFault;
 use crate::gate::TurnLimit;
-use crate::parts::Ground;
+use crate::ground::Ground;
 use crate::script::ThreadsScript;
 use gv_queues::{PutAll, QueueEnd, QueuesFault, run_queues};
 use gv_sync::{MAX_TIMELINES, Timelines};
 use gv_text::{Names, ScriptFault, Sink, Source, read_script};
+use gv_types::Request;
 use gv_vm::Vm;
 use std::alloc::Global;
 use std::sync::Wait;
@@ -36,6 +44,10 @@ pub fn run_threads<R: Threads + Wait + Sync, S: Source, K: Sink>(
     turns: u64,
 ) -> Result<(), ThreadsFault>
     requires { IsFromOneTo queues count }
+    // The text is that of a run over the bytes that the reader gave.
+    ensures text { OnOk result ((script text : List ℕ)
+        × IfSome (S.remaining reader.old) (λ bytes. script ≡ bytes)
+        × IsThreadsRun script count text × Appends (K.written writer.old) (K.written writer.new) text) }
     ensures ends { RunsAs (S.failed reader.old) (S.failed reader.new) (K.failed writer.old) (K.failed writer.new) count result }
     ensures silent { IfErr result (λ fault. HasNotBegun fault → writer.new ≡ writer.old) }
 {
@@ -76,28 +88,57 @@ fn run_on<R: Threads + Wait + Sync, K: Sink>(
 ) -> Result<(), ThreadsFault>
     requires queues { IsFromOneTo queues count }
     requires read { script.queues ≡ count }
+    requires asked { All IsAsked (unnumbered script.questions) }
     requires own { IsSeatOf ground.timelines ground.seat }
     requires all { count_of ground.timelines ≡ most_timelines }
+    requires first { IsFirst ground.seat }
     requires untold { IsUntold ground.vm }
     requires depth { IsFromOneTo most_places script.depth }
+    ensures text { (lines : List TheLine) → Keeps lines script.entry → OnOk result ((text : List ℕ)
+        × IsTextOf lines (ready_of ground) count text × Appends (K.written writer.old) (K.written writer.new) text) }
     // The reader has nothing to do with it.
     ensures ends { (read : Bool) → RunsAs read read (K.failed writer.old) (K.failed writer.new) count result }
     ensures begun { IfErr result (λ fault. HasNotBegun fault → ⊥) }
 {
-    let begun = script.begin(alloc, &mut ground, writer);
+    match script.begin(alloc, &mut ground, writer) {
+        Ok(requests) => serve(rt, alloc, &script, requests, ground, writer, count, turns),
+        Err(fault) => {
+            ground.close();
+            Err(ThreadsFault::Script(fault))
+        }
+    }
+}
+
+/// Puts the requests on running queues, writes what is written behind them, and closes the address space.
+fn serve<R: Threads + Wait + Sync, K: Sink>(
+    rt: &R,
+    alloc: Global,
+    script: &ThreadsScript<'_>,
+    requests: Vec<(u64, Request)>,
+    ground: Ground,
+    writer: &mut K,
+    count: u64,
+    turns: u64,
+) -> Result<(), ThreadsFault>
+    requires queues { IsFromOneTo queues count }
+    requires read { script.now.queues ≡ count }
+    requires asked { All IsAsked (unnumbered script.now.questions) }
+    requires own { IsSeatOf ground.timelines ground.seat }
+    requires all { count_of ground.timelines ≡ most_timelines }
+    requires untold { IsUntold ground.vm }
+    requires depth { IsFromOneTo most_places script.now.depth }
+    ensures served { OnOk result ((text : List ℕ)
+        × IsServed ground.buffers.entries script.now.timelines (unnumbered script.now.questions) count text
+        × Appends (K.written writer.old) (K.written writer.new) text) }
+    ensures ends { (read : Bool) → RunsAs read read (K.failed writer.old) (K.failed writer.new) count result }
+    ensures begun { IfErr result (λ fault. HasNotBegun fault → ⊥) }
+{
     let Ground {
         vm,
         buffers,
         timelines,
         mut seat,
     } = ground;
-    let requests = match begun {
-        Ok(requests) => requests,
-        Err(fault) => {
-            vm.close();
-            return Err(ThreadsFault::Script(fault));
-        }
-    };
     let gate = TurnLimit::new(turns);
     let mut driver = PutAll::new(requests);
     let depth = script.depth();
@@ -118,14 +159,8 @@ fn run_on<R: Threads + Wait + Sync, K: Sink>(
         timelines,
         seat,
     };
-    let ended = end(alloc, &script, ran, &mut ground, writer);
-    let Ground {
-        vm,
-        buffers: _,
-        timelines: _,
-        seat: _,
-    } = ground;
-    vm.close();
+    let ended = end(alloc, script, ran, &mut ground, writer);
+    ground.close();
     ended
 }
 
@@ -139,7 +174,11 @@ fn end<K: Sink>(
 ) -> Result<(), ThreadsFault>
     requires own { IsSeatOf ground.old.timelines ground.old.seat }
     requires all { count_of ground.old.timelines ≡ most_timelines }
+    requires asked { All IsAsked (unnumbered script.now.questions) }
     requires queue { IfErr ran (IsOfQueueBelow script.now.queues) }
+    ensures text { OnOk result ((ends : Vec TheEnd TheGlobal) × (last : List ℕ) × (ran ≡ Ok ends)
+        × AreAnswered ground.old.buffers.entries script.now.timelines ground.old.vm (unnumbered script.now.questions) last
+        × Appends (K.written writer.old) (K.written writer.new) (end_lines ends.items ++ last)) }
     ensures ran { IfErr ran (λ fault. result ≡ Err (ThreadsFault.Queues fault)) }
     ensures ends { (read : Bool) → RunsAs read read (K.failed writer.old) (K.failed writer.new) script.now.queues result }
     ensures begun { IfErr result (λ fault. HasNotBegun fault → ⊥) }

@@ -1,13 +1,17 @@
 //! Scripts for running queues, read: what stands before the workers, the requests, and what is asked behind.
-ghost use Rattle.std.specs.Prelude.{◌≡◌, ◌≤◌, IfOk, length};
+ghost use Rattle.std.specs.Prelude.{◌≡◌, ◌≤◌, ◌++◌, ◌∷◌, [], List, IfOk, OnOk, length, true};
 ghost use Rattle.gv_types.specs.Limits.{IsFromOneTo};
 ghost use Rattle.gv_vm.specs.Outcomes.{queues};
 ghost use Rattle.gv_text.specs.Reading.{script_limit};
+ghost use Rattle.gv_lines.specs.declared.line.Line.{Line as TheLine};
+ghost use Rattle.gv_threads.specs.Parts.{Adds, AreLinesOf, IsKept, Keeps, areas_in, last_of, limits_in, settings_in, timelines_in, unnumbered};
+ghost use Rattle.gv_threads.specs.declared.setting.Setting.{Setting as TheSetting};
 ghost use Rattle.gv_threads.specs.Script.{IsOfLine, most_places};
 
-use gv_lines::{Clause, ClauseList, Line, Name, NamedPoint, parse_line, split_once};
+use crate::setting::Setting;
+use gv_lines::{Clause, ClauseList, Line, parse_line, split_once};
 use gv_text::{LineFault, ScriptFault, Stage, TimelineNames, point_named};
-use gv_types::{Bounds, Limits, MAX_TOLD};
+use gv_types::{Bounds, Limits};
 use gv_vm::QUEUES;
 use std::alloc::Global;
 use std::marker::Model;
@@ -23,15 +27,6 @@ enum Part {
     Questions,
 }
 
-/// What a line of the first part does when the script begins.
-#[derive(Drop)]
-pub enum Setting {
-    /// A setting or a timeline, which stands as soon as it is read.
-    Stands,
-    Buffer { name: Name, pages: u64 },
-    Raise { point: NamedPoint },
-}
-
 /// A script whose requests are put on running queues: first `space`, `limits`, `buffer`, `timeline` and `raise`, then
 /// `bind`, then `map`, `at`, `tables`, `uses`, `value`, `told` and `journal`. Empty lines and comments stand anywhere. Each
 /// other line was read once, and stands with its number.
@@ -42,11 +37,11 @@ pub struct ThreadsScript<'a> {
     pub(crate) questions: Vec<(u64, Line<'a>)>,
     pub(crate) timelines: TimelineNames,
     pub(crate) queues: u64,
-    bounds: Bounds,
-    limits: Limits,
+    pub(crate) bounds: Bounds,
+    pub(crate) limits: Limits,
     depth: u64,
     part: Part,
-    stage: Stage,
+    pub(crate) stage: Stage,
     binds: [u64; QUEUES],
     has_memory: bool,
 }
@@ -57,7 +52,17 @@ impl<'a> Model for ThreadsScript<'a> {
 
     ghost Value = { ThreadsState };
 
-    ghost view = { λ s. record { bounds = s.bounds; limits = s.limits; queues = s.queues; depth = s.depth } };
+    ghost view = { λ s. record {
+      bounds = s.bounds;
+      limits = s.limits;
+      queues = s.queues;
+      depth = s.depth;
+      timelines = s.timelines.names;
+      settings = s.settings.items;
+      requests = s.requests.items;
+      questions = s.questions.items;
+      whole = s.has_memory;
+    } };
 
     ghost invariant = { λ s. IsRead (read_state s.timelines.names s.queues s.depth) };
 }
@@ -65,7 +70,8 @@ impl<'a> Model for ThreadsScript<'a> {
 impl<'a> ThreadsScript<'a> {
     fn new(alloc: Global, count: u64) -> Self
         requires { IsFromOneTo queues count }
-        ensures { result.queues ≡ count }
+        ensures queues { result.queues ≡ count }
+        ensures none { Keeps [] result }
     {
         ThreadsScript {
             settings: Vec::new(alloc),
@@ -92,6 +98,7 @@ impl<'a> ThreadsScript<'a> {
         ensures queues { IfOk result (λ script. script.queues ≡ count) }
         ensures depth { IfOk result (λ script. IsFromOneTo most_places script.depth) }
         ensures lines { IsOfLine result }
+        ensures kept { IfOk result (λ script. (lines : List TheLine) × AreLinesOf text.now lines × Keeps lines script) }
     {
         let mut script = ThreadsScript::new(alloc, count);
         let mut rest = text;
@@ -112,43 +119,81 @@ impl<'a> ThreadsScript<'a> {
         Ok(script)
     }
 
+    /// Reads a line, and notes where memory for it is refused.
     fn read_line(&mut self, number: u64, text: &'a [u8]) -> Result<(), LineFault>
-        ensures { self.new.queues ≡ self.old.queues }
+        ensures queues { self.new.queues ≡ self.old.queues }
+        ensures adds { OnOk result (Adds text.now self.old self.new) }
     {
         let line = parse_line(text).ok_or(LineFault::Bad)?;
-        let kept = match line {
-            Line::Silent => return Ok(()),
-            Line::Bind { clauses } => {
-                self.enter(Part::Requests)?;
-                self.count(&clauses)?;
-                self.requests.push((number, clauses)).is_ok()
-            }
-            Line::Uses { .. } | Line::Map | Line::At { .. } | Line::Tables | Line::Journal => {
-                self.enter(Part::Questions)?;
-                self.questions.push((number, line)).is_ok()
-            }
-            Line::Value { name } => {
-                self.enter(Part::Questions)?;
-                self.timelines.place_of(&name).ok_or(LineFault::Bad)?;
-                self.questions.push((number, Line::Value { name })).is_ok()
-            }
-            Line::Told { queue } => {
-                self.enter(Part::Questions)?;
-                if queue >= self.queues {
-                    return Err(LineFault::Bad);
-                }
-                self.questions.push((number, line)).is_ok()
-            }
-            _ => {
-                self.enter(Part::Settings)?;
-                let setting = self.set(line)?;
-                self.settings.push((number, setting)).is_ok()
-            }
-        };
-        if !kept {
+        if !self.keep_line(number, line)? {
             self.has_memory = false;
         }
         Ok(())
+    }
+
+    /// Keeps what a line is to its part. Whether there was memory for it.
+    fn keep_line(&mut self, number: u64, line: Line<'a>) -> Result<bool, LineFault>
+        ensures queues { self.new.queues ≡ self.old.queues }
+        ensures kept { IfOk result (IsKept line.entry self.old self.new) }
+    {
+        match line {
+            Line::Silent => Ok(true),
+            Line::Bind { clauses } => self.keep_request(number, clauses),
+            Line::Uses { name } => self.keep_question(number, Line::Uses { name }),
+            Line::Map => self.keep_question(number, Line::Map),
+            Line::At { addr } => self.keep_question(number, Line::At { addr }),
+            Line::Tables => self.keep_question(number, Line::Tables),
+            Line::Journal => self.keep_question(number, Line::Journal),
+            Line::Value { name } => {
+                self.timelines.place_of(&name).ok_or(LineFault::Bad)?;
+                self.keep_question(number, Line::Value { name })
+            }
+            Line::Told { queue } => {
+                if queue >= self.queues {
+                    return Err(LineFault::Bad);
+                }
+                self.keep_question(number, Line::Told { queue })
+            }
+            _ => self.keep_setting(number, line),
+        }
+    }
+
+    fn keep_setting(&mut self, number: u64, line: Line<'a>) -> Result<bool, LineFault>
+        ensures state { OnOk result (self.new ≡ record self.old {
+          bounds = last_of self.old.bounds (areas_in line.entry);
+          limits = last_of self.old.limits (limits_in line.entry);
+          timelines = self.old.timelines ++ timelines_in line.entry;
+          settings = self.new.settings;
+        }) }
+        ensures added { IfOk result (λ kept. (setting : TheSetting) × (settings_in line.entry ≡ setting ∷ [])
+            × (kept ≡ true → unnumbered self.new.settings ≡ unnumbered self.old.settings ++ setting ∷ [])) }
+        ensures queues { self.new.queues ≡ self.old.queues }
+    {
+        self.enter(Part::Settings)?;
+        let setting = self.set(line)?;
+        Ok(keep(&mut self.settings, number, setting))
+    }
+
+    fn keep_request(&mut self, number: u64, clauses: ClauseList<'a>) -> Result<bool, LineFault>
+        ensures state { OnOk result
+            (self.new ≡ record self.old { depth = self.new.depth; requests = self.new.requests }) }
+        ensures added { IfOk result (λ kept. kept ≡ true
+            → unnumbered self.new.requests ≡ unnumbered self.old.requests ++ clauses.entry ∷ []) }
+        ensures queues { self.new.queues ≡ self.old.queues }
+    {
+        self.enter(Part::Requests)?;
+        self.count(&clauses)?;
+        Ok(keep(&mut self.requests, number, clauses))
+    }
+
+    fn keep_question(&mut self, number: u64, line: Line<'a>) -> Result<bool, LineFault>
+        ensures state { OnOk result (self.new ≡ record self.old { questions = self.new.questions }) }
+        ensures added { IfOk result (λ kept. kept ≡ true
+            → unnumbered self.new.questions ≡ unnumbered self.old.questions ++ line.entry ∷ []) }
+        ensures queues { self.new.queues ≡ self.old.queues }
+    {
+        self.enter(Part::Questions)?;
+        Ok(keep(&mut self.questions, number, line))
     }
 
     /// Goes on to a line of this part.
@@ -166,57 +211,9 @@ impl<'a> ThreadsScript<'a> {
         }
     }
 
-    /// Reads a line of the first part: settings and timelines stand from here on.
-    fn set(&mut self, line: Line<'a>) -> Result<Setting, LineFault>
-        ensures { self.new.queues ≡ self.old.queues }
-    {
-        let stage = self.stage;
-        self.stage = Stage::Begun;
-        match line {
-            Line::Space {
-                start,
-                len,
-                reserved_start,
-                reserved_len,
-            } => {
-                if stage != Stage::Fresh {
-                    return Err(LineFault::Bad);
-                }
-                self.stage = Stage::Bounded;
-                self.bounds = Bounds::from_bytes(start, len, reserved_start, reserved_len).ok_or(
-                    LineFault::Bad,
-                )?;
-                Ok(Setting::Stands)
-            }
-            Line::Limits {
-                buffers,
-                mappings,
-                items,
-            } => {
-                if stage == Stage::Begun {
-                    return Err(LineFault::Bad);
-                }
-                self.limits = Limits::new(buffers, mappings, items, MAX_TOLD).ok_or(
-                    LineFault::Bad,
-                )?;
-                Ok(Setting::Stands)
-            }
-            Line::Timeline { name } => {
-                self.timelines.add(name)?;
-                Ok(Setting::Stands)
-            }
-            Line::Buffer { name, pages } => Ok(Setting::Buffer { name, pages }),
-            Line::Raise { point } => {
-                point_named(&self.timelines, &point).ok_or(LineFault::Bad)?;
-                Ok(Setting::Raise { point })
-            }
-            _ => Err(LineFault::Bad),
-        }
-    }
-
     /// Counts a request of its queue, where there is such a queue and the timelines that it names are declared.
     fn count(&mut self, clauses: &ClauseList<'_>) -> Result<(), LineFault>
-        ensures { self.new.queues ≡ self.old.queues }
+        ensures { self.new ≡ record self.old { depth = self.new.depth } }
     {
         let queue = queue_asked(&self.timelines, clauses).ok_or(LineFault::Bad)?;
         if queue >= self.queues {
@@ -265,4 +262,11 @@ fn queue_asked(timelines: &TimelineNames, clauses: &ClauseList<'_>) -> Option<u6
         }
     }
     Some(asked)
+}
+
+/// Keeps something of the line of this number. Whether there was memory for it.
+fn keep<T: Drop>(list: &mut Vec<(u64, T)>, number: u64, item: T) -> bool
+    ensures { result ≡ true → unnumbered list.new.items ≡ unnumbered list.old.items ++ item ∷ [] }
+{
+    list.push((number, item)).is_ok()
 }

@@ -1,12 +1,24 @@
-use Rattle.std.proofs.Common.{◌≡◌, ◌∙◌, ℕ, ap, refl, subst}
-use Rattle.gv_threads.specs.Script.{ThreadsState}
+use Rattle.std.proofs.Common.{◌++◌, refl}
+use Rattle.std.proofs.KnownBytes.{Appends-trans}
+use Rattle.gv_text.proofs.Servings.{then_ok}
+use Rattle.gv_threads.specs.Running.{ready_of}
 use Rattle.gv_threads.proofs.Flags.{from_first}
-use Rattle.gv_threads.specs.Ending.{RunsAs}
+use Rattle.gv_threads.proofs.Served.{text_of}
 use Rattle.gv_threads.proofs.run.run_on.Goals as goal
 
-pub returns-clause-ends : goal.returns-clause-ends
-returns-clause-ends g c = λ read.
-    let same : c.begin-begun.new.self.queues ≡ c.args.count = ap (λ (s : ThreadsState). s.queues) c.begin-begun.ensures.same ∙ c.requires.read in
-    from_first read read (g.K.Sink.failed c.args.writer.now) (g.K.Sink.failed c.begin-begun.new.writer) (g.K.Sink.failed c.end-ended.new.writer) c.args.count c.end-ended.result
-    refl c.in-Ok.ensures.write_fault
-    (λ any. subst (λ (n : ℕ). RunsAs any any (g.K.Sink.failed c.begin-begun.new.writer) (g.K.Sink.failed c.end-ended.new.writer) n c.end-ended.result) same (c.end-ended.ensures.ends any))
+pub returns-in-Ok-clause-text : goal.returns-in-Ok-clause-text
+returns-in-Ok-clause-text g c = λ lines keeps.
+    let first = c.in-Ok.ensures.sets_up in
+    then_ok c.serve.result _ _
+    (λ found. (
+      first.0 ++ found.0,
+      text_of lines c.args.script c.begin.new.self (ready_of c.args.ground) (ready_of c.begin.new.ground) c.in-Ok.requests.items c.args.count first.0 found.0
+          keeps c.begin.ensures.same first.1 c.in-Ok.ensures.named found.1,
+      Appends-trans _ _ _ _ _ first.2 found.2,
+    ))
+    c.serve.ensures.served
+
+pub returns-in-Ok-clause-ends : goal.returns-in-Ok-clause-ends
+returns-in-Ok-clause-ends g c = λ read.
+    from_first read read (g.K.Sink.failed c.args.writer.now) (g.K.Sink.failed c.begin.new.writer) (g.K.Sink.failed c.serve.new.writer) c.args.count c.serve.result
+    refl c.in-Ok.ensures.write_fault c.serve.ensures.ends

@@ -1,10 +1,18 @@
-use Rattle.std.proofs.Common.{◌≡◌}
+use Rattle.std.proofs.Common.{◌≡◌, List, ℕ, take}
+use Rattle.std.specs.Io.KnownBytes.{Appends, append_known}
 use Rattle.gv_sync.specs.Seats.{IsSeatOf}
+use Rattle.gv_threads.specs.Parts.{unnumbered}
+use Rattle.gv_threads.specs.Running.{AreAnswered}
 use Rattle.gv_threads.proofs.script.ThreadsScript.answer_all.Given as goal
 
 abbrev pub invariant-loop-number : goal.invariant-loop-number
 invariant-loop-number g l = record {
   own : IsSeatOf l.ground.timelines l.ground.seat;
   timelines : l.ground.timelines ≡ l.initial.ground.timelines;
+  vm : l.ground.vm ≡ l.initial.ground.vm;
+  buffers : l.ground.buffers ≡ l.initial.ground.buffers;
+  text : List ℕ;
+  ran : AreAnswered l.initial.ground.buffers.entries l.self.timelines l.initial.ground.vm (unnumbered (take l.number-index l.self.questions)) text;
+  wrote : Appends (g.W.Sink.written l.initial.writer) (append_known (g.W.Sink.written l.writer) l.output) text;
   flag : g.W.Sink.failed l.writer ≡ g.W.Sink.failed l.initial.writer;
 }

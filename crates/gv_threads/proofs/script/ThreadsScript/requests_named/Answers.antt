@@ -1,13 +1,48 @@
+use Rattle.std.proofs.Common.{◌≡◌, ◌<◌, ◌+◌, ◌++◌, ◌∷◌, [], List, ℕ, true, false, length, get_or, take, sym, subst, rules}
 use Rattle.std.specs.List.{All}
+use Rattle.std.proofs.lemmas.List.Elements.{All-nil, All-cons, All-append}
+use Rattle.gv_types.specs.declared.request.Request.{Request}
 use Rattle.gv_sync.specs.Seats.{most_timelines}
+use Rattle.gv_lines.specs.declared.clause.Clause.{Clause}
+use Rattle.gv_threads.specs.Parts.{unnumbered}
+use Rattle.gv_threads.specs.Running.{AreNamed}
 use Rattle.gv_threads.specs.Script.{IsFor}
+use Rattle.gv_threads.proofs.Texts.{named_more, unnumbered_next}
 use Rattle.gv_threads.proofs.script.ThreadsScript.requests_named.Goals as goal
 use Rattle.gv_threads.proofs.script.ThreadsScript.requests_named.Goals.{in-Ok+then-not-keep, in-Ok+else-not-keep, in-Err-OutOfMemory}
 
 pub loop-number-preserved : goal.loop-number-preserved
 loop-number-preserved c =
+    let inv = c.loop-number.invariant in
+    let k : ℕ = c.loop-number.number-index in
+    let lines : List (ℕ × List Clause) = c.args.self.now.requests in
+    let item : ℕ × List Clause = c.loop-number-item.result in
+    let below : k < length lines = search rules in
+    let is : item ≡ get_or lines k item = search rules in
+    let entries : List (ℕ × Request) = c.loop-number.requests.items in
+    let next : unnumbered (take (k + 1) lines) ≡ unnumbered (take k lines) ++ item.1 ∷ [] = unnumbered_next lines k item below is in
     elim c.match-request_for.branch [
-      | in-Ok+then-not-keep w ↦ rw w.requests-is (w.keep.ensures c.args.self.now.queues most_timelines c.loop-number.invariant w.in-Ok.ensures)
-      | in-Ok+else-not-keep w ↦ rw w.requests-is (w.keep.ensures c.args.self.now.queues most_timelines c.loop-number.invariant w.in-Ok.ensures)
-      | in-Err-OutOfMemory w ↦ rw w.requests-is c.loop-number.invariant
+      | in-Ok+then-not-keep w ↦ (
+          let no : w.keep.result ≡ false = search rules in
+          rw (w.requests-is, w.has_memory-is)
+          (record {
+            fit = subst (λ (l : List (ℕ × Request)). All (IsFor c.args.self.now.queues most_timelines) l) (sym (w.keep.ensures.same no)) inv.fit;
+            named = λ has. absurd (cc);
+          }))
+      | in-Ok+else-not-keep w ↦ (
+          let yes : w.keep.result ≡ true = search rules in
+          let entry : ℕ × Request = w.in-Ok.entry in
+          let longer : w.keep.new.requests.items ≡ entries ++ entry ∷ [] = w.keep.ensures.kept yes in
+          rw (w.requests-is, w.has_memory-is)
+          (record {
+            fit = subst (λ (l : List (ℕ × Request)). All (IsFor c.args.self.now.queues most_timelines) l) (sym longer)
+                (All-append (IsFor c.args.self.now.queues most_timelines) entries (entry ∷ []) inv.fit (All-cons (IsFor c.args.self.now.queues most_timelines) entry [] w.in-Ok.ensures.fits (All-nil (IsFor c.args.self.now.queues most_timelines))));
+            named = λ has.
+                subst (λ (ls : List (List Clause)). AreNamed c.args.buffers.now.entries c.args.self.now.timelines ls w.keep.new.requests.items) (sym next)
+                (subst (λ (es : List (ℕ × Request)). AreNamed c.args.buffers.now.entries c.args.self.now.timelines (unnumbered (take k lines) ++ item.1 ∷ []) es) (sym longer)
+                (named_more c.args.buffers.now.entries c.args.self.now.timelines (unnumbered (take k lines)) item.1 entries entry (inv.named has) w.in-Ok.ensures.named));
+          }))
+      | in-Err-OutOfMemory w ↦ (
+          rw (w.requests-is, w.has_memory-is)
+          (record { fit = inv.fit; named = λ has. absurd (cc) }))
     ]

@@ -1,0 +1,53 @@
+-- What comes back from running queues, and the text of a whole run.
+use Rattle.std.proofs.Common.{◌≡◌, ◌∙◌, ◌++◌, [], ℕ, List, Result, Ok, IfOk, ap, refl, subst}
+use Rattle.gv_types.specs.Bounds.{Area}
+use Rattle.gv_types.specs.Limits.{Caps}
+use Rattle.gv_types.specs.declared.request.Point.{Point}
+use Rattle.gv_types.specs.declared.request.Request.{Request}
+use Rattle.gv_vm.specs.State.{Machine, new_machine}
+use Rattle.gv_lines.specs.declared.clause.Clause.{Clause}
+use Rattle.gv_lines.specs.declared.line.Line.{Line}
+use Rattle.gv_text.specs.State.{Buffers}
+use Rattle.gv_queues.specs.declared.finishing.QueueEnd.{QueueEnd}
+use Rattle.gv_queues.specs.Ending.{AreCountedEnds}
+use Rattle.gv_threads.specs.Parts.{Keeps, area_of, limits_of, questions_of, requests_of, settings_of, timelines_of, unnumbered}
+use Rattle.gv_threads.specs.Running.{AreEndsOn, AreNamed, IsServed, IsTextOf, Ready, SetUpAll, begun_by}
+use Rattle.gv_threads.specs.Script.{ThreadsState}
+use Rattle.gv_threads.specs.declared.setting.Setting.{Setting}
+
+pub of_ok : {A E : Type 0} (r : Result A E) (a : A) (P : A → Type 0) → r ≡ Ok a → IfOk r P → P a
+of_ok r a P is p = subst (λ (x : Result _ _). IfOk x P) is p
+
+pub ends_on : (m : Machine) (count : ℕ → ℕ) (ends : List QueueEnd) → AreCountedEnds m count ends → AreEndsOn m ends
+ends_on m count ends counted = λ queue d below. let h = counted queue d below in record { each = h.each; told = h.told }
+
+-- the parts of a script's text are those of its lines
+pub text_of : (lines : List Line) (s after : ThreadsState) (begins ready : Ready) (requests : List (ℕ × Request)) (count : ℕ) (first rest : List ℕ) →
+    Keeps lines s → after ≡ record s { settings = [] } → SetUpAll s.timelines (unnumbered s.settings) begins first ready →
+    AreNamed ready.buffers s.timelines (unnumbered s.requests) requests →
+    IsServed ready.buffers after.timelines (unnumbered after.questions) count rest → IsTextOf lines begins count (first ++ rest)
+text_of lines s after begins ready requests count first rest keeps same sets_up named served =
+    let timelines : after.timelines ≡ timelines_of lines = ap (λ (a : ThreadsState). a.timelines) same ∙ keeps.timelines in
+    let questions : unnumbered after.questions ≡ questions_of lines = ap (λ (a : ThreadsState). unnumbered a.questions) same ∙ keeps.questions in
+    record {
+      first = first;
+      ready = ready;
+      sets_up = subst (λ (ts : List (List ℕ)). SetUpAll ts (settings_of lines) begins first ready) keeps.timelines
+          (subst (λ (xs : List Setting). SetUpAll s.timelines xs begins first ready) keeps.settings sets_up);
+      requests = requests;
+      named = subst (λ (ts : List (List ℕ)). AreNamed ready.buffers ts (requests_of lines) requests) keeps.timelines
+          (subst (λ (xs : List (List Clause)). AreNamed ready.buffers s.timelines xs requests) keeps.requests named);
+      rest = rest;
+      served = subst (λ (ts : List (List ℕ)). IsServed ready.buffers ts (questions_of lines) count rest) timelines
+          (subst (λ (xs : List Line). IsServed ready.buffers after.timelines xs count rest) questions served);
+      text_is = refl;
+    }
+
+-- nothing is declared and nothing done
+pub begins_as : (lines : List Line) (m : Machine) (buffers : Buffers) (raises : List Point) (area : Area) (limits : Caps) → m ≡ new_machine area limits →
+    area ≡ area_of lines → limits ≡ limits_of lines → buffers ≡ [] → raises ≡ [] → record { machine = m; buffers = buffers; raises = raises } ≡ begun_by lines
+begins_as lines m buffers raises area limits new of_area of_limits none no_raises =
+    ap (λ (x : Machine). let r : Ready = record { machine = x; buffers = buffers; raises = raises } in r)
+    (new ∙ ap (λ (a : Area). new_machine a limits) of_area ∙ ap (λ (c : Caps). new_machine (area_of lines) c) of_limits)
+    ∙ ap (λ (x : Buffers). let r : Ready = record (begun_by lines) { buffers = x; raises = raises } in r) none
+    ∙ ap (λ (x : List Point). let r : Ready = record (begun_by lines) { raises = x } in r) no_raises

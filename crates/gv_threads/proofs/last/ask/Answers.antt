@@ -1,0 +1,15 @@
+use Rattle.std.proofs.Common.{refl}
+use Rattle.gv_text.proofs.Servings.{then_ok}
+use Rattle.gv_threads.proofs.Asks.{is_answered, is_question}
+use Rattle.gv_threads.proofs.last.ask.Goals as goal
+
+pub returns-in_default : goal.returns-in_default
+returns-in_default c = record {
+  timelines = refl;
+  own = c.requires.own;
+  vm = refl;
+  buffers = refl;
+  done = then_ok c.answer.result _ _
+      (λ found. (found.0, is_answered c.args.question.now _ _ _ found.0 c.in_default.not-Value found.1, found.2))
+      (c.answer.ensures.done (is_question c.args.question.now c.requires.asked c.in_default.not-Value));
+}

@@ -1,0 +1,33 @@
+use Rattle.std.proofs.Common.{◌≡◌, ◌++◌, ℕ, Vec, vec_len, refl, subst, rules}
+use Rattle.std.specs.declared.alloc.Global.{Global}
+use Rattle.gv_queues.specs.declared.finishing.QueueEnd.{QueueEnd}
+use Rattle.gv_queues.specs.Ending.{AreCountedEnds}
+use Rattle.gv_text.proofs.Servings.{then_ok}
+use Rattle.gv_threads.specs.Ending.{RunsAs, end_lines}
+use Rattle.gv_threads.proofs.Served.{of_ok, ends_on}
+use Rattle.gv_threads.proofs.run.serve.Goals as goal
+
+pub returns-clause-served : goal.returns-clause-served
+returns-clause-served g c =
+    then_ok c.end-ended.result _ _
+    (λ found.
+    let ends : Vec QueueEnd Global = found.0 in
+    let long : vec_len ends ≡ c.args.count = of_ok c.run_queues-vm.result.1 ends (λ (e : Vec QueueEnd Global). vec_len e ≡ c.args.count) found.2 c.run_queues-vm.ensures.len in (
+      end_lines ends.items ++ found.1,
+      record {
+        back = c.run_queues-vm.result.0;
+        sound = c.run_queues-vm.ensures.sound;
+        ends = ends.items;
+        each = search rules;
+        counted = ends_on c.run_queues-vm.result.0 _ ends.items (of_ok c.run_queues-vm.result.1 ends (λ (e : Vec QueueEnd Global). AreCountedEnds c.run_queues-vm.result.0 _ e.items) found.2 c.run_queues-vm.ensures.counted);
+        last = found.1;
+        answered = found.3;
+        text_is = refl;
+      },
+      found.4,
+    ))
+    c.end-ended.ensures.text
+
+pub returns-clause-ends : goal.returns-clause-ends
+returns-clause-ends g c = λ read.
+    subst (λ (n : ℕ). RunsAs read read (g.K.Sink.failed c.args.writer.now) (g.K.Sink.failed c.end-ended.new.writer) n c.end-ended.result) c.requires.read (c.end-ended.ensures.ends read)

@@ -1,0 +1,55 @@
+use Rattle.std.proofs.Common.{◌≡◌, ◌<◌, ◌∙◌, ◌++◌, List, ℕ, length, get_or, take, ap, sym, subst, take_all, rules}
+use Rattle.std.specs.Io.KnownBytes.{Appends, append_known}
+use Rattle.std.proofs.KnownBytes.{Appends-trans}
+use Rattle.gv_lines.specs.declared.line.Line.{Line}
+use Rattle.gv_threads.specs.Parts.{unnumbered}
+use Rattle.gv_threads.specs.Running.{AreAnswered, IsAnswered}
+use Rattle.gv_threads.proofs.Asks.{asked_at, same_answer}
+use Rattle.gv_threads.proofs.Texts.{answered_more, unnumbered_next}
+use Rattle.gv_threads.proofs.script.ThreadsScript.answer_all.Goals as goal
+
+pub ask-done-requires-clause-asked : goal.ask-done-requires-clause-asked
+ask-done-requires-clause-asked g c =
+    let below : c.loop-number.number-index < length c.args.self.now.questions = search rules in
+    let is : c.loop-number-item.result ≡ get_or c.args.self.now.questions c.loop-number.number-index c.loop-number-item.result = search rules in
+    asked_at c.args.self.now.questions c.loop-number.number-index c.loop-number-item.result below is c.requires.asked
+
+pub loop-number-preserved : goal.loop-number-preserved
+loop-number-preserved g c =
+    let inv = c.loop-number.invariant in
+    let k : ℕ = c.loop-number.number-index in
+    let questions : List (ℕ × Line) = c.args.self.now.questions in
+    let item : ℕ × Line = c.loop-number-item.result in
+    let below : k < length questions = search rules in
+    let is : item ≡ get_or questions k item = search rules in
+    let found = c.in_default.ensures.done in
+    let names : c.self.inside.timelines.names ≡ c.args.self.now.timelines = search rules in
+    let inside : IsAnswered c.args.ground.now.buffers.entries c.self.inside.timelines.names c.args.ground.now.vm item.1 found.0 =
+    same_answer item.1 c.loop-number.ground.buffers c.args.ground.now.buffers c.self.inside.timelines.names c.loop-number.ground.vm c.args.ground.now.vm found.0 inv.buffers inv.vm found.1 in
+    let here : IsAnswered c.args.ground.now.buffers.entries c.args.self.now.timelines c.args.ground.now.vm item.1 found.0 =
+    subst (λ (ns : List (List ℕ)). IsAnswered c.args.ground.now.buffers.entries ns c.args.ground.now.vm item.1 found.0) names inside in
+    let bytes : c.as_bytes.result.now ≡ found.0 = c.as_bytes.ensures.value ∙ found.2 ∙ ap (λ (front : List ℕ). front ++ found.0) c.clear.ensures.bytes in
+    let pushed : Appends (append_known (g.W.Sink.written c.loop-number.writer) c.loop-number.output) (append_known (g.W.Sink.written c.push.new.sink) c.push.new.self) found.0 =
+    subst (λ (t : List ℕ). Appends (append_known (g.W.Sink.written c.loop-number.writer) c.loop-number.output) (append_known (g.W.Sink.written c.push.new.sink) c.push.new.self) t) bytes c.in_ok-push.ensures.ok in
+    record {
+      own = c.ask-done.ensures.own;
+      timelines = c.ask-done.ensures.timelines ∙ inv.timelines;
+      vm = c.ask-done.ensures.vm ∙ inv.vm;
+      buffers = c.ask-done.ensures.buffers ∙ inv.buffers;
+      text = inv.text ++ found.0;
+      ran = subst (λ (qs : List Line). AreAnswered c.args.ground.now.buffers.entries c.args.self.now.timelines c.args.ground.now.vm qs (inv.text ++ found.0))
+          (sym (unnumbered_next questions k item below is))
+          (answered_more c.args.ground.now.buffers.entries c.args.self.now.timelines c.args.ground.now.vm (unnumbered (take k questions)) item.1 inv.text found.0 inv.ran here);
+      wrote = Appends-trans _ _ _ _ _ inv.wrote pushed;
+      flag = c.in_ok-push.ensures.unset ∙ inv.flag;
+    }
+
+pub returns-clause-answered : goal.returns-clause-answered
+returns-clause-answered g c =
+    let inv = c.loop-number.invariant in
+    let questions : List (ℕ × Line) = c.args.self.now.questions in
+    let all : take c.loop-number.number-index questions ≡ questions = take_all c.loop-number.number-index questions (search rules) in (
+      inv.text,
+      subst (λ (qs : List (ℕ × Line)). AreAnswered c.args.ground.now.buffers.entries c.args.self.now.timelines c.args.ground.now.vm (unnumbered qs) inv.text) all inv.ran,
+      inv.wrote,
+    )

@@ -1,0 +1,130 @@
+-- What the lines of a threads script are to its parts, and what reading them keeps.
+use Rattle.std.specs.Prelude.{◌≡◌, ℕ, Bool, true, List, [], ◌∷◌, ◌++◌, map, Option, Some, None}
+use Rattle.std.specs.List.{flat_map}
+use Rattle.gv_types.specs.Bounds.{Area, byte_area, whole_area}
+use Rattle.gv_types.specs.Limits.{Caps, greatest}
+use Rattle.gv_lines.specs.Grammar.{parsed}
+use Rattle.gv_lines.specs.Words.{parts}
+use Rattle.gv_lines.specs.declared.clause.Clause.{Clause}
+use Rattle.gv_lines.specs.declared.line.Line.{Line}
+use Rattle.gv_lines.specs.declared.line.Line.TheVariants as line
+use Rattle.gv_text.specs.Line.{caps_of}
+use Rattle.gv_text.specs.Question.{IsQuestion}
+use Rattle.gv_threads.specs.Script.{ThreadsState}
+use Rattle.gv_threads.specs.declared.setting.Setting.{Setting}
+use Rattle.gv_threads.specs.declared.setting.Setting.TheVariants.{Stands, Buffer, Raise}
+
+-- what a line of the first part does; nothing for any other line
+abbrev pub settings_in : Line → List Setting
+settings_in (line.Space start len reserved_start reserved_len) = Stands ∷ []
+settings_in (line.Limits buffers mappings items) = Stands ∷ []
+settings_in (line.Timeline name) = Stands ∷ []
+settings_in (line.Buffer name pages) = Buffer name pages ∷ []
+settings_in (line.Raise point) = Raise point ∷ []
+settings_in other = []
+
+-- the timeline that a line declares
+abbrev pub timelines_in : Line → List (List ℕ)
+timelines_in (line.Timeline name) = name ∷ []
+timelines_in other = []
+
+-- the area that a line sets
+abbrev pub areas_of : Option Area → List Area
+areas_of None = []
+areas_of (Some area) = area ∷ []
+
+abbrev pub areas_in : Line → List Area
+areas_in (line.Space start len reserved_start reserved_len) = areas_of (byte_area start len reserved_start reserved_len)
+areas_in other = []
+
+-- the limits that a line sets
+abbrev pub limits_in : Line → List Caps
+limits_in (line.Limits buffers mappings items) = caps_of buffers mappings items ∷ []
+limits_in other = []
+
+-- the clauses of a line of the second part
+abbrev pub requests_in : Line → List (List Clause)
+requests_in (line.Bind clauses) = clauses ∷ []
+requests_in other = []
+
+-- a line of the third part
+abbrev pub questions_in : Line → List Line
+questions_in (line.Uses name) = line.Uses name ∷ []
+questions_in line.Map = line.Map ∷ []
+questions_in (line.At addr) = line.At addr ∷ []
+questions_in line.Tables = line.Tables ∷ []
+questions_in line.Journal = line.Journal ∷ []
+questions_in (line.Value name) = line.Value name ∷ []
+questions_in (line.Told queue) = line.Told queue ∷ []
+questions_in other = []
+
+-- a line of the third part asks for the number of a timeline, or of the address space
+abbrev pub IsAsked : Line → Type 0
+IsAsked (line.Value name) = Unit {0}
+IsAsked question = IsQuestion question
+
+-- what stands last, or else what stood before
+abbrev pub last_of : {X : Type 0} → X → List X → X
+last_of before [] = before
+last_of before (x ∷ xs) = last_of x xs
+
+-- what the lines of a script set, declare, do and ask for
+abbrev pub area_of : List Line → Area
+area_of lines = last_of whole_area (flat_map areas_in lines)
+
+abbrev pub limits_of : List Line → Caps
+limits_of lines = last_of greatest (flat_map limits_in lines)
+
+abbrev pub timelines_of : List Line → List (List ℕ)
+timelines_of lines = flat_map timelines_in lines
+
+abbrev pub settings_of : List Line → List Setting
+settings_of lines = flat_map settings_in lines
+
+abbrev pub requests_of : List Line → List (List Clause)
+requests_of lines = flat_map requests_in lines
+
+abbrev pub questions_of : List Line → List Line
+questions_of lines = flat_map questions_in lines
+
+-- these, without their numbers
+abbrev pub unnumbered : {X : Type 0} → List (ℕ × X) → List X
+unnumbered entries = map (λ entry. entry.1) entries
+
+-- What a line is to each part stands behind what was kept before, if there was memory for it. Nothing else changes.
+pub record IsKept (l : Line) (old new : ThreadsState) (kept : Bool) : Type 0 where
+  pub bounds : new.bounds ≡ last_of old.bounds (areas_in l)
+  pub limits : new.limits ≡ last_of old.limits (limits_in l)
+  pub timelines : new.timelines ≡ old.timelines ++ timelines_in l
+  pub whole : new.whole ≡ old.whole
+  pub settings : kept ≡ true → unnumbered new.settings ≡ unnumbered old.settings ++ settings_in l
+  pub requests : kept ≡ true → unnumbered new.requests ≡ unnumbered old.requests ++ requests_in l
+  pub questions : kept ≡ true → unnumbered new.questions ≡ unnumbered old.questions ++ questions_in l
+
+-- A line was read: what it is to each part stands behind what was read before, unless memory was refused. Whether it was is
+-- kept.
+pub record Adds (text : List ℕ) (old new : ThreadsState) : Type 0 where
+  pub line : Line
+  pub read : parsed text ≡ Some line
+  pub bounds : new.bounds ≡ last_of old.bounds (areas_in line)
+  pub limits : new.limits ≡ last_of old.limits (limits_in line)
+  pub timelines : new.timelines ≡ old.timelines ++ timelines_in line
+  pub whole : new.whole ≡ true → old.whole ≡ true
+  pub settings : new.whole ≡ true → unnumbered new.settings ≡ unnumbered old.settings ++ settings_in line
+  pub requests : new.whole ≡ true → unnumbered new.requests ≡ unnumbered old.requests ++ requests_in line
+  pub questions : new.whole ≡ true → unnumbered new.questions ≡ unnumbered old.questions ++ questions_in line
+
+-- A script keeps what these lines are to its parts.
+pub record Keeps (lines : List Line) (s : ThreadsState) : Type 0 where
+  pub bounds : s.bounds ≡ area_of lines
+  pub limits : s.limits ≡ limits_of lines
+  pub timelines : s.timelines ≡ timelines_of lines
+  pub settings : unnumbered s.settings ≡ settings_of lines
+  pub requests : unnumbered s.requests ≡ requests_of lines
+  pub questions : unnumbered s.questions ≡ questions_of lines
+
+-- The script is these lines, each with its line end and each of the language.
+pub record AreLinesOf (script : List ℕ) (lines : List Line) : Type 0 where
+  pub texts : List (List ℕ)
+  pub cut : parts 10 script ≡ texts ++ [] ∷ []
+  pub read : map parsed texts ≡ map Some lines

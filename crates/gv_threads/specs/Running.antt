@@ -1,0 +1,142 @@
+-- What a threads script does: its first part on a new address space, the requests that it puts, and its answers on the address
+-- space that comes back.
+use Rattle.std.specs.Prelude.{◌≡◌, ℕ, ◌+◌, ◌<◌, ◌≤◌, List, [], ◌∷◌, ◌++◌, length, slice_index_or, None}
+use Rattle.gv_types.specs.declared.request.Point.{Point}
+use Rattle.gv_types.specs.declared.request.Request.{Request}
+use Rattle.gv_sync.specs.Raises.{raised, values_on}
+use Rattle.gv_sync.specs.Seats.{SeatState, first_seat}
+use Rattle.gv_sync.specs.Turns.{HasRaised}
+use Rattle.gv_vm.specs.Outcomes.{told_to}
+use Rattle.gv_vm.specs.State.{Machine, IsMachine, new_machine}
+use Rattle.gv_vm.specs.Step.{step}
+use Rattle.gv_vm.specs.World.{World}
+use Rattle.gv_vm.specs.declared.event.Event.TheVariants.{Create}
+use Rattle.gv_vm.specs.declared.event.Reply.{Reply}
+use Rattle.gv_lines.specs.Clause.{queue_asked}
+use Rattle.gv_lines.specs.declared.clause.Clause.{Clause}
+use Rattle.gv_lines.specs.declared.line.Line.{Line}
+use Rattle.gv_lines.specs.declared.line.Line.TheVariants as line
+use Rattle.gv_text.specs.Asking.{point_named, IsRequest}
+use Rattle.gv_text.specs.Line.{Of, declared}
+use Rattle.gv_text.specs.Question.{IsAnswer}
+use Rattle.gv_text.specs.Reading.{script_limit}
+use Rattle.gv_text.specs.Reply.{ok_reply, number_reply}
+use Rattle.gv_text.specs.Said.{said}
+use Rattle.gv_text.specs.State.{Buffers, buffer_named, start, texts, timeline_named}
+use Rattle.gv_queues.specs.declared.finishing.QueueEnd.{QueueEnd}
+use Rattle.gv_threads.specs.Ending.{end_lines}
+use Rattle.gv_threads.specs.Parts.{AreLinesOf, area_of, limits_of, questions_of, requests_of, settings_of, timelines_of}
+use Rattle.gv_threads.specs.declared.ground.Ground.{Ground}
+use Rattle.gv_threads.specs.declared.setting.Setting.{Setting}
+use Rattle.gv_threads.specs.declared.setting.Setting.TheVariants.{Stands, Buffer, Raise}
+
+-- what lines act on before the workers: the address space, the declared buffers, and the points raised to so far, in order
+pub record Ready : Type 0 where
+  pub machine : Machine
+  pub buffers : Buffers
+  pub raises : List Point
+
+abbrev pub ready_of : Ground → Ready
+ready_of g = record { machine = g.vm; buffers = g.buffers.entries; raises = g.seat.raises }
+
+-- The seat is the first of its timelines: none was split off it, and each timeline is what it was raised to.
+abbrev pub IsFirst : SeatState → Type 0
+IsFirst seat = HasRaised seat.raises (first_seat seat.of) seat
+
+-- on every world with the one address space a buffer is made with this reply, which leaves the other
+abbrev pub Creates : Machine → ℕ → Reply → Machine → Type 0
+Creates old pages reply new = (w : World) → step (record w { machine = old }) (Create pages) reply (record w { machine = new })
+
+-- A buffer is made, or is refused and its name stays undeclared.
+pub record Makes (timelines : List (List ℕ)) (name : List ℕ) (pages : ℕ) (old : Ready) (text : List ℕ) (new : Ready) : Type 0 where
+  pub undeclared : buffer_named old.buffers name ≡ None
+  pub reply : Reply
+  pub creates : Creates old.machine pages reply new.machine
+  pub state : new ≡ record old { machine = new.machine; buffers = declared name reply old.buffers }
+  pub text_is : text ≡ said (texts new.buffers) timelines reply
+
+-- A timeline is raised to a point, and its number is written: the greatest to which it was raised so far.
+pub record Raises (timelines : List (List ℕ)) (p : Point) (old : Ready) (text : List ℕ) (new : Ready) : Type 0 where
+  pub state : new ≡ record old { raises = old.raises ++ p ∷ [] }
+  pub text_is : text ≡ number_reply timelines p.timeline (raised (values_on p.timeline new.raises))
+
+-- a line of the first part is carried out so, and writes this text
+abbrev pub SetsUp : List (List ℕ) → Setting → Ready → List ℕ → Ready → Type 0
+SetsUp timelines Stands old text new = (text ≡ ok_reply) × (new ≡ old)
+SetsUp timelines (Buffer name pages) old text new = Makes timelines name pages old text new
+SetsUp timelines (Raise point) old text new = Of (point_named timelines point) (λ p. Raises timelines p old text new)
+
+-- these lines, one after another
+abbrev pub SetUpAll : List (List ℕ) → List Setting → Ready → List ℕ → Ready → Type 0
+SetUpAll timelines [] old text new = (text ≡ []) × (new ≡ old)
+SetUpAll timelines (setting ∷ settings) old text new =
+    (here after : List ℕ) × (mid : Ready)
+    × SetsUp timelines setting old here mid × SetUpAll timelines settings mid after new × (text ≡ here ++ after)
+
+-- A request of these clauses, behind the queue that they ask for.
+pub record IsNamed (buffers : Buffers) (timelines : List (List ℕ)) (clauses : List Clause) (entry : ℕ × Request) : Type 0 where
+  pub queue : entry.0 ≡ queue_asked clauses
+  pub request : IsRequest (record start { buffers = buffers; timelines = timelines }) clauses entry.1
+
+-- one for each line, in order
+abbrev pub AreNamed : Buffers → List (List ℕ) → List (List Clause) → List (ℕ × Request) → Type 0
+AreNamed buffers timelines [] [] = Unit {0}
+AreNamed buffers timelines (clauses ∷ more) (entry ∷ entries) = IsNamed buffers timelines clauses entry × AreNamed buffers timelines more entries
+AreNamed buffers timelines [] (entry ∷ entries) = ⊥
+AreNamed buffers timelines (clauses ∷ more) [] = ⊥
+
+-- What a line of the last part is answered: the number that a timeline has when it is looked at, or what the address space holds.
+abbrev pub IsAnswered : Buffers → List (List ℕ) → Machine → Line → List ℕ → Type 0
+IsAnswered buffers timelines m (line.Value name) text =
+    Of (timeline_named timelines name) (λ place. (number : ℕ) × (text ≡ number_reply timelines place number))
+IsAnswered buffers timelines m question text = IsAnswer question buffers timelines m text
+
+-- these lines, one after another
+abbrev pub AreAnswered : Buffers → List (List ℕ) → Machine → List Line → List ℕ → Type 0
+AreAnswered buffers timelines m [] text = text ≡ []
+AreAnswered buffers timelines m (question ∷ questions) text =
+    (here after : List ℕ)
+    × IsAnswered buffers timelines m question here × AreAnswered buffers timelines m questions after × (text ≡ here ++ after)
+
+-- Of each queue, as many requests were put as are told and left, and so many outcomes does the address space tell.
+pub record IsEndOn (m : Machine) (queue : ℕ) (end : QueueEnd) : Type 0 where
+  pub each : end.put ≡ end.told + length end.left.items
+  pub told : end.told ≡ length (told_to m.told queue)
+
+abbrev pub AreEndsOn : Machine → List QueueEnd → Type 0
+AreEndsOn m ends = (queue : ℕ) (d : QueueEnd) → queue < length ends → IsEndOn m queue (slice_index_or ends queue d)
+
+-- the address space and the names before the first line
+abbrev pub begun_by : List Line → Ready
+begun_by lines = record { machine = new_machine (area_of lines) (limits_of lines); buffers = []; raises = [] }
+
+-- What is written behind the first part: a line for each of so many queues, and the answers of the last part on the address space
+-- that comes back.
+pub record IsServed (buffers : Buffers) (timelines : List (List ℕ)) (questions : List Line) (count : ℕ) (text : List ℕ) : Type 0 where
+  pub back : Machine
+  pub sound : IsMachine back
+  pub ends : List QueueEnd
+  pub each : length ends ≡ count
+  pub counted : AreEndsOn back ends
+  pub last : List ℕ
+  pub answered : AreAnswered buffers timelines back questions last
+  pub text_is : text ≡ end_lines ends ++ last
+
+-- The text of a script of these lines, run on so many queues: the replies of its first part, from which come the address space, the
+-- buffers and the raises, and what is written behind them. The requests of its second part are named by these buffers.
+pub record IsTextOf (lines : List Line) (begins : Ready) (count : ℕ) (text : List ℕ) : Type 0 where
+  pub first : List ℕ
+  pub ready : Ready
+  pub sets_up : SetUpAll (timelines_of lines) (settings_of lines) begins first ready
+  pub requests : List (ℕ × Request)
+  pub named : AreNamed ready.buffers (timelines_of lines) (requests_of lines) requests
+  pub rest : List ℕ
+  pub served : IsServed ready.buffers (timelines_of lines) (questions_of lines) count rest
+  pub text_is : text ≡ first ++ rest
+
+-- The text is that of a run of the script on so many queues.
+pub record IsThreadsRun (script : List ℕ) (count : ℕ) (text : List ℕ) : Type 0 where
+  pub short : length script ≤ script_limit
+  pub lines : List Line
+  pub read : AreLinesOf script lines
+  pub text_is : IsTextOf lines (begun_by lines) count text

@@ -1,0 +1,91 @@
+//! The requests of a threads script, made when their buffers have ids.
+ghost use Rattle.std.specs.Prelude.{◌≡◌, ◌++◌, ◌∷◌, [], IfOk, true, false};
+ghost use Rattle.std.specs.List.{All};
+ghost use Rattle.gv_sync.specs.Seats.{most_timelines};
+ghost use Rattle.gv_threads.specs.Parts.{unnumbered};
+ghost use Rattle.gv_threads.specs.Running.{AreNamed, IsNamed};
+ghost use Rattle.gv_threads.specs.Script.{IsFor, IsOfLine};
+
+use crate::script::ThreadsScript;
+use gv_lines::{ClauseList, Line};
+use gv_text::{LineFault, Names, ScriptFault, asked_by};
+use gv_types::Request;
+use std::alloc::Global;
+
+/// Adds a request to those of a script. Whether there was memory for it.
+fn keep(requests: &mut Vec<(u64, Request)>, entry: (u64, Request)) -> bool
+    ensures kept { result ≡ true → requests.new.items ≡ requests.old.items ++ entry ∷ [] }
+    ensures same { result ≡ false → requests.new.items ≡ requests.old.items }
+{
+    if requests.reserve(1).is_err() {
+        return false;
+    }
+    requests.push_reserved(entry);
+    true
+}
+
+impl ThreadsScript<'_> {
+    /// The requests, each with its queue. Want of memory hides no name of a buffer that is not declared.
+    pub fn requests_named(
+        &self,
+        alloc: Global,
+        buffers: &Names,
+    ) -> Result<Vec<(u64, Request)>, ScriptFault>
+        ensures requests { IfOk result (λ requests. All (IsFor self.now.queues most_timelines) requests.items) }
+        ensures named { IfOk result (λ requests.
+            AreNamed buffers.now.entries self.now.timelines (unnumbered self.now.requests) requests.items) }
+        ensures ends { IsOfLine result }
+    {
+        let mut requests = Vec::new(alloc);
+        let mut has_memory = true;
+        for (number, clauses) in &self.requests {
+            match self.request_for(alloc, buffers, clauses) {
+                Ok(entry) => {
+                    if !keep(&mut requests, entry) {
+                        has_memory = false;
+                    }
+                }
+                Err(LineFault::OutOfMemory) => has_memory = false,
+                Err(LineFault::Bad) => {
+                    return Err(ScriptFault::BadLine { line: *number });
+                }
+            }
+        }
+        self.check_questions(buffers)?;
+        if !has_memory {
+            return Err(ScriptFault::OutOfMemory);
+        }
+        Ok(requests)
+    }
+
+    /// The request of some clauses, with its queue.
+    fn request_for(
+        &self,
+        alloc: Global,
+        buffers: &Names,
+        clauses: &ClauseList<'_>,
+    ) -> Result<(u64, Request), LineFault>
+        ensures fits { IfOk result (IsFor self.now.queues most_timelines) }
+        ensures named { IfOk result (IsNamed buffers.now.entries self.now.timelines clauses.now) }
+    {
+        let (queue, request) = asked_by(alloc, buffers, &self.timelines, clauses)?;
+        if queue >= self.queues {
+            return Err(LineFault::Bad);
+        }
+        Ok((queue, request))
+    }
+
+    /// That each buffer which the last part names is declared.
+    fn check_questions(&self, buffers: &Names) -> Result<(), ScriptFault>
+        ensures { IsOfLine result }
+    {
+        for (number, question) in &self.questions {
+            if let Line::Uses { name } = question {
+                if buffers.id_of(name).is_none() {
+                    return Err(ScriptFault::BadLine { line: *number });
+                }
+            }
+        }
+        Ok(())
+    }
+}

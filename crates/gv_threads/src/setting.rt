@@ -1,0 +1,95 @@
+//! The lines of the first part of a threads script, read.
+ghost use Rattle.std.specs.Prelude.{◌≡◌, ◌++◌, ◌∷◌, [], IfOk, OnOk};
+ghost use Rattle.gv_text.specs.Line.{caps_of};
+ghost use Rattle.gv_threads.specs.Parts.{areas_in, areas_of, last_of, limits_in, settings_in, timelines_in};
+
+use crate::script::ThreadsScript;
+use gv_lines::{Line, Name, NamedPoint};
+use gv_text::{LineFault, Stage, point_named};
+use gv_types::{Bounds, Limits, MAX_TOLD};
+
+/// What a line of the first part does when the script begins.
+#[derive(Drop)]
+pub enum Setting {
+    /// A setting or a timeline, which stands as soon as it is read.
+    Stands,
+    Buffer { name: Name, pages: u64 },
+    Raise { point: NamedPoint },
+}
+
+impl<'a> ThreadsScript<'a> {
+    /// Reads a line of the first part: settings and timelines stand from here on.
+    pub fn set(&mut self, line: Line<'a>) -> Result<Setting, LineFault>
+        ensures done { IfOk result (λ setting. settings_in line.entry ≡ setting ∷ []) }
+        ensures state { OnOk result (self.new ≡ record self.old {
+          bounds = last_of self.old.bounds (areas_in line.entry);
+          limits = last_of self.old.limits (limits_in line.entry);
+          timelines = self.old.timelines ++ timelines_in line.entry;
+        }) }
+        ensures queues { self.new.queues ≡ self.old.queues }
+    {
+        let stage = self.stage;
+        self.stage = Stage::Begun;
+        match line {
+            Line::Space {
+                start,
+                len,
+                reserved_start,
+                reserved_len,
+            } => {
+                self.set_bounds(
+                    stage,
+                    Bounds::from_bytes(start, len, reserved_start, reserved_len),
+                )
+            }
+            Line::Limits {
+                buffers,
+                mappings,
+                items,
+            } => self.set_limits(stage, buffers, mappings, items),
+            Line::Timeline { name } => {
+                self.timelines.add(name)?;
+                Ok(Setting::Stands)
+            }
+            Line::Buffer { name, pages } => Ok(Setting::Buffer { name, pages }),
+            Line::Raise { point } => {
+                point_named(&self.timelines, &point).ok_or(LineFault::Bad)?;
+                Ok(Setting::Raise { point })
+            }
+            _ => Err(LineFault::Bad),
+        }
+    }
+
+    /// Sets the bounds, where there are such bounds and no other line stands before.
+    fn set_bounds(&mut self, stage: Stage, bounds: Option<Bounds>) -> Result<Setting, LineFault>
+        ensures done { IfOk result (λ setting. setting ≡ Setting.Stands) }
+        ensures state { OnOk result (self.new ≡ record self.old { bounds = last_of self.old.bounds (areas_of bounds) }) }
+        ensures queues { self.new.queues ≡ self.old.queues }
+    {
+        if stage != Stage::Fresh {
+            return Err(LineFault::Bad);
+        }
+        self.stage = Stage::Bounded;
+        self.bounds = bounds.ok_or(LineFault::Bad)?;
+        Ok(Setting::Stands)
+    }
+
+    /// Sets the limits, where there are such limits and no line stands before but one of bounds.
+    fn set_limits(
+        &mut self,
+        stage: Stage,
+        buffers: u64,
+        mappings: u64,
+        items: u64,
+    ) -> Result<Setting, LineFault>
+        ensures done { IfOk result (λ setting. setting ≡ Setting.Stands) }
+        ensures state { OnOk result (self.new ≡ record self.old { limits = caps_of buffers mappings items }) }
+        ensures queues { self.new.queues ≡ self.old.queues }
+    {
+        if stage == Stage::Begun {
+            return Err(LineFault::Bad);
+        }
+        self.limits = Limits::new(buffers, mappings, items, MAX_TOLD).ok_or(LineFault::Bad)?;
+        Ok(Setting::Stands)
+    }
+}
