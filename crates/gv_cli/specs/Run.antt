@@ -1,11 +1,14 @@
 -- What the program does with a script.
-use Rattle.std.specs.Prelude.{◌≡◌, ℕ, List, Bool, Option, IfSome, Result, Ok, Err, OnOk}
+use Rattle.std.specs.Prelude.{◌≡◌, ℕ, List, Bool, Option, IfErr, IfSome, Result, Ok, Err, OnOk}
 use Rattle.std.specs.Io.KnownBytes.{Appends}
 use Rattle.gv_text.specs.Reading.{TellsLength, TellsReads, TellsWrites}
 use Rattle.gv_text.specs.Script.{IsRun, StopsAt, IsStart}
 use Rattle.gv_text.specs.declared.fault.ScriptFault.{ScriptFault}
 use Rattle.gv_text.specs.declared.fault.ScriptFault.TheVariants.{BadLine, ScriptTooLong, ReadFault, OutOfMemory}
-use Rattle.gv_cli.specs.Fault.{script_status}
+use Rattle.gv_threads.specs.Ending.{HasNotBegun, RunsAs}
+use Rattle.gv_threads.specs.Running.{IsThreadsRun}
+use Rattle.gv_threads.specs.declared.fault.ThreadsFault.{ThreadsFault}
+use Rattle.gv_cli.specs.Fault.{of_threads, script_status, status_of}
 use Rattle.gv_cli.specs.Status.{done}
 
 -- A script was run with this answer, as `run_script` says: of a reader before and after, of which these tell the bytes
@@ -27,3 +30,15 @@ pub record HasRun {R W : Type 0} (remaining : R → Option (List ℕ)) (read_fai
 abbrev pub exit_status : Result (Unit {0}) ScriptFault → ℕ
 exit_status (Ok finished) = done
 exit_status (Err fault) = script_status fault
+
+-- A threads script was run on so many queues with this answer, as `run_threads` says: of the same devices.
+pub record HasRunThreads {R W : Type 0} (remaining : R → Option (List ℕ)) (read_failed : R → Bool) (written : W → Option (List ℕ)) (write_failed : W → Bool) (reader reader_after : R) (writer writer_after : W) (count : ℕ) (answer : Result (Unit {0}) ThreadsFault) : Type 0 where
+  pub text : OnOk answer ((script text : List ℕ) × IfSome (remaining reader) (λ bytes. script ≡ bytes)
+      × IsThreadsRun script count text × Appends (written writer) (written writer_after) text)
+  pub ends : RunsAs (read_failed reader) (read_failed reader_after) (write_failed writer) (write_failed writer_after) count answer
+  pub silent : IfErr answer (λ fault. HasNotBegun fault → writer_after ≡ writer)
+
+-- the exit status for such an answer
+abbrev pub threads_status : Result (Unit {0}) ThreadsFault → ℕ
+threads_status (Ok finished) = done
+threads_status (Err fault) = status_of (of_threads fault)

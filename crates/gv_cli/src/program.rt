@@ -8,7 +8,8 @@ ghost use Rattle.clap.specs.declared.error.kind.ErrorKind.TheVariants as kind;
 ghost use Rattle.gv_types.specs.Limits.{IsFromOneTo};
 ghost use Rattle.gv_cli.specs.CommandLine.{AreReadAs, AskForText, IsStatusOfOne, command_line, most_queues, texts};
 ghost use Rattle.gv_cli.specs.Fault.{status_of};
-ghost use Rattle.gv_cli.specs.Run.{HasRun, exit_status};
+ghost use Rattle.gv_threads.specs.declared.fault.ThreadsFault.{ThreadsFault};
+ghost use Rattle.gv_cli.specs.Run.{HasRun, HasRunThreads, exit_status, threads_status};
 ghost use Rattle.gv_cli.specs.Status.{IsStatus, bad_words, broken_stream, done, no_memory};
 
 use crate::fault::ProgramFault;
@@ -61,6 +62,12 @@ fn obey<R: AllocGlobal + Print + Eprint, T: Threads + Wait + Sync, S: Source, K:
         → ((result ≡ no_memory) × (reader.new ≡ reader.old) × (writer.new ≡ writer.old))
         ⊎ ((answer : Result (Unit {0}) ScriptFault) × HasRun S.remaining S.failed K.written K.failed
         reader.old reader.new writer.old writer.new answer × (result ≡ exit_status answer)) }
+    // Words that are read as `threads` run the threads script, on some number of queues that they may ask for.
+    ensures threads { AreReadAs (codes "threads") (texts words.now)
+        → ((result ≡ no_memory) × (reader.new ≡ reader.old) × (writer.new ≡ writer.old))
+        ⊎ ((count : ℕ) × IsFromOneTo most_queues count × (answer : Result (Unit {0}) ThreadsFault)
+        × HasRunThreads S.remaining S.failed K.written K.failed
+        reader.old reader.new writer.old writer.new count answer × (result ≡ threads_status answer)) }
     // Other words touch no device.
     ensures refused { fault_of command_line (texts words.now) ≢ []
         → (reader.new ≡ reader.old) × (writer.new ≡ writer.old) }
@@ -129,7 +136,9 @@ fn run_with_threads<R: AllocGlobal + Eprint, T: Threads + Wait + Sync, S: Source
     turns: u64,
 ) -> u8
     requires { IsFromOneTo most_queues queues }
-    ensures { IsStatus result }
+    ensures run { (answer : Result (Unit {0}) ThreadsFault) × HasRunThreads S.remaining S.failed K.written K.failed
+        reader.old reader.new writer.old writer.new queues answer × (result ≡ threads_status answer) }
+    ensures status { IsStatus result }
 {
     match run_threads(threads, rt.alloc(), reader, writer, queues, turns) {
         Ok(()) => DONE,
