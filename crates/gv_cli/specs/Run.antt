@@ -1,7 +1,7 @@
 -- What the program does with a script.
 use Rattle.std.specs.Prelude.{◌≡◌, ℕ, List, Bool, Option, IfErr, IfSome, Result, Ok, Err, OnOk}
 use Rattle.std.specs.Io.KnownBytes.{Appends}
-use Rattle.gv_text.specs.Reading.{TellsLength, TellsReads, TellsWrites}
+use Rattle.gv_text.specs.Reading.{TakesFew, TellsLength, TellsReads, TellsWrites}
 use Rattle.gv_text.specs.Script.{IsRun, StopsAt, IsStart}
 use Rattle.gv_text.specs.declared.fault.ScriptFault.{ScriptFault}
 use Rattle.gv_text.specs.declared.fault.ScriptFault.TheVariants.{BadLine, ScriptTooLong, ReadFault, OutOfMemory}
@@ -25,6 +25,7 @@ pub record HasRun {R W : Type 0} (remaining : R → Option (List ℕ)) (read_fai
   pub read_fault : TellsReads (read_failed reader) (read_failed reader_after) answer
   pub read_fault_silent : answer ≡ Err ReadFault → writer_after ≡ writer
   pub write_fault : TellsWrites (write_failed writer) (write_failed writer_after) answer
+  pub few : TakesFew (remaining reader) (remaining reader_after)
 
 -- the exit status for an answer: that of its fault, or that of a task that is done
 abbrev pub exit_status : Result (Unit {0}) ScriptFault → ℕ

@@ -32,6 +32,8 @@ impl<'a> Source for FailingSource<'a> {
 
     ghost failed = { λ source. source.failed };
 
+    ghost reads = { λ _. 0 };
+
     ghost fails = { λ source _. source.reads_left ≡ 0 };
 
     fn read(&mut self, buffer: &mut [u8]) -> Result<usize, ReadFault> {

@@ -6,7 +6,7 @@ use Rattle.std.proofs.KnownBytes.{Appends-trans}
 use Rattle.gv_text.specs.Reading.{script_limit, TellsWrites}
 use Rattle.gv_text.specs.State.{State}
 use Rattle.gv_text.specs.Line.{IsGoodText}
-use Rattle.gv_text.specs.Script.{IsFront, IsBadBefore, IsGoodBefore, StopsBefore, StopsAt, Ends, LineEnds}
+use Rattle.gv_text.specs.Script.{IsFront, IsBadBefore, WantsBefore, MayWant, StopsBefore, StopsAt, Ends, LineEnds}
 use Rattle.gv_text.specs.declared.fault.ScriptFault.{ScriptFault}
 use Rattle.gv_text.specs.declared.fault.ScriptFault.TheVariants.{BadLine, ScriptTooLong, ReadFault, WriteFault, OutOfMemory}
 use Rattle.gv_text.proofs.Alike.{only_stop}
@@ -15,7 +15,7 @@ bad_before : (now : State) (line : List ℕ) (more : List (List ℕ)) → (more 
 bad_before now line [] some bad = absurd (some refl)
 bad_before now line (next ∷ more) some bad = bad
 
-good_before : (now : State) (line : List ℕ) (more : List (List ℕ)) → (more ≡ [] → ⊥) → IsGoodText line now → IsGoodBefore now line more
+good_before : (now : State) (line : List ℕ) (more : List (List ℕ)) → (more ≡ [] → ⊥) → MayWant line now → WantsBefore now line more
 good_before now line [] some good = absurd (some refl)
 good_before now line (next ∷ more) some good = good
 

@@ -1,5 +1,6 @@
 -- What reading a whole script may answer.
-use Rattle.std.specs.Prelude.{◌≡◌, ℕ, ◌≤◌, ◌<◌, Bool, true, List, length, Option, Result, Ok, Err, IfSome, Vec}
+use Rattle.std.specs.Prelude.{◌≡◌, ℕ, ◌+◌, ◌≤◌, ◌<◌, Bool, true, List, length, Option, Result, Ok, Err, IfSome, Vec}
+use Rattle.std.specs.Io.KnownBytes.{Consumes}
 use Rattle.std.specs.declared.alloc.Global.{Global}
 use Rattle.gv_text.specs.declared.fault.ScriptFault.{ScriptFault}
 use Rattle.gv_text.specs.declared.fault.ScriptFault.TheVariants.{BadLine, ScriptTooLong, ReadFault, WriteFault, OutOfMemory}
@@ -7,6 +8,16 @@ use Rattle.gv_text.specs.declared.fault.ScriptFault.TheVariants.{BadLine, Script
 -- how many bytes a script may have
 abbrev pub script_limit : ℕ
 script_limit = 1048576
+
+-- how many bytes are read at most, and how many reads are asked for
+abbrev pub most_read : ℕ
+most_read = script_limit + 1
+
+-- No more bytes were taken from a reader, of which what was left is given before and after.
+pub record TakesFew (old new : Option (List ℕ)) : Type 0 where
+  pub taken : List ℕ
+  pub few : length taken ≤ most_read
+  pub consumed : Consumes old new taken
 
 -- these bytes, where they are known, are no more than a script may have
 abbrev pub AreShort : Option (List ℕ) → Type 0

@@ -1,7 +1,9 @@
 -- What a script does: its lines one after another, and the text of their replies.
 use Rattle.std.specs.Prelude.{◌≡◌, ◌≢◌, ℕ, ◌+◌, ◌≤◌, Bool, true, false, List, [], ◌∷◌, ◌++◌, length, Option, Some, None, Result, Ok, Err, ◌⊎◌}
 use Rattle.std.specs.Io.KnownBytes.{Appends}
+use Rattle.gv_lines.specs.Grammar.{parsed}
 use Rattle.gv_lines.specs.Words.{parts}
+use Rattle.gv_lines.specs.declared.line.Line.TheVariants.{Silent}
 use Rattle.gv_text.specs.Reading.{script_limit}
 use Rattle.gv_text.specs.State.{State, start}
 use Rattle.gv_text.specs.Line.{Written, RunsText, IsGoodText}
@@ -36,10 +38,15 @@ abbrev pub IsBadBefore : State → List ℕ → List (List ℕ) → Type 0
 IsBadBefore now line [] = line ≢ []
 IsBadBefore now line (next ∷ more) = ¬ IsGoodText line now
 
--- a line has its line end, and is not bad
-abbrev pub IsGoodBefore : State → List ℕ → List (List ℕ) → Type 0
-IsGoodBefore now line [] = ⊥
-IsGoodBefore now line (next ∷ more) = IsGoodText line now
+-- A line that may want memory: it is not bad, and neither empty nor a comment.
+pub record MayWant (text : List ℕ) (s : State) : Type 0 where
+  pub good : IsGoodText text s
+  pub says : parsed text ≢ Some Silent
+
+-- a line has its line end, and may want memory
+abbrev pub WantsBefore : State → List ℕ → List (List ℕ) → Type 0
+WantsBefore now line [] = ⊥
+WantsBefore now line (next ∷ more) = MayWant line now
 
 -- The text is the replies of all lines of the script, and nothing stands behind the last line end. To so many lines memory was
 -- refused.
@@ -83,7 +90,7 @@ pub record StopsAt (script text : List ℕ) (number : ℕ) : Type 0 where
   pub stops : StopsBefore script text refusals number
   pub ample : refusals ≡ 0 → IsOnly script text (Some number)
 
--- The text is the replies of some first lines, each with its line end. They are none, or the next line is not bad.
+-- The text is the replies of some first lines, each with its line end. They are none, or the next line may want memory.
 pub record IsStart (script text : List ℕ) : Type 0 where
   pub short : length script ≤ script_limit
   pub next : List ℕ
@@ -92,7 +99,7 @@ pub record IsStart (script text : List ℕ) : Type 0 where
   pub refusals : ℕ
   pub now : State
   pub front : IsFront script text (next ∷ more) count refusals now
-  pub good : (count ≡ 0) ⊎ IsGoodBefore now next more
+  pub good : (count ≡ 0) ⊎ WantsBefore now next more
 
 -- why a script ends at the line of this number
 abbrev pub fault_at : ℕ → LineFault → ScriptFault
@@ -114,7 +121,7 @@ LineEnds old line number new held holds (Ok done) =
     (here : Written) × RunsText line old here new × Appends held holds here.text
 LineEnds old line number new held holds (Err (BadLine bad)) =
     (¬ IsGoodText line old) × (bad ≡ number) × Appends held holds []
-LineEnds old line number new held holds (Err OutOfMemory) = IsGoodText line old × Appends held holds []
+LineEnds old line number new held holds (Err OutOfMemory) = MayWant line old × Appends held holds []
 LineEnds old line number new held holds (Err WriteFault) = Unit {0}
 LineEnds old line number new held holds (Err ReadFault) = ⊥
 LineEnds old line number new held holds (Err ScriptTooLong) = ⊥

@@ -23,6 +23,8 @@ impl<'a> Source for MemorySource<'a> {
 
     ghost failed = { λ _. false };
 
+    ghost reads = { λ _. 0 };
+
     ghost fails = { λ _ _. ⊥ };
 
     fn read(&mut self, buffer: &mut [u8]) -> Result<usize, ReadFault> {

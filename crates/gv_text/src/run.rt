@@ -1,5 +1,7 @@
 //! What the lines of a script do: those that set, declare or ask for an event.
-ghost use Rattle.std.specs.Prelude.{◌≡◌, ◌≢◌, OnOk};
+ghost use Rattle.std.specs.Prelude.{◌≡◌, ◌≢◌, IsOk, OnOk, Some};
+ghost use Rattle.gv_lines.specs.Grammar.{parsed};
+ghost use Rattle.gv_lines.specs.declared.line.Line.TheVariants.{Silent};
 ghost use Rattle.gv_lines.specs.declared.line.Line.TheVariants as line;
 ghost use Rattle.gv_text.specs.Line.{Runs, RunsText, IsGood, IsGoodText, DoesOnce, SetsBounds, MaySetBounds};
 ghost use Rattle.gv_text.specs.Question.{IsQuestion};
@@ -28,6 +30,7 @@ pub fn run_text(
     ensures done { OnOk result (Wrote (RunsText text.now) session.old out.old out.new session.new) }
     ensures bad { result ≡ Err LineFault.Bad → ¬ IsGoodText text.now session.old }
     ensures memory { result ≡ Err LineFault.OutOfMemory → IsGoodText text.now session.old }
+    ensures silent { parsed text.now ≡ Some Silent → IsOk result }
 {
     match parse_line(text) {
         Some(line) => run(alloc, session, line, out),
@@ -45,6 +48,7 @@ fn run(
     ensures done { OnOk result (Wrote (Runs line.entry) session.old out.old out.new session.new) }
     ensures bad { result ≡ Err LineFault.Bad → ¬ IsGood line.entry session.old }
     ensures memory { result ≡ Err LineFault.OutOfMemory → IsGood line.entry session.old }
+    ensures silent { line.entry ≡ Silent → IsOk result }
 {
     match line {
         Line::Silent => Ok(()),

@@ -1,7 +1,7 @@
 //! A script from its bytes to its replies.
-ghost use Rattle.std.specs.Prelude.{◌≡◌, ◌≤◌, ℕ, List, [], length, OnOk, IfSome};
+ghost use Rattle.std.specs.Prelude.{◌≡◌, ◌+◌, ◌≤◌, ℕ, List, [], length, OnOk, IfSome};
 ghost use Rattle.std.specs.Io.KnownBytes.{Appends, append_known};
-ghost use Rattle.gv_text.specs.Reading.{script_limit, TellsLength, TellsReads, TellsWrites};
+ghost use Rattle.gv_text.specs.Reading.{script_limit, most_read, TakesFew, TellsLength, TellsReads, TellsWrites};
 ghost use Rattle.gv_text.specs.State.{start};
 ghost use Rattle.gv_text.specs.Script.{IsRun, StopsAt, IsStart, Ends, LineEnds};
 
@@ -45,6 +45,9 @@ pub fn run_script<R: Source, W: Sink>(
     ensures read_fault { TellsReads (R.failed reader.old) (R.failed reader.new) result }
     ensures read_fault_silent { result ≡ Err ScriptFault.ReadFault → writer.new ≡ writer.old }
     ensures write_fault { TellsWrites (W.failed writer.old) (W.failed writer.new) result }
+    // One byte more than the longest script has is taken at most, in as many reads.
+    ensures few { TakesFew (R.remaining reader.old) (R.remaining reader.new) }
+    ensures reads { R.reads reader.new ≤ R.reads reader.old + most_read }
 {
     let script = read_script(alloc, reader)?;
     let mut output = Output::new(alloc);

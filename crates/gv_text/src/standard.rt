@@ -55,6 +55,8 @@ impl<R: ReadCalls> Source for ReadSource<R> {
 
     ghost failed = { λ source. source.failed };
 
+    ghost reads = { λ _. 0 };
+
     // The reader's own call answered an error.
     ghost fails = { λ old new. (error : Error) × R.answers old.reader (Err error) new.reader };
 

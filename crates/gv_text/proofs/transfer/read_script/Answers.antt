@@ -12,7 +12,7 @@ held_more (Ok first) (Ok done) old new read bytes held added was = added ∙ ap 
 pub loop-reads-preserved : goal.loop-reads-preserved
 loop-reads-preserved g c =
     let inv = c.loop-reads.invariant in
-    let chunk = take c.in_ok-count.count c.read.new.buffer in
+    let chunk = take c.in_ok-count.count c.read_part.new.buffer in
     record {
       read = inv.read ++ chunk;
       counted = simp (length-append, length-take) (omega (arith, inv.counted, c.in_ok-count.ensures.bound));
@@ -20,5 +20,14 @@ loop-reads-preserved g c =
       short = omega arith;
       held = held_more _ _ _ _ inv.read chunk inv.held c.keep-kept.ensures.bytes c.keep-kept.ensures.before;
       so_far = Consumes-trans _ _ _ _ _ inv.so_far c.in_ok-count.ensures.bytes.0;
+      counted_reads = omega (arith, inv.counted_reads, c.in_ok-count.ensures.counted);
       flag = c.in_ok-count.ensures.unset ∙ inv.flag;
+    }
+
+pub returns-then-len-count-clause-few : goal.returns-then-len-count-clause-few
+returns-then-len-count-clause-few g c =
+    let inv = c.loop-reads.invariant in record {
+      taken = inv.read ++ take c.in_ok-count.count c.read_part.new.buffer;
+      few = simp (length-append, length-take) (omega (arith, inv.counted, c.in_ok-count.ensures.bound));
+      consumed = Consumes-trans _ _ _ _ _ inv.so_far c.in_ok-count.ensures.bytes.0;
     }
