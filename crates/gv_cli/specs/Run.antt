@@ -38,6 +38,7 @@ pub record HasRunThreads {R W : Type 0} (remaining : R → Option (List ℕ)) (r
       × IsThreadsRun script count text × Appends (written writer) (written writer_after) text)
   pub ends : RunsAs (read_failed reader) (read_failed reader_after) (write_failed writer) (write_failed writer_after) count answer
   pub silent : IfErr answer (λ fault. HasNotBegun fault → writer_after ≡ writer)
+  pub few : TakesFew (remaining reader) (remaining reader_after)
 
 -- the exit status for such an answer
 abbrev pub threads_status : Result (Unit {0}) ThreadsFault → ℕ

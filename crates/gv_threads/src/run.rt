@@ -1,5 +1,5 @@
 //! A threads script from its bytes to its replies.
-ghost use Rattle.std.specs.Prelude.{◌≡◌, ◌++◌, ℕ, List, Vec, Bool, Ok, Err, IfErr, IfSome, OnOk};
+ghost use Rattle.std.specs.Prelude.{◌≡◌, ◌+◌, ◌≤◌, ◌++◌, ℕ, List, Vec, Bool, Ok, Err, IfErr, IfSome, OnOk};
 ghost use Rattle.std.specs.List.{All};
 ghost use Rattle.std.specs.Io.KnownBytes.{Appends};
 ghost use Rattle.std.specs.declared.alloc.Global.{Global as TheGlobal};
@@ -9,6 +9,7 @@ ghost use Rattle.gv_vm.specs.Outcomes.{queues};
 ghost use Rattle.gv_threads.specs.Script.{most_places};
 ghost use Rattle.gv_queues.specs.Ending.{IsOfQueueBelow, IsUntold};
 ghost use Rattle.gv_lines.specs.declared.line.Line.{Line as TheLine};
+ghost use Rattle.gv_text.specs.Reading.{TakesFew, most_read};
 ghost use Rattle.gv_queues.specs.declared.finishing.QueueEnd.{QueueEnd as TheEnd};
 ghost use Rattle.gv_threads.specs.Ending.{HasNotBegun, RunsAs, end_lines};
 ghost use Rattle.gv_threads.specs.Parts.{IsAsked, Keeps, unnumbered};
@@ -50,6 +51,9 @@ pub fn run_threads<R: Threads + Wait + Sync, S: Source, K: Sink>(
         × IsThreadsRun script count text × Appends (K.written writer.old) (K.written writer.new) text) }
     ensures ends { RunsAs (S.failed reader.old) (S.failed reader.new) (K.failed writer.old) (K.failed writer.new) count result }
     ensures silent { IfErr result (λ fault. HasNotBegun fault → writer.new ≡ writer.old) }
+    // One byte more than the longest script has is taken at most, in as many reads.
+    ensures few { TakesFew (S.remaining reader.old) (S.remaining reader.new) }
+    ensures reads { S.reads reader.new ≤ S.reads reader.old + most_read }
 {
     let text = match read_script(alloc, reader) {
         Ok(text) => text,
