@@ -141,17 +141,16 @@ module _ (s s' : AddressSpace) (j j' : Journaled) (space : s ≡ s') (journal : 
       withdrawal_undos_alike (list_before s j n) (ops_at j n) s.mappings out.item.undos.items out'.item.undos.items out.undos
       (subst (λ (ms : List Mapping). AreUndosOfWithdrawal ms (ops_at j n) s.mappings out'.item.undos.items) (sym before)
       (subst (λ (done : List PageOp). AreUndosOfWithdrawal (list_before s' j' n) done s.mappings out'.item.undos.items) (sym ops)
-      (subst (λ (ms : List Mapping). AreUndosOfWithdrawal (list_before s' j' n) (ops_at j' n) ms out'.item.undos.items) (sym list_alike) out'.undos))) in
-      (
+      (subst (λ (ms : List Mapping). AreUndosOfWithdrawal (list_before s' j' n) (ops_at j' n) ms out'.item.undos.items) (sym list_alike) out'.undos))) in (
         out.state ∙ ap (λ k. record (after_withdrawal (list_before s j n) (ops_at j n) s) { room = k }) room
-        ∙ ap (λ (x : AddressSpace). record (after_withdrawal (list_before s j n) (ops_at j n) x) { room = t'.room }) space
-        ∙ ap (λ (ms : List Mapping). record (after_withdrawal ms (ops_at j n) s') { room = t'.room }) before
-        ∙ ap (λ (done : List PageOp). record (after_withdrawal (list_before s' j' n) done s') { room = t'.room }) ops
-        ∙ sym out'.state,
+            ∙ ap (λ (x : AddressSpace). record (after_withdrawal (list_before s j n) (ops_at j n) x) { room = t'.room }) space
+            ∙ ap (λ (ms : List Mapping). record (after_withdrawal ms (ops_at j n) s') { room = t'.room }) before
+            ∙ ap (λ (done : List PageOp). record (after_withdrawal (list_before s' j' n) done s') { room = t'.room }) ops
+            ∙ sym out'.state,
         more_alike new new' out.item out'.item out.items out'.items
-        (item_same out.item out'.item (ap bind_of out.kind ∙ sym (ap bind_of out'.kind)) (ap withdrawn_by out.kind ∙ sym (ap withdrawn_by out'.kind))
-        (ap done_by out.kind ∙ sym (ap done_by out'.kind))
-        (sym (reverse-map bare_undo out.item.undos.items) ∙ ap (λ (us : List BareUndo). reverse us) undos ∙ reverse-map bare_undo out'.item.undos.items)),
+            (item_same out.item out'.item (ap bind_of out.kind ∙ sym (ap bind_of out'.kind)) (ap withdrawn_by out.kind ∙ sym (ap withdrawn_by out'.kind))
+            (ap done_by out.kind ∙ sym (ap done_by out'.kind))
+            (sym (reverse-map bare_undo out.item.undos.items) ∙ ap (λ (us : List BareUndo). reverse us) undos ∙ reverse-map bare_undo out'.item.undos.items)),
       )
 
   -- the newest item was taken back
@@ -160,15 +159,14 @@ module _ (s s' : AddressSpace) (j j' : Journaled) (space : s ≡ s') (journal : 
       let items : bare_item now.item ∷ map bare_item new.items ≡ bare_item now'.item ∷ map bare_item new'.items =
       ap (λ (x : Journaled). map bare_item x.items) (sym now.items) ∙ items_alike j j' journal ∙ ap (λ (x : Journaled). map bare_item x.items) now'.items in
       let undos : map bare_undo (undos_of now.item) ≡ map bare_undo (undos_of now'.item) =
-      ap (λ (item : BareItem). item.undos) (head_same (bare_item now.item) (bare_item now'.item) (map bare_item new.items) (map bare_item new'.items) items) in
-      (
+      ap (λ (item : BareItem). item.undos) (head_same (bare_item now.item) (bare_item now'.item) (map bare_item new.items) (map bare_item new'.items) items) in (
         now.space ∙ ap (λ (x : AddressSpace). reverted_by x (undos_of now.item)) space
-        ∙ reverted_by_bare s' (undos_of now.item) ∙ ap (λ (us : List BareUndo). reverted_by s' (all_filled us)) undos
-        ∙ sym (reverted_by_bare s' (undos_of now'.item)) ∙ sym now'.space,
+            ∙ reverted_by_bare s' (undos_of now.item) ∙ ap (λ (us : List BareUndo). reverted_by s' (all_filled us)) undos
+            ∙ sym (reverted_by_bare s' (undos_of now'.item)) ∙ sym now'.space,
         journal_same new.limit new'.limit new.first new'.first (map bare_item new.items) (map bare_item new'.items)
-        (ap (λ (x : Journaled). x.limit) (sym now.items) ∙ limit_alike j j' journal ∙ ap (λ (x : Journaled). x.limit) now'.items)
-        (ap (λ (x : Journaled). x.first) (sym now.items) ∙ first_alike j j' journal ∙ ap (λ (x : Journaled). x.first) now'.items)
-        (tail_same (bare_item now.item) (bare_item now'.item) (map bare_item new.items) (map bare_item new'.items) items),
+            (ap (λ (x : Journaled). x.limit) (sym now.items) ∙ limit_alike j j' journal ∙ ap (λ (x : Journaled). x.limit) now'.items)
+            (ap (λ (x : Journaled). x.first) (sym now.items) ∙ first_alike j j' journal ∙ ap (λ (x : Journaled). x.first) now'.items)
+            (tail_same (bare_item now.item) (bare_item now'.item) (map bare_item new.items) (map bare_item new'.items) items),
       )
 
   earlier_alike : (to : ℕ) → kept_by (earlier j to) ≡ kept_by (earlier j' to)
@@ -184,8 +182,8 @@ module _ (s s' : AddressSpace) (j j' : Journaled) (space : s ≡ s') (journal : 
   settled_alike t t' new new' to now now' = (
     now.space ∙ ap (λ (x : AddressSpace). released x (kept_by (earlier j to))) space ∙ ap (released s') (earlier_alike to) ∙ sym now'.space,
     ap bare_journal now.items
-    ∙ journal_same j.limit j'.limit to to (map bare_item (take (next j - to) j.items)) (map bare_item (take (next j' - to) j'.items)) (limit_alike j j' journal) refl
-    (sym (take-map bare_item (next j - to) j.items) ∙ ap (take (next j - to)) (items_alike j j' journal)
-    ∙ ap (λ n. take (n - to) (map bare_item j'.items)) (next_alike j j' journal) ∙ take-map bare_item (next j' - to) j'.items)
-    ∙ sym (ap bare_journal now'.items),
+        ∙ journal_same j.limit j'.limit to to (map bare_item (take (next j - to) j.items)) (map bare_item (take (next j' - to) j'.items)) (limit_alike j j' journal) refl
+        (sym (take-map bare_item (next j - to) j.items) ∙ ap (take (next j - to)) (items_alike j j' journal)
+        ∙ ap (λ n. take (n - to) (map bare_item j'.items)) (next_alike j j' journal) ∙ take-map bare_item (next j' - to) j'.items)
+        ∙ sym (ap bare_journal now'.items),
   )

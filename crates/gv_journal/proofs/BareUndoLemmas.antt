@@ -46,8 +46,14 @@ same_undo old new u v range is also =
     also.put_in ∙ ap (λ (ms : List Mapping). length (replaced ms v.range also.pieces)) (sym taken) ∙ ap (λ (r : Span). length (replaced u.change.taken r also.pieces)) (sym range) in
     let put_in : u.change.put_in ≡ v.change.put_in =
     omega (
-      arith, is.put_in, put, long, length-replaced old is.pieces u.range, length-replaced old also.pieces u.range,
-      length-replaced u.change.taken is.pieces u.range, length-replaced u.change.taken also.pieces u.range,
+      arith,
+      is.put_in,
+      put,
+      long,
+      length-replaced old is.pieces u.range,
+      length-replaced old also.pieces u.range,
+      length-replaced u.change.taken is.pieces u.range,
+      length-replaced u.change.taken also.pieces u.range,
     ) in
     change_same u.change.place v.change.place u.change.put_in v.change.put_in u.change.taken v.change.taken u.range place put_in taken
     ∙ ap (λ (r : Span). let x : BareUndo = record { change = v.change; range = r } in x) range
