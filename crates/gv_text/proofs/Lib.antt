@@ -1,3 +1,4 @@
+pub mod AnswerLemmas
 pub mod Front
 pub mod Servings
 pub mod Lines

@@ -46,28 +46,6 @@ pub wrote_plain : (R : State → Written → State → Type 0) (s t : State) (te
     Wrote R s old out t
 wrote_plain R s t text old out bytes runs = record { written = plain text; text = bytes; runs = runs }
 
--- what is there is the one that was found
-pub of_found : {X : Type 0} (o : Option X) (x : X) (P : X → Type 0) → Some x ≡ o → P x → Of o P
-of_found o x P is holds = subst (λ (r : Option _). Of r P) is holds
-
--- a fault that is not want of memory is the one that stands before
-pub fault_but_memory : (T : Type 0) (o : Option Fault) (why : Fault) → MatchOption o (IsOkUnless {T = T} {E = Fault} (Err why) OutOfMemory) (λ fault. ◌≡◌ {A = Result T Fault} (Err why) (Err fault)) →
-    why ≢ OutOfMemory → o ≡ Some why
-fault_but_memory T None why is apart = absurd (apart is)
-fault_but_memory T (Some fault) why is apart = let same : fault ≡ why = cc in ap (λ (f : Fault). Some f) same
-
-pub none_from_ok : {T : Type 0} (o : Option Fault) (done : T) → MatchOption o (IsOkUnless {T = T} {E = Fault} (Ok done) OutOfMemory) (λ fault. ◌≡◌ {A = Result T Fault} (Ok done) (Err fault)) → o ≡ None
-none_from_ok None done is = refl
-none_from_ok (Some fault) done is = absurd cc
-
-pub ok_or_some : {T E : Type 0} (o : Option T) (e : E) (x : T) → Ok x ≡ ok_or o e → o ≡ Some x
-ok_or_some None e x is = absurd cc
-ok_or_some (Some y) e x is = let same : x ≡ y = cc in ap (λ (z : _). Some z) (sym same)
-
-pub none_of : {X : Type 0} (o : Option X) → is_some o ≡ false → o ≡ None
-none_of None none = refl
-none_of (Some x) none = absurd cc
-
 -- a job with more accesses than any job may have
 pub too_many : (r : Running) (count : ℕ) → most_accesses < count → many_fault r count ≡ Some TooManyAccesses
 too_many r count many = let test : nat_lt most_accesses count ≡ true = grind (arith, nat_tests) in rw test refl

@@ -239,11 +239,6 @@ looks_done queue k points signals later is = rw (← is, all_dropped points) ref
 pub payments_done : (queue k : ℕ) (points : List Point) (later : List Reply) → length points ≡ k → payments queue (drop k points) later ≡ None
 payments_done queue k points later is = rw (← is, all_dropped points) refl
 
--- what a call came to, said otherwise
-pub then_ok : {T E : Type 0} (r : Result T E) (A B : Type 0) → (A → B) → OnOk r A → OnOk r B
-then_ok (Ok done) A B so is = so is
-then_ok (Err why) A B so is = tt
-
 -- a request was put and taken, and its waits were looked at
 pub looked_goes : (queue : ℕ) (request : Request) (put took : Reply) (replies : List Reply) (came : Looked) (w v u x : World) →
     Steps w (Put queue request) put v → is_put put ≡ true → Steps v (Take queue) took u → is_taken took ≡ true →

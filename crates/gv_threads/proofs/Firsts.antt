@@ -7,7 +7,7 @@ use Rattle.gv_types.specs.declared.fault.Fault.{Fault}
 use Rattle.gv_sync.specs.Marks.{IsNoLess, fresh_mark, mark_at}
 use Rattle.gv_sync.specs.Raises.{raised, values_on}
 use Rattle.gv_sync.specs.Seats.{SeatState, after_raise, count_of, first_seat, mark_of}
-use Rattle.gv_sync.proofs.Turns.{one_more}
+use Rattle.gv_sync.specs.Turns.{OneMoreRaise}
 use Rattle.gv_vm.specs.State.{Machine}
 use Rattle.gv_vm.specs.Step.{event_fault, step}
 use Rattle.gv_vm.specs.declared.event.Event.TheVariants.{Create}
@@ -15,9 +15,9 @@ use Rattle.gv_vm.specs.declared.event.Reply.TheVariants.{Refused}
 use Rattle.gv_threads.specs.Running.{Creates, IsFirst}
 
 -- one more raise
-pub first_more : (p : Point) (number : ℕ) (old new : SeatState) → IsFirst old → p.timeline < count_of old.of → IsNoLess (mark_of old p.timeline) number →
+pub first_more : OneMoreRaise → (p : Point) (number : ℕ) (old new : SeatState) → IsFirst old → p.timeline < count_of old.of → IsNoLess (mark_of old p.timeline) number →
     new ≡ after_raise old p number → IsFirst new
-first_more p number old new first named no_less is =
+first_more one_more p number old new first named no_less is =
     let marks : length old.marks ≡ count_of old.of = first.counted ∙ length-replicate (count_of old.of) fresh_mark in
     subst IsFirst (sym is) (one_more old.raises p number (first_seat old.of) old first (subst (λ (n : ℕ). p.timeline < n) (sym marks) named) no_less)
 

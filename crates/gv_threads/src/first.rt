@@ -12,6 +12,7 @@ use crate::ground::Ground;
 use crate::script::ThreadsScript;
 use crate::setting::Setting;
 use gv_lines::Name;
+use gv_sync::laws;
 use gv_text::{
     LineFault, Output, ScriptFault, Sink, TimelineNames, point_named, write_number, write_refused,
 };
@@ -74,6 +75,7 @@ fn set_up(
         Setting::Buffer { name, pages } => make_buffer(alloc, name, pages, ground, out),
         Setting::Raise { point } => {
             let point = point_named(names, &point).ok_or(LineFault::Bad)?;
+            laws::turns();
             let now = ground.timelines.raise(&mut ground.seat, point);
             Ok(write_number(out, names, point.timeline, now)?)
         }

@@ -7,8 +7,8 @@ use Rattle.gv_space.specs.Refusal.{operation_fault}
 use Rattle.gv_vm.proofs.SpaceLemmas.{with_its_room}
 use Rattle.gv_text.specs.State.{texts}
 use Rattle.gv_text.specs.Said.{plan_reply}
+use Rattle.gv_text.proofs.AnswerLemmas.{none_from_ok, fault_but_memory}
 use Rattle.gv_text.proofs.Held.{held_plan}
-use Rattle.gv_text.proofs.Lines.{none_from_ok, fault_but_memory}
 use Rattle.gv_text.proofs.question.write_plan.Goals as goal
 
 pub write_steps-requires : goal.write_steps-requires

@@ -3,7 +3,7 @@ use Rattle.gv_vm.specs.World.{World}
 use Rattle.gv_text.specs.State.{State}
 use Rattle.gv_text.specs.Line.{Runs, IsGood}
 use Rattle.gv_text.specs.Question.{with_machine}
-use Rattle.gv_text.proofs.Servings.{then_ok}
+use Rattle.gv_text.proofs.AnswerLemmas.{then_ok}
 use Rattle.gv_text.proofs.Lines.{wrote_plain, with_same, answer_runs, memory_not_bad}
 use Rattle.gv_text.proofs.run.ask.Goals as goal
 

@@ -4,7 +4,8 @@ use Rattle.gv_text.specs.State.{State, Buffers, texts, buffer_named}
 use Rattle.gv_text.specs.Said.{said}
 use Rattle.gv_text.specs.Line.{Runs}
 use Rattle.gv_vm.specs.declared.event.Event.TheVariants.{Create}
-use Rattle.gv_text.proofs.Lines.{wrote_plain, once_done, none_of}
+use Rattle.gv_text.proofs.AnswerLemmas.{none_of}
+use Rattle.gv_text.proofs.Lines.{wrote_plain, once_done}
 use Rattle.gv_text.proofs.run.buffer.Goals as goal
 
 pub returns-clause-done : goal.returns-clause-done

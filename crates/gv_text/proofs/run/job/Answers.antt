@@ -7,7 +7,7 @@ use Rattle.gv_lines.specs.declared.line.Line.TheVariants as line
 use Rattle.gv_text.specs.Asking.{access_of}
 use Rattle.gv_text.specs.Reply.{refused_reply}
 use Rattle.gv_text.specs.Line.{Runs, DoesOnce}
-use Rattle.gv_text.proofs.Servings.{then_ok}
+use Rattle.gv_text.proofs.AnswerLemmas.{then_ok}
 use Rattle.gv_text.proofs.Lines.{wrote_plain, wrote_as, too_many}
 use Rattle.gv_text.proofs.run.job.Goals as goal
 

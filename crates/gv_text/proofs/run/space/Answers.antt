@@ -1,7 +1,8 @@
 use Rattle.std.proofs.Common.{refl, sym, rules}
 use Rattle.gv_text.specs.Line.{SetsBounds}
 use Rattle.gv_text.specs.Reply.{ok_reply}
-use Rattle.gv_text.proofs.Lines.{wrote_plain, of_found}
+use Rattle.gv_text.proofs.AnswerLemmas.{of_found}
+use Rattle.gv_text.proofs.Lines.{wrote_plain}
 use Rattle.gv_text.proofs.run.space.Goals as goal
 
 pub returns-clause-done : goal.returns-clause-done

@@ -4,7 +4,8 @@ use Rattle.gv_lines.specs.declared.line.Line.TheVariants as line
 use Rattle.gv_text.specs.State.{State, timeline_named}
 use Rattle.gv_text.specs.Reply.{number_reply}
 use Rattle.gv_text.specs.Line.{Runs}
-use Rattle.gv_text.proofs.Lines.{wrote_plain, of_found, ok_or_some}
+use Rattle.gv_text.proofs.AnswerLemmas.{of_found, ok_or_some}
+use Rattle.gv_text.proofs.Lines.{wrote_plain}
 use Rattle.gv_text.proofs.run.value.Goals as goal
 
 pub returns-clause-done : goal.returns-clause-done

@@ -1,7 +1,8 @@
 use Rattle.std.proofs.Common.{◌≡◌, ◌++◌, ◌∷◌, [], sym, refl, rules, true, false, ◌∙◌, length, ap}
 use Rattle.gv_text.specs.Events.{serving}
 use Rattle.gv_text.specs.Serving.{nothing}
-use Rattle.gv_text.proofs.Servings.{goes_trans, tells_trans, then_ok, carried_out, looked_goes, put_goes_on, put_stops, taken_stops, gives_up}
+use Rattle.gv_text.proofs.AnswerLemmas.{then_ok}
+use Rattle.gv_text.proofs.Servings.{goes_trans, tells_trans, carried_out, looked_goes, put_goes_on, put_stops, taken_stops, gives_up}
 use Rattle.gv_text.proofs.serve.serve.Goals as goal
 
 pub returns-then-not-is_put-clause-goes : goal.returns-then-not-is_put-clause-goes

@@ -1,5 +1,5 @@
 use Rattle.std.proofs.Common.{refl}
-use Rattle.gv_text.proofs.Servings.{then_ok}
+use Rattle.gv_text.proofs.AnswerLemmas.{then_ok}
 use Rattle.gv_threads.proofs.Asks.{is_answered, is_question}
 use Rattle.gv_threads.proofs.last.ask.Goals as goal
 
