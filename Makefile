@@ -52,7 +52,7 @@ fuzz:
 	cd crates/gv_fuzz && $(RT) run -- --seed $(SEED) --seconds $(SECONDS)
 
 # Outside the gate, since it has no way to refuse memory: a long script under limits of the address space, then rows of
-# events, of calls on a space, on a journal and on running queues, and every example, with each request for memory refused
+# events, of calls on a space, on a journal and on running queues, a script, and every example, with each request for memory refused
 # in turn until a run meets none. Each run is compared with what it may come to; the last line is 'N passed, M failed'.
 LAST ?= 120
 refuse-memory: vmbind

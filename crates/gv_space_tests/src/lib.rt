@@ -1,4 +1,4 @@
-//! Tests of address spaces. They stand in a crate of their own, so that the space isn't proved a second time with them.
+//! Tests of address spaces and of the journal. They stand in a crate of their own, so that neither is proved a second time with them.
 #![tactic(auto)]
 
 #[cfg(test)]
@@ -11,6 +11,8 @@ mod course;
 mod desk;
 #[cfg(test)]
 mod faults;
+#[cfg(test)]
+mod journal;
 #[cfg(test)]
 mod model;
 #[cfg(test)]

@@ -15,25 +15,15 @@ mod events;
 #[cfg(test)]
 mod fixtures;
 #[cfg(test)]
-mod ground;
-#[cfg(test)]
-mod history;
-#[cfg(test)]
 mod jobs;
 #[cfg(test)]
 mod limits;
-#[cfg(test)]
-mod lines;
-#[cfg(test)]
-mod model;
 #[cfg(test)]
 mod refusals;
 #[cfg(test)]
 mod rounds;
 #[cfg(test)]
 mod rows;
-#[cfg(test)]
-mod running;
 #[cfg(test)]
 mod tally;
 #[cfg(test)]

@@ -1,10 +1,9 @@
 //! Thousands of events by chance, each answered by a world as by the definitions; after each, list and page table say of each
 //! page what the entries say, looked up in the history page by page, and entries, counts, outcomes and timelines are the same.
 use crate::chance::Chance;
-use crate::history::{Kind, Past};
-use crate::model::{Model, Setting};
 use crate::tally::Tally;
 use gv_journal::{Item, ItemKind};
+use gv_reference::{Kind, Model, Past, Setting};
 use gv_types::{Bounds, Fault, Limits, OutOfMemory};
 use gv_vm::{Event, QUEUES, Reply, World};
 use std::alloc::Global;
@@ -74,7 +73,7 @@ fn counts_buffers(alloc: Global, world: &World, model: &Model) -> Result<bool, O
     let ground = &model.ground;
     for made in &ground.buffers {
         let id = &made.id;
-        let uses = gv_plain::count_of(ground.list.as_slice(), id);
+        let uses = gv_reference::count_of(ground.list.as_slice(), id);
         let kept = ground.history.kept(alloc, id)?;
         let wanted = if made.is_alive {
             (Some(made.pages), Some(uses), Some(kept))

@@ -1,5 +1,0 @@
-use Rattle.gv_journal.specs.State.{FitsSpace}
-use Rattle.gv_journal_tests.proofs.rounds.round.Given as goal
-
-abbrev pub invariant-loop-turn_number : goal.invariant-loop-turn_number
-invariant-loop-turn_number l = FitsSpace l.space l.journal

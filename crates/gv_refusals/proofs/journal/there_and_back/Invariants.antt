@@ -1,5 +1,0 @@
-use Rattle.gv_journal.specs.State.{FitsSpace}
-use Rattle.gv_refusals.proofs.journal.there_and_back.Given as goal
-
-abbrev pub invariant-loop-wanted : goal.invariant-loop-wanted
-invariant-loop-wanted l = FitsSpace l.space l.journal
