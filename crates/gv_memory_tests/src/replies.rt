@@ -32,5 +32,9 @@ pub fn play(alloc: Global) -> Result<(), Wrong> {
         Err(ScriptFault::WriteFault) => replies.is_empty(),
         Err(_) => false,
     };
-    if are_wanted { Ok(()) } else { Err(Wrong::Changed) }
+    if are_wanted {
+        Ok(())
+    } else {
+        Err(Wrong::Changed)
+    }
 }
