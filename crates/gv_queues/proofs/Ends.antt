@@ -9,6 +9,7 @@ use Rattle.gv_vm.specs.Outcomes.{told_to}
 use Rattle.gv_vm.specs.declared.outcome.Outcome.{Outcome}
 use Rattle.gv_vm.specs.State.{Machine}
 use Rattle.gv_queues.specs.declared.finishing.QueueEnd.{QueueEnd}
+use Rattle.gv_queues.specs.Driving.{ArePut}
 use Rattle.gv_queues.specs.Ending.{AreCountedEnds, AreEndsOf, AreInOrder, ArePuts, IsEndOf, no_put, put_at}
 use Rattle.gv_queues.specs.Submitting.{AreCounted, AreOpened, AreSameSubmitters, IsOpened, PutEndState, SubmitterState, no_submitter, put_end_of, submitter_at}
 use Rattle.gv_queues.specs.Working.{AreLeft, WorkerEndState, end_at, no_end}
@@ -39,9 +40,9 @@ pub ends_more : (vm : Machine) (puts : List PutEndState) (workers : List WorkerE
 ends_more vm puts workers ends longer end is here each = each_more (λ k e. IsEndOf vm (put_at puts k) (end_at workers k) e) ends longer end is here each
 
 -- the closed submitters are those that were opened, each with what the driver put
-pub puts_of : (count : ℕ → ℕ) (limit depth timelines : ℕ) (old new : List SubmitterState) (puts : List PutEndState)
-    → puts ≡ map put_end_of new → length new ≡ length old → AreOpened limit depth timelines old → AreSameSubmitters old new → AreCounted count new → ArePuts count puts
-puts_of count limit depth timelines old new puts is even opened same counted = record {
+pub puts_of : (count : ℕ → ℕ) (may_put : ℕ → List Request → Type 0) (limit depth timelines : ℕ) (old new : List SubmitterState) (puts : List PutEndState)
+    → puts ≡ map put_end_of new → length new ≡ length old → AreOpened limit depth timelines old → AreSameSubmitters old new → AreCounted count new → ArePut may_put new → ArePuts count may_put puts
+puts_of count may_put limit depth timelines old new puts is even opened same counted allowed = record {
   order = λ k d lt.
       let low : k < length new = below k lt in
       let there : get_or puts k d ≡ put_end_of (submitter_at new k) = ap (λ (l : List PutEndState). get_or l k d) is ∙ get_or-map put_end_of new k no_submitter d low in
@@ -50,6 +51,10 @@ puts_of count limit depth timelines old new puts is even opened same counted = r
       let low : k < length new = below k lt in
       let there : put_at puts k ≡ put_end_of (submitter_at new k) = ap (λ (l : List PutEndState). put_at l k) is ∙ get_or-map put_end_of new k no_submitter no_put low in
       counted k low ∙ ap (λ (p : PutEndState). length p.put) (sym there);
+  allowed = λ k lt.
+      let low : k < length new = below k lt in
+      let there : put_at puts k ≡ put_end_of (submitter_at new k) = ap (λ (l : List PutEndState). put_at l k) is ∙ get_or-map put_end_of new k no_submitter no_put low in
+      subst (λ (p : PutEndState). may_put k p.put) (sym there) (allowed k low);
 }
   where
     below : (k : ℕ) → k < length puts → k < length new
@@ -75,15 +80,18 @@ left_count taken gave left h =
     let few = h.few in let d = length-drop (length gave) taken in let e = ap (λ (l : List Request). length l) h.left_is in omega (arith, few, d, e)
 
 -- the ends of queues whose requests the driver counted
-pub counted_ends : (vm : Machine) (count : ℕ → ℕ) (puts : List PutEndState) (workers : List WorkerEndState) (ends : List QueueEnd)
-    → length ends ≡ length puts → length workers ≡ length puts → ArePuts count puts → AreInOrder (λ (w : WorkerEndState). w.queue) workers
-    → AreEndsOf vm puts workers ends → AreCountedEnds vm count ends
-counted_ends vm count puts workers ends even same were order each queue d lt =
+pub counted_ends : (vm : Machine) (count : ℕ → ℕ) (may_put : ℕ → List Request → Type 0) (puts : List PutEndState) (workers : List WorkerEndState) (ends : List QueueEnd)
+    → length ends ≡ length puts → length workers ≡ length puts → ArePuts count may_put puts → AreInOrder (λ (w : WorkerEndState). w.queue) workers
+    → AreEndsOf vm puts workers ends → AreCountedEnds vm count may_put ends
+counted_ends vm count may_put puts workers ends even same were order each queue d lt =
     let end = each queue d lt in
     let low : queue < length puts = subst (λ (n : ℕ). queue < n) even lt in
     let low' : queue < length workers = subst (λ (n : ℕ). queue < n) (sym same) low in record {
       each = end.each;
       driven = end.put ∙ sym (were.counted queue low);
+      put = (put_at puts queue).put;
+      allowed = were.allowed queue low;
+      many = end.put;
       told = end.told ∙ ap (λ (q : ℕ). length (told_to vm.told q)) (order queue no_end low');
     }
 

@@ -1,6 +1,8 @@
 pub mod Handovers
 pub mod Owed
 pub mod Ends
+pub mod Putting
+pub mod PutLemmas
 pub mod Channels
 pub mod Same
 pub mod Outcomes

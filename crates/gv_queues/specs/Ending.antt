@@ -1,5 +1,6 @@
 -- The ends of queues.
 use Rattle.std.specs.Prelude.{◌≡◌, ℕ, ◌+◌, ◌<◌, List, [], length, slice_index_or}
+use Rattle.gv_types.specs.declared.request.Request.{Request}
 use Rattle.gv_vm.specs.State.{Machine}
 use Rattle.gv_vm.specs.Outcomes.{told_to}
 use Rattle.gv_queues.specs.Submitting.{ChannelId, PutEndState, SubmitterState, no_channel, submitter_at}
@@ -67,21 +68,25 @@ AreEndsOf vm puts workers ends =
     (queue : ℕ) (d : QueueEnd) → queue < length ends
     → IsEndOf vm (put_at puts queue) (end_at workers queue) (slice_index_or ends queue d)
 
--- Of each queue, as many requests were put as were told and are left. So many did the driver put, and so many outcomes the
--- address space tells.
-pub record IsCounted (vm : Machine) (count : ℕ → ℕ) (queue : ℕ) (end : QueueEnd) : Type 0 where
+-- Of each queue, as many requests were put as were told and are left. So many did the driver count, such as it may put; and so
+-- many outcomes the address space tells.
+pub record IsCounted (vm : Machine) (count : ℕ → ℕ) (may_put : ℕ → List Request → Type 0) (queue : ℕ) (end : QueueEnd) : Type 0 where
   pub each : end.put ≡ end.told + length end.left.items
   pub driven : end.put ≡ count queue
+  pub put : List Request
+  pub allowed : may_put queue put
+  pub many : end.put ≡ length put
   pub told : end.told ≡ length (told_to vm.told queue)
 
-abbrev pub AreCountedEnds : Machine → (ℕ → ℕ) → List QueueEnd → Type 0
-AreCountedEnds vm count ends =
-    (queue : ℕ) (d : QueueEnd) → queue < length ends → IsCounted vm count queue (slice_index_or ends queue d)
+abbrev pub AreCountedEnds : Machine → (ℕ → ℕ) → (ℕ → List Request → Type 0) → List QueueEnd → Type 0
+AreCountedEnds vm count may_put ends =
+    (queue : ℕ) (d : QueueEnd) → queue < length ends → IsCounted vm count may_put queue (slice_index_or ends queue d)
 
--- the closed submitters stand in the order of their queues, and put as many requests as the driver counted
-pub record ArePuts (count : ℕ → ℕ) (puts : List PutEndState) : Type 0 where
+-- the closed submitters stand in the order of their queues, and put such requests as the driver may put, as many as it counted
+pub record ArePuts (count : ℕ → ℕ) (may_put : ℕ → List Request → Type 0) (puts : List PutEndState) : Type 0 where
   pub order : AreInOrder (λ (p : PutEndState). p.queue) puts
   pub counted : (queue : ℕ) → queue < length puts → count queue ≡ length (put_at puts queue).put
+  pub allowed : (queue : ℕ) → queue < length puts → may_put queue (put_at puts queue).put
 
 -- no queue was told an outcome yet
 abbrev pub IsUntold : Machine → Type 0

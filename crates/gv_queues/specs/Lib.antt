@@ -6,3 +6,4 @@ pub mod Working
 pub mod Sharing
 pub mod Ending
 pub mod Counts
+pub mod Driving

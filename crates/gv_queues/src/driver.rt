@@ -1,6 +1,8 @@
 //! What puts requests while the workers run.
-ghost use Rattle.std.specs.Prelude.{◌≡◌, ◌≤◌, ℕ, length};
+ghost use Rattle.std.specs.Prelude.{◌≡◌, ◌≤◌, ℕ, List, length};
+ghost use Rattle.gv_types.specs.declared.request.Request.{Request};
 ghost use Rattle.gv_sync.specs.Seats.{IsSeatOf, SeatState, count_of};
+ghost use Rattle.gv_queues.specs.Driving.{ArePut};
 ghost use Rattle.gv_queues.specs.Submitting.{AreCounted, AreOpened, AreSameSubmitters};
 
 use crate::submitter::Submitter;
@@ -12,6 +14,10 @@ use std::sync::Wait;
 /// queue.
 pub trait Driver {
     ghost put_on: { Self → ℕ → ℕ };
+
+    /// Which requests the driver may put on a queue, in order: of the driver before it ran, the queue, and the list of
+    /// them.
+    ghost may_put: { Self → ℕ → List Request → Type 0 };
 
     /// What the driver relies on: of how many requests each queue takes, how many places it has, and how many queues there
     /// are.
@@ -37,6 +43,7 @@ pub trait Driver {
         ensures own { IsSeatOf timelines.now seat.new }
         ensures driven { does_with self.new seat.old seat.new }
         ensures same { AreSameSubmitters submitters.old submitters.new }
+        ensures put { ArePut (may_put self.old) submitters.new }
         ensures counts { AreCounted (put_on self.new) submitters.new };
 
     /// How many requests were put on a queue.

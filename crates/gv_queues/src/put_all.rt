@@ -1,6 +1,7 @@
 //! A driver that puts requests in order.
-ghost use Rattle.std.specs.Prelude.{◌≡◌, length};
+ghost use Rattle.std.specs.Prelude.{◌≡◌, [], length};
 ghost use Rattle.gv_queues.specs.Counts.{count_at};
+ghost use Rattle.gv_queues.specs.Driving.{AreSomePut, MayPutOne};
 ghost use Rattle.gv_queues.specs.Submitting.{AreCounted, AreSameSubmitters};
 
 use crate::driver::Driver;
@@ -9,6 +10,7 @@ use crate::vm_lock::VmLock;
 use gv_sync::{Seat, Timelines};
 use gv_types::Request;
 use gv_vm::QUEUES;
+use std::marker::Model;
 use std::sync::Wait;
 
 /// Puts requests in order, each on its queue, and counts those that were put. One that is refused is let go, and so is one of
@@ -19,9 +21,19 @@ pub struct PutAll {
     counts: [u64; QUEUES],
 }
 
+impl Model for PutAll {
+    ghost use Rattle.gv_queues.specs.Driving.{PutAllState, given};
+
+    ghost Value = { PutAllState };
+
+    ghost view = { λ d. record { asked = given d.requests; put = d.counts } };
+}
+
 impl PutAll {
     /// Each request stands behind its queue.
-    pub fn new(requests: Vec<(u64, Request)>) -> Self {
+    pub fn new(requests: Vec<(u64, Request)>) -> Self
+        ensures { result.asked ≡ requests.items }
+    {
         PutAll {
             requests: Some(requests),
             counts: [0; QUEUES],
@@ -29,7 +41,7 @@ impl PutAll {
     }
 }
 
-/// Puts a request on its queue, and counts what was put there.
+/// Puts a request on its queue, if it is one of those, and counts what was put there.
 fn put<R: Wait>(
     rt: &R,
     submitters: &mut [Submitter],
@@ -39,6 +51,7 @@ fn put<R: Wait>(
 )
     requires counts { AreCounted (count_at counts.old) submitters.old }
     ensures same { AreSameSubmitters submitters.old submitters.new }
+    ensures put { MayPutOne queue request submitters.old submitters.new }
     ensures counts { AreCounted (count_at counts.new) submitters.new }
     ensures len { length submitters.new ≡ length submitters.old }
 {
@@ -61,7 +74,9 @@ fn put_all<R: Wait>(
     requests: Vec<(u64, Request)>,
 )
     requires counts { AreCounted (count_at counts.old) submitters.old }
+    requires none { AreSomePut [] submitters.old }
     ensures same { AreSameSubmitters submitters.old submitters.new }
+    ensures put { AreSomePut requests.items submitters.new }
     ensures counts { AreCounted (count_at counts.new) submitters.new }
     ensures len { length submitters.new ≡ length submitters.old }
 {
@@ -73,8 +88,11 @@ fn put_all<R: Wait>(
 impl Driver for PutAll {
     ghost use Rattle.std.specs.Prelude.{◌≡◌};
     ghost use Rattle.gv_queues.specs.Counts.{count_at};
+    ghost use Rattle.gv_queues.specs.Driving.{AreSomeOf, requests_on};
 
-    ghost put_on = { λ d. count_at d.counts };
+    ghost put_on = { λ d. count_at d.put };
+
+    ghost may_put = { λ d queue put. AreSomeOf (requests_on queue d.asked) put };
 
     ghost relies_on = { λ d limit depth count. Unit {0} };
 

@@ -48,7 +48,8 @@ pub fn run_queues<G: Gate + Sync, D: Driver, R: Threads + Wait + Sync>(
     ensures not_made { result.1 ≡ Err QueuesFault.NotMade → result.0 ≡ vm }
     ensures not_run { IfErr result.1 (λ fault. HasNotRun fault → driver.new ≡ driver.old) }
     ensures len { IfOk result.1 (λ ends. vec_len ends ≡ count) }
-    ensures counted { IfOk result.1 (λ ends. AreCountedEnds result.0 (D.put_on driver.new) ends.items) }
+    ensures counted { IfOk result.1 (λ ends.
+        AreCountedEnds result.0 (D.put_on driver.new) (D.may_put driver.old) ends.items) }
     ensures queue { IfErr result.1 (λ fault. IsOfQueueBelow count fault) }
 {
     // For the prover: what always holds of the machine.

@@ -68,7 +68,7 @@ fn drive_all<D: Driver, R: Wait>(
     ensures own { IsSeatOf timelines.now seat.new }
     // With the driver's seat no step is taken but by the driver.
     ensures driven { D.does_with driver.new seat.old seat.new }
-    ensures puts { ArePuts (D.put_on driver.new) result.items }
+    ensures puts { ArePuts (D.put_on driver.new) (D.may_put driver.old) result.items }
     ensures closed { AreClosed submitters.items result.items }
     ensures len { vec_len result ≡ vec_len submitters }
 {
@@ -127,7 +127,7 @@ pub fn run_workers<L: Locked + Sync, G: Gate + Sync, D: Driver, R: Threads + Wai
     ensures own { IsSeatOf around.entry.timelines.now seat.new }
     ensures driven { IfNone result.refused (D.does_with driver.new seat.old seat.new) }
     ensures order { AreInOrder (λ w. w.queue) result.workers.items }
-    ensures puts { IfNone result.refused (ArePuts (D.put_on driver.new) result.puts.items) }
+    ensures puts { IfNone result.refused (ArePuts (D.put_on driver.new) (D.may_put driver.old) result.puts.items) }
     ensures even { IfNone result.refused ((vec_len result.puts ≡ vec_len opened.submitters)
         × (vec_len result.workers ≡ vec_len opened.submitters)) }
     ensures ends { IfNone result.refused (AreEndsOfWorkers opened.workers.items result.workers.items) }
@@ -166,7 +166,8 @@ pub fn run_workers<L: Locked + Sync, G: Gate + Sync, D: Driver, R: Threads + Wai
             ensures own { IsSeatOf timelines.entry.now result.1.now }
             ensures driven { IfNone result.2.refused (D.does_with result.0.now seat.entry.now result.1.now) }
             ensures order { AreInOrder (λ w. w.queue) result.2.workers.items }
-            ensures puts { IfNone result.2.refused (ArePuts (D.put_on result.0.now) result.2.puts.items) }
+            ensures puts { IfNone result.2.refused
+                (ArePuts (D.put_on result.0.now) (D.may_put driver.entry.now) result.2.puts.items) }
             ensures even { IfNone result.2.refused ((vec_len result.2.puts ≡ vec_len submitters)
                 × (vec_len result.2.workers ≡ vec_len submitters)) }
             ensures ends { IfNone result.2.refused (AreEndsOfWorkers workers.items result.2.workers.items) }

@@ -64,6 +64,8 @@ impl Driver for Plan<'_> {
 
     ghost put_on = { λ d. count_at d.counts };
 
+    ghost may_put = { λ d queue put. Unit {0} };
+
     ghost relies_on = { λ d limit depth count. Unit {0} };
 
     ghost does_with = { λ d old new. Unit {0} };

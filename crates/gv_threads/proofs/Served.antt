@@ -9,6 +9,7 @@ use Rattle.gv_lines.specs.declared.clause.Clause.{Clause}
 use Rattle.gv_lines.specs.declared.line.Line.{Line}
 use Rattle.gv_text.specs.State.{Buffers}
 use Rattle.gv_queues.specs.declared.finishing.QueueEnd.{QueueEnd}
+use Rattle.gv_queues.specs.Driving.{AreSomeOf, requests_on}
 use Rattle.gv_queues.specs.Ending.{AreCountedEnds}
 use Rattle.gv_threads.specs.Parts.{Keeps, area_of, limits_of, questions_of, requests_of, settings_of, timelines_of, unnumbered}
 use Rattle.gv_threads.specs.Running.{AreEndsOn, AreNamed, IsServed, IsTextOf, Ready, SetUpAll, begun_by}
@@ -18,14 +19,22 @@ use Rattle.gv_threads.specs.declared.setting.Setting.{Setting}
 pub of_ok : {A E : Type 0} (r : Result A E) (a : A) (P : A → Type 0) → r ≡ Ok a → IfOk r P → P a
 of_ok r a P is p = subst (λ (x : Result _ _). IfOk x P) is p
 
-pub ends_on : (m : Machine) (count : ℕ → ℕ) (ends : List QueueEnd) → AreCountedEnds m count ends → AreEndsOn m ends
-ends_on m count ends counted = λ queue d below. let h = counted queue d below in record { each = h.each; told = h.told }
+pub ends_on : (m : Machine) (count : ℕ → ℕ) (asked requests : List (ℕ × Request)) (ends : List QueueEnd) → asked ≡ requests
+    → AreCountedEnds m count (λ queue put. AreSomeOf (requests_on queue asked) put) ends → AreEndsOn m requests ends
+ends_on m count asked requests ends same counted = λ queue d below.
+    let h = counted queue d below in record {
+      each = h.each;
+      told = h.told;
+      put = h.put;
+      some = subst (λ (es : List (ℕ × Request)). AreSomeOf (requests_on queue es) h.put) same h.allowed;
+      many = h.many;
+    }
 
 -- the parts of a script's text are those of its lines
 pub text_of : (lines : List Line) (s after : ThreadsState) (begins ready : Ready) (requests : List (ℕ × Request)) (count : ℕ) (first rest : List ℕ) →
     Keeps lines s → after ≡ record s { settings = [] } → SetUpAll s.timelines (unnumbered s.settings) begins first ready →
     AreNamed ready.buffers s.timelines (unnumbered s.requests) requests →
-    IsServed ready.buffers after.timelines (unnumbered after.questions) count rest → IsTextOf lines begins count (first ++ rest)
+    IsServed ready.buffers after.timelines requests (unnumbered after.questions) count rest → IsTextOf lines begins count (first ++ rest)
 text_of lines s after begins ready requests count first rest keeps same sets_up named served =
     let timelines : after.timelines ≡ timelines_of lines = ap (λ (a : ThreadsState). a.timelines) same ∙ keeps.timelines in
     let questions : unnumbered after.questions ≡ questions_of lines = ap (λ (a : ThreadsState). unnumbered a.questions) same ∙ keeps.questions in
@@ -38,8 +47,8 @@ text_of lines s after begins ready requests count first rest keeps same sets_up 
       named = subst (λ (ts : List (List ℕ)). AreNamed ready.buffers ts (requests_of lines) requests) keeps.timelines
           (subst (λ (xs : List (List Clause)). AreNamed ready.buffers s.timelines xs requests) keeps.requests named);
       rest = rest;
-      served = subst (λ (ts : List (List ℕ)). IsServed ready.buffers ts (questions_of lines) count rest) timelines
-          (subst (λ (xs : List Line). IsServed ready.buffers after.timelines xs count rest) questions served);
+      served = subst (λ (ts : List (List ℕ)). IsServed ready.buffers ts requests (questions_of lines) count rest) timelines
+          (subst (λ (xs : List Line). IsServed ready.buffers after.timelines requests xs count rest) questions served);
       text_is = refl;
     }
 

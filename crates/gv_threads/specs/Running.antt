@@ -23,6 +23,7 @@ use Rattle.gv_text.specs.Reading.{script_limit}
 use Rattle.gv_text.specs.Reply.{ok_reply, number_reply}
 use Rattle.gv_text.specs.Said.{said}
 use Rattle.gv_text.specs.State.{Buffers, buffer_named, start, texts, timeline_named}
+use Rattle.gv_queues.specs.Driving.{AreSomeOf, requests_on}
 use Rattle.gv_queues.specs.declared.finishing.QueueEnd.{QueueEnd}
 use Rattle.gv_threads.specs.Ending.{end_lines}
 use Rattle.gv_threads.specs.Parts.{AreLinesOf, area_of, limits_of, questions_of, requests_of, settings_of, timelines_of}
@@ -98,26 +99,30 @@ AreAnswered buffers timelines m (question ∷ questions) text =
     (here after : List ℕ)
     × IsAnswered buffers timelines m question here × AreAnswered buffers timelines m questions after × (text ≡ here ++ after)
 
--- Of each queue, as many requests were put as are told and left, and so many outcomes does the address space tell.
-pub record IsEndOn (m : Machine) (queue : ℕ) (end : QueueEnd) : Type 0 where
+-- Of each queue, as many requests were put as are told and left, and so many outcomes does the address space tell. What was put are
+-- some of the requests for this queue, in order: where they are as many, all.
+pub record IsEndOn (m : Machine) (requests : List (ℕ × Request)) (queue : ℕ) (end : QueueEnd) : Type 0 where
   pub each : end.put ≡ end.told + length end.left.items
   pub told : end.told ≡ length (told_to m.told queue)
+  pub put : List Request
+  pub some : AreSomeOf (requests_on queue requests) put
+  pub many : end.put ≡ length put
 
-abbrev pub AreEndsOn : Machine → List QueueEnd → Type 0
-AreEndsOn m ends = (queue : ℕ) (d : QueueEnd) → queue < length ends → IsEndOn m queue (slice_index_or ends queue d)
+abbrev pub AreEndsOn : Machine → List (ℕ × Request) → List QueueEnd → Type 0
+AreEndsOn m requests ends = (queue : ℕ) (d : QueueEnd) → queue < length ends → IsEndOn m requests queue (slice_index_or ends queue d)
 
 -- the address space and the names before the first line
 abbrev pub begun_by : List Line → Ready
 begun_by lines = record { machine = new_machine (area_of lines) (limits_of lines); buffers = []; raises = [] }
 
--- What is written behind the first part: a line for each of so many queues, and the answers of the last part on the address space
--- that comes back.
-pub record IsServed (buffers : Buffers) (timelines : List (List ℕ)) (questions : List Line) (count : ℕ) (text : List ℕ) : Type 0 where
+-- What is written behind the first part, where these requests were to be put: a line for each of so many queues, and the answers of
+-- the last part on the address space that comes back.
+pub record IsServed (buffers : Buffers) (timelines : List (List ℕ)) (requests : List (ℕ × Request)) (questions : List Line) (count : ℕ) (text : List ℕ) : Type 0 where
   pub back : Machine
   pub sound : IsMachine back
   pub ends : List QueueEnd
   pub each : length ends ≡ count
-  pub counted : AreEndsOn back ends
+  pub counted : AreEndsOn back requests ends
   pub last : List ℕ
   pub answered : AreAnswered buffers timelines back questions last
   pub text_is : text ≡ end_lines ends ++ last
@@ -131,7 +136,7 @@ pub record IsTextOf (lines : List Line) (begins : Ready) (count : ℕ) (text : L
   pub requests : List (ℕ × Request)
   pub named : AreNamed ready.buffers (timelines_of lines) (requests_of lines) requests
   pub rest : List ℕ
-  pub served : IsServed ready.buffers (timelines_of lines) (questions_of lines) count rest
+  pub served : IsServed ready.buffers (timelines_of lines) requests (questions_of lines) count rest
   pub text_is : text ≡ first ++ rest
 
 -- The text is that of a run of the script on so many queues.

@@ -132,7 +132,7 @@ fn serve<R: Threads + Wait + Sync, K: Sink>(
     requires untold { IsUntold ground.vm }
     requires depth { IsFromOneTo most_places script.now.depth }
     ensures served { OnOk result ((text : List ℕ)
-        × IsServed ground.buffers.entries script.now.timelines (unnumbered script.now.questions) count text
+        × IsServed ground.buffers.entries script.now.timelines requests.items (unnumbered script.now.questions) count text
         × Appends (K.written writer.old) (K.written writer.new) text) }
     ensures ends { (read : Bool) → RunsAs read read (K.failed writer.old) (K.failed writer.new) count result }
     ensures begun { IfErr result (λ fault. HasNotBegun fault → ⊥) }

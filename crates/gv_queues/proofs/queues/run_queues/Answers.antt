@@ -9,4 +9,4 @@ run_workers-ran-requires-sync-L g c κs within = search (lock_sync, param_sync, 
 
 pub returns-clause-counted : goal.returns-clause-counted
 returns-clause-counted g c =
-    if_ok _ _ c.finish-ended.result (λ ends h. counted_ends _ _ _ _ _ (search rules) (search rules) (search rules) (search rules) h.1) (if_ok_both _ _ c.finish-ended.result c.finish-ended.ensures.len c.finish-ended.ensures.ends)
+    if_ok _ _ c.finish-ended.result (λ ends h. counted_ends _ _ _ _ _ _ (search rules) (search rules) (search rules) (search rules) h.1) (if_ok_both _ _ c.finish-ended.result c.finish-ended.ensures.len c.finish-ended.ensures.ends)

@@ -10,7 +10,7 @@ returns-clause-puts g c =
     let even : length new ≡ length c.args.submitters.items = search rules in
     let long : c.args.submitters.len ≡ length new = search rules in
     let whole = taken_whole new (drop (length new) c.args.submitters.items) c.args.submitters.len long in
-    puts_of (g.D.Driver.put_on c.drive.new.self) opened.0 opened.1 _ c.args.submitters.items new c.close_all.result.items (c.close_all.ensures ∙ ap (λ (l : List SubmitterState). map put_end_of l) whole) even opened.2 (search rules) c.drive.ensures.counts
+    puts_of (g.D.Driver.put_on c.drive.new.self) (g.D.Driver.may_put c.args.driver.now) opened.0 opened.1 _ c.args.submitters.items new c.close_all.result.items (c.close_all.ensures ∙ ap (λ (l : List SubmitterState). map put_end_of l) whole) even opened.2 (search rules) c.drive.ensures.counts c.drive.ensures.put
 
 pub returns-clause-closed : goal.returns-clause-closed
 returns-clause-closed g c =
