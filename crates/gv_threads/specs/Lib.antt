@@ -1,5 +1,7 @@
 pub mod Ending
 pub mod Script
 pub mod Parts
+pub mod Places
+pub mod Reading
 pub mod Running
 pub mod Inside

@@ -1,5 +1,5 @@
 -- What the lines of a threads script are to its parts, and what reading them keeps.
-use Rattle.std.specs.Prelude.{◌≡◌, ℕ, Bool, true, List, [], ◌∷◌, ◌++◌, map, Option, Some, None}
+use Rattle.std.specs.Prelude.{◌≡◌, ℕ, List, [], ◌∷◌, ◌++◌, map, Option, Some, None}
 use Rattle.std.specs.List.{flat_map}
 use Rattle.gv_types.specs.Bounds.{Area, byte_area, whole_area}
 use Rattle.gv_types.specs.Limits.{Caps, greatest}
@@ -90,29 +90,6 @@ questions_of lines = flat_map questions_in lines
 -- these, without their numbers
 abbrev pub unnumbered : {X : Type 0} → List (ℕ × X) → List X
 unnumbered entries = map (λ entry. entry.1) entries
-
--- What a line is to each part stands behind what was kept before, if there was memory for it. Nothing else changes.
-pub record IsKept (l : Line) (old new : ThreadsState) (kept : Bool) : Type 0 where
-  pub bounds : new.bounds ≡ last_of old.bounds (areas_in l)
-  pub limits : new.limits ≡ last_of old.limits (limits_in l)
-  pub timelines : new.timelines ≡ old.timelines ++ timelines_in l
-  pub whole : new.whole ≡ old.whole
-  pub settings : kept ≡ true → unnumbered new.settings ≡ unnumbered old.settings ++ settings_in l
-  pub requests : kept ≡ true → unnumbered new.requests ≡ unnumbered old.requests ++ requests_in l
-  pub questions : kept ≡ true → unnumbered new.questions ≡ unnumbered old.questions ++ questions_in l
-
--- A line was read: what it is to each part stands behind what was read before, unless memory was refused. Whether it was is
--- kept.
-pub record Adds (text : List ℕ) (old new : ThreadsState) : Type 0 where
-  pub line : Line
-  pub read : parsed text ≡ Some line
-  pub bounds : new.bounds ≡ last_of old.bounds (areas_in line)
-  pub limits : new.limits ≡ last_of old.limits (limits_in line)
-  pub timelines : new.timelines ≡ old.timelines ++ timelines_in line
-  pub whole : new.whole ≡ true → old.whole ≡ true
-  pub settings : new.whole ≡ true → unnumbered new.settings ≡ unnumbered old.settings ++ settings_in line
-  pub requests : new.whole ≡ true → unnumbered new.requests ≡ unnumbered old.requests ++ requests_in line
-  pub questions : new.whole ≡ true → unnumbered new.questions ≡ unnumbered old.questions ++ questions_in line
 
 -- A script keeps what these lines are to its parts.
 pub record Keeps (lines : List Line) (s : ThreadsState) : Type 0 where

@@ -27,6 +27,7 @@ use Rattle.gv_queues.specs.Driving.{AreSomeOf, requests_on}
 use Rattle.gv_queues.specs.declared.finishing.QueueEnd.{QueueEnd}
 use Rattle.gv_threads.specs.Ending.{end_lines}
 use Rattle.gv_threads.specs.Parts.{AreLinesOf, area_of, limits_of, questions_of, requests_of, settings_of, timelines_of}
+use Rattle.gv_threads.specs.Places.{MayStandAll}
 use Rattle.gv_threads.specs.declared.ground.Ground.{Ground}
 use Rattle.gv_threads.specs.declared.setting.Setting.{Setting}
 use Rattle.gv_threads.specs.declared.setting.Setting.TheVariants.{Stands, Buffer, Raise}
@@ -144,4 +145,5 @@ pub record IsThreadsRun (script : List ℕ) (count : ℕ) (text : List ℕ) : Ty
   pub short : length script ≤ script_limit
   pub lines : List Line
   pub read : AreLinesOf script lines
+  pub stand : MayStandAll count lines
   pub text_is : IsTextOf lines (begun_by lines) count text

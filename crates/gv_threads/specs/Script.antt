@@ -8,11 +8,15 @@ use Rattle.gv_lines.specs.declared.clause.Clause.{Clause}
 use Rattle.gv_lines.specs.declared.line.Line.{Line}
 use Rattle.gv_text.specs.declared.fault.ScriptFault.{ScriptFault}
 use Rattle.gv_text.specs.declared.fault.ScriptFault.TheVariants.{BadLine, ScriptTooLong, ReadFault, WriteFault, OutOfMemory}
+use Rattle.gv_text.specs.declared.stage.Stage.{Stage}
+use Rattle.gv_threads.specs.declared.script.Part.{Part}
 use Rattle.gv_threads.specs.declared.setting.Setting.{Setting}
 
--- the bounds and the limits that it sets, for how many queues it was read, and how many requests wait on one at most; the timelines
+-- the part of its last line, which settings may still come, the bounds and the limits that it sets, for how many queues it was read, and how many requests wait on one at most; the timelines
 -- that it declares, the lines of its parts, each with its number, and whether there was memory for each of these
 pub record ThreadsState : Type 0 where
+  pub part : Part
+  pub stage : Stage
   pub bounds : Area
   pub limits : Caps
   pub queues : ℕ

@@ -13,6 +13,7 @@ ghost use Rattle.gv_text.specs.Reading.{TakesFew, most_read};
 ghost use Rattle.gv_queues.specs.declared.finishing.QueueEnd.{QueueEnd as TheEnd};
 ghost use Rattle.gv_threads.specs.Ending.{HasNotBegun, RunsAs, end_lines};
 ghost use Rattle.gv_threads.specs.Parts.{IsAsked, Keeps, unnumbered};
+ghost use Rattle.gv_threads.specs.Places.{IsBadLine};
 ghost use Rattle.gv_threads.specs.Running.{AreAnswered, IsFirst, IsServed, IsTextOf, IsThreadsRun, ready_of};
 
 use crate::ends::write_ends;
@@ -49,6 +50,9 @@ pub fn run_threads<R: Threads + Wait + Sync, S: Source, K: Sink>(
     ensures text { OnOk result ((script text : List ℕ)
         × IfSome (S.remaining reader.old) (λ bytes. script ≡ bytes)
         × IsThreadsRun script count text × Appends (K.written writer.old) (K.written writer.new) text) }
+    // A bad line is the first that may not stand where it does. Where each may, it is one of a buffer's name.
+    ensures bad_line { (line : ℕ) → result ≡ Err (ThreadsFault.Script (ScriptFault.BadLine line)) → (script : List ℕ)
+        × IfSome (S.remaining reader.old) (λ bytes. script ≡ bytes) × IsBadLine script count line }
     ensures ends { RunsAs (S.failed reader.old) (S.failed reader.new) (K.failed writer.old) (K.failed writer.new) count result }
     ensures silent { IfErr result (λ fault. HasNotBegun fault → writer.new ≡ writer.old) }
     // One byte more than the longest script has is taken at most, in as many reads.

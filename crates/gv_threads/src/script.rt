@@ -1,10 +1,13 @@
 //! Scripts for running queues, read: what stands before the workers, the requests, and what is asked behind.
-ghost use Rattle.std.specs.Prelude.{◌≡◌, ◌≤◌, ◌++◌, ◌∷◌, [], List, IfOk, OnOk, length, true};
+ghost use Rattle.std.specs.Prelude.{◌≡◌, ◌≤◌, ◌++◌, ◌∷◌, [], ℕ, List, Err, IfOk, IfErr, IfSome, IfNone, IsErr, OnOk, OnSome, length, true};
 ghost use Rattle.gv_types.specs.Limits.{IsFromOneTo};
 ghost use Rattle.gv_vm.specs.Outcomes.{queues};
 ghost use Rattle.gv_text.specs.Reading.{script_limit};
 ghost use Rattle.gv_lines.specs.declared.line.Line.{Line as TheLine};
-ghost use Rattle.gv_threads.specs.Parts.{Adds, AreLinesOf, IsKept, Keeps, areas_in, last_of, limits_in, settings_in, timelines_in, unnumbered};
+ghost use Rattle.gv_lines.specs.Clause.{queue_asked};
+ghost use Rattle.gv_threads.specs.Parts.{AreLinesOf, Keeps, areas_in, last_of, limits_in, settings_in, timelines_in, unnumbered};
+ghost use Rattle.gv_threads.specs.Places.{AreTimed, MayAsk, MayFollow, MaySet, MayStand, MayStandAll, MayStandText, StopsReading, place_behind, place_of, stages_in};
+ghost use Rattle.gv_threads.specs.Reading.{Adds, IsKept};
 ghost use Rattle.gv_threads.specs.declared.setting.Setting.{Setting as TheSetting};
 ghost use Rattle.gv_threads.specs.Script.{IsOfLine, most_places};
 
@@ -53,6 +56,8 @@ impl<'a> Model for ThreadsScript<'a> {
     ghost Value = { ThreadsState };
 
     ghost view = { λ s. record {
+      part = s.part;
+      stage = s.stage;
       bounds = s.bounds;
       limits = s.limits;
       queues = s.queues;
@@ -71,6 +76,7 @@ impl<'a> ThreadsScript<'a> {
     fn new(alloc: Global, count: u64) -> Self
         requires { IsFromOneTo queues count }
         ensures queues { result.queues ≡ count }
+        ensures place { place_of result ≡ place_behind [] }
         ensures none { Keeps [] result }
     {
         ThreadsScript {
@@ -98,7 +104,9 @@ impl<'a> ThreadsScript<'a> {
         ensures queues { IfOk result (λ script. script.queues ≡ count) }
         ensures depth { IfOk result (λ script. IsFromOneTo most_places script.depth) }
         ensures lines { IsOfLine result }
-        ensures kept { IfOk result (λ script. (lines : List TheLine) × AreLinesOf text.now lines × Keeps lines script) }
+        ensures kept { IfOk result (λ script. (lines : List TheLine)
+            × AreLinesOf text.now lines × MayStandAll count lines × Keeps lines script) }
+        ensures bad_line { (line : ℕ) → result ≡ Err (ScriptFault.BadLine line) → StopsReading text.now count line }
     {
         let mut script = ThreadsScript::new(alloc, count);
         let mut rest = text;
@@ -123,6 +131,7 @@ impl<'a> ThreadsScript<'a> {
     fn read_line(&mut self, number: u64, text: &'a [u8]) -> Result<(), LineFault>
         ensures queues { self.new.queues ≡ self.old.queues }
         ensures adds { OnOk result (Adds text.now self.old self.new) }
+        ensures bad { result ≡ Err LineFault.Bad → ¬ MayStandText self.old.queues (place_of self.old) text.now }
     {
         let line = parse_line(text).ok_or(LineFault::Bad)?;
         if !self.keep_line(number, line)? {
@@ -135,6 +144,7 @@ impl<'a> ThreadsScript<'a> {
     fn keep_line(&mut self, number: u64, line: Line<'a>) -> Result<bool, LineFault>
         ensures queues { self.new.queues ≡ self.old.queues }
         ensures kept { IfOk result (IsKept line.entry self.old self.new) }
+        ensures bad { result ≡ Err LineFault.Bad → ¬ MayStand self.old.queues (place_of self.old) line.entry }
     {
         match line {
             Line::Silent => Ok(true),
@@ -161,12 +171,17 @@ impl<'a> ThreadsScript<'a> {
     fn keep_setting(&mut self, number: u64, line: Line<'a>) -> Result<bool, LineFault>
         ensures state { OnOk result (self.new ≡ record self.old {
           bounds = last_of self.old.bounds (areas_in line.entry);
+          part = Part.Settings;
+          stage = last_of self.old.stage (stages_in line.entry);
           limits = last_of self.old.limits (limits_in line.entry);
           timelines = self.old.timelines ++ timelines_in line.entry;
           settings = self.new.settings;
         }) }
         ensures added { IfOk result (λ kept. (setting : TheSetting) × (settings_in line.entry ≡ setting ∷ [])
             × (kept ≡ true → unnumbered self.new.settings ≡ unnumbered self.old.settings ++ setting ∷ [])) }
+        ensures may { OnOk result (MayFollow self.old.part Part.Settings × MaySet (place_of self.old) line.entry) }
+        ensures bad { result ≡ Err LineFault.Bad
+            → ¬ (MayFollow self.old.part Part.Settings × MaySet (place_of self.old) line.entry) }
         ensures queues { self.new.queues ≡ self.old.queues }
     {
         self.enter(Part::Settings)?;
@@ -176,7 +191,10 @@ impl<'a> ThreadsScript<'a> {
 
     fn keep_request(&mut self, number: u64, clauses: ClauseList<'a>) -> Result<bool, LineFault>
         ensures state { OnOk result
-            (self.new ≡ record self.old { depth = self.new.depth; requests = self.new.requests }) }
+            (self.new ≡ record self.old { part = Part.Requests; depth = self.new.depth; requests = self.new.requests }) }
+        ensures may { OnOk result (MayFollow self.old.part Part.Requests × MayAsk self.old.queues (place_of self.old) clauses.entry) }
+        ensures bad { result ≡ Err LineFault.Bad
+            → ¬ (MayFollow self.old.part Part.Requests × MayAsk self.old.queues (place_of self.old) clauses.entry) }
         ensures added { IfOk result (λ kept. kept ≡ true
             → unnumbered self.new.requests ≡ unnumbered self.old.requests ++ clauses.entry ∷ []) }
         ensures queues { self.new.queues ≡ self.old.queues }
@@ -187,7 +205,9 @@ impl<'a> ThreadsScript<'a> {
     }
 
     fn keep_question(&mut self, number: u64, line: Line<'a>) -> Result<bool, LineFault>
-        ensures state { OnOk result (self.new ≡ record self.old { questions = self.new.questions }) }
+        ensures state { OnOk result (self.new ≡ record self.old { part = Part.Questions; questions = self.new.questions }) }
+        ensures may { OnOk result (MayFollow self.old.part Part.Questions) }
+        ensures bad { result ≡ Err LineFault.Bad → ¬ MayFollow self.old.part Part.Questions }
         ensures added { IfOk result (λ kept. kept ≡ true
             → unnumbered self.new.questions ≡ unnumbered self.old.questions ++ line.entry ∷ []) }
         ensures queues { self.new.queues ≡ self.old.queues }
@@ -198,7 +218,11 @@ impl<'a> ThreadsScript<'a> {
 
     /// Goes on to a line of this part.
     fn enter(&mut self, part: Part) -> Result<(), LineFault>
-        ensures { self.new ≡ self.old }
+        ensures entered { OnOk result (self.new ≡ record self.old { part = part }) }
+        ensures queues { self.new.queues ≡ self.old.queues }
+        ensures may { OnOk result (MayFollow self.old.part part) }
+        ensures bad { IsErr result → ¬ MayFollow self.old.part part }
+        ensures fault { IfErr result (λ fault. fault ≡ LineFault.Bad) }
     {
         match (self.part, part) {
             (Part::Settings, _)
@@ -213,7 +237,10 @@ impl<'a> ThreadsScript<'a> {
 
     /// Counts a request of its queue, where there is such a queue and the timelines that it names are declared.
     fn count(&mut self, clauses: &ClauseList<'_>) -> Result<(), LineFault>
-        ensures { self.new ≡ record self.old { depth = self.new.depth } }
+        ensures counted { self.new ≡ record self.old { depth = self.new.depth } }
+        ensures may { OnOk result (MayAsk self.old.queues (place_of self.old) clauses.now) }
+        ensures bad { result ≡ Err LineFault.Bad → ¬ MayAsk self.old.queues (place_of self.old) clauses.now }
+        ensures fault { IfErr result (λ fault. fault ≡ LineFault.Bad) }
     {
         let queue = queue_asked(&self.timelines, clauses).ok_or(LineFault::Bad)?;
         if queue >= self.queues {
@@ -249,19 +276,23 @@ impl<'a> ThreadsScript<'a> {
 }
 
 /// The queue that some clauses ask for. None where they name a timeline that is not declared.
-fn queue_asked(timelines: &TimelineNames, clauses: &ClauseList<'_>) -> Option<u64> {
-    let mut asked = 0;
+fn queue_asked(timelines: &TimelineNames, clauses: &ClauseList<'_>) -> Option<u64>
+    ensures asked { IfSome result (λ queue. queue ≡ queue_asked clauses.now) }
+    ensures timed { OnSome result (AreTimed timelines.now.names clauses.now) }
+    ensures none { IfNone result (¬ AreTimed timelines.now.names clauses.now) }
+{
+    let mut asked = None;
     let mut left = clauses.again();
     while let Some(clause) = left.take() {
         match clause {
             Clause::Wait { point } | Clause::Signal { point } => {
                 point_named(timelines, &point)?;
             }
-            Clause::Queue { queue } => asked = queue,
+            Clause::Queue { queue } => asked = asked.or(Some(queue)),
             Clause::Change { .. } => {}
         }
     }
-    Some(asked)
+    Some(asked.unwrap_or(0))
 }
 
 /// Keeps something of the line of this number. Whether there was memory for it.

@@ -1,7 +1,9 @@
 //! The lines of the first part of a threads script, read.
-ghost use Rattle.std.specs.Prelude.{◌≡◌, ◌++◌, ◌∷◌, [], IfOk, OnOk};
-ghost use Rattle.gv_text.specs.Line.{caps_of};
+ghost use Rattle.std.specs.Prelude.{◌≡◌, ◌++◌, ◌∷◌, [], Err, IfOk, IsErr, IsSome, OnOk};
+ghost use Rattle.gv_types.specs.Limits.{IsWithin};
+ghost use Rattle.gv_text.specs.Line.{MaySetLimits, caps_of};
 ghost use Rattle.gv_threads.specs.Parts.{areas_in, areas_of, last_of, limits_in, settings_in, timelines_in};
+ghost use Rattle.gv_threads.specs.Places.{MaySet, place_of, stages_in};
 
 use crate::script::ThreadsScript;
 use gv_lines::{Line, Name, NamedPoint};
@@ -22,10 +24,13 @@ impl<'a> ThreadsScript<'a> {
     pub fn set(&mut self, line: Line<'a>) -> Result<Setting, LineFault>
         ensures done { IfOk result (λ setting. settings_in line.entry ≡ setting ∷ []) }
         ensures state { OnOk result (self.new ≡ record self.old {
+          stage = last_of self.old.stage (stages_in line.entry);
           bounds = last_of self.old.bounds (areas_in line.entry);
           limits = last_of self.old.limits (limits_in line.entry);
           timelines = self.old.timelines ++ timelines_in line.entry;
         }) }
+        ensures may { OnOk result (MaySet (place_of self.old) line.entry) }
+        ensures bad { result ≡ Err LineFault.Bad → ¬ MaySet (place_of self.old) line.entry }
         ensures queues { self.new.queues ≡ self.old.queues }
     {
         let stage = self.stage;
@@ -63,7 +68,10 @@ impl<'a> ThreadsScript<'a> {
     /// Sets the bounds, where there are such bounds and no other line stands before.
     fn set_bounds(&mut self, stage: Stage, bounds: Option<Bounds>) -> Result<Setting, LineFault>
         ensures done { IfOk result (λ setting. setting ≡ Setting.Stands) }
-        ensures state { OnOk result (self.new ≡ record self.old { bounds = last_of self.old.bounds (areas_of bounds) }) }
+        ensures state { OnOk result (self.new
+            ≡ record self.old { stage = Stage.Bounded; bounds = last_of self.old.bounds (areas_of bounds) }) }
+        ensures may { OnOk result ((stage ≡ Stage.Fresh) × IsSome bounds) }
+        ensures bad { IsErr result → ¬ ((stage ≡ Stage.Fresh) × IsSome bounds) }
         ensures queues { self.new.queues ≡ self.old.queues }
     {
         if stage != Stage::Fresh {
@@ -84,6 +92,8 @@ impl<'a> ThreadsScript<'a> {
     ) -> Result<Setting, LineFault>
         ensures done { IfOk result (λ setting. setting ≡ Setting.Stands) }
         ensures state { OnOk result (self.new ≡ record self.old { limits = caps_of buffers mappings items }) }
+        ensures may { OnOk result (MaySetLimits stage × IsWithin (caps_of buffers mappings items)) }
+        ensures bad { IsErr result → ¬ (MaySetLimits stage × IsWithin (caps_of buffers mappings items)) }
         ensures queues { self.new.queues ≡ self.old.queues }
     {
         if stage == Stage::Begun {

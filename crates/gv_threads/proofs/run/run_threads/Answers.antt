@@ -13,7 +13,7 @@ use Rattle.gv_threads.proofs.run.run_threads.Goals as goal
 pub run_on-requires-clause-asked : goal.run_on-requires-clause-asked
 run_on-requires-clause-asked g c =
     let kept = c.in-Ok-read.ensures.kept in
-    let asked : All IsAsked (unnumbered c.in-Ok-read.script.questions) = subst (λ (qs : List Line). All IsAsked qs) (sym kept.2.questions) (asked_all kept.0) in
+    let asked : All IsAsked (unnumbered c.in-Ok-read.script.questions) = subst (λ (qs : List Line). All IsAsked qs) (sym kept.3.questions) (asked_all kept.0) in
     λ κs within k d below. asked k d below
 
 pub returns-in-Ok-new-2-clause-text : goal.returns-in-Ok-new-2-clause-text
@@ -22,7 +22,7 @@ returns-in-Ok-new-2-clause-text g c =
     let lines : List Line = kept.0 in
     let raises : c.in-Ok-new.seat.raises ≡ _ = ap (λ (s : SeatState). s.raises) c.in-Ok-new.ensures.seat in
     let begins = begins_as lines c.in-Ok-new-2.vm c.new-in-Ok-new-2.result.entries c.in-Ok-new.seat.raises c.bounds.result c.limits.result
-    c.in-Ok-new-2.ensures (c.bounds.ensures ∙ kept.2.bounds) (c.limits.ensures ∙ kept.2.limits) c.new-in-Ok-new-2.ensures raises in
+    c.in-Ok-new-2.ensures (c.bounds.ensures ∙ kept.3.bounds) (c.limits.ensures ∙ kept.3.limits) c.new-in-Ok-new-2.ensures raises in
     then_ok c.run_on.result _ _
     (λ found. (
       c.in-Ok.text.items,
@@ -32,11 +32,12 @@ returns-in-Ok-new-2-clause-text g c =
         short = c.in-Ok.ensures.whole.0;
         lines = lines;
         read = subst (λ (bytes : List ℕ). AreLinesOf bytes lines) c.as_slice.ensures.value kept.1;
+        stand = kept.2;
         text_is = subst (λ (r : Ready). IsTextOf lines r c.args.count found.0) begins found.1;
       },
       found.2,
     ))
-    (c.run_on.ensures.text lines kept.2)
+    (c.run_on.ensures.text lines kept.3)
 
 pub returns-in-Ok-new-2-clause-ends : goal.returns-in-Ok-new-2-clause-ends
 returns-in-Ok-new-2-clause-ends g c =
