@@ -1,5 +1,6 @@
 pub mod Flags
 pub mod Texts
+pub mod Named
 pub mod Kept
 pub mod Firsts
 pub mod Asks

@@ -2,6 +2,7 @@ pub mod Ending
 pub mod Script
 pub mod Parts
 pub mod Places
+pub mod Naming
 pub mod Reading
 pub mod Running
 pub mod Inside

@@ -136,6 +136,6 @@ pub record MayStandWhole (script : List ℕ) (queues : ℕ) : Type 0 where
   pub read : AreLinesOf script lines
   pub stand : MayStandAll queues lines
 
--- The line of this number is the first bad one; or each may stand, and one has a buffer's name that is declared twice or not declared.
+-- the line of this number is the first that may not stand where it does, unless each may
 abbrev pub IsBadLine : List ℕ → ℕ → ℕ → Type 0
 IsBadLine script queues number = StopsReading script queues number ⊎ MayStandWhole script queues

@@ -1,16 +1,39 @@
 //! The requests of a threads script, made when their buffers have ids.
-ghost use Rattle.std.specs.Prelude.{◌≡◌, ◌++◌, ◌∷◌, [], IfOk, true, false};
+ghost use Rattle.std.specs.Prelude.{◌≡◌, ◌≢◌, ◌++◌, ◌∷◌, [], ℕ, Err, IfOk, IfSome, IfNone, OnSome, true, false};
 ghost use Rattle.std.specs.List.{All};
 ghost use Rattle.gv_sync.specs.Seats.{most_timelines};
+ghost use Rattle.gv_lines.specs.Clause.{queue_asked};
+ghost use Rattle.gv_threads.specs.Naming.{HasBuffer, IsFirstBad, MayBePut, NamesNone};
 ghost use Rattle.gv_threads.specs.Parts.{unnumbered};
+ghost use Rattle.gv_threads.specs.Places.{AreTimed};
 ghost use Rattle.gv_threads.specs.Running.{AreNamed, IsNamed};
 ghost use Rattle.gv_threads.specs.Script.{IsFor, IsOfLine};
 
 use crate::script::ThreadsScript;
-use gv_lines::{ClauseList, Line};
-use gv_text::{LineFault, Names, ScriptFault, asked_by};
+use gv_lines::{Clause, ClauseList, Line};
+use gv_text::{LineFault, Names, ScriptFault, TimelineNames, asked_by, point_named};
 use gv_types::Request;
 use std::alloc::Global;
+
+/// The queue that some clauses ask for. None where they name a timeline that is not declared.
+pub fn queue_asked(timelines: &TimelineNames, clauses: &ClauseList<'_>) -> Option<u64>
+    ensures asked { IfSome result (λ queue. queue ≡ queue_asked clauses.now) }
+    ensures timed { OnSome result (AreTimed timelines.now.names clauses.now) }
+    ensures none { IfNone result (¬ AreTimed timelines.now.names clauses.now) }
+{
+    let mut asked = None;
+    let mut left = clauses.again();
+    while let Some(clause) = left.take() {
+        match clause {
+            Clause::Wait { point } | Clause::Signal { point } => {
+                point_named(timelines, &point)?;
+            }
+            Clause::Queue { queue } => asked = asked.or(Some(queue)),
+            Clause::Change { .. } => {}
+        }
+    }
+    Some(asked.unwrap_or(0))
+}
 
 /// Adds a request to those of a script. Whether there was memory for it.
 fn keep(requests: &mut Vec<(u64, Request)>, entry: (u64, Request)) -> bool
@@ -34,6 +57,7 @@ impl ThreadsScript<'_> {
         ensures requests { IfOk result (λ requests. All (IsFor self.now.queues most_timelines) requests.items) }
         ensures named { IfOk result (λ requests.
             AreNamed buffers.now.entries self.now.timelines (unnumbered self.now.requests) requests.items) }
+        ensures bad_line { (line : ℕ) → result ≡ Err (ScriptFault.BadLine line) → NamesNone buffers.now.entries self.now line }
         ensures ends { IsOfLine result }
     {
         let mut requests = Vec::new(alloc);
@@ -67,17 +91,33 @@ impl ThreadsScript<'_> {
     ) -> Result<(u64, Request), LineFault>
         ensures fits { IfOk result (IsFor self.now.queues most_timelines) }
         ensures named { IfOk result (IsNamed buffers.now.entries self.now.timelines clauses.now) }
+        ensures bad { result ≡ Err LineFault.Bad
+            → ¬ MayBePut self.now.queues buffers.now.entries self.now.timelines clauses.now }
+        ensures memory { result ≢ Err LineFault.Bad
+            → MayBePut self.now.queues buffers.now.entries self.now.timelines clauses.now }
     {
-        let (queue, request) = asked_by(alloc, buffers, &self.timelines, clauses)?;
-        if queue >= self.queues {
-            return Err(LineFault::Bad);
+        match asked_by(alloc, buffers, &self.timelines, clauses) {
+            Ok((queue, request)) => {
+                if queue >= self.queues {
+                    return Err(LineFault::Bad);
+                }
+                Ok((queue, request))
+            }
+            Err(fault) => {
+                if clauses.queue() >= self.queues {
+                    return Err(LineFault::Bad);
+                }
+                Err(fault)
+            }
         }
-        Ok((queue, request))
     }
 
     /// That each buffer which the last part names is declared.
     fn check_questions(&self, buffers: &Names) -> Result<(), ScriptFault>
-        ensures { IsOfLine result }
+        ensures bad_line { (line : ℕ) → result ≡ Err (ScriptFault.BadLine line)
+            → IsFirstBad (HasBuffer buffers.now.entries) self.now.questions line }
+        ensures ends { IsOfLine result }
+        ensures no_memory { result ≢ Err ScriptFault.OutOfMemory }
     {
         for (number, question) in &self.questions {
             if let Line::Uses { name } = question {

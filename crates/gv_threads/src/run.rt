@@ -50,7 +50,7 @@ pub fn run_threads<R: Threads + Wait + Sync, S: Source, K: Sink>(
     ensures text { OnOk result ((script text : List ℕ)
         × IfSome (S.remaining reader.old) (λ bytes. script ≡ bytes)
         × IsThreadsRun script count text × Appends (K.written writer.old) (K.written writer.new) text) }
-    // A bad line is the first that may not stand where it does. Where each may, it is one of a buffer's name.
+    // A bad line is the first that may not stand where it does, unless each may.
     ensures bad_line { (line : ℕ) → result ≡ Err (ThreadsFault.Script (ScriptFault.BadLine line)) → (script : List ℕ)
         × IfSome (S.remaining reader.old) (λ bytes. script ≡ bytes) × IsBadLine script count line }
     ensures ends { RunsAs (S.failed reader.old) (S.failed reader.new) (K.failed writer.old) (K.failed writer.new) count result }

@@ -1,19 +1,19 @@
 //! Scripts for running queues, read: what stands before the workers, the requests, and what is asked behind.
-ghost use Rattle.std.specs.Prelude.{◌≡◌, ◌≤◌, ◌++◌, ◌∷◌, [], ℕ, List, Err, IfOk, IfErr, IfSome, IfNone, IsErr, OnOk, OnSome, length, true};
+ghost use Rattle.std.specs.Prelude.{◌≡◌, ◌≤◌, ◌++◌, ◌∷◌, [], ℕ, List, Err, IfOk, IfErr, IsErr, OnOk, length, true};
 ghost use Rattle.gv_types.specs.Limits.{IsFromOneTo};
 ghost use Rattle.gv_vm.specs.Outcomes.{queues};
 ghost use Rattle.gv_text.specs.Reading.{script_limit};
 ghost use Rattle.gv_lines.specs.declared.line.Line.{Line as TheLine};
-ghost use Rattle.gv_lines.specs.Clause.{queue_asked};
 ghost use Rattle.gv_threads.specs.Parts.{AreLinesOf, Keeps, areas_in, last_of, limits_in, settings_in, timelines_in, unnumbered};
-ghost use Rattle.gv_threads.specs.Places.{AreTimed, MayAsk, MayFollow, MaySet, MayStand, MayStandAll, MayStandText, StopsReading, place_behind, place_of, stages_in};
+ghost use Rattle.gv_threads.specs.Places.{MayAsk, MayFollow, MaySet, MayStand, MayStandAll, MayStandText, StopsReading, place_behind, place_of, stages_in};
 ghost use Rattle.gv_threads.specs.Reading.{Adds, IsKept};
 ghost use Rattle.gv_threads.specs.declared.setting.Setting.{Setting as TheSetting};
 ghost use Rattle.gv_threads.specs.Script.{IsOfLine, most_places};
 
+use crate::requests::queue_asked;
 use crate::setting::Setting;
-use gv_lines::{Clause, ClauseList, Line, parse_line, split_once};
-use gv_text::{LineFault, ScriptFault, Stage, TimelineNames, point_named};
+use gv_lines::{ClauseList, Line, parse_line, split_once};
+use gv_text::{LineFault, ScriptFault, Stage, TimelineNames};
 use gv_types::{Bounds, Limits};
 use gv_vm::QUEUES;
 use std::alloc::Global;
@@ -273,26 +273,6 @@ impl<'a> ThreadsScript<'a> {
     {
         self.depth as usize
     }
-}
-
-/// The queue that some clauses ask for. None where they name a timeline that is not declared.
-fn queue_asked(timelines: &TimelineNames, clauses: &ClauseList<'_>) -> Option<u64>
-    ensures asked { IfSome result (λ queue. queue ≡ queue_asked clauses.now) }
-    ensures timed { OnSome result (AreTimed timelines.now.names clauses.now) }
-    ensures none { IfNone result (¬ AreTimed timelines.now.names clauses.now) }
-{
-    let mut asked = None;
-    let mut left = clauses.again();
-    while let Some(clause) = left.take() {
-        match clause {
-            Clause::Wait { point } | Clause::Signal { point } => {
-                point_named(timelines, &point)?;
-            }
-            Clause::Queue { queue } => asked = asked.or(Some(queue)),
-            Clause::Change { .. } => {}
-        }
-    }
-    Some(asked.unwrap_or(0))
 }
 
 /// Keeps something of the line of this number. Whether there was memory for it.
