@@ -5,9 +5,19 @@ use Rattle.std.proofs.lemmas.List.Elements.{All-nil, All-cons, All-append}
 use Rattle.gv_types.specs.declared.mapping.BufferId.{BufferId}
 use Rattle.gv_lines.specs.declared.line.Line.{Line}
 use Rattle.gv_lines.specs.declared.line.Line.TheVariants as line
-use Rattle.gv_text.specs.State.{Buffers, buffer_named}
-use Rattle.gv_threads.specs.Naming.{HasBuffer, IsFirstBad}
-use Rattle.gv_threads.specs.Parts.{unnumbered}
+use Rattle.gv_vm.specs.State.{Machine}
+use Rattle.gv_text.specs.Asking.{op_named}
+use Rattle.gv_text.specs.Line.{IsGood, Of}
+use Rattle.gv_text.specs.Question.{with_machine}
+use Rattle.gv_text.specs.Script.{fault_at}
+use Rattle.gv_text.specs.State.{Buffers, State, buffer_named, start, timeline_named}
+use Rattle.gv_text.specs.declared.fault.LineFault.{LineFault}
+use Rattle.gv_text.specs.declared.fault.LineFault.TheVariants.{Bad, OutOfMemory}
+use Rattle.gv_text.specs.declared.fault.ScriptFault.{ScriptFault}
+use Rattle.gv_text.specs.declared.fault.ScriptFault.TheVariants.{BadLine}
+use Rattle.gv_threads.specs.Naming.{HasBuffer, HasNames, IsFirstBad}
+use Rattle.gv_threads.specs.Parts.{IsAsked, unnumbered}
+use Rattle.gv_threads.specs.Running.{IsAnswered}
 use Rattle.gv_threads.proofs.Texts.{unnumbered_next}
 
 split_at : {X : Type 0} (xs : List X) (k : ℕ) (x : X) → k < length xs → x ≡ get_or xs k x → xs ≡ take k xs ++ x ∷ drop (suc k) xs
@@ -51,3 +61,34 @@ has_buffer q name buffers o is found some = subst (λ (l : Line). HasBuffer buff
 pub has_other : (q : Line) (buffers : Buffers) → ((name : List ℕ) → q ≡ line.Uses name → ⊥) → HasBuffer buffers q
 has_other (line.Uses name) buffers other = absurd (other name refl)
 has_other q buffers other = tt
+
+of_some : {X : Type 0} (o : Option X) (P : X → Type 0) → Of o P → IsSome o
+of_some None P h = absurd h
+of_some (Some x) P h = refl
+
+-- a question that was answered has its names
+pub answered_has : (q : Line) (buffers : Buffers) (timelines : List (List ℕ)) (m : Machine) (text : List ℕ) → IsAnswered buffers timelines m q text →
+    HasNames buffers timelines q
+answered_has (line.Value name) buffers timelines m text answer = of_some (timeline_named timelines name) _ answer
+answered_has (line.Uses name) buffers timelines m text answer = of_some (buffer_named buffers name) _ (answer start)
+answered_has (line.Plan operation) buffers timelines m text answer = of_some (op_named buffers operation) _ (answer start)
+answered_has (line.Told queue) buffers timelines m text answer = (answer start).0
+answered_has q buffers timelines m text answer = tt
+
+-- a question that has its names isn't bad
+pub has_good : (q : Line) (buffers : Buffers) (timelines : List (List ℕ)) (m : Machine) (s : State) → IsAsked q → ((name : List ℕ) → q ≡ line.Value name → ⊥) →
+    HasNames buffers timelines q → IsGood q (with_machine buffers timelines m s)
+has_good (line.Value name) buffers timelines m s asked other has = absurd (other name refl)
+has_good (line.Uses name) buffers timelines m s asked other has = has
+has_good (line.Plan operation) buffers timelines m s asked other has = has
+has_good line.Map buffers timelines m s asked other has = tt
+has_good (line.At addr) buffers timelines m s asked other has = tt
+has_good line.Tables buffers timelines m s asked other has = tt
+has_good line.Journal buffers timelines m s asked other has = tt
+has_good (line.Told queue) buffers timelines m s asked other has = has
+has_good q buffers timelines m s asked other has = absurd asked
+
+-- a bad line is told by its number
+pub bad_at : (number line : ℕ) (fault : LineFault) (told : ScriptFault) → told ≡ fault_at number fault → told ≡ BadLine line → (fault ≡ Bad) × (number ≡ line)
+bad_at number line Bad told is same = let here : number ≡ line = cc in (refl, here)
+bad_at number line OutOfMemory told is same = absurd (cc)

@@ -5,8 +5,10 @@ use Rattle.gv_lines.specs.Clause.{queue_asked}
 use Rattle.gv_lines.specs.declared.clause.Clause.{Clause}
 use Rattle.gv_lines.specs.declared.line.Line.{Line}
 use Rattle.gv_lines.specs.declared.line.Line.TheVariants as line
+use Rattle.gv_vm.specs.Outcomes.{queues}
+use Rattle.gv_text.specs.Asking.{op_named}
 use Rattle.gv_text.specs.Line.{AreDeclared}
-use Rattle.gv_text.specs.State.{Buffers, buffer_named}
+use Rattle.gv_text.specs.State.{Buffers, buffer_named, timeline_named}
 use Rattle.gv_threads.specs.Parts.{unnumbered}
 use Rattle.gv_threads.specs.Script.{ThreadsState}
 
@@ -18,6 +20,13 @@ MayBePut queues buffers timelines clauses = (queue_asked clauses < queues) × Ar
 abbrev pub HasBuffer : Buffers → Line → Type 0
 HasBuffer buffers (line.Uses name) = IsSome (buffer_named buffers name)
 HasBuffer buffers other = Unit {0}
+
+-- what a question names is there
+abbrev pub HasNames : Buffers → List (List ℕ) → Line → Type 0
+HasNames buffers timelines (line.Value name) = IsSome (timeline_named timelines name)
+HasNames buffers timelines (line.Plan operation) = IsSome (op_named buffers operation)
+HasNames buffers timelines (line.Told queue) = queue < queues
+HasNames buffers timelines question = HasBuffer buffers question
 
 -- this holds of each entry before that of this number, and not of that one
 pub record IsFirstBad {X : Type 0} (holds : X → Type 0) (entries : List (ℕ × X)) (number : ℕ) : Type 0 where

@@ -1,9 +1,10 @@
 //! The last part of a threads script, answered.
-ghost use Rattle.std.specs.Prelude.{◌≡◌, ◌≤◌, ◌++◌, [], List, ℕ, OnOk, length, string_bytes};
+ghost use Rattle.std.specs.Prelude.{◌≡◌, ◌≤◌, ◌++◌, [], List, ℕ, Err, OnOk, length, string_bytes};
 ghost use Rattle.std.specs.Io.KnownBytes.{Appends, append_known};
 ghost use Rattle.std.specs.List.{All};
 ghost use Rattle.gv_sync.specs.Seats.{IsSeatOf, count_of, most_timelines};
 ghost use Rattle.gv_text.specs.Reading.{TellsWrites};
+ghost use Rattle.gv_threads.specs.Naming.{HasNames, IsFirstBad};
 ghost use Rattle.gv_threads.specs.Parts.{IsAsked, unnumbered};
 ghost use Rattle.gv_threads.specs.Running.{AreAnswered, IsAnswered};
 ghost use Rattle.gv_threads.specs.Script.{EndsByLine};
@@ -32,6 +33,7 @@ fn ask(
     ensures done { OnOk result ((text : List ℕ)
         × IsAnswered ground.old.buffers.entries names.now.names ground.old.vm question.now text
         × (string_bytes out.new ≡ string_bytes out.old ++ text)) }
+    ensures bad { result ≡ Err LineFault.Bad → ¬ HasNames ground.old.buffers.entries names.now.names question.now }
 {
     match question {
         Line::Value { name } => {
@@ -58,6 +60,8 @@ impl ThreadsScript<'_> {
         ensures answered { OnOk result ((text : List ℕ)
             × AreAnswered ground.old.buffers.entries self.now.timelines ground.old.vm (unnumbered self.now.questions) text
             × Appends (W.written writer.old) (W.written writer.new) text) }
+        ensures bad_line { (line : ℕ) → result ≡ Err (ScriptFault.BadLine line)
+            → IsFirstBad (HasNames ground.old.buffers.entries self.now.timelines) self.now.questions line }
         ensures ends { EndsByLine result }
         ensures write_fault { TellsWrites (W.failed writer.old) (W.failed writer.new) result }
     {
@@ -85,6 +89,8 @@ impl ThreadsScript<'_> {
         ensures answered { OnOk result ((text : List ℕ)
             × AreAnswered ground.old.buffers.entries self.now.timelines ground.old.vm (unnumbered self.now.questions) text
             × Appends (W.written writer.old) (append_known (W.written writer.new) output.new) text) }
+        ensures bad_line { (line : ℕ) → result ≡ Err (ScriptFault.BadLine line)
+            → IsFirstBad (HasNames ground.old.buffers.entries self.now.timelines) self.now.questions line }
         ensures ends { EndsByLine result }
         ensures fault { TellsWrites (W.failed writer.old) (W.failed writer.new) result }
     {

@@ -1,6 +1,8 @@
 use Rattle.std.proofs.Common.{refl}
 use Rattle.gv_text.proofs.AnswerLemmas.{then_ok}
 use Rattle.gv_threads.proofs.Asks.{is_answered, is_question}
+use Rattle.gv_text.specs.State.{start}
+use Rattle.gv_threads.proofs.Named.{has_good}
 use Rattle.gv_threads.proofs.last.ask.Goals as goal
 
 pub returns-in_default : goal.returns-in_default
@@ -12,4 +14,5 @@ returns-in_default c = record {
   done = then_ok c.answer.result _ _
       (λ found. (found.0, is_answered c.args.question.now _ _ _ found.0 c.in_default.not-Value found.1, found.2))
       (c.answer.ensures.done (is_question c.args.question.now c.requires.asked c.in_default.not-Value));
+  bad = λ is has. c.answer.ensures.bad is start (has_good c.args.question.now c.args.ground.now.buffers.entries c.args.names.now.names c.args.ground.now.vm start c.requires.asked c.in_default.not-Value has);
 }

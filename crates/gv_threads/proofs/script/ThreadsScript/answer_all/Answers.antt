@@ -1,10 +1,15 @@
-use Rattle.std.proofs.Common.{◌≡◌, ◌<◌, ◌∙◌, ◌++◌, List, ℕ, length, get_or, take, ap, sym, subst, take_all, rules}
+use Rattle.std.proofs.Common.{Err, ◌≡◌, ◌<◌, ◌∙◌, ◌++◌, List, ℕ, length, get_or, take, ap, sym, subst, take_all, rules}
 use Rattle.std.specs.Io.KnownBytes.{Appends, append_known}
 use Rattle.std.proofs.KnownBytes.{Appends-trans}
 use Rattle.gv_lines.specs.declared.line.Line.{Line}
+use Rattle.gv_text.specs.State.{Register}
+use Rattle.gv_text.specs.declared.fault.LineFault.{LineFault}
+use Rattle.gv_text.specs.declared.fault.ScriptFault.TheVariants.{BadLine}
+use Rattle.gv_threads.specs.Naming.{HasNames, IsFirstBad}
 use Rattle.gv_threads.specs.Parts.{unnumbered}
 use Rattle.gv_threads.specs.Running.{AreAnswered, IsAnswered}
 use Rattle.gv_threads.proofs.Asks.{asked_at, same_answer}
+use Rattle.gv_threads.proofs.Named.{answered_has, bad_at, first_bad, good_next}
 use Rattle.gv_threads.proofs.Texts.{answered_more, unnumbered_next}
 use Rattle.gv_threads.proofs.script.ThreadsScript.answer_all.Goals as goal
 
@@ -36,6 +41,8 @@ loop-number-preserved g c =
       timelines = c.ask-done.ensures.timelines ∙ inv.timelines;
       vm = c.ask-done.ensures.vm ∙ inv.vm;
       buffers = c.ask-done.ensures.buffers ∙ inv.buffers;
+      good = good_next (HasNames c.args.ground.now.buffers.entries c.args.self.now.timelines) questions k item below is inv.good
+          (answered_has item.1 c.args.ground.now.buffers.entries c.args.self.now.timelines c.args.ground.now.vm found.0 here);
       text = inv.text ++ found.0;
       ran = subst (λ (qs : List Line). AreAnswered c.args.ground.now.buffers.entries c.args.self.now.timelines c.args.ground.now.vm qs (inv.text ++ found.0))
           (sym (unnumbered_next questions k item below is))
@@ -53,3 +60,21 @@ returns-clause-answered g c =
       subst (λ (qs : List (ℕ × Line)). AreAnswered c.args.ground.now.buffers.entries c.args.self.now.timelines c.args.ground.now.vm (unnumbered qs) inv.text) all inv.ran,
       inv.wrote,
     )
+
+pub returns-in-Err-clause-bad_line : goal.returns-in-Err-clause-bad_line
+returns-in-Err-clause-bad_line g c = λ line same.
+    let inv = c.loop-number.invariant in
+    let k : ℕ = c.loop-number.number-index in
+    let questions : List (ℕ × Line) = c.args.self.now.questions in
+    let item : ℕ × Line = c.loop-number-item.result in
+    let below : k < length questions = search rules in
+    let is : item ≡ get_or questions k item = search rules in
+    let told : c.at.result ≡ BadLine line = cc in
+    let bad = bad_at item.0 line c.in-Err.fault c.at.result c.at.ensures told in
+    let names : c.self.inside.timelines.names ≡ c.args.self.now.timelines = search rules in
+    let lacks : ¬ HasNames c.loop-number.ground.buffers.entries c.self.inside.timelines.names item.1 = c.ask-done.ensures.bad (c.in-Err.is ∙ ap (λ (f : LineFault). Err f) bad.0) in
+    let same_names : ¬ HasNames c.args.ground.now.buffers.entries c.args.self.now.timelines item.1 =
+    subst (λ (ns : List (List ℕ)). ¬ HasNames c.args.ground.now.buffers.entries ns item.1) names
+    (subst (λ (b : Register). ¬ HasNames b.entries c.self.inside.timelines.names item.1) inv.buffers lacks) in
+    subst (λ (n : ℕ). IsFirstBad (HasNames c.args.ground.now.buffers.entries c.args.self.now.timelines) questions n) bad.1
+    (first_bad (HasNames c.args.ground.now.buffers.entries c.args.self.now.timelines) questions k item below is inv.good same_names)

@@ -1,6 +1,8 @@
 use Rattle.std.proofs.Common.{◌≡◌, List, ℕ, take}
+use Rattle.std.specs.List.{All}
 use Rattle.std.specs.Io.KnownBytes.{Appends, append_known}
 use Rattle.gv_sync.specs.Seats.{IsSeatOf}
+use Rattle.gv_threads.specs.Naming.{HasNames}
 use Rattle.gv_threads.specs.Parts.{unnumbered}
 use Rattle.gv_threads.specs.Running.{AreAnswered}
 use Rattle.gv_threads.proofs.script.ThreadsScript.answer_all.Given as goal
@@ -11,6 +13,7 @@ invariant-loop-number g l = record {
   timelines : l.ground.timelines ≡ l.initial.ground.timelines;
   vm : l.ground.vm ≡ l.initial.ground.vm;
   buffers : l.ground.buffers ≡ l.initial.ground.buffers;
+  good : All (HasNames l.initial.ground.buffers.entries l.self.timelines) (unnumbered (take l.number-index l.self.questions));
   text : List ℕ;
   ran : AreAnswered l.initial.ground.buffers.entries l.self.timelines l.initial.ground.vm (unnumbered (take l.number-index l.self.questions)) text;
   wrote : Appends (g.W.Sink.written l.initial.writer) (append_known (g.W.Sink.written l.writer) l.output) text;
