@@ -10,7 +10,7 @@ use Rattle.gv_types.specs.declared.mapping.BufferId.{BufferId}
 use Rattle.gv_buffers.specs.declared.usage.Usage.TheVariants.{Read}
 use Rattle.gv_buffers.specs.declared.usage.User.{User}
 use Rattle.gv_buffers.specs.Users.{HaveNoConflict}
-use Rattle.gv_buffers.specs.Table.{Buffer, Table, buffer, has_id, IsLive, fresh, without, changed, only, left_by, left_everywhere, count_below, IsBuffer, IsCreated, IsTable}
+use Rattle.gv_buffers.specs.Buffers.{Buffer, BuffersState, buffer, has_id, IsLive, fresh, without, changed, only, left_by, left_everywhere, count_below, IsBuffer, IsCreated, IsTable}
 
 -- a change that keeps what is looked for
 pub find-map : (test : Buffer → Bool) (f : Buffer → Buffer) (bs : List Buffer) → ((b : Buffer) → test (f b) ≡ test b) → find test (map f bs) ≡ option_map f (find test bs)
@@ -37,20 +37,20 @@ find-filter_none test (b ∷ bs) =
     [ true ↦ (λ _. find-filter_none test bs) | false ↦ (λ e. rw e (find-filter_none test bs)) ] refl
 
 -- one more buffer that is not looked for
-pub find-insert_other : (test : Buffer → Bool) (b : Buffer) (place : ℕ) (bs : List Buffer) → test b ≡ false → find test (insert bs place b) ≡ find test bs
+pub find-insert_other : (test : Buffer → Bool) (b : Buffer) (index : ℕ) (bs : List Buffer) → test b ≡ false → find test (insert bs index b) ≡ find test bs
 find-insert_other test b zero [] other = rw other refl
-find-insert_other test b (suc place) [] other = rw other refl
+find-insert_other test b (suc index) [] other = rw other refl
 find-insert_other test b zero (x ∷ bs) other = rw other refl
-find-insert_other test b (suc place) (x ∷ bs) other = rw (find-insert_other test b place bs other) refl
+find-insert_other test b (suc index) (x ∷ bs) other = rw (find-insert_other test b index bs other) refl
 
 -- one more buffer that is looked for, and no other is
-pub find-insert_here : (test : Buffer → Bool) (b : Buffer) (place : ℕ) (bs : List Buffer) → test b ≡ true → All (λ x. test x ≡ false) bs → find test (insert bs place b) ≡ Some b
+pub find-insert_here : (test : Buffer → Bool) (b : Buffer) (index : ℕ) (bs : List Buffer) → test b ≡ true → All (λ x. test x ≡ false) bs → find test (insert bs index b) ≡ Some b
 find-insert_here test b zero [] here others = rw here refl
-find-insert_here test b (suc place) [] here others = rw here refl
+find-insert_here test b (suc index) [] here others = rw here refl
 find-insert_here test b zero (x ∷ bs) here others = rw here refl
-find-insert_here test b (suc place) (x ∷ bs) here others =
+find-insert_here test b (suc index) (x ∷ bs) here others =
     let head : test x ≡ false = All-head (λ y. test y ≡ false) x bs others in
-    let rest : find test (insert bs place b) ≡ Some b = find-insert_here test b place bs here (All-tail (λ y. test y ≡ false) x bs others) in
+    let rest : find test (insert bs index b) ≡ Some b = find-insert_here test b index bs here (All-tail (λ y. test y ≡ false) x bs others) in
     rw (head, rest) refl
 
 -- what holds of each buffer holds of the one that is found
@@ -90,7 +90,7 @@ lives_from count P None holds = absurd holds
 lives_from count P (Some b) holds = refl
 
 -- a buffer of whose count something is said is alive
-pub counted_lives : (t : Table) (id : BufferId) (count : Buffer → ℕ) (P : ℕ → Type 0) → IsSomeAnd (option_map count (buffer t id)) P → IsLive t id
+pub counted_lives : (t : BuffersState) (id : BufferId) (count : Buffer → ℕ) (P : ℕ → Type 0) → IsSomeAnd (option_map count (buffer t id)) P → IsLive t id
 counted_lives t id count P holds = lives_from count P (buffer t id) holds
 
 live_found : (o : Option Buffer) → IsSome o → (b : Buffer) × (o ≡ Some b)
@@ -98,54 +98,54 @@ live_found None lives = absurd (false≢true lives)
 live_found (Some b) lives = (b, refl)
 
 -- a live id finds a buffer, of which holds what holds of each
-pub found_live : (P : Buffer → Type 0) (t : Table) (id : BufferId) → All P t.live → IsLive t id → (b : Buffer) × (buffer t id ≡ Some b) × P b
+pub found_live : (P : Buffer → Type 0) (t : BuffersState) (id : BufferId) → All P t.live → IsLive t id → (b : Buffer) × (buffer t id ≡ Some b) × P b
 found_live P t id all lives =
     let found = live_found (buffer t id) lives in
     (found.0, found.1, found_from_All P (has_id id) t.live found.0 all found.1)
 
 -- a new buffer stands among the live ones
-pub live_of_made : (old new : Table) (id : BufferId) (pages : ℕ) → IsCreated old new id pages →
+pub live_of_made : (old new : BuffersState) (id : BufferId) (pages : ℕ) → IsCreated old new id pages →
     new.live ≡ insert old.live (count_below id.index old.live) (fresh id pages)
 live_of_made old new id pages made =
-    ap (λ (t : Table). t.live) made.state ∙ ap (λ (i : BufferId). insert old.live (count_below i.index old.live) (fresh i pages)) (sym made.id_is)
+    ap (λ (t : BuffersState). t.live) made.state ∙ ap (λ (i : BufferId). insert old.live (count_below i.index old.live) (fresh i pages)) (sym made.id_is)
 
 -- how many were made before it is its generation
-generation_of_made : (old new : Table) (id : BufferId) (pages : ℕ) → IsCreated old new id pages → id.generation ≡ old.made
+generation_of_made : (old new : BuffersState) (id : BufferId) (pages : ℕ) → IsCreated old new id pages → id.generation ≡ old.made
 generation_of_made old new id pages made = ap (λ (i : BufferId). i.generation) made.id_is
 
-pub made_is_found : (old new : Table) (id : BufferId) (pages : ℕ) → IsCreated old new id pages → buffer new id ≡ Some (fresh id pages)
+pub made_is_found : (old new : BuffersState) (id : BufferId) (pages : ℕ) → IsCreated old new id pages → buffer new id ≡ Some (fresh id pages)
 made_is_found old new id pages made =
     ap (find (has_id id)) (live_of_made old new id pages made)
     ∙ find-insert_here (has_id id) (fresh id pages) (count_below id.index old.live) old.live (is_same_id-itself id)
     (λ k d within. let index : eqb (get_or old.live k d).id.index id.index ≡ false = ne_eqb _ _ (made.free k d within) in rw index refl)
 
-pub others_stay_made : (old new : Table) (id other : BufferId) (pages : ℕ) → IsCreated old new id pages → other ≢ id → buffer new other ≡ buffer old other
+pub others_stay_made : (old new : BuffersState) (id other : BufferId) (pages : ℕ) → IsCreated old new id pages → other ≢ id → buffer new other ≡ buffer old other
 others_stay_made old new id other pages made apart =
     ap (find (has_id other)) (live_of_made old new id pages made)
     ∙ find-insert_other (has_id other) (fresh id pages) (count_below id.index old.live) old.live (is_same_id-other id other apart)
 
-pub dead_stays_dead : (old new : Table) (id dead : BufferId) (pages : ℕ) → IsCreated old new id pages → dead.generation < old.made → buffer old dead ≡ None → buffer new dead ≡ None
+pub dead_stays_dead : (old new : BuffersState) (id dead : BufferId) (pages : ℕ) → IsCreated old new id pages → dead.generation < old.made → buffer old dead ≡ None → buffer new dead ≡ None
 dead_stays_dead old new id dead pages made before gone =
     let apart : dead ≢ id = (λ same. let g : dead.generation ≡ id.generation = ap (λ (i : BufferId). i.generation) same in absurd (omega (arith, generation_of_made old new id pages made, before))) in
     others_stay_made old new id dead pages made apart ∙ gone
 
-pub destroyed_is_dead : (t : Table) (id : BufferId) → buffer (without id t) id ≡ None
+pub destroyed_is_dead : (t : BuffersState) (id : BufferId) → buffer (without id t) id ≡ None
 destroyed_is_dead t id = find-filter_none (has_id id) t.live
 
-pub others_stay_destroyed : (t : Table) (id other : BufferId) → other ≢ id → buffer (without id t) other ≡ buffer t other
+pub others_stay_destroyed : (t : BuffersState) (id other : BufferId) → other ≢ id → buffer (without id t) other ≡ buffer t other
 others_stay_destroyed t id other apart =
     find-filter (has_id other) (λ b. not (has_id id b)) t.live (λ b has.
     let is : b.id ≡ other = same_id b.id other has in
     let differs : is_same_id b.id id ≡ false = is_same_id-other b.id id (λ same. apart (sym is ∙ sym same)) in
     rw differs refl)
 
-pub changed_is_found : (t : Table) (id other : BufferId) (change : Buffer → Buffer) → ((b : Buffer) → (change b).id ≡ b.id) →
+pub changed_is_found : (t : BuffersState) (id other : BufferId) (change : Buffer → Buffer) → ((b : Buffer) → (change b).id ≡ b.id) →
     buffer (changed id change t) other ≡ option_map (only id change) (buffer t other)
 changed_is_found t id other change keeps =
     find-map (has_id other) (only id change) t.live (λ b.
     elim (has_id id b) as (λ h. has_id other (cond h (change b) b) ≡ has_id other b) [ true ↦ ap (λ (i : BufferId). is_same_id i other) (keeps b) | false ↦ refl ])
 
-pub left_is_found : (t : Table) (id : BufferId) (job : ℕ) → buffer (left_everywhere job t) id ≡ option_map (left_by job) (buffer t id)
+pub left_is_found : (t : BuffersState) (id : BufferId) (job : ℕ) → buffer (left_everywhere job t) id ≡ option_map (left_by job) (buffer t id)
 left_is_found t id job = find-map (has_id id) (left_by job) t.live (λ b. refl)
 
 -- an element of a list, whatever is read past its end
@@ -173,7 +173,7 @@ both_read users one other pairs a b apart =
     (cases_lt b.0 a.0))
     (cases_lt a.0 b.0)
 
-pub no_two_jobs : (t : Table) (id : BufferId) (b : Buffer) (one other : User) → IsTable t → buffer t id ≡ Some b → Contains b.users one → Contains b.users other →
+pub no_two_jobs : (t : BuffersState) (id : BufferId) (b : Buffer) (one other : User) → IsTable t → buffer t id ≡ Some b → Contains b.users one → Contains b.users other →
     one.job ≢ other.job → (one.usage ≡ Read) × (other.usage ≡ Read)
 no_two_jobs t id b one other table found a c apart =
     both_read b.users one other (found_from_All (IsBuffer t.made) (has_id id) t.live b table.buffers found).no_conflict a c apart

@@ -1,4 +1,4 @@
--- The users of a buffer after a join, by the place where the job stands.
+-- The users of a buffer after a join, by the index where the job stands.
 use Rattle.std.proofs.Common.{◌≡◌, ℕ, zero, suc, ◌+◌, ◌<◌, ◌≤◌, List, [], ◌∷◌, ◌++◌, length, get_or, set, Bool, true, false, cond, not, eqb, arith, refl, sym, ap, subst, Some, None, ltb, ⊎_elim}
 use Rattle.std.specs.List.{position_or_len}
 use Rattle.std.proofs.lemmas.Bool.{lt-ltb, cases_lt}
@@ -10,7 +10,7 @@ use Rattle.gv_buffers.specs.Users.{stronger, joined}
 abbrev pub is_of : ℕ → User → Bool
 is_of job user = eqb user.job job
 
--- a job that stands at place i gets the stronger usage there
+-- a job that stands at index i gets the stronger usage there
 pub set_joined : (job : ℕ) (usage w : Usage) (users : List User) (i : ℕ) (x y : User) → i < length users →
     x ≡ get_or users i x → y ≡ get_or users i y → w ≡ stronger y.usage usage → is_of job x ≡ true →
     ((k : ℕ) → k < i → is_of job (get_or users k x) ≡ false) →
@@ -34,7 +34,7 @@ push_joined_past job usage (user ∷ users) past =
     user ∷ (users ++ (record { job = job; usage = usage }) ∷ []) ≡ cond b (record user { usage = stronger user.usage usage } ∷ users) (user ∷ joined job usage users))
     [ true ↦ (λ h. absurd (omega arith)) | false ↦ (λ h. ap (λ us. user ∷ us) (push_joined_past job usage users (omega arith))) ] past
 
--- where no place is found, the search went past the end
+-- where no index is found, the search went past the end
 pub past_from_none : (n m : ℕ) → cond (ltb n m) (Some n) None ≡ None → m ≤ n
 past_from_none n m e =
     ⊎_elim (λ below. let t : ltb n m ≡ true = lt-ltb n m below in absurd (none-some n (sym (rw t at e)))) (λ past. past) (cases_lt n m)

@@ -1,17 +1,17 @@
--- A job leaves the buffers at some places, one after another.
+-- A job leaves the buffers at some indices, one after another.
 use Rattle.std.proofs.Common.{◌≡◌, ◌≢◌, ℕ, List, [], ◌∷◌, ◌++◌, true, false, cond, not, eqb, refl, sym, ◌∙◌, ap, inl, inr, ⊎_elim, Some, None, Option, Contains}
 use Rattle.std.specs.Option.{option_map}
 use Rattle.std.proofs.lemmas.Bool.{cases_eq}
 use Rattle.std.proofs.lemmas.List.Elements.{Contains-push_cases}
 use Rattle.gv_buffers.specs.declared.usage.User.{User}
 use Rattle.gv_buffers.specs.Users.{left}
-use Rattle.gv_buffers.specs.Table.{Buffer, left_by}
+use Rattle.gv_buffers.specs.Buffers.{Buffer, left_by}
 use Rattle.gv_buffers.specs.Slots.{SlotList, get, buffer_at, buffer_in, IsLeftOrSame}
 
--- a job has left the buffers at the places of the list, and each other is left or as it was
-pub record HaveLeft (job : ℕ) (old new : SlotList) (places : List ℕ) : Type 0 where
-  pub noted : (place : ℕ) → Contains places place → buffer_in new place ≡ option_map (left_by job) (buffer_in old place)
-  pub others : (place : ℕ) → IsLeftOrSame job old new place
+-- a job has left the buffers at the indices of the list, and each other is left or as it was
+pub record HaveLeft (job : ℕ) (old new : SlotList) (indices : List ℕ) : Type 0 where
+  pub noted : (index : ℕ) → Contains indices index → buffer_in new index ≡ option_map (left_by job) (buffer_in old index)
+  pub others : (index : ℕ) → IsLeftOrSame job old new index
 
 pub left-left : (job : ℕ) (users : List User) → left job (left job users) ≡ left job users
 left-left job [] = refl
@@ -24,20 +24,20 @@ pub left_by-left_by : (job : ℕ) (o : Option Buffer) → option_map (left_by jo
 left_by-left_by job None = refl
 left_by-left_by job (Some b) = rw left-left refl
 
--- one more place
-pub HaveLeft-more : (job : ℕ) (old mid new : SlotList) (places : List ℕ) (place : ℕ) → HaveLeft job old mid places →
-    buffer_in new place ≡ option_map (left_by job) (buffer_in mid place) →
-    ((key : ℕ) → key ≢ place → get new key ≡ get mid key) → HaveLeft job old new (places ++ place ∷ [])
-HaveLeft-more job old mid new places place before here others =
-    let at_place : buffer_in new place ≡ option_map (left_by job) (buffer_in old place) =
-    ⊎_elim (λ e. here ∙ ap (option_map (left_by job)) e ∙ left_by-left_by job (buffer_in old place))
-    (λ e. here ∙ ap (option_map (left_by job)) e) (before.others place) in
-    let elsewhere = λ (key : ℕ) (apart : key ≢ place). ap (option_map (buffer_at key)) (others key apart) in
+-- one more index
+pub HaveLeft-more : (job : ℕ) (old mid new : SlotList) (indices : List ℕ) (index : ℕ) → HaveLeft job old mid indices →
+    buffer_in new index ≡ option_map (left_by job) (buffer_in mid index) →
+    ((key : ℕ) → key ≢ index → get new key ≡ get mid key) → HaveLeft job old new (indices ++ index ∷ [])
+HaveLeft-more job old mid new indices index before here others =
+    let at_index : buffer_in new index ≡ option_map (left_by job) (buffer_in old index) =
+    ⊎_elim (λ e. here ∙ ap (option_map (left_by job)) e ∙ left_by-left_by job (buffer_in old index))
+    (λ e. here ∙ ap (option_map (left_by job)) e) (before.others index) in
+    let elsewhere = λ (key : ℕ) (apart : key ≢ index). ap (option_map (buffer_at key)) (others key apart) in
     record {
-      noted = λ key among. ⊎_elim (λ (e : key ≡ place). rw e at_place)
-          (λ (apart : key ≢ place). elsewhere key apart ∙ ⊎_elim (λ at. before.noted key at) (λ e. absurd (apart (sym e))) (Contains-push_cases places place key among))
-          (cases_eq key place);
-      others = λ key. ⊎_elim (λ (e : key ≡ place). inl (rw e at_place))
-          (λ (apart : key ≢ place). ⊎_elim (λ e. inl (elsewhere key apart ∙ e)) (λ e. inr (elsewhere key apart ∙ e)) (before.others key))
-          (cases_eq key place);
+      noted = λ key among. ⊎_elim (λ (e : key ≡ index). rw e at_index)
+          (λ (apart : key ≢ index). elsewhere key apart ∙ ⊎_elim (λ at. before.noted key at) (λ e. absurd (apart (sym e))) (Contains-push_cases indices index key among))
+          (cases_eq key index);
+      others = λ key. ⊎_elim (λ (e : key ≡ index). inl (rw e at_index))
+          (λ (apart : key ≢ index). ⊎_elim (λ e. inl (elsewhere key apart ∙ e)) (λ e. inr (elsewhere key apart ∙ e)) (before.others key))
+          (cases_eq key index);
     }

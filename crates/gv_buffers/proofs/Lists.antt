@@ -7,10 +7,10 @@ use Rattle.std.proofs.lemmas.List.Elements.{All-nil, All-cons}
 use Rattle.std.proofs.lemmas.Bool.{ne_eqb, eq-eqb, le-ltb, lt-ltb}
 use Rattle.gv_types.specs.declared.mapping.BufferId.{BufferId}
 use Rattle.gv_buffers.specs.declared.live_buffer.LiveBuffer.{LiveBuffer}
-use Rattle.gv_buffers.specs.Table.{Buffer, has_id, count_below}
+use Rattle.gv_buffers.specs.Buffers.{Buffer, has_id, count_below}
 use Rattle.gv_buffers.specs.Slots.{SlotList, buffer_at, buffers_from, of_generation}
 
--- what stands in the slot number k, seen as the buffer at place j
+-- what stands in the slot number k, seen as the buffer at index j
 abbrev pub seen_at : ℕ → SlotList → ℕ → Option Buffer
 seen_at j slots k = option_map (buffer_at j) (get_or slots k None)
 
@@ -95,7 +95,7 @@ All-buffers_from P i (None ∷ xs) each = All-buffers_from P (i + 1) xs (λ k j 
 All-buffers_from P i (Some x ∷ xs) each =
     All-cons P _ _ (each 0 i (omega arith) (buffer_at i x) refl) (All-buffers_from P (i + 1) xs (λ k j e b seen. each (suc k) j (omega arith) b seen))
 
--- the buffers from a place on have that index or a greater one
+-- the buffers from an index on have that index or a greater one
 pub buffers_from-above : (low i : ℕ) (xs : SlotList) → low < i → All (λ b. low < b.id.index) (buffers_from i xs)
 buffers_from-above low i [] below = All-nil (λ b. low < b.id.index)
 buffers_from-above low i (None ∷ xs) below = buffers_from-above low (i + 1) xs (omega arith)
@@ -117,7 +117,7 @@ AllPairs-buffers_from i (None ∷ xs) = AllPairs-buffers_from (i + 1) xs
 AllPairs-buffers_from i (Some x ∷ xs) =
     AllPairs-cons (buffer_at i x) (buffers_from (i + 1) xs) (buffers_from-above i (i + 1) xs (omega arith)) (AllPairs-buffers_from (i + 1) xs)
 
--- the buffers from a place on have no id of a lower index
+-- the buffers from an index on have no id of a lower index
 pub find-below : (id : BufferId) (i : ℕ) (xs : SlotList) → id.index < i → find (has_id id) (buffers_from i xs) ≡ None
 find-below id i [] below = refl
 find-below id i (None ∷ xs) below = find-below id (i + 1) xs (omega arith)
@@ -126,7 +126,7 @@ find-below id i (Some x ∷ xs) below =
     let rest : find (has_id id) (buffers_from (i + 1) xs) ≡ None = find-below id (i + 1) xs (omega arith) in
     rw apart rest
 
--- the buffer that an id finds is the one at its place, if that has its generation
+-- the buffer that an id finds is the one at its index, if that has its generation
 pub find-buffers_from : (id : BufferId) (i k : ℕ) (xs : SlotList) → id.index ≡ i + k →
     find (has_id id) (buffers_from i xs) ≡ option_map (buffer_at id.index) (of_generation id.generation (get_or xs k None))
 find-buffers_from id i k [] at = refl
@@ -149,7 +149,7 @@ find-buffers_from id i (suc k) (Some x ∷ xs) at =
 pub record IsPutIn (old new : List Buffer) (key : ℕ) (b : Buffer) : Type 0 where
   pub list : new ≡ insert old (count_below key old) b
 
--- none of the buffers from a place on has a lower index
+-- none of the buffers from an index on has a lower index
 count_below-above : (low i : ℕ) (xs : SlotList) → low ≤ i → count_below low (buffers_from i xs) ≡ 0
 count_below-above low i [] below = refl
 count_below-above low i (None ∷ xs) below = count_below-above low (i + 1) xs (omega arith)

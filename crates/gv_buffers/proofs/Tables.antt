@@ -12,10 +12,10 @@ use Rattle.gv_types.specs.declared.mapping.BufferId.{BufferId}
 use Rattle.gv_buffers.specs.declared.live_buffer.LiveBuffer.{LiveBuffer}
 use Rattle.gv_buffers.specs.declared.slots.Slots.{Slots}
 use Rattle.gv_buffers.specs.declared.buffers.Buffers.TheInside.{Inside}
-use Rattle.gv_buffers.specs.Table.{Buffer, Table, has_id, buffer, IsLive, IsTable, IsBuffer, only, changed}
-use Rattle.gv_buffers.specs.Places.{Notes, IsNoted}
+use Rattle.gv_buffers.specs.Buffers.{Buffer, BuffersState, has_id, buffer, IsLive, IsTable, IsBuffer, only, changed}
+use Rattle.gv_buffers.specs.Indices.{Notes, IsNoted}
 use Rattle.gv_buffers.specs.Slots.{SlotList, get, buffer_at, buffer_in, buffers_from, live_count, of_generation, live_at, Holds, AreNoted}
-use Rattle.gv_buffers.specs.Sound.{table_of, IsSound}
+use Rattle.gv_buffers.specs.Inside.{table_of, AreSoundBuffers}
 use Rattle.gv_buffers.proofs.FoundLemmas.{counted_lives}
 use Rattle.gv_buffers.proofs.Vacancy.{AreVacant-alike}
 use Rattle.gv_buffers.proofs.Lists.{seen_at, buffers_from-map, buffers_from-same, All-buffers_from, AllPairs-buffers_from, find-buffers_from}
@@ -32,7 +32,7 @@ of_generation_is generation i (Some x) v lives found =
     elim (eqb x.generation generation) as (λ t. IsSome (option_map (buffer_at i) (cond t (Some x) None)) → t ≡ true) [ true ↦ (λ _. refl) | false ↦ (λ h. absurd (false≢true h)) ] lives in
     rw (← same) (eqb-true _ _ t)
 
--- the slot at a live id's place holds a buffer of its generation
+-- the slot at a live id's index holds a buffer of its generation
 pub live_generation : (a : Inside) (id : BufferId) (v : LiveBuffer) → IsLive (table_of a) id → get a.slots.entries.items id.index ≡ Some v → v.generation ≡ id.generation
 live_generation a id v lives found =
     of_generation_is id.generation id.index (get a.slots.entries.items id.index) v (rw (buffer_from_slot a id) at lives) found
@@ -64,21 +64,21 @@ length-buffers_from i (None ∷ xs) = omega (arith, length-buffers_from (i + 1) 
 length-buffers_from i (Some x ∷ xs) = omega (arith, length-buffers_from (i + 1) xs, sum_by-cons (λ (o : Option LiveBuffer). cond (is_some o) 1 0) (Some x) xs)
 
 -- each buffer that is changed stands in its slot
-pub live_from_map : (f : Buffer → Buffer) (old new : SlotList) → ((place : ℕ) → buffer_in new place ≡ option_map f (buffer_in old place)) →
+pub live_from_map : (f : Buffer → Buffer) (old new : SlotList) → ((index : ℕ) → buffer_in new index ≡ option_map f (buffer_in old index)) →
     buffers_from 0 new ≡ map f (buffers_from 0 old)
 live_from_map f old new each =
     buffers_from-map f 0 old new (λ k j e. let same : j ≡ k = omega arith in rw same (each k))
 
-pub live_from_same : (old new : SlotList) → ((place : ℕ) → buffer_in new place ≡ buffer_in old place) → buffers_from 0 new ≡ buffers_from 0 old
+pub live_from_same : (old new : SlotList) → ((index : ℕ) → buffer_in new index ≡ buffer_in old index) → buffers_from 0 new ≡ buffers_from 0 old
 live_from_same old new each =
     buffers_from-same 0 old new (λ k j e. let same : j ≡ k = omega arith in rw same (each k))
 
 -- a change of one buffer, slot by slot
-only_elsewhere : (id : BufferId) (change : Buffer → Buffer) (place : ℕ) (o : Option LiveBuffer) → place ≢ id.index →
-    option_map (buffer_at place) o ≡ option_map (only id change) (option_map (buffer_at place) o)
-only_elsewhere id change place None apart = refl
-only_elsewhere id change place (Some x) apart =
-    let other : eqb place id.index ≡ false = ne_eqb place id.index apart in rw other refl
+only_elsewhere : (id : BufferId) (change : Buffer → Buffer) (index : ℕ) (o : Option LiveBuffer) → index ≢ id.index →
+    option_map (buffer_at index) o ≡ option_map (only id change) (option_map (buffer_at index) o)
+only_elsewhere id change index None apart = refl
+only_elsewhere id change index (Some x) apart =
+    let other : eqb index id.index ≡ false = ne_eqb index id.index apart in rw other refl
 
 pub only_here : (id : BufferId) (change : Buffer → Buffer) (v : LiveBuffer) → v.generation ≡ id.generation →
     only id change (buffer_at id.index v) ≡ change (buffer_at id.index v)
@@ -87,40 +87,40 @@ only_here id change v same =
     let generation : eqb v.generation id.generation ≡ true = eq-eqb _ _ same in
     rw (index, generation) refl
 
-pub places_from_only : (id : BufferId) (change : Buffer → Buffer) (old new : SlotList) (v : LiveBuffer) → get old id.index ≡ Some v → v.generation ≡ id.generation →
-    buffer_in new id.index ≡ option_map change (buffer_in old id.index) → ((place : ℕ) → place ≢ id.index → buffer_in new place ≡ buffer_in old place) →
-    (place : ℕ) → buffer_in new place ≡ option_map (only id change) (buffer_in old place)
-places_from_only id change old new v found same here others place =
+pub indices_from_only : (id : BufferId) (change : Buffer → Buffer) (old new : SlotList) (v : LiveBuffer) → get old id.index ≡ Some v → v.generation ≡ id.generation →
+    buffer_in new id.index ≡ option_map change (buffer_in old id.index) → ((index : ℕ) → index ≢ id.index → buffer_in new index ≡ buffer_in old index) →
+    (index : ℕ) → buffer_in new index ≡ option_map (only id change) (buffer_in old index)
+indices_from_only id change old new v found same here others index =
     ⊎_elim
-    (λ (e : place ≡ id.index).
+    (λ (e : index ≡ id.index).
     let now : buffer_in old id.index ≡ Some (buffer_at id.index v) = ap (option_map (buffer_at id.index)) found in
     let after : buffer_in new id.index ≡ option_map (only id change) (buffer_in old id.index) =
     here ∙ (rw now (ap (λ (b : Buffer). Some b) (sym (only_here id change v same)))) in
     rw e after)
-    (λ (apart : place ≢ id.index). others place apart ∙ only_elsewhere id change place (get old place) apart)
-    (cases_eq place id.index)
+    (λ (apart : index ≢ id.index). others index apart ∙ only_elsewhere id change index (get old index) apart)
+    (cases_eq index id.index)
 
 buffers_after : (f : Buffer → Buffer) (made : ℕ) (o : Option Buffer) (x : Buffer) → option_map f o ≡ Some x →
     ((y : Buffer) → o ≡ Some y → IsBuffer made y → IsBuffer made (f y)) → ((y : Buffer) → o ≡ Some y → IsBuffer made y) → IsBuffer made x
 buffers_after f made None x found keeps old = absurd (none-some x found)
 buffers_after f made (Some y) x found keeps old = subst (IsBuffer made) (same_Some _ _ found) (keeps y refl (old y refl))
 
-noted_after : (f : Buffer → Buffer) (old new : Notes) (place : ℕ) (o : Option Buffer) →
-    ((y : Buffer) → o ≡ Some y → AreNoted old place (Some y) → AreNoted new place (Some (f y))) → AreNoted old place o → AreNoted new place (option_map f o)
-noted_after f old new place None keeps were = were
-noted_after f old new place (Some y) keeps were = keeps y refl were
+noted_after : (f : Buffer → Buffer) (old new : Notes) (index : ℕ) (o : Option Buffer) →
+    ((y : Buffer) → o ≡ Some y → AreNoted old index (Some y) → AreNoted new index (Some (f y))) → AreNoted old index o → AreNoted new index (option_map f o)
+noted_after f old new index None keeps were = were
+noted_after f old new index (Some y) keeps were = keeps y refl were
 
-nothing_seen : (place : ℕ) (o : Option LiveBuffer) → option_map (buffer_at place) o ≡ None → o ≡ None
-nothing_seen place None seen = refl
-nothing_seen place (Some x) seen = absurd (none-some (buffer_at place x) (sym seen))
+nothing_seen : (index : ℕ) (o : Option LiveBuffer) → option_map (buffer_at index) o ≡ None → o ≡ None
+nothing_seen index None seen = refl
+nothing_seen index (Some x) seen = absurd (none-some (buffer_at index x) (sym seen))
 
 -- a sound table whose buffers are changed one by one
-pub sound_map : (a b : Inside) (f : Buffer → Buffer) → IsSound a → b.limit ≡ a.limit → b.made ≡ a.made → b.slots.vacant ≡ a.slots.vacant →
+pub sound_map : (a b : Inside) (f : Buffer → Buffer) → AreSoundBuffers a → b.limit ≡ a.limit → b.made ≡ a.made → b.slots.vacant ≡ a.slots.vacant →
     length b.slots.entries.items ≡ length a.slots.entries.items →
-    ((place : ℕ) → buffer_in b.slots.entries.items place ≡ option_map f (buffer_in a.slots.entries.items place)) →
-    ((place : ℕ) (x : Buffer) → buffer_in a.slots.entries.items place ≡ Some x → IsBuffer a.made x → IsBuffer a.made (f x)) →
-    ((place : ℕ) (x : Buffer) → buffer_in a.slots.entries.items place ≡ Some x → AreNoted a.places place (Some x) → AreNoted b.places place (Some (f x))) →
-    IsSound b
+    ((index : ℕ) → buffer_in b.slots.entries.items index ≡ option_map f (buffer_in a.slots.entries.items index)) →
+    ((index : ℕ) (x : Buffer) → buffer_in a.slots.entries.items index ≡ Some x → IsBuffer a.made x → IsBuffer a.made (f x)) →
+    ((index : ℕ) (x : Buffer) → buffer_in a.slots.entries.items index ≡ Some x → AreNoted a.indices index (Some x) → AreNoted b.indices index (Some (f x))) →
+    AreSoundBuffers b
 sound_map a b f sound limit made vacant long each keeps notes =
     let lists : buffers_from 0 b.slots.entries.items ≡ map f (buffers_from 0 a.slots.entries.items) = live_from_map f a.slots.entries.items b.slots.entries.items each in
     let same_len : live_count b.slots.entries.items ≡ live_count a.slots.entries.items =
@@ -128,15 +128,15 @@ sound_map a b f sound limit made vacant long each keeps notes =
     record {
       limit = rw limit sound.limit;
       few = rw (limit, same_len) sound.few;
-      buffers = λ place x found. rw made (buffers_after f a.made (buffer_in a.slots.entries.items place) x (sym (each place) ∙ found) (keeps place) (sound.buffers place));
-      noted = λ place. rw (each place) (noted_after f a.places b.places place (buffer_in a.slots.entries.items place) (notes place) (sound.noted place));
+      buffers = λ index x found. rw made (buffers_after f a.made (buffer_in a.slots.entries.items index) x (sym (each index) ∙ found) (keeps index) (sound.buffers index));
+      noted = λ index. rw (each index) (noted_after f a.indices b.indices index (buffer_in a.slots.entries.items index) (notes index) (sound.noted index));
       vacant = rw vacant (AreVacant-alike a.slots.entries.items b.slots.entries.items a.slots.vacant.items long same_len
-          (λ place nothing. nothing_seen place (get b.slots.entries.items place) (each place ∙ ap (λ o. option_map f (option_map (buffer_at place) o)) nothing)) sound.vacant);
+          (λ index nothing. nothing_seen index (get b.slots.entries.items index) (each index ∙ ap (λ o. option_map f (option_map (buffer_at index) o)) nothing)) sound.vacant);
       room = rw (vacant, long) sound.room;
     }
 
 -- what a sound table's buffers keep
-pub sound_table : (a : Inside) → IsSound a → IsTable (table_of a)
+pub sound_table : (a : Inside) → AreSoundBuffers a → IsTable (table_of a)
 sound_table a sound =
     record {
       limit = sound.limit;
@@ -146,47 +146,47 @@ sound_table a sound =
     }
 
 -- one buffer's counts were changed in its slot
-pub record IsCounted (b : Inside) (id : BufferId) (change : Buffer → Buffer) (t : Table) : Type 0 where
-  pub sound : IsSound b
+pub record IsCounted (b : Inside) (id : BufferId) (change : Buffer → Buffer) (t : BuffersState) : Type 0 where
+  pub sound : AreSoundBuffers b
   pub table : table_of b ≡ changed id change t
 
 only_keeps : (id : BufferId) (change : Buffer → Buffer) (made : ℕ) (x : Buffer) → (IsBuffer made x → IsBuffer made (change x)) → IsBuffer made x → IsBuffer made (only id change x)
 only_keeps id change made x keeps was =
     elim (has_id id x) as (λ t. IsBuffer made (cond t (change x) x)) [ true ↦ keeps was | false ↦ was ]
 
-only_notes : (id : BufferId) (change : Buffer → Buffer) (notes : Notes) (place : ℕ) (x : Buffer) → (change x).users ≡ x.users → AreNoted notes place (Some x) → AreNoted notes place (Some (only id change x))
-only_notes id change notes place x same was =
-    elim (has_id id x) as (λ t. All (λ u. IsNoted notes u.job place) (cond t (change x) x).users) [ true ↦ rw same was | false ↦ was ]
+only_notes : (id : BufferId) (change : Buffer → Buffer) (notes : Notes) (index : ℕ) (x : Buffer) → (change x).users ≡ x.users → AreNoted notes index (Some x) → AreNoted notes index (Some (only id change x))
+only_notes id change notes index x same was =
+    elim (has_id id x) as (λ t. All (λ u. IsNoted notes u.job index) (cond t (change x) x).users) [ true ↦ rw same was | false ↦ was ]
 
-pub moved : (a : Inside) (t : Table) (new : Slots) (id : BufferId) (change : Buffer → Buffer) → IsSound a → table_of a ≡ t → IsLive t id → new.vacant ≡ a.slots.vacant →
+pub moved : (a : Inside) (t : BuffersState) (new : Slots) (id : BufferId) (change : Buffer → Buffer) → AreSoundBuffers a → table_of a ≡ t → IsLive t id → new.vacant ≡ a.slots.vacant →
     length new.entries.items ≡ length a.slots.entries.items → buffer_in new.entries.items id.index ≡ option_map change (buffer_in a.slots.entries.items id.index) →
-    ((place : ℕ) → place ≢ id.index → get new.entries.items place ≡ get a.slots.entries.items place) →
+    ((index : ℕ) → index ≢ id.index → get new.entries.items index ≡ get a.slots.entries.items index) →
     ((made : ℕ) (x : Buffer) → IsBuffer made x → IsBuffer made (change x)) → ((x : Buffer) → (change x).users ≡ x.users) →
     IsCounted (record a { slots = new }) id change t
 moved a t new id change sound view lives vacant long here others keeps users =
-    let lives_here : IsLive (table_of a) id = subst (λ (s : Table). IsLive s id) (sym view) lives in
+    let lives_here : IsLive (table_of a) id = subst (λ (s : BuffersState). IsLive s id) (sym view) lives in
     let found = slot_of a id lives_here in
-    let each = places_from_only id change a.slots.entries.items new.entries.items found.0 found.1 (live_generation a id found.0 lives_here found.1) here (λ place apart. ap (option_map (buffer_at place)) (others place apart)) in
+    let each = indices_from_only id change a.slots.entries.items new.entries.items found.0 found.1 (live_generation a id found.0 lives_here found.1) here (λ index apart. ap (option_map (buffer_at index)) (others index apart)) in
     record {
       sound = sound_map a (record a { slots = new }) (only id change) sound refl refl vacant long each
-          (λ place x _ was. only_keeps id change a.made x (keeps a.made x) was)
-          (λ place x _ was. only_notes id change a.places place x (users x) was);
+          (λ index x _ was. only_keeps id change a.made x (keeps a.made x) was)
+          (λ index x _ was. only_notes id change a.indices index x (users x) was);
       table = ap (λ (vs : Vec ℕ). record { limit = a.limit; made = a.made; live = buffers_from 0 new.entries.items; vacant = reverse vs.items }) vacant
           ∙ ap (λ (live : List Buffer). record { limit = a.limit; made = a.made; live = live; vacant = reverse a.slots.vacant.items }) (live_from_map (only id change) a.slots.entries.items new.entries.items each)
           ∙ ap (changed id change) view;
     }
 
-pub counted_contains : (a : Inside) (t : Table) (id : BufferId) (count : Buffer → ℕ) (P : ℕ → Type 0) → table_of a ≡ t →
+pub counted_contains : (a : Inside) (t : BuffersState) (id : BufferId) (count : Buffer → ℕ) (P : ℕ → Type 0) → table_of a ≡ t →
     IsSomeAnd (option_map count (buffer t id)) P → Holds a.slots.entries.items id.index
-counted_contains a t id count P view holds = live_contains a id (subst (λ (s : Table). IsLive s id) (sym view) (counted_lives t id count P holds))
+counted_contains a t id count P view holds = live_contains a id (subst (λ (s : BuffersState). IsLive s id) (sym view) (counted_lives t id count P holds))
 
 -- what is said of a count of a live buffer holds of the number in its slot
-pub count_in_place : (a : Inside) (t : Table) (id : BufferId) (count : Buffer → ℕ) (P : ℕ → Type 0) → table_of a ≡ t →
+pub count_in_place : (a : Inside) (t : BuffersState) (id : BufferId) (count : Buffer → ℕ) (P : ℕ → Type 0) → table_of a ≡ t →
     IsSomeAnd (option_map count (buffer t id)) P → IsSomeAnd (option_map count (buffer_in a.slots.entries.items id.index)) P
 count_in_place a t id count P view holds =
-    let lives_here : IsLive (table_of a) id = subst (λ (s : Table). IsLive s id) (sym view) (counted_lives t id count P holds) in
+    let lives_here : IsLive (table_of a) id = subst (λ (s : BuffersState). IsLive s id) (sym view) (counted_lives t id count P holds) in
     let found = slot_of a id lives_here in
-    let holds_here : IsSomeAnd (option_map count (buffer (table_of a) id)) P = subst (λ (s : Table). IsSomeAnd (option_map count (buffer s id)) P) (sym view) holds in
+    let holds_here : IsSomeAnd (option_map count (buffer (table_of a) id)) P = subst (λ (s : BuffersState). IsSomeAnd (option_map count (buffer s id)) P) (sym view) holds in
     let seen : buffer (table_of a) id ≡ buffer_in a.slots.entries.items id.index = live_buffer a id found.0 lives_here found.1 ∙ sym (ap (option_map (buffer_at id.index)) found.1) in
     subst (λ (o : Option Buffer). IsSomeAnd (option_map count o) P) seen holds_here
 
@@ -198,8 +198,8 @@ read_from_map (Some x) None read Gives cases says = absurd cases
 read_from_map (Some x) (Some y) read Gives cases says = ap (λ (n : ℕ). Some n) (says x y cases)
 
 -- a slot that is put back as it was
-pub buffer_in_from_get : (slots : SlotList) (place : ℕ) (v : LiveBuffer) → get slots place ≡ Some v → buffer_in slots place ≡ Some (buffer_at place v)
-buffer_in_from_get slots place v found = ap (option_map (buffer_at place)) found
+pub buffer_in_from_get : (slots : SlotList) (index : ℕ) (v : LiveBuffer) → get slots index ≡ Some v → buffer_in slots index ≡ Some (buffer_at index v)
+buffer_in_from_get slots index v found = ap (option_map (buffer_at index)) found
 
 of_generation_found : (generation : ℕ) (o : Option LiveBuffer) (v : LiveBuffer) → of_generation generation o ≡ Some v → (o ≡ Some v) × (v.generation ≡ generation)
 of_generation_found generation None v found = absurd (none-some v found)
@@ -209,37 +209,37 @@ of_generation_found generation (Some x) v found =
       | false ↦ (λ _ h. absurd (none-some v h))
     ] refl found
 
--- a search that found a slot found it at its place, with its generation
+-- a search that found a slot found it at its index, with its generation
 pub live_slot : (a : Inside) (id : BufferId) (v : LiveBuffer) → live_at a.slots.entries.items id ≡ Some v → (get a.slots.entries.items id.index ≡ Some v) × (v.generation ≡ id.generation)
 live_slot a id v found = of_generation_found id.generation (get a.slots.entries.items id.index) v found
 
 -- the buffer that a search found, or missed
-pub found_buffer : (a : Inside) (t : Table) (id : BufferId) (v : LiveBuffer) → table_of a ≡ t → live_at a.slots.entries.items id ≡ Some v → buffer t id ≡ Some (buffer_at id.index v)
+pub found_buffer : (a : Inside) (t : BuffersState) (id : BufferId) (v : LiveBuffer) → table_of a ≡ t → live_at a.slots.entries.items id ≡ Some v → buffer t id ≡ Some (buffer_at id.index v)
 found_buffer a t id v view found =
-    sym (ap (λ (s : Table). buffer s id) view) ∙ buffer_from_slot a id ∙ ap (option_map (buffer_at id.index)) found
+    sym (ap (λ (s : BuffersState). buffer s id) view) ∙ buffer_from_slot a id ∙ ap (option_map (buffer_at id.index)) found
 
-pub missed_buffer : (a : Inside) (t : Table) (id : BufferId) → table_of a ≡ t → live_at a.slots.entries.items id ≡ None → buffer t id ≡ None
+pub missed_buffer : (a : Inside) (t : BuffersState) (id : BufferId) → table_of a ≡ t → live_at a.slots.entries.items id ≡ None → buffer t id ≡ None
 missed_buffer a t id view missed =
-    sym (ap (λ (s : Table). buffer s id) view) ∙ buffer_from_slot a id ∙ ap (option_map (buffer_at id.index)) missed
+    sym (ap (λ (s : BuffersState). buffer s id) view) ∙ buffer_from_slot a id ∙ ap (option_map (buffer_at id.index)) missed
 
 pub index_of_seen : (j : ℕ) (o : Option LiveBuffer) (b : Buffer) → option_map (buffer_at j) o ≡ Some b → b.id.index ≡ j
 index_of_seen j None b found = absurd (none-some b found)
 index_of_seen j (Some s) b found = ap (λ (x : Buffer). x.id.index) (sym (same_Some _ _ found))
 
 -- as many buffers are alive as slots hold one
-pub count_live : (a : Inside) (t : Table) → table_of a ≡ t → length t.live ≡ live_count a.slots.entries.items
-count_live a t view = ap (λ (s : Table). length s.live) (sym view) ∙ length-buffers_from 0 a.slots.entries.items
+pub count_live : (a : Inside) (t : BuffersState) → table_of a ≡ t → length t.live ≡ live_count a.slots.entries.items
+count_live a t view = ap (λ (s : BuffersState). length s.live) (sym view) ∙ length-buffers_from 0 a.slots.entries.items
 
 field_seen : (i : ℕ) (field : Buffer → ℕ) (o : Option LiveBuffer) → option_map (λ s. field (buffer_at i s)) o ≡ option_map field (option_map (buffer_at i) o)
 field_seen i field None = refl
 field_seen i field (Some s) = refl
 
 -- a number of the buffer with an id, read from its slot
-pub field_in_slot : (a : Inside) (t : Table) (id : BufferId) (field : Buffer → ℕ) → table_of a ≡ t →
+pub field_in_slot : (a : Inside) (t : BuffersState) (id : BufferId) (field : Buffer → ℕ) → table_of a ≡ t →
     option_map (λ s. field (buffer_at id.index s)) (live_at a.slots.entries.items id) ≡ option_map field (buffer t id)
 field_in_slot a t id field view =
-    field_seen id.index field (live_at a.slots.entries.items id) ∙ ap (option_map field) (sym (buffer_from_slot a id) ∙ ap (λ (s : Table). buffer s id) view)
+    field_seen id.index field (live_at a.slots.entries.items id) ∙ ap (option_map field) (sym (buffer_from_slot a id) ∙ ap (λ (s : BuffersState). buffer s id) view)
 
 -- a table of buffers that is seen keeps what a sound one does
-pub is_table : (a : Inside) (t : Table) → IsSound a → table_of a ≡ t → IsTable t
+pub is_table : (a : Inside) (t : BuffersState) → AreSoundBuffers a → table_of a ≡ t → IsTable t
 is_table a t sound view = subst IsTable view (sound_table a sound)

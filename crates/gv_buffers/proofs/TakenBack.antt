@@ -7,7 +7,7 @@ use Rattle.gv_types.specs.declared.mapping.BufferId.{BufferId}
 use Rattle.gv_buffers.specs.declared.usage.Usage.{Usage}
 use Rattle.gv_buffers.specs.declared.usage.User.{User}
 use Rattle.gv_buffers.specs.Users.{stronger, joined, left}
-use Rattle.gv_buffers.specs.Table.{Buffer, Table, has_id, only, changed, joined_by, left_by, left_everywhere}
+use Rattle.gv_buffers.specs.Buffers.{Buffer, BuffersState, has_id, only, changed, joined_by, left_by, left_everywhere}
 use Rattle.gv_buffers.specs.Laws.{IsNoUser}
 
 left-joined : (job : ℕ) (usage : Usage) (users : List User) → left job (joined job usage users) ≡ left job users
@@ -28,7 +28,7 @@ map_left-map_joined : (id : BufferId) (job : ℕ) (usage : Usage) (bs : List Buf
 map_left-map_joined id job usage [] = refl
 map_left-map_joined id job usage (b ∷ bs) = rw (left_by-only id job usage b, map_left-map_joined id job usage bs) refl
 
-pub leave_takes_back_join : (t : Table) (id : BufferId) (job : ℕ) (usage : Usage) → left_everywhere job (changed id (joined_by job usage) t) ≡ left_everywhere job t
+pub leave_takes_back_join : (t : BuffersState) (id : BufferId) (job : ℕ) (usage : Usage) → left_everywhere job (changed id (joined_by job usage) t) ≡ left_everywhere job t
 leave_takes_back_join t id job usage = ap (λ (live : List Buffer). record t { live = live }) (map_left-map_joined id job usage t.live)
 
 left_of_none : (job : ℕ) (users : List User) → All (λ u. u.job ≢ job) users → left job users ≡ users
@@ -42,5 +42,5 @@ map_left_of_none job [] apart = refl
 map_left_of_none job (b ∷ bs) apart =
     rw (left_of_none job b.users (All-head (IsNoUser job) b bs apart), map_left_of_none job bs (All-tail (IsNoUser job) b bs apart)) refl
 
-pub leave_of_no_user : (t : Table) (job : ℕ) → All (IsNoUser job) t.live → left_everywhere job t ≡ t
+pub leave_of_no_user : (t : BuffersState) (job : ℕ) → All (IsNoUser job) t.live → left_everywhere job t ≡ t
 leave_of_no_user t job apart = ap (λ (live : List Buffer). record t { live = live }) (map_left_of_none job t.live apart)

@@ -1,6 +1,6 @@
 pub mod Users
-pub mod Table
+pub mod Buffers
 pub mod Slots
-pub mod Places
-pub mod Sound
+pub mod Indices
+pub mod Inside
 pub mod Laws

@@ -3,8 +3,8 @@ ghost use Rattle.std.specs.Prelude.{◌≡◌, ◌<◌, length, IfOk, IsOk, IsOk
 ghost use Rattle.gv_types.specs.Limits.{greatest, IsFromOneTo};
 
 use crate::counter::Counter;
+use crate::indices::{Indices, forget};
 use crate::live_buffer::LiveBuffer;
-use crate::places::{Places, forget};
 use crate::slots::Slots;
 use crate::usage::Usage;
 use crate::users;
@@ -24,27 +24,27 @@ pub struct Buffers {
     limit: u64,
     made: u64,
     slots: Slots,
-    places: Places,
+    indices: Indices,
 }
 
 impl Model for Buffers {
-    ghost use Rattle.gv_buffers.specs.Table.{Table};
+    ghost use Rattle.gv_buffers.specs.Buffers.{BuffersState};
 
-    ghost Value = { Table };
+    ghost Value = { BuffersState };
 
-    ghost use Rattle.gv_buffers.specs.Sound.{table_of, IsSound};
+    ghost use Rattle.gv_buffers.specs.Inside.{table_of, AreSoundBuffers};
 
     ghost view = { table_of };
 
-    ghost invariant = { IsSound };
+    ghost invariant = { AreSoundBuffers };
 }
 
 impl Buffers {
-    ghost use Rattle.gv_buffers.specs.Table.{no_buffers, uses, kept, pages, IsTable};
-    ghost use Rattle.gv_buffers.specs.Table.{create_fault, destroy_fault, join_fault, IsCreated};
-    ghost use Rattle.gv_buffers.specs.Table.{without, changed, left_everywhere};
-    ghost use Rattle.gv_buffers.specs.Table.{counted, raised, lowered};
-    ghost use Rattle.gv_buffers.specs.Table.{joined_by, most_counted};
+    ghost use Rattle.gv_buffers.specs.Buffers.{no_buffers, uses, kept, pages, IsTable};
+    ghost use Rattle.gv_buffers.specs.Buffers.{create_fault, destroy_fault, join_fault, IsCreated};
+    ghost use Rattle.gv_buffers.specs.Buffers.{without, changed, left_everywhere};
+    ghost use Rattle.gv_buffers.specs.Buffers.{counted, raised, lowered};
+    ghost use Rattle.gv_buffers.specs.Buffers.{joined_by, most_counted};
     ghost use Rattle.std.specs.Option.{IsSomeAnd};
 
     /// A table of no buffer, in which at most `limit` are alive at once, from 1 to 65,536. It has
@@ -62,14 +62,14 @@ impl Buffers {
                 entries: Vec::with_capacity(alloc, room)?,
                 vacant: Vec::with_capacity(alloc, room)?,
             },
-            places: HashMap::new(alloc),
+            indices: HashMap::new(alloc),
         })
     }
 
     /// Makes a buffer of `pages` pages. `BadSize` at 0 pages or over 2^36, then `TooManyBuffers`
     /// where the limit's buffers are alive or 2^64 - 1 were made, then `OutOfMemory`. The id's
     /// generation is how many were made before; its index is the one that a destroyed buffer left
-    /// last, if one is vacant. It takes memory only where none is, and then for twice as many places.
+    /// last, if one is vacant. It takes memory only where none is, and then for twice as many indices.
     pub fn create(&mut self, alloc: Global, pages: u64) -> Result<BufferId, Fault>
         ensures fault { MatchOption (create_fault self.old pages)
             (IsOkUnless result Fault.OutOfMemory) (λ fault. result ≡ Err fault) }
@@ -83,7 +83,7 @@ impl Buffers {
         if self.live() as u64 >= self.limit || self.made == u64::MAX {
             return Err(Fault::TooManyBuffers);
         }
-        let place = self.slots.next_place()?;
+        let index = self.slots.next_slot()?;
         let generation = self.made;
         let buffer = LiveBuffer {
             generation: Generation::new(generation),
@@ -94,7 +94,7 @@ impl Buffers {
         };
         self.slots.put_in(buffer);
         self.made += 1;
-        Ok(BufferId::new(place, generation))
+        Ok(BufferId::new(index, generation))
     }
 
     /// Destroys a buffer that nothing names. `NoBuffer` where the id is dead, then `Mapped` where
@@ -106,12 +106,12 @@ impl Buffers {
         ensures ok { OnOk result (self.new ≡ without id self.old) }
         ensures err { OnErr result (self.new ≡ self.old) }
     {
-        let place = id.index;
+        let index = id.index;
         let Some(slot) = self.slots.get(id) else {
             return Err(Fault::NoBuffer);
         };
         slot.check_unused()?;
-        self.slots.take_out(place);
+        self.slots.take_out(index);
         Ok(())
     }
 
@@ -212,15 +212,15 @@ impl Buffers {
         ensures err { OnErr result (self.new ≡ self.old) }
         ensures table { IsTable self.new }
     {
-        let place = id.index;
+        let index = id.index;
         let Some(slot) = self.slots.get(id) else {
             return Err(Fault::NoBuffer);
         };
         if let Some(job) = users::conflict(&slot.users, job, usage) {
             return Err(Fault::Conflict { job });
         }
-        self.slots.make_room(alloc, &mut self.places, place, job)?;
-        self.slots.join(place, job, usage);
+        self.slots.make_room(alloc, &mut self.indices, index, job)?;
+        self.slots.join(index, job, usage);
         Ok(())
     }
 
@@ -230,7 +230,7 @@ impl Buffers {
         ensures value { self.new ≡ left_everywhere job self.old }
         ensures table { IsTable self.new }
     {
-        if let Some(noted) = forget(&mut self.places, job) {
+        if let Some(noted) = forget(&mut self.indices, job) {
             self.slots.leave_all(&noted, job);
         }
     }

@@ -4,9 +4,9 @@
 
 mod buffers;
 mod counter;
+mod indices;
 pub mod laws;
 mod live_buffer;
-mod places;
 mod slots;
 mod usage;
 mod users;

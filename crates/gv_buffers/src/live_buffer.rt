@@ -1,13 +1,13 @@
-//! A live buffer at its place.
+//! A live buffer at its index.
 ghost use Rattle.std.specs.Prelude.{◌≡◌, ◌<◌, ℕ, IsOk, MatchOption};
 ghost use Rattle.gv_buffers.specs.Slots.{buffer_at};
-ghost use Rattle.gv_buffers.specs.Table.{count, raised, lowered, most_counted, use_fault};
+ghost use Rattle.gv_buffers.specs.Buffers.{count, raised, lowered, most_counted, use_fault};
 
 use crate::counter::Counter;
 use crate::usage::User;
 use gv_types::{Fault, Generation};
 
-/// A live buffer at its place.
+/// A live buffer at its index.
 #[derive(Drop)]
 pub struct LiveBuffer {
     pub generation: Generation,

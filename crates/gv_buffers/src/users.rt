@@ -17,7 +17,7 @@ pub fn conflict(users: &[User], job: u64, usage: Usage) -> Option<u64>
 }
 
 /// Where the job stands among the users.
-pub fn place_of(users: &[User], job: u64) -> Option<usize>
+pub fn index_of(users: &[User], job: u64) -> Option<usize>
     ensures { result ≡ position (λ user. user.job == job) users.now }
 {
     users.iter().position(|user| user.job == job)
@@ -29,8 +29,8 @@ pub fn join(users: &mut Vec<User>, job: u64, usage: Usage)
         → vec_len users.old < vec_capacity users.old }
     ensures { users.new.items ≡ joined job usage users.old.items }
 {
-    match place_of(users, job) {
-        Some(place) => users[place].usage = users[place].usage.stronger(usage),
+    match index_of(users, job) {
+        Some(index) => users[index].usage = users[index].usage.stronger(usage),
         None => users.push_reserved(User { job, usage }),
     }
 }

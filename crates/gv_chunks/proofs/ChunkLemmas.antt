@@ -8,24 +8,24 @@ use Rattle.std.proofs.lemmas.List.Concat.{flat_map-append}
 use Rattle.std.specs.List.{splice}
 use Rattle.std.specs.Global.{Vec}
 use Rattle.gv_types.specs.declared.mapping.Mapping.{Mapping}
-use Rattle.gv_chunks.specs.Chunks.{joined, AreChunks}
+use Rattle.gv_chunks.specs.Chunks.{chunks_joined, AreChunks}
 use Rattle.gv_chunks.specs.declared.TheConstants.{CHUNK}
 
 -- chunks behind chunks
-pub joined-append : (xs ys : List (Vec Mapping)) → joined (xs ++ ys) ≡ joined xs ++ joined ys
+pub joined-append : (xs ys : List (Vec Mapping)) → chunks_joined (xs ++ ys) ≡ chunks_joined xs ++ chunks_joined ys
 joined-append xs ys = flat_map-append (λ chunk. chunk.items) xs ys
 
--- the chunks before a place and those behind it are all of them
-pub joined_parts : (xs : List (Vec Mapping)) (i : ℕ) → joined xs ≡ joined (take i xs) ++ joined (drop i xs)
-joined_parts xs i = ap joined (sym (take-append-drop i xs)) ∙ joined-append (take i xs) (drop i xs)
+-- the chunks before an index and those behind it are all of them
+pub joined_parts : (xs : List (Vec Mapping)) (i : ℕ) → chunks_joined xs ≡ chunks_joined (take i xs) ++ chunks_joined (drop i xs)
+joined_parts xs i = ap chunks_joined (sym (take-append-drop i xs)) ∙ joined-append (take i xs) (drop i xs)
 
 -- one chunk more
 pub joined_more : (xs : List (Vec Mapping)) (i : ℕ) (v : Vec Mapping) → i < length xs → v ≡ slice_index_or xs i v →
-    joined (take (i + 1) xs) ≡ joined (take i xs) ++ v.items
+    chunks_joined (take (i + 1) xs) ≡ chunks_joined (take i xs) ++ v.items
 joined_more xs i v within is =
-    ap joined (take_more xs i v within)
+    ap chunks_joined (take_more xs i v within)
     ∙ (joined-append (take i xs) (slice_index_or xs i v ∷ [])
-    ∙ ap (λ ms. joined (take i xs) ++ ms) (append-nil (slice_index_or xs i v).items ∙ ap (λ (w : Vec Mapping). w.items) (sym is)))
+    ∙ ap (λ ms. chunks_joined (take i xs) ++ ms) (append-nil (slice_index_or xs i v).items ∙ ap (λ (w : Vec Mapping). w.items) (sym is)))
 
 pub nil_front : (xs ys : List Mapping) → xs ++ ys ≡ [] → xs ≡ []
 nil_front [] ys h = refl
@@ -36,80 +36,80 @@ nil_back [] ys h = h
 nil_back (x ∷ xs) ys h = cc
 
 -- the first of chunks that hold nothing holds nothing, and so do the others
-pub nothing_at : (xs : List (Vec Mapping)) (i : ℕ) (d : Vec Mapping) → i < length xs → joined (drop i xs) ≡ [] → (slice_index_or xs i d).items ≡ []
+pub nothing_at : (xs : List (Vec Mapping)) (i : ℕ) (d : Vec Mapping) → i < length xs → chunks_joined (drop i xs) ≡ [] → (slice_index_or xs i d).items ≡ []
 nothing_at xs i d within none =
-    let all : (slice_index_or xs i d).items ++ joined (drop (i + 1) xs) ≡ [] = sym (ap joined (drop_more xs i d within)) ∙ none in
+    let all : (slice_index_or xs i d).items ++ chunks_joined (drop (i + 1) xs) ≡ [] = sym (ap chunks_joined (drop_more xs i d within)) ∙ none in
     nil_front _ _ all
 
-pub nothing_later : (xs : List (Vec Mapping)) (i : ℕ) (d : Vec Mapping) → i < length xs → joined (drop i xs) ≡ [] → joined (drop (i + 1) xs) ≡ []
+pub nothing_later : (xs : List (Vec Mapping)) (i : ℕ) (d : Vec Mapping) → i < length xs → chunks_joined (drop i xs) ≡ [] → chunks_joined (drop (i + 1) xs) ≡ []
 nothing_later xs i d within none =
-    let all : (slice_index_or xs i d).items ++ joined (drop (i + 1) xs) ≡ [] = sym (ap joined (drop_more xs i d within)) ∙ none in
+    let all : (slice_index_or xs i d).items ++ chunks_joined (drop (i + 1) xs) ≡ [] = sym (ap chunks_joined (drop_more xs i d within)) ∙ none in
     nil_back (slice_index_or xs i d).items _ all
 
--- the last of the chunks behind a place is the last of all
-pub spare_behind : (xs b : List (Vec Mapping)) (n : ℕ) → b ≡ drop n xs → length b + n ≡ length xs → 0 < length b → joined (drop (length xs - 1) xs) ≡ [] →
-    joined (drop (length b - 1) b) ≡ []
+-- the last of the chunks behind an index is the last of all
+pub spare_behind : (xs b : List (Vec Mapping)) (n : ℕ) → b ≡ drop n xs → length b + n ≡ length xs → 0 < length b → chunks_joined (drop (length xs - 1) xs) ≡ [] →
+    chunks_joined (drop (length b - 1) b) ≡ []
 spare_behind xs b n is size some_left none =
-    ap joined (ap (drop (length b - 1)) is ∙ (drop-drop (length b - 1) n xs ∙ ap (λ k. drop k xs) (omega arith))) ∙ none
+    ap chunks_joined (ap (drop (length b - 1)) is ∙ (drop-drop (length b - 1) n xs ∙ ap (λ k. drop k xs) (omega arith))) ∙ none
 
 -- pieces put into the first of chunks that hold nothing
 pub filled_more : (xs : List (Vec Mapping)) (i : ℕ) (d w : Vec Mapping) (now later rest pieces : List Mapping) → i < length xs →
-    joined (drop i xs) ≡ [] → w.items ≡ (slice_index_or xs i d).items ++ now → now ++ later ≡ rest → joined (take i xs) ++ rest ≡ pieces →
-    joined (take (i + 1) (slice_set xs i w)) ++ later ≡ pieces
+    chunks_joined (drop i xs) ≡ [] → w.items ≡ (slice_index_or xs i d).items ++ now → now ++ later ≡ rest → chunks_joined (take i xs) ++ rest ≡ pieces →
+    chunks_joined (take (i + 1) (slice_set xs i w)) ++ later ≡ pieces
 filled_more xs i d w now later rest pieces within none put parts whole =
     let held : w.items ≡ now = put ∙ ap (λ ms. ms ++ now) (nothing_at xs i d within none) in
-    let front : joined (take (i + 1) (slice_set xs i w)) ≡ joined (take i xs) ++ now =
-    ap joined (take_more_set xs i w within) ∙ (joined-append (take i xs) (w ∷ []) ∙ ap (λ ms. joined (take i xs) ++ ms) (append-nil w.items ∙ held)) in
-    rw (front, append_assoc (joined (take i xs)) now later, parts) whole
+    let front : chunks_joined (take (i + 1) (slice_set xs i w)) ≡ chunks_joined (take i xs) ++ now =
+    ap chunks_joined (take_more_set xs i w within) ∙ (joined-append (take i xs) (w ∷ []) ∙ ap (λ ms. chunks_joined (take i xs) ++ ms) (append-nil w.items ∙ held)) in
+    rw (front, append_assoc (chunks_joined (take i xs)) now later, parts) whole
 
 -- all chunks, around the last of the front
 pub joined_around : (f b : List (Vec Mapping)) (n : ℕ) (d : Vec Mapping) → length f ≡ n + 1 →
-    joined (f ++ b) ≡ joined (take n f) ++ ((slice_index_or f n d).items ++ joined b)
+    chunks_joined (f ++ b) ≡ chunks_joined (take n f) ++ ((slice_index_or f n d).items ++ chunks_joined b)
 joined_around f b n d size =
     let all : take (n + 1) f ≡ f = take_all (n + 1) f (omega arith) in
-    let front : joined f ≡ joined (take n f) ++ (slice_index_or f n d).items =
-    ap joined (sym all ∙ take_more f n d (omega arith)) ∙ (joined-append (take n f) (slice_index_or f n d ∷ []) ∙ ap (λ ms. joined (take n f) ++ ms) (append-nil (slice_index_or f n d).items)) in
-    joined-append f b ∙ (ap (λ ms. ms ++ joined b) front ∙ append_assoc (joined (take n f)) (slice_index_or f n d).items (joined b))
+    let front : chunks_joined f ≡ chunks_joined (take n f) ++ (slice_index_or f n d).items =
+    ap chunks_joined (sym all ∙ take_more f n d (omega arith)) ∙ (joined-append (take n f) (slice_index_or f n d ∷ []) ∙ ap (λ ms. chunks_joined (take n f) ++ ms) (append-nil (slice_index_or f n d).items)) in
+    joined-append f b ∙ (ap (λ ms. ms ++ chunks_joined b) front ∙ append_assoc (chunks_joined (take n f)) (slice_index_or f n d).items (chunks_joined b))
 
 -- the first chunk held nothing, and was filled
-pub first_filled : (bs : List (Vec Mapping)) (e w : Vec Mapping) → 0 < length bs → (slice_index_or bs 0 e).items ≡ [] → joined (slice_set bs 0 w) ≡ w.items ++ joined bs
+pub first_filled : (bs : List (Vec Mapping)) (e w : Vec Mapping) → 0 < length bs → (slice_index_or bs 0 e).items ≡ [] → chunks_joined (slice_set bs 0 w) ≡ w.items ++ chunks_joined bs
 first_filled [] e w some_left none = absurd (omega arith)
-first_filled (x ∷ bs) e w some_left none = ap (λ ms. w.items ++ (ms ++ joined bs)) (sym none)
+first_filled (x ∷ bs) e w some_left none = ap (λ ms. w.items ++ (ms ++ chunks_joined bs)) (sym none)
 
 -- the end of the last chunk of the front cut off
 pub cut_front : (f b bs : List (Vec Mapping)) (n left : ℕ) (d w : Vec Mapping) → length f ≡ n + 1 → left ≤ length (slice_index_or f n d).items →
     w.items ≡ take left (slice_index_or f n d).items →
-    joined (take (n + 1) (slice_set f n w ++ bs)) ≡ take (length (joined (take n (f ++ b))) + left) (joined (f ++ b))
+    chunks_joined (take (n + 1) (slice_set f n w ++ bs)) ≡ take (length (chunks_joined (take n (f ++ b))) + left) (chunks_joined (f ++ b))
 cut_front f b bs n left d w size fits is =
     let within : n < length f = omega arith in
-    let now : joined (take (n + 1) (slice_set f n w ++ bs)) ≡ joined (take n f) ++ take left (slice_index_or f n d).items =
-    ap joined (take-append-le (n + 1) (slice_set f n w) bs (omega (arith, length-set f n w)) ∙ take_more_set f n w within)
-    ∙ (joined-append (take n f) (w ∷ []) ∙ ap (λ ms. joined (take n f) ++ ms) (append-nil w.items ∙ is)) in
-    let whole : joined (f ++ b) ≡ joined (take n f) ++ ((slice_index_or f n d).items ++ joined b) = joined_around f b n d size in
+    let now : chunks_joined (take (n + 1) (slice_set f n w ++ bs)) ≡ chunks_joined (take n f) ++ take left (slice_index_or f n d).items =
+    ap chunks_joined (take-append-le (n + 1) (slice_set f n w) bs (omega (arith, length-set f n w)) ∙ take_more_set f n w within)
+    ∙ (joined-append (take n f) (w ∷ []) ∙ ap (λ ms. chunks_joined (take n f) ++ ms) (append-nil w.items ∙ is)) in
+    let whole : chunks_joined (f ++ b) ≡ chunks_joined (take n f) ++ ((slice_index_or f n d).items ++ chunks_joined b) = joined_around f b n d size in
     let old : take n (f ++ b) ≡ take n f = take-append-le n f b (omega arith) in
-    rw (now, old, whole, take-append-add (joined (take n f)) ((slice_index_or f n d).items ++ joined b) left, take-append-le left (slice_index_or f n d).items (joined b) fits) refl
+    rw (now, old, whole, take-append-add (chunks_joined (take n f)) ((slice_index_or f n d).items ++ chunks_joined b) left, take-append-le left (slice_index_or f n d).items (chunks_joined b) fits) refl
 
 -- what was cut off stands in a chunk that held nothing
 pub cut_back : (f b bs fs : List (Vec Mapping)) (n left : ℕ) (d e w : Vec Mapping) → length f ≡ n + 1 → length fs ≡ n + 1 → left ≤ length (slice_index_or f n d).items →
-    0 < length bs → joined bs ≡ joined b → (slice_index_or bs 0 e).items ≡ [] →
+    0 < length bs → chunks_joined bs ≡ chunks_joined b → (slice_index_or bs 0 e).items ≡ [] →
     w.items ≡ (slice_index_or bs 0 e).items ++ drop left (slice_index_or f n d).items →
-    joined (drop (n + 1) (fs ++ slice_set bs 0 w)) ≡ drop (length (joined (take n (f ++ b))) + left) (joined (f ++ b))
+    chunks_joined (drop (n + 1) (fs ++ slice_set bs 0 w)) ≡ drop (length (chunks_joined (take n (f ++ b))) + left) (chunks_joined (f ++ b))
 cut_back f b bs fs n left d e w size same fits some_left turned none is =
     let held : w.items ≡ drop left (slice_index_or f n d).items = is ∙ ap (λ ms. ms ++ drop left (slice_index_or f n d).items) none in
-    let now : joined (drop (n + 1) (fs ++ slice_set bs 0 w)) ≡ drop left (slice_index_or f n d).items ++ joined b =
-    ap joined (drop_at fs (slice_set bs 0 w) (n + 1) same) ∙ (first_filled bs e w some_left none ∙ (ap (λ ms. ms ++ joined bs) held ∙ ap (λ ms. drop left (slice_index_or f n d).items ++ ms) turned)) in
-    let whole : joined (f ++ b) ≡ joined (take n f) ++ ((slice_index_or f n d).items ++ joined b) = joined_around f b n d size in
+    let now : chunks_joined (drop (n + 1) (fs ++ slice_set bs 0 w)) ≡ drop left (slice_index_or f n d).items ++ chunks_joined b =
+    ap chunks_joined (drop_at fs (slice_set bs 0 w) (n + 1) same) ∙ (first_filled bs e w some_left none ∙ (ap (λ ms. ms ++ chunks_joined bs) held ∙ ap (λ ms. drop left (slice_index_or f n d).items ++ ms) turned)) in
+    let whole : chunks_joined (f ++ b) ≡ chunks_joined (take n f) ++ ((slice_index_or f n d).items ++ chunks_joined b) = joined_around f b n d size in
     let old : take n (f ++ b) ≡ take n f = take-append-le n f b (omega arith) in
-    rw (now, old, whole, drop-append-add (joined (take n f)) ((slice_index_or f n d).items ++ joined b) left, drop-append-le left (slice_index_or f n d).items (joined b) fits) refl
+    rw (now, old, whole, drop-append-add (chunks_joined (take n f)) ((slice_index_or f n d).items ++ chunks_joined b) left, drop-append-le left (slice_index_or f n d).items (chunks_joined b) fits) refl
 
 -- chunks turned, so that the last ones, which hold nothing, come first
-pub turned_joined : (b : List (Vec Mapping)) (m : ℕ) → joined (drop m b) ≡ [] → joined (drop m b ++ take m b) ≡ joined b
+pub turned_joined : (b : List (Vec Mapping)) (m : ℕ) → chunks_joined (drop m b) ≡ [] → chunks_joined (drop m b ++ take m b) ≡ chunks_joined b
 turned_joined b m none =
-    joined-append (drop m b) (take m b) ∙ (ap (λ ms. ms ++ joined (take m b)) none
-    ∙ sym (joined_parts b m ∙ (ap (λ ms. joined (take m b) ++ ms) none ∙ append-nil (joined (take m b)))))
+    joined-append (drop m b) (take m b) ∙ (ap (λ ms. ms ++ chunks_joined (take m b)) none
+    ∙ sym (joined_parts b m ∙ (ap (λ ms. chunks_joined (take m b) ++ ms) none ∙ append-nil (chunks_joined (take m b)))))
 
 -- and the first of them holds nothing
-pub turned_first : (b : List (Vec Mapping)) (m : ℕ) (d : Vec Mapping) → m < length b → joined (drop m b) ≡ [] → (slice_index_or (drop m b ++ take m b) 0 d).items ≡ []
+pub turned_first : (b : List (Vec Mapping)) (m : ℕ) (d : Vec Mapping) → m < length b → chunks_joined (drop m b) ≡ [] → (slice_index_or (drop m b ++ take m b) 0 d).items ≡ []
 turned_first b m d within none =
     let front : slice_index_or (drop m b ++ take m b) 0 d ≡ slice_index_or b m d =
     get_or_append_left (drop m b) (take m b) d 0 (omega (arith, length-drop m b)) ∙ get_or-drop m b 0 d ∙ ap (λ k. slice_index_or b k d) (omega arith) in
@@ -134,13 +134,13 @@ turned_chunks xs ys m is all = rw is (appended_chunks (drop m xs) (take m xs) (d
 
 -- all chunks, around one of them
 pub joined_at : (xs : List (Vec Mapping)) (i : ℕ) (d : Vec Mapping) → i < length xs →
-    joined xs ≡ joined (take i xs) ++ ((slice_index_or xs i d).items ++ joined (drop (i + 1) xs))
-joined_at xs i d within = joined_parts xs i ∙ ap (λ ms. joined (take i xs) ++ ms) (ap joined (drop_more xs i d within))
+    chunks_joined xs ≡ chunks_joined (take i xs) ++ ((slice_index_or xs i d).items ++ chunks_joined (drop (i + 1) xs))
+joined_at xs i d within = joined_parts xs i ∙ ap (λ ms. chunks_joined (take i xs) ++ ms) (ap chunks_joined (drop_more xs i d within))
 
 -- the list around a chunk that was changed
-pub joined_set : (xs : List (Vec Mapping)) (i : ℕ) (w : Vec Mapping) → i < length xs → joined (slice_set xs i w) ≡ joined (take i xs) ++ (w.items ++ joined (drop (i + 1) xs))
+pub joined_set : (xs : List (Vec Mapping)) (i : ℕ) (w : Vec Mapping) → i < length xs → chunks_joined (slice_set xs i w) ≡ chunks_joined (take i xs) ++ (w.items ++ chunks_joined (drop (i + 1) xs))
 joined_set xs i w within =
-    ap joined (set_split xs i w within) ∙ (joined-append (take i xs) (w ∷ drop (suc i) xs) ∙ ap (λ k. joined (take i xs) ++ (w.items ++ joined (drop k xs))) (sym (add-one i)))
+    ap chunks_joined (set_split xs i w within) ∙ (joined-append (take i xs) (w ∷ drop (suc i) xs) ∙ ap (λ k. chunks_joined (take i xs) ++ (w.items ++ chunks_joined (drop k xs))) (sym (add-one i)))
 
 -- a list with a run of its middle replaced
 pub spliced : (front v back w pieces : List Mapping) (left count : ℕ) (old new : List Mapping) → old ≡ front ++ (v ++ back) → new ≡ front ++ (w ++ back) →
@@ -156,25 +156,25 @@ spliced front v back w pieces left count old new whole now is before behind =
 -- a run replaced within a chunk is replaced in the list
 pub replaced_at : (xs : List (Vec Mapping)) (i left count : ℕ) (d w : Vec Mapping) (pieces : List Mapping) → i < length xs →
     left + count ≤ length (slice_index_or xs i d).items → w.items ≡ splice (slice_index_or xs i d).items left (left + count) pieces →
-    joined (slice_set xs i w) ≡ splice (joined xs) (length (joined (take i xs)) + left) (length (joined (take i xs)) + left + count) pieces
+    chunks_joined (slice_set xs i w) ≡ splice (chunks_joined xs) (length (chunks_joined (take i xs)) + left) (length (chunks_joined (take i xs)) + left + count) pieces
 replaced_at xs i left count d w pieces within fits is =
     let v : List Mapping = (slice_index_or xs i d).items in
-    let front : List Mapping = joined (take i xs) in
-    let back : List Mapping = joined (drop (i + 1) xs) in
-    let whole : joined xs ≡ front ++ (v ++ back) = joined_at xs i d within in
-    let now : joined (slice_set xs i w) ≡ front ++ (w.items ++ back) = joined_set xs i w within in
+    let front : List Mapping = chunks_joined (take i xs) in
+    let back : List Mapping = chunks_joined (drop (i + 1) xs) in
+    let whole : chunks_joined xs ≡ front ++ (v ++ back) = joined_at xs i d within in
+    let now : chunks_joined (slice_set xs i w) ≡ front ++ (w.items ++ back) = joined_set xs i w within in
     let before : take (length front + left) (front ++ (v ++ back)) ≡ front ++ take left v =
     take-append-add front (v ++ back) left ∙ ap (λ ms. front ++ ms) (take-append-le left v back (omega arith)) in
     let behind : drop (length front + left + count) (front ++ (v ++ back)) ≡ drop (left + count) v ++ back =
     ap (λ k. drop k (front ++ (v ++ back))) (omega arith) ∙ (drop-append-add front (v ++ back) (left + count) ∙ drop-append-le (left + count) v back fits) in
-    spliced front v back w.items pieces left count (joined xs) (joined (slice_set xs i w)) whole now is before behind
+    spliced front v back w.items pieces left count (chunks_joined xs) (chunks_joined (slice_set xs i w)) whole now is before behind
 
--- what a chunk holds from a place on is what the list holds there
+-- what a chunk holds from an index on is what the list holds there
 pub piece_at : (xs : List (Vec Mapping)) (i left : ℕ) (d : Vec Mapping) (piece : List Mapping) → i < length xs → left ≤ length (slice_index_or xs i d).items →
-    piece ≡ drop left (slice_index_or xs i d).items → piece ≡ take (length piece) (drop (length (joined (take i xs)) + left) (joined xs))
+    piece ≡ drop left (slice_index_or xs i d).items → piece ≡ take (length piece) (drop (length (chunks_joined (take i xs)) + left) (chunks_joined xs))
 piece_at xs i left d piece within fits is =
-    let behind : drop (length (joined (take i xs)) + left) (joined xs) ≡ piece ++ joined (drop (i + 1) xs) =
-    ap (drop (length (joined (take i xs)) + left)) (joined_at xs i d within)
-    ∙ (drop-append-add (joined (take i xs)) ((slice_index_or xs i d).items ++ joined (drop (i + 1) xs)) left
-    ∙ (drop-append-le left (slice_index_or xs i d).items (joined (drop (i + 1) xs)) fits ∙ ap (λ ms. ms ++ joined (drop (i + 1) xs)) (sym is))) in
-    rw behind (sym (take_at piece (joined (drop (i + 1) xs)) (length piece) refl))
+    let behind : drop (length (chunks_joined (take i xs)) + left) (chunks_joined xs) ≡ piece ++ chunks_joined (drop (i + 1) xs) =
+    ap (drop (length (chunks_joined (take i xs)) + left)) (joined_at xs i d within)
+    ∙ (drop-append-add (chunks_joined (take i xs)) ((slice_index_or xs i d).items ++ chunks_joined (drop (i + 1) xs)) left
+    ∙ (drop-append-le left (slice_index_or xs i d).items (chunks_joined (drop (i + 1) xs)) fits ∙ ap (λ ms. ms ++ chunks_joined (drop (i + 1) xs)) (sym is))) in
+    rw behind (sym (take_at piece (chunks_joined (drop (i + 1) xs)) (length piece) refl))

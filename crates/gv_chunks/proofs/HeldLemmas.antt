@@ -4,7 +4,7 @@ use Rattle.std.proofs.lemmas.List.{take-append-drop, take-append-le, length-appe
 use Rattle.std.specs.List.{splice}
 use Rattle.std.specs.Global.{Vec}
 use Rattle.gv_types.specs.declared.mapping.Mapping.{Mapping}
-use Rattle.gv_chunks.specs.Chunks.{joined, AreChunks, Packed}
+use Rattle.gv_chunks.specs.Chunks.{chunks_joined, AreChunks, Packed}
 use Rattle.gv_chunks.specs.Inside.{IsChunkList}
 use Rattle.gv_chunks.specs.declared.TheConstants.{CHUNK}
 use Rattle.gv_chunks.proofs.PackedLemmas.{filled_packed}
@@ -15,11 +15,11 @@ pub added_behind : (old new : List (Vec Mapping)) → take (length old) new ≡ 
 added_behind old new kept = sym (take-append-drop (length old) new) ∙ ap (λ xs. xs ++ drop (length old) new) kept
 
 -- and hold nothing
-pub joined_added : (old new : List (Vec Mapping)) → take (length old) new ≡ old → joined (drop (length old) new) ≡ [] → joined new ≡ joined old
-joined_added old new kept none = ap joined (added_behind old new kept) ∙ joined_with_rest old (drop (length old) new) none
+pub joined_added : (old new : List (Vec Mapping)) → take (length old) new ≡ old → chunks_joined (drop (length old) new) ≡ [] → chunks_joined new ≡ chunks_joined old
+joined_added old new kept none = ap chunks_joined (added_behind old new kept) ∙ joined_with_rest old (drop (length old) new) none
 
 -- with them there may be more room
-pub added_to : (old new : List (Vec Mapping)) (standing count room wanted : ℕ) → take (length old) new ≡ old → joined (drop (length old) new) ≡ [] → (AreChunks old → AreChunks new) →
+pub added_to : (old new : List (Vec Mapping)) (standing count room wanted : ℕ) → take (length old) new ≡ old → chunks_joined (drop (length old) new) ≡ [] → (AreChunks old → AreChunks new) →
     IsChunkList old standing count room → room ≤ wanted → (0 < wanted → 0 < length new) → (CHUNK < wanted → 2 * wanted + 3 * CHUNK ≤ CHUNK * length new) → IsChunkList new standing count wanted
 added_to old new standing count room wanted kept none chunked was more some enough =
     let whole : new ≡ old ++ drop (length old) new = added_behind old new kept in
@@ -27,7 +27,7 @@ added_to old new standing count room wanted kept none chunked was more some enou
     let front : take standing new ≡ take standing old = ap (take standing) whole ∙ take-append-le standing old (drop (length old) new) was.within in
     record {
       within = omega (arith, was.within);
-      spare = ap (λ xs. joined (drop standing xs)) whole ∙ none_with_rest old (drop (length old) new) standing was.within was.spare none;
+      spare = ap (λ xs. chunks_joined (drop standing xs)) whole ∙ none_with_rest old (drop (length old) new) standing was.within was.spare none;
       chunked = chunked was.chunked;
       held = was.held ∙ ap length (sym (joined_added old new kept none));
       few = was.few;
@@ -39,20 +39,20 @@ added_to old new standing count room wanted kept none chunked was more some enou
     }
 
 -- the chunks there are stay enough where others are added
-pub still_list : (old new : List (Vec Mapping)) (standing count room : ℕ) → take (length old) new ≡ old → joined (drop (length old) new) ≡ [] → (AreChunks old → AreChunks new) →
+pub still_list : (old new : List (Vec Mapping)) (standing count room : ℕ) → take (length old) new ≡ old → chunks_joined (drop (length old) new) ≡ [] → (AreChunks old → AreChunks new) →
     IsChunkList old standing count room → IsChunkList new standing count room
 still_list old new standing count room kept none chunked was =
     let size : length new ≡ length old + length (drop (length old) new) = ap length (added_behind old new kept) ∙ length-append old (drop (length old) new) in
     added_to old new standing count room room kept none chunked was (omega arith) (λ some. omega (arith, size, was.some some)) (λ long. omega (arith, size, was.enough long))
 
 -- how much is held where a run was replaced
-pub length_spliced : (xs pieces : List Mapping) (place count : ℕ) → place + count ≤ length xs → length (splice xs place (place + count) pieces) ≡ length xs - count + length pieces
-length_spliced xs pieces place count within =
-    omega (arith, length-append (take place xs) (pieces ++ drop (place + count) xs), length-append pieces (drop (place + count) xs), length-take-le place xs (omega arith), length-drop (place + count) xs)
+pub length_spliced : (xs pieces : List Mapping) (index count : ℕ) → index + count ≤ length xs → length (splice xs index (index + count) pieces) ≡ length xs - count + length pieces
+length_spliced xs pieces index count within =
+    omega (arith, length-append (take index xs) (pieces ++ drop (index + count) xs), length-append pieces (drop (index + count) xs), length-take-le index xs (omega arith), length-drop (index + count) xs)
 
 -- packed chunks that hold something are the chunks of a long list
-pub some_in_chunks : (xs : List (Vec Mapping)) (used count room : ℕ) → used ≤ length xs → joined (drop used xs) ≡ [] → AreChunks xs → Packed (take used xs) →
-    CHUNK * used ≤ 2 * length (joined xs) + CHUNK → count ≡ length (joined xs) → 0 < count → count ≤ room → CHUNK < room → 2 * room + 3 * CHUNK ≤ CHUNK * length xs → IsChunkList xs used count room
+pub some_in_chunks : (xs : List (Vec Mapping)) (used count room : ℕ) → used ≤ length xs → chunks_joined (drop used xs) ≡ [] → AreChunks xs → Packed (take used xs) →
+    CHUNK * used ≤ 2 * length (chunks_joined xs) + CHUNK → count ≡ length (chunks_joined xs) → 0 < count → count ≤ room → CHUNK < room → 2 * room + 3 * CHUNK ≤ CHUNK * length xs → IsChunkList xs used count room
 some_in_chunks xs used count room within none chunked packed few held some_held fits long enough = record {
   within = within;
   spare = none;
@@ -71,11 +71,11 @@ nil_of_length [] size = refl
 nil_of_length (m ∷ ms) size = absurd (omega (arith, size))
 
 -- and where nothing is held, no chunk stands
-pub none_in_chunks : (xs : List (Vec Mapping)) (count room : ℕ) → AreChunks xs → count ≡ length (joined xs) → count ≡ 0 → (0 < room → 0 < length xs) → (CHUNK < room → 2 * room + 3 * CHUNK ≤ CHUNK * length xs) →
+pub none_in_chunks : (xs : List (Vec Mapping)) (count room : ℕ) → AreChunks xs → count ≡ length (chunks_joined xs) → count ≡ 0 → (0 < room → 0 < length xs) → (CHUNK < room → 2 * room + 3 * CHUNK ≤ CHUNK * length xs) →
     IsChunkList xs 0 count room
 none_in_chunks xs count room chunked held none some enough = record {
   within = omega arith;
-  spare = nil_of_length (joined xs) (sym held ∙ none);
+  spare = nil_of_length (chunks_joined xs) (sym held ∙ none);
   chunked = chunked;
   held = held;
   few = omega arith;
@@ -93,12 +93,12 @@ some_piece [] chunk behind count some_left past fits is = absurd (omega (arith, 
 some_piece (x ∷ xs) chunk behind count some_left past fits is = omega (arith, past, fits x, is x)
 
 -- a run of a long list replaced, wherever it lies
-pub replaced_list : (xs zs : List (Vec Mapping)) (s used now count room place out : ℕ) (pieces : List Mapping) → IsChunkList xs s count room → CHUNK < room → place + out ≤ length (joined xs) →
-    count + length pieces ≤ room + out → length zs ≡ length xs → joined zs ≡ splice (joined xs) place (place + out) pieces → used ≤ length zs → joined (drop used zs) ≡ [] → AreChunks zs → Packed (take used zs) →
-    CHUNK * used ≤ 2 * length (joined zs) + CHUNK →
+pub replaced_list : (xs zs : List (Vec Mapping)) (s used now count room index out : ℕ) (pieces : List Mapping) → IsChunkList xs s count room → CHUNK < room → index + out ≤ length (chunks_joined xs) →
+    count + length pieces ≤ room + out → length zs ≡ length xs → chunks_joined zs ≡ splice (chunks_joined xs) index (index + out) pieces → used ≤ length zs → chunks_joined (drop used zs) ≡ [] → AreChunks zs → Packed (take used zs) →
+    CHUNK * used ≤ 2 * length (chunks_joined zs) + CHUNK →
     (((now ≡ 0) × (count - out + length pieces ≡ 0)) ⊎ ((now ≡ used) × (0 < count - out + length pieces))) → IsChunkList zs now (count - out + length pieces) room
-replaced_list xs zs s used now count room place out pieces was long within enough same items below none chunked packed few which =
-    let held : count - out + length pieces ≡ length (joined zs) = omega (arith, was.held, ap length items, length_spliced (joined xs) pieces place out within) in
+replaced_list xs zs s used now count room index out pieces was long within enough same items below none chunked packed few which =
+    let held : count - out + length pieces ≡ length (chunks_joined zs) = omega (arith, was.held, ap length items, length_spliced (chunks_joined xs) pieces index out within) in
     let room_left : 2 * room + 3 * CHUNK ≤ CHUNK * length zs = rw same (was.enough long) in
     elim which [
       | inl empty ↦ rw empty.0 (none_in_chunks zs (count - out + length pieces) room chunked held empty.1 (λ some. omega (arith, same, was.some some)) (λ _. room_left))

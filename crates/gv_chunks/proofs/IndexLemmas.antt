@@ -6,20 +6,20 @@ use Rattle.std.proofs.lemmas.Bool.{cases_lt}
 use Rattle.std.proofs.lemmas.List.{take-take, length-take-le, get_or-take, get_or-set_same, get_or-set_other, get_or_default, length-append}
 use Rattle.std.specs.Global.{Vec}
 use Rattle.gv_types.specs.declared.mapping.Mapping.{Mapping}
-use Rattle.gv_chunks.specs.Chunks.{joined, AreFilled, AreStarts, AreFirsts}
+use Rattle.gv_chunks.specs.Chunks.{chunks_joined, AreFilled, AreStarts, AreFirsts}
 use Rattle.gv_chunks.proofs.ChunkLemmas.{joined_at, joined_set}
 
 -- what stands before a chunk among the first chunks stands before it among all
-pub start_among : (xs : List (Vec Mapping)) (j k : ℕ) → j ≤ k → length (joined (take j (take k xs))) ≡ length (joined (take j xs))
-start_among xs j k up = ap (λ ys. length (joined ys)) (take-take j k xs up)
+pub start_among : (xs : List (Vec Mapping)) (j k : ℕ) → j ≤ k → length (chunks_joined (take j (take k xs))) ≡ length (chunks_joined (take j xs))
+start_among xs j k up = ap (λ ys. length (chunks_joined ys)) (take-take j k xs up)
 
 -- one more start
-pub start_written : (starts : List ℕ) (xs : List (Vec Mapping)) (k start : ℕ) → k < length xs → k < length starts → start ≡ length (joined (take k xs)) →
+pub start_written : (starts : List ℕ) (xs : List (Vec Mapping)) (k start : ℕ) → k < length xs → k < length starts → start ≡ length (chunks_joined (take k xs)) →
     AreStarts starts (take k xs) → AreStarts (slice_set starts k start) (take (k + 1) xs)
 start_written starts xs k start within room is were = λ j d inside.
     let below : j < k + 1 = omega (arith, inside, length-take-le (k + 1) xs (omega arith)) in
     let size : length (slice_set starts k start) ≡ length starts = length-set starts k start in
-    let among : length (joined (take j (take (k + 1) xs))) ≡ length (joined (take j xs)) = start_among xs j (k + 1) (omega arith) in
+    let among : length (chunks_joined (take j (take (k + 1) xs))) ≡ length (chunks_joined (take j xs)) = start_among xs j (k + 1) (omega arith) in
     elim (cases_lt j k) [
       | inl earlier ↦
           let was = were j d (omega (arith, length-take-le k xs (omega arith))) in
@@ -48,23 +48,23 @@ first_written firsts xs k first within room is were = λ j d v m inside.
 
 -- what stands before a chunk that comes behind the one that was changed
 pub start_behind : (xs : List (Vec Mapping)) (i j : ℕ) (w d : Vec Mapping) → i < j → j ≤ length xs →
-    length (joined (take j (slice_set xs i w))) + length (slice_index_or xs i d).items ≡ length (joined (take j xs)) + length w.items
+    length (chunks_joined (take j (slice_set xs i w))) + length (slice_index_or xs i d).items ≡ length (chunks_joined (take j xs)) + length w.items
 start_behind xs i j w d behind within =
     let here : i < length (take j xs) = omega (arith, length-take-le j xs within) in
     let at : slice_index_or (take j xs) i d ≡ slice_index_or xs i d = get_or-take j xs i d behind in
-    let now : joined (take j (slice_set xs i w)) ≡ joined (take i (take j xs)) ++ (w.items ++ joined (drop (i + 1) (take j xs))) =
-    ap joined (take-set-lt j xs i w behind) ∙ joined_set (take j xs) i w here in
-    let was : joined (take j xs) ≡ joined (take i (take j xs)) ++ ((slice_index_or (take j xs) i d).items ++ joined (drop (i + 1) (take j xs))) =
+    let now : chunks_joined (take j (slice_set xs i w)) ≡ chunks_joined (take i (take j xs)) ++ (w.items ++ chunks_joined (drop (i + 1) (take j xs))) =
+    ap chunks_joined (take-set-lt j xs i w behind) ∙ joined_set (take j xs) i w here in
+    let was : chunks_joined (take j xs) ≡ chunks_joined (take i (take j xs)) ++ ((slice_index_or (take j xs) i d).items ++ chunks_joined (drop (i + 1) (take j xs))) =
     joined_at (take j xs) i d here in
     omega (
       arith,
       ap length now,
       ap length was,
       ap (λ (v : Vec Mapping). length v.items) at,
-      length-append (joined (take i (take j xs))) (w.items ++ joined (drop (i + 1) (take j xs))),
-      length-append w.items (joined (drop (i + 1) (take j xs))),
-      length-append (joined (take i (take j xs))) ((slice_index_or (take j xs) i d).items ++ joined (drop (i + 1) (take j xs))),
-      length-append (slice_index_or (take j xs) i d).items (joined (drop (i + 1) (take j xs))),
+      length-append (chunks_joined (take i (take j xs))) (w.items ++ chunks_joined (drop (i + 1) (take j xs))),
+      length-append w.items (chunks_joined (drop (i + 1) (take j xs))),
+      length-append (chunks_joined (take i (take j xs))) ((slice_index_or (take j xs) i d).items ++ chunks_joined (drop (i + 1) (take j xs))),
+      length-append (slice_index_or (take j xs) i d).items (chunks_joined (drop (i + 1) (take j xs))),
     )
 
 -- the first page of a chunk, read

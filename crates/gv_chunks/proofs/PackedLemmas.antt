@@ -4,7 +4,7 @@ use Rattle.std.proofs.lemmas.List.{append-nil, get_or-take, get_or-drop, get_or_
 use Rattle.std.proofs.lemmas.Bool.{cases_lt}
 use Rattle.std.specs.Global.{Vec}
 use Rattle.gv_types.specs.declared.mapping.Mapping.{Mapping}
-use Rattle.gv_chunks.specs.Chunks.{joined, AreChunks, AreFilled, Packed, PackedFrom}
+use Rattle.gv_chunks.specs.Chunks.{chunks_joined, AreChunks, AreFilled, Packed, PackedFrom}
 use Rattle.gv_chunks.specs.declared.TheConstants.{CHUNK}
 use Rattle.gv_chunks.proofs.ChunkLemmas.{joined-append, joined_parts, joined_at}
 
@@ -16,26 +16,26 @@ packed_rest c cs packed k d low within =
     rw next at held
 
 -- how few packed chunks are, by what the first holds
-pub few_behind : (c : Vec Mapping) (cs : List (Vec Mapping)) → Packed (c ∷ cs) → CHUNK * length cs + vec_len c ≤ 2 * length (joined (c ∷ cs))
+pub few_behind : (c : Vec Mapping) (cs : List (Vec Mapping)) → Packed (c ∷ cs) → CHUNK * length cs + vec_len c ≤ 2 * length (chunks_joined (c ∷ cs))
 few_behind c [] packed = omega (arith, c.ok, length-append c.items [])
 few_behind c (d ∷ cs) packed =
-    let behind : CHUNK * length cs + vec_len d ≤ 2 * length (joined (d ∷ cs)) = few_behind d cs (packed_rest c (d ∷ cs) packed) in
+    let behind : CHUNK * length cs + vec_len d ≤ 2 * length (chunks_joined (d ∷ cs)) = few_behind d cs (packed_rest c (d ∷ cs) packed) in
     let pair : CHUNK < vec_len c + vec_len d = packed 0 c (omega arith) (omega arith) in
-    omega (arith, c.ok, length-append c.items (joined (d ∷ cs)))
+    omega (arith, c.ok, length-append c.items (chunks_joined (d ∷ cs)))
 
 -- as many as that
-pub few_packed : (cs : List (Vec Mapping)) → Packed cs → CHUNK * length cs ≤ 2 * length (joined cs) + CHUNK
+pub few_packed : (cs : List (Vec Mapping)) → Packed cs → CHUNK * length cs ≤ 2 * length (chunks_joined cs) + CHUNK
 few_packed [] packed = omega arith
 few_packed (c ∷ cs) packed = omega (arith, few_behind c cs packed)
 
 -- the first chunks hold all that the list holds, where the others hold nothing
-pub joined_front : (xs : List (Vec Mapping)) (n : ℕ) → joined (drop n xs) ≡ [] → joined (take n xs) ≡ joined xs
-joined_front xs n none = sym (joined_parts xs n ∙ (ap (λ ms. joined (take n xs) ++ ms) none ∙ append-nil (joined (take n xs))))
+pub joined_front : (xs : List (Vec Mapping)) (n : ℕ) → chunks_joined (drop n xs) ≡ [] → chunks_joined (take n xs) ≡ chunks_joined xs
+joined_front xs n none = sym (joined_parts xs n ∙ (ap (λ ms. chunks_joined (take n xs) ++ ms) none ∙ append-nil (chunks_joined (take n xs))))
 
 -- so they are few where they are packed
-pub few_standing : (xs : List (Vec Mapping)) (n : ℕ) → n ≤ length xs → joined (drop n xs) ≡ [] → Packed (take n xs) → CHUNK * n ≤ 2 * length (joined xs) + CHUNK
+pub few_standing : (xs : List (Vec Mapping)) (n : ℕ) → n ≤ length xs → chunks_joined (drop n xs) ≡ [] → Packed (take n xs) → CHUNK * n ≤ 2 * length (chunks_joined xs) + CHUNK
 few_standing xs n within none packed =
-    let few : CHUNK * length (take n xs) ≤ 2 * length (joined (take n xs)) + CHUNK = few_packed (take n xs) packed in
+    let few : CHUNK * length (take n xs) ≤ 2 * length (chunks_joined (take n xs)) + CHUNK = few_packed (take n xs) packed in
     rw (length-take-le n xs within, joined_front xs n none) at few
 
 -- what stands behind two chunks that were joined
@@ -47,14 +47,14 @@ behind_joined old new i within same behind =
 
 -- one more of them holds nothing
 pub spare_joined : (old new : List (Vec Mapping)) (i n : ℕ) → i + 1 < n → n ≤ length old → drop (i + 1) new ≡ drop (i + 2) old ++ drop (length old - 1) new →
-    joined (drop n old) ≡ [] → joined (drop (length old - 1) new) ≡ [] → joined (drop (n - 1) new) ≡ []
+    chunks_joined (drop n old) ≡ [] → chunks_joined (drop (length old - 1) new) ≡ [] → chunks_joined (drop (n - 1) new) ≡ []
 spare_joined old new i n within room behind none last =
     let there : drop (n - 1) new ≡ drop (n - (i + 2)) (drop (i + 1) new) = ap (λ k. drop k new) (omega arith) ∙ sym (drop-drop (n - (i + 2)) (i + 1) new) in
     let back : drop (n - (i + 2)) (drop (i + 2) old) ≡ drop n old = drop-drop (n - (i + 2)) (i + 2) old ∙ ap (λ k. drop k old) (omega arith) in
     let parts : drop (n - (i + 2)) (drop (i + 2) old ++ drop (length old - 1) new) ≡ drop (n - (i + 2)) (drop (i + 2) old) ++ drop (length old - 1) new =
     drop-append-le (n - (i + 2)) (drop (i + 2) old) (drop (length old - 1) new) (omega (arith, length-drop (i + 2) old)) in
-    ap joined (there ∙ (ap (drop (n - (i + 2))) behind ∙ (parts ∙ ap (λ xs. xs ++ drop (length old - 1) new) back)))
-    ∙ (joined-append (drop n old) (drop (length old - 1) new) ∙ (ap (λ ms. ms ++ joined (drop (length old - 1) new)) none ∙ last))
+    ap chunks_joined (there ∙ (ap (drop (n - (i + 2))) behind ∙ (parts ∙ ap (λ xs. xs ++ drop (length old - 1) new) back)))
+    ∙ (joined-append (drop n old) (drop (length old - 1) new) ∙ (ap (λ ms. ms ++ chunks_joined (drop (length old - 1) new)) none ∙ last))
 
 -- the chunks behind have moved up by one
 pub moved_up : (old new : List (Vec Mapping)) (i j : ℕ) (d : Vec Mapping) → i < j → j + 1 < length old → drop (i + 1) new ≡ drop (i + 2) old ++ drop (length old - 1) new →
@@ -96,7 +96,7 @@ packed_joined old new i n within room same behind joint packed k d low pair =
     rw (first, second) (omega arith)
 
 -- chunks that are packed each hold something, where anything is held
-pub filled_packed : (xs : List (Vec Mapping)) (n : ℕ) → n ≤ length xs → AreChunks xs → Packed (take n xs) → joined (drop n xs) ≡ [] → 0 < length (joined xs) → AreFilled (take n xs)
+pub filled_packed : (xs : List (Vec Mapping)) (n : ℕ) → n ≤ length xs → AreChunks xs → Packed (take n xs) → chunks_joined (drop n xs) ≡ [] → 0 < length (chunks_joined xs) → AreFilled (take n xs)
 filled_packed xs n within room packed none some_held k d inside =
     let size : length (take n xs) ≡ n = length-take-le n xs within in
     elim (cases_lt (k + 1) n) [
@@ -116,8 +116,8 @@ filled_packed xs n within room packed none some_held k d inside =
             let one : n ≡ 1 = omega arith in
             let at : k ≡ 0 = omega arith in
             let here : slice_index_or (take n xs) 0 d ≡ slice_index_or xs 0 d = get_or-take n xs 0 d (omega arith) in
-            let rest : joined (drop (0 + 1) xs) ≡ [] = rw one at none in
-            let all : joined xs ≡ (slice_index_or xs 0 d).items = joined_at xs 0 d (omega arith) ∙ (ap (λ ms. (slice_index_or xs 0 d).items ++ ms) rest ∙ append-nil (slice_index_or xs 0 d).items) in
+            let rest : chunks_joined (drop (0 + 1) xs) ≡ [] = rw one at none in
+            let all : chunks_joined xs ≡ (slice_index_or xs 0 d).items = joined_at xs 0 d (omega arith) ∙ (ap (λ ms. (slice_index_or xs 0 d).items ++ ms) rest ∙ append-nil (slice_index_or xs 0 d).items) in
             rw (at, here) (omega (arith, (slice_index_or xs 0 d).ok, ap length all))
       ]
     ]

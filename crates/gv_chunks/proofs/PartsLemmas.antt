@@ -7,7 +7,7 @@ use Rattle.std.proofs.lemmas.List.Elements.{All-append, All-take, All-drop}
 use Rattle.std.specs.Global.{Vec}
 use Rattle.std.specs.List.{splice}
 use Rattle.gv_types.specs.declared.mapping.Mapping.{Mapping}
-use Rattle.gv_chunks.specs.Chunks.{joined, AreChunks, AreStarts, AreFirsts}
+use Rattle.gv_chunks.specs.Chunks.{chunks_joined, AreChunks, AreStarts, AreFirsts}
 use Rattle.gv_chunks.specs.Inside.{IsChunkList, IsIndexOf, AreParts, IsSpot, items_of}
 use Rattle.gv_chunks.specs.declared.parts.Parts.{Parts}
 use Rattle.gv_chunks.specs.declared.TheConstants.{CHUNK}
@@ -49,51 +49,51 @@ pub more_numbers : (old new : List ℕ) → take (length old) new ≡ old → le
 more_numbers old new kept = omega (arith, ap length kept, length-take (length old) new)
 
 -- how many mappings stand before the end of a chunk
-pub chunk_end : (xs : List (Vec Mapping)) (i : ℕ) (d : Vec Mapping) → i < length xs → length (joined (take (i + 1) xs)) ≡ length (joined (take i xs)) + vec_len (slice_index_or xs i d)
-chunk_end xs i d within = end_of_chunk xs i d (slice_index_or xs i d).items within refl ∙ ap (λ n. length (joined (take i xs)) + n) (sym (slice_index_or xs i d).ok.0)
+pub chunk_end : (xs : List (Vec Mapping)) (i : ℕ) (d : Vec Mapping) → i < length xs → length (chunks_joined (take (i + 1) xs)) ≡ length (chunks_joined (take i xs)) + vec_len (slice_index_or xs i d)
+chunk_end xs i d within = end_of_chunk xs i d (slice_index_or xs i d).items within refl ∙ ap (λ n. length (chunks_joined (take i xs)) + n) (sym (slice_index_or xs i d).ok.0)
 
 -- a chunk holds no more than the list
-pub chunk_within : (xs : List (Vec Mapping)) (i : ℕ) (d : Vec Mapping) → i < length xs → length (joined (take i xs)) + vec_len (slice_index_or xs i d) ≤ length (joined xs)
+pub chunk_within : (xs : List (Vec Mapping)) (i : ℕ) (d : Vec Mapping) → i < length xs → length (chunks_joined (take i xs)) + vec_len (slice_index_or xs i d) ≤ length (chunks_joined xs)
 chunk_within xs i d within = omega (arith, chunk_end xs i d within, start_within xs (i + 1))
 
 -- the last chunk that stands ends where the list ends
-pub last_end : (xs : List (Vec Mapping)) (i : ℕ) (d : Vec Mapping) → i < length xs → joined (drop (i + 1) xs) ≡ [] → length (joined (take i xs)) + vec_len (slice_index_or xs i d) ≡ length (joined xs)
+pub last_end : (xs : List (Vec Mapping)) (i : ℕ) (d : Vec Mapping) → i < length xs → chunks_joined (drop (i + 1) xs) ≡ [] → length (chunks_joined (take i xs)) + vec_len (slice_index_or xs i d) ≡ length (chunks_joined xs)
 last_end xs i d within none = omega (arith, chunk_end xs i d within, ap length (joined_front xs (i + 1) none))
 
 -- a start is told by the index
 pub start_told : (xs : List (Vec Mapping)) (standing k d : ℕ) (starts : List ℕ) → standing ≤ length xs → k < standing → AreStarts starts (take standing xs) →
-    slice_index_or starts k d ≡ length (joined (take k xs))
+    slice_index_or starts k d ≡ length (chunks_joined (take k xs))
 start_told xs standing k d starts within below are = (are k d (omega (arith, length-take-le standing xs within))).1 ∙ start_among xs k standing (omega arith)
 
 -- the chunks behind a chunk begin where it ends, or later
 pub start_later : (xs : List (Vec Mapping)) (s chunk k e : ℕ) (d : Vec Mapping) (starts : List ℕ) → s ≤ length xs → chunk < k → k < s → AreStarts starts (take s xs) →
-    (length (joined (take chunk xs)) + vec_len (slice_index_or xs chunk d) ≤ slice_index_or starts k e) × (slice_index_or starts k e ≤ length (joined xs))
+    (length (chunks_joined (take chunk xs)) + vec_len (slice_index_or xs chunk d) ≤ slice_index_or starts k e) × (slice_index_or starts k e ≤ length (chunks_joined xs))
 start_later xs s chunk k e d starts within behind below are =
-    let told : slice_index_or starts k e ≡ length (joined (take k xs)) = start_told xs s k e starts within below are in
+    let told : slice_index_or starts k e ≡ length (chunks_joined (take k xs)) = start_told xs s k e starts within below are in
     (omega (arith, told, chunk_end xs chunk d (omega arith), start_rises xs (chunk + 1) k (omega arith)), omega (arith, told, start_within xs k))
 
--- a chunk changed: `out` mappings from `place` on went, and pieces came
-module _ (xs : List (Vec Mapping)) (s chunk start place out : ℕ) (d w : Vec Mapping) (pieces : List Mapping) (some_chunk : 0 < length xs) (below : chunk < max s 1) (within : s ≤ length xs)
-    (is_start : start ≡ length (joined (take chunk xs))) (begun : start ≤ place) (fits : place + out ≤ start + vec_len (slice_index_or xs chunk d))
-    (is : w.items ≡ splice (slice_index_or xs chunk d).items (place - start) (place - start + out) pieces) where
+-- a chunk changed: `out` mappings from `index` on went, and pieces came
+module _ (xs : List (Vec Mapping)) (s chunk start index out : ℕ) (d w : Vec Mapping) (pieces : List Mapping) (some_chunk : 0 < length xs) (below : chunk < max s 1) (within : s ≤ length xs)
+    (is_start : start ≡ length (chunks_joined (take chunk xs))) (begun : start ≤ index) (fits : index + out ≤ start + vec_len (slice_index_or xs chunk d))
+    (is : w.items ≡ splice (slice_index_or xs chunk d).items (index - start) (index - start + out) pieces) where
   inside_all : chunk < length xs
   inside_all = omega arith
 
-  inside_chunk : place - start + out ≤ length (slice_index_or xs chunk d).items
+  inside_chunk : index - start + out ≤ length (slice_index_or xs chunk d).items
   inside_chunk = omega (arith, fits, begun, (slice_index_or xs chunk d).ok)
 
   -- how much the chunk holds now
   pub edited_len : vec_len w + out ≡ vec_len (slice_index_or xs chunk d) + length pieces
   edited_len =
-      omega (arith, w.ok, (slice_index_or xs chunk d).ok, ap length is, length_spliced (slice_index_or xs chunk d).items pieces (place - start) out inside_chunk, inside_chunk)
+      omega (arith, w.ok, (slice_index_or xs chunk d).ok, ap length is, length_spliced (slice_index_or xs chunk d).items pieces (index - start) out inside_chunk, inside_chunk)
 
   -- the list
-  pub edited_items : joined (slice_set xs chunk w) ≡ splice (joined xs) place (place + out) pieces
+  pub edited_items : chunks_joined (slice_set xs chunk w) ≡ splice (chunks_joined xs) index (index + out) pieces
   edited_items =
-      let at : length (joined (take chunk xs)) + (place - start) ≡ place = omega (arith, is_start, begun) in
-      replaced_at xs chunk (place - start) out d w pieces inside_all inside_chunk is ∙ ap (λ k. splice (joined xs) k (k + out) pieces) at
+      let at : length (chunks_joined (take chunk xs)) + (index - start) ≡ index = omega (arith, is_start, begun) in
+      replaced_at xs chunk (index - start) out d w pieces inside_all inside_chunk is ∙ ap (λ k. splice (chunks_joined xs) k (k + out) pieces) at
 
-  pub edited_within : place + out ≤ length (joined xs)
+  pub edited_within : index + out ≤ length (chunks_joined xs)
   edited_within = omega (arith, fits, is_start, chunk_within xs chunk d inside_all)
 
   -- the chunks
@@ -105,7 +105,7 @@ module _ (xs : List (Vec Mapping)) (s chunk start place out : ℕ) (d w : Vec Ma
         within = omega (arith, size, within, some_chunk);
         spare = rw (drop-set-lt (max s 1) xs chunk w below) (nothing_from xs s (max s 1) (omega arith) was.spare);
         chunked = changed_chunks xs chunk w (same ∙ was.chunked chunk d inside_all) was.chunked;
-        held = omega (arith, was.held, ap length edited_items, length_spliced (joined xs) pieces place out edited_within);
+        held = omega (arith, was.held, ap length edited_items, length_spliced (chunks_joined xs) pieces index out edited_within);
         few = few;
         filled = λ k e inside.
             let low : k < max s 1 = omega (arith, inside, length-take (max s 1) (slice_set xs chunk w)) in
@@ -139,12 +139,12 @@ module _ (xs : List (Vec Mapping)) (s chunk start place out : ℕ) (d w : Vec Ma
       record {
         are_starts = λ k e inside.
             let low : k < max s 1 = omega (arith, inside, length-take (max s 1) (slice_set xs chunk w)) in
-            let among : length (joined (take k (take (max s 1) (slice_set xs chunk w)))) ≡ length (joined (take k (slice_set xs chunk w))) = start_among (slice_set xs chunk w) k (max s 1) (omega arith) in (
+            let among : length (chunks_joined (take k (take (max s 1) (slice_set xs chunk w)))) ≡ length (chunks_joined (take k (slice_set xs chunk w))) = start_among (slice_set xs chunk w) k (max s 1) (omega arith) in (
               omega (arith, low, same, was.starts_within, within, some_chunk),
               rw among (elim (cases_lt chunk k) [
                 | inl later ↦
                     let stood : k < s = omega arith in
-                    let told : slice_index_or starts k e ≡ length (joined (take k xs)) = start_told xs s k e starts within stood was.are_starts in
+                    let told : slice_index_or starts k e ≡ length (chunks_joined (take k xs)) = start_told xs s k e starts within stood was.are_starts in
                     omega (arith, behind k e later low, told, start_behind xs chunk k w d later (omega (arith, stood, within)), edited_len, w.ok, (slice_index_or xs chunk d).ok)
                 | inr upto ↦
                     let front : take k (slice_set xs chunk w) ≡ take k xs = take-set-le k xs chunk w upto in
@@ -180,13 +180,13 @@ module _ (xs : List (Vec Mapping)) (s chunk start place out : ℕ) (d w : Vec Ma
         firsts_within = omega (arith, size, length-set firsts chunk first, was.firsts_within);
       }
 
--- the chunk that begins at a place or before it, and before whose next one the place lies, is the chunk of the place
-module _ (p : Parts) (are : AreParts p) (place chunk start : ℕ) (below : chunk < p.standing) (told : (d : ℕ) → slice_index_or p.starts.items chunk d ≤ place)
-    (next : (d : ℕ) → chunk + 1 < p.standing → place < slice_index_or p.starts.items (chunk + 1) d) (is : start ≡ slice_index_or p.starts.items chunk start) (within : place ≤ length (items_of p)) where
-  spot_start : start ≡ length (joined (take chunk p.chunks.items))
+-- the chunk that begins at an index or before it, and before whose next one the index lies, is the chunk of the index
+module _ (p : Parts) (are : AreParts p) (index chunk start : ℕ) (below : chunk < p.standing) (told : (d : ℕ) → slice_index_or p.starts.items chunk d ≤ index)
+    (next : (d : ℕ) → chunk + 1 < p.standing → index < slice_index_or p.starts.items (chunk + 1) d) (is : start ≡ slice_index_or p.starts.items chunk start) (within : index ≤ length (items_of p)) where
+  spot_start : start ≡ length (chunks_joined (take chunk p.chunks.items))
   spot_start = is ∙ start_told p.chunks.items p.standing chunk start p.starts.items are.list.within below are.index.are_starts
 
-  spot_end : (d : Vec Mapping) → (place < start + vec_len (slice_index_or p.chunks.items chunk d)) ⊎ (length (items_of p) ≡ start + vec_len (slice_index_or p.chunks.items chunk d))
+  spot_end : (d : Vec Mapping) → (index < start + vec_len (slice_index_or p.chunks.items chunk d)) ⊎ (length (items_of p) ≡ start + vec_len (slice_index_or p.chunks.items chunk d))
   spot_end d =
       let inside : chunk < length p.chunks.items = omega (arith, below, are.list.within) in
       elim (cases_lt (chunk + 1) p.standing) [
@@ -202,7 +202,7 @@ module _ (p : Parts) (are : AreParts p) (place chunk start : ℕ) (below : chunk
             inr (omega (arith, spot_start, last_end p.chunks.items chunk d inside (nothing_from p.chunks.items p.standing (chunk + 1) (omega arith) are.list.spare)))
       ]
 
-  pub spot_told : IsSpot p place chunk start
+  pub spot_told : IsSpot p index chunk start
   spot_told = record {
     standing = omega (arith, below);
     start_is = spot_start;
@@ -218,13 +218,13 @@ module _ (p : Parts) (are : AreParts p) (place chunk start : ℕ) (below : chunk
   }
 
 -- a list that fits into one chunk has one, or none
-pub only_chunk : (p : Parts) (place chunk start : ℕ) (d : Vec Mapping) → AreParts p → IsSpot p place chunk start → 0 < length p.chunks.items → p.room ≤ CHUNK →
+pub only_chunk : (p : Parts) (index chunk start : ℕ) (d : Vec Mapping) → AreParts p → IsSpot p index chunk start → 0 < length p.chunks.items → p.room ≤ CHUNK →
     (start ≡ 0) × (vec_len (slice_index_or p.chunks.items chunk d) ≡ p.len) × (max p.standing 1 ≡ 1)
-only_chunk p place chunk start d are spot some short =
+only_chunk p index chunk start d are spot some short =
     let one : p.standing ≤ 1 = are.list.short short in
     let first : chunk ≡ 0 = omega (arith, spot.standing, one) in
-    let front : length (joined (take chunk p.chunks.items)) ≡ 0 = ap (λ k. length (joined (take k p.chunks.items))) first in
-    let none : joined (drop (chunk + 1) p.chunks.items) ≡ [] = nothing_from p.chunks.items p.standing (chunk + 1) (omega (arith, one)) are.list.spare in
+    let front : length (chunks_joined (take chunk p.chunks.items)) ≡ 0 = ap (λ k. length (chunks_joined (take k p.chunks.items))) first in
+    let none : chunks_joined (drop (chunk + 1) p.chunks.items) ≡ [] = nothing_from p.chunks.items p.standing (chunk + 1) (omega (arith, one)) are.list.spare in
     (omega (arith, spot.start_is, front), omega (arith, front, last_end p.chunks.items chunk d (omega (arith, first, some)) none, are.list.held), omega (arith, one))
 
 -- an index that was written
@@ -252,23 +252,23 @@ firsts_front xs n firsts are = λ k d v m inside.
 
 -- a chunk taken out, with all that it held
 module _ (xs zs : List (Vec Mapping)) (s chunk start out count room : ℕ) (d : Vec Mapping) (was : IsChunkList xs s count room) (below : chunk < s) (same : length zs ≡ length xs)
-    (front : take (s - 1) zs ≡ take chunk (take s xs) ++ drop (chunk + 1) (take s xs)) (none : joined (drop (s - 1) zs) ≡ []) (is_start : start ≡ length (joined (take chunk xs)))
+    (front : take (s - 1) zs ≡ take chunk (take s xs) ++ drop (chunk + 1) (take s xs)) (none : chunks_joined (drop (s - 1) zs) ≡ []) (is_start : start ≡ length (chunks_joined (take chunk xs)))
     (all : out ≡ vec_len (slice_index_or xs chunk d)) where
   closed_size : length (take s xs) ≡ s
   closed_size = length-take-le s xs was.within
 
-  pub closed_items : joined zs ≡ splice (joined xs) start (start + out) []
+  pub closed_items : chunks_joined zs ≡ splice (chunks_joined xs) start (start + out) []
   closed_items =
       let ys : List (Vec Mapping) = take s xs in
-      let rest : joined xs ≡ joined ys = sym (joined_front xs s was.spare) in
-      let begins : start ≡ length (joined (take chunk ys)) = is_start ∙ sym (start_among xs chunk s (omega arith)) in
-      let ends : start + out ≡ length (joined (take (chunk + 1) ys)) =
+      let rest : chunks_joined xs ≡ chunks_joined ys = sym (joined_front xs s was.spare) in
+      let begins : start ≡ length (chunks_joined (take chunk ys)) = is_start ∙ sym (start_among xs chunk s (omega arith)) in
+      let ends : start + out ≡ length (chunks_joined (take (chunk + 1) ys)) =
       omega (arith, is_start, all, chunk_end xs chunk d (omega (arith, below, was.within)), start_among xs (chunk + 1) s (omega arith)) in
-      let before : take start (joined xs) ≡ joined (take chunk ys) = ap (take start) rest ∙ (ap (λ k. take k (joined ys)) begins ∙ take_start ys chunk) in
-      let behind : drop (start + out) (joined xs) ≡ joined (drop (chunk + 1) ys) = ap (drop (start + out)) rest ∙ (ap (λ k. drop k (joined ys)) ends ∙ drop_start ys (chunk + 1)) in
-      rw (before, behind) (sym (joined_front zs (s - 1) none) ∙ (ap joined front ∙ joined-append (take chunk ys) (drop (chunk + 1) ys)))
+      let before : take start (chunks_joined xs) ≡ chunks_joined (take chunk ys) = ap (take start) rest ∙ (ap (λ k. take k (chunks_joined ys)) begins ∙ take_start ys chunk) in
+      let behind : drop (start + out) (chunks_joined xs) ≡ chunks_joined (drop (chunk + 1) ys) = ap (drop (start + out)) rest ∙ (ap (λ k. drop k (chunks_joined ys)) ends ∙ drop_start ys (chunk + 1)) in
+      rw (before, behind) (sym (joined_front zs (s - 1) none) ∙ (ap chunks_joined front ∙ joined-append (take chunk ys) (drop (chunk + 1) ys)))
 
-  pub closed_within : start + out ≤ length (joined xs)
+  pub closed_within : start + out ≤ length (chunks_joined xs)
   closed_within = omega (arith, is_start, all, chunk_within xs chunk d (omega (arith, below, was.within)))
 
   pub closed_list : AreChunks zs → CHUNK * (s - 1) ≤ 2 * (count - out) + CHUNK → IsChunkList zs (s - 1) (count - out) room
@@ -276,7 +276,7 @@ module _ (xs zs : List (Vec Mapping)) (s chunk start out count room : ℕ) (d : 
     within = omega (arith, same, was.within);
     spare = none;
     chunked = chunked;
-    held = omega (arith, was.held, ap length closed_items, length_spliced (joined xs) [] start out closed_within);
+    held = omega (arith, was.held, ap length closed_items, length_spliced (chunks_joined xs) [] start out closed_within);
     few = few;
     filled = rw front (All-append (λ (v : Vec Mapping). 0 < vec_len v) (take chunk (take s xs)) (drop (chunk + 1) (take s xs)) (All-take (λ (v : Vec Mapping). 0 < vec_len v) chunk (take s xs) was.filled)
         (All-drop (λ (v : Vec Mapping). 0 < vec_len v) (chunk + 1) (take s xs) was.filled));
@@ -318,9 +318,9 @@ module _ (xs zs : List (Vec Mapping)) (s chunk left count room : ℕ) (was : IsC
   opened_later : (k : ℕ) (d : Vec Mapping) → chunk + 1 < k → k ≤ s → slice_index_or zs k d ≡ slice_index_or xs (k - 1) d → 0 < vec_len (slice_index_or zs k d)
   opened_later k d past upto at = rw (at, ← get_or-take s xs (k - 1) d (omega arith)) (was.filled (k - 1) d (omega (arith, upto, past, length-take-le s xs was.within)))
 
-  pub opened_list : joined zs ≡ joined xs → ((d : Vec Mapping) → (slice_index_or zs chunk d).items ≡ take left (slice_index_or xs chunk d).items) →
+  pub opened_list : chunks_joined zs ≡ chunks_joined xs → ((d : Vec Mapping) → (slice_index_or zs chunk d).items ≡ take left (slice_index_or xs chunk d).items) →
       ((d : Vec Mapping) → (slice_index_or zs (chunk + 1) d).items ≡ drop left (slice_index_or xs chunk d).items) →
-      ((k : ℕ) (d : Vec Mapping) → chunk + 1 < k → k ≤ s → slice_index_or zs k d ≡ slice_index_or xs (k - 1) d) → joined (drop (s + 1) zs) ≡ [] → 0 < left →
+      ((k : ℕ) (d : Vec Mapping) → chunk + 1 < k → k ≤ s → slice_index_or zs k d ≡ slice_index_or xs (k - 1) d) → chunks_joined (drop (s + 1) zs) ≡ [] → 0 < left →
       ((d : Vec Mapping) → left < vec_len (slice_index_or xs chunk d)) → AreChunks zs → CHUNK * (s + 1) ≤ 2 * count + CHUNK → CHUNK < room → IsChunkList zs (s + 1) count room
   opened_list items first second later none some_left some_rest chunked few long = record {
     within = omega (arith, more, same);

@@ -19,29 +19,29 @@ drop-splice xs ys i j n k within is =
     rw (is, ← append_assoc (take i xs) ys (drop j xs), ← drop-drop k (i + length ys) ((take i xs ++ ys) ++ drop j xs), rest) (drop-drop k j xs)
 
 -- pieces written over a part of a run, and the rest of the run taken out
-pub overwritten_then_cut : {X : Type 0} (xs ys zs : List X) (place count : ℕ) → place + count ≤ length xs → length ys ≤ count →
-    zs ≡ splice xs place (place + length ys) ys →
-    take (place + length ys) zs ++ drop (place + length ys + (count - length ys)) zs ≡ splice xs place (place + count) ys
-overwritten_then_cut xs ys zs place count within fits is =
-    let front : take (place + length ys) zs ≡ take place xs ++ ys = rw is (take-splice xs ys place (place + length ys) (place + length ys) (omega arith) refl) in
-    let back : drop (place + length ys + (count - length ys)) zs ≡ drop (place + length ys + (count - length ys)) xs =
-    rw is (drop-splice xs ys place (place + length ys) (place + length ys + (count - length ys)) (count - length ys) (omega arith) refl) in
-    let end : place + length ys + (count - length ys) ≡ place + count = omega arith in
-    rw (front, back, end) (append_assoc (take place xs) ys (drop (place + count) xs))
+pub overwritten_then_cut : {X : Type 0} (xs ys zs : List X) (index count : ℕ) → index + count ≤ length xs → length ys ≤ count →
+    zs ≡ splice xs index (index + length ys) ys →
+    take (index + length ys) zs ++ drop (index + length ys + (count - length ys)) zs ≡ splice xs index (index + count) ys
+overwritten_then_cut xs ys zs index count within fits is =
+    let front : take (index + length ys) zs ≡ take index xs ++ ys = rw is (take-splice xs ys index (index + length ys) (index + length ys) (omega arith) refl) in
+    let back : drop (index + length ys + (count - length ys)) zs ≡ drop (index + length ys + (count - length ys)) xs =
+    rw is (drop-splice xs ys index (index + length ys) (index + length ys + (count - length ys)) (count - length ys) (omega arith) refl) in
+    let end : index + length ys + (count - length ys) ≡ index + count = omega arith in
+    rw (front, back, end) (append_assoc (take index xs) ys (drop (index + count) xs))
 
 -- a run overwritten by the first pieces, and the others put in behind it
-pub overwritten_then_filled : {X : Type 0} (xs ys zs : List X) (place count : ℕ) → place + count ≤ length xs → count ≤ length ys →
-    zs ≡ splice xs place (place + count) (take count ys) →
-    splice zs (place + count) (place + count) (drop count ys) ≡ splice xs place (place + count) ys
-overwritten_then_filled xs ys zs place count within fits is =
+pub overwritten_then_filled : {X : Type 0} (xs ys zs : List X) (index count : ℕ) → index + count ≤ length xs → count ≤ length ys →
+    zs ≡ splice xs index (index + count) (take count ys) →
+    splice zs (index + count) (index + count) (drop count ys) ≡ splice xs index (index + count) ys
+overwritten_then_filled xs ys zs index count within fits is =
     let size : length (take count ys) ≡ count = length-take-le count ys fits in
-    let front : take (place + count) zs ≡ take place xs ++ take count ys = rw is (take-splice xs (take count ys) place (place + count) (place + count) (omega arith) (omega arith)) in
-    let back : drop (place + count) zs ≡ drop (place + count) xs = rw is (drop-splice xs (take count ys) place (place + count) (place + count) 0 (omega arith) (omega arith) ∙ ap (λ n. drop n xs) (omega arith)) in
+    let front : take (index + count) zs ≡ take index xs ++ take count ys = rw is (take-splice xs (take count ys) index (index + count) (index + count) (omega arith) (omega arith)) in
+    let back : drop (index + count) zs ≡ drop (index + count) xs = rw is (drop-splice xs (take count ys) index (index + count) (index + count) 0 (omega arith) (omega arith) ∙ ap (λ n. drop n xs) (omega arith)) in
     let whole : take count ys ++ drop count ys ≡ ys = take-append-drop count ys in
     rw (
       front,
       back,
-      append_assoc (take place xs) (take count ys) (drop count ys ++ drop (place + count) xs),
-      ← append_assoc (take count ys) (drop count ys) (drop (place + count) xs),
+      append_assoc (take index xs) (take count ys) (drop count ys ++ drop (index + count) xs),
+      ← append_assoc (take count ys) (drop count ys) (drop (index + count) xs),
       whole,
     ) refl

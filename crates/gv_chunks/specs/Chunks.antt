@@ -6,8 +6,8 @@ use Rattle.gv_types.specs.declared.mapping.Mapping.{Mapping}
 use Rattle.gv_chunks.specs.declared.TheConstants.{CHUNK}
 
 -- the mappings of chunks, one chunk after another
-abbrev pub joined : List (Vec Mapping) → List Mapping
-joined = flat_map (λ chunk. chunk.items)
+abbrev pub chunks_joined : List (Vec Mapping) → List Mapping
+chunks_joined = flat_map (λ chunk. chunk.items)
 
 -- each has room for as many as a chunk holds
 abbrev pub AreChunks : List (Vec Mapping) → Type 0
@@ -19,7 +19,7 @@ AreFilled chunks = (k : ℕ) (d : Vec Mapping) → k < length chunks → 0 < vec
 
 -- for each chunk, how many mappings stand before it
 abbrev pub AreStarts : List ℕ → List (Vec Mapping) → Type 0
-AreStarts starts chunks = (k d : ℕ) → k < length chunks → (k < length starts) × (slice_index_or starts k d ≡ length (joined (take k chunks)))
+AreStarts starts chunks = (k d : ℕ) → k < length chunks → (k < length starts) × (slice_index_or starts k d ≡ length (chunks_joined (take k chunks)))
 
 -- for each chunk, the page at which its first mapping begins
 abbrev pub AreFirsts : List ℕ → List (Vec Mapping) → Type 0
@@ -36,11 +36,11 @@ abbrev pub Packed : List (Vec Mapping) → Type 0
 Packed = PackedFrom 0
 
 -- what contracts see of a list in chunks: its mappings, and for how many it has room
-pub record Chunked : Type 0 where
+pub record ChunkListState : Type 0 where
   pub items : List Mapping
   pub room : ℕ
 
 -- the same mappings, and no less room
-pub record IsKept (old new : Chunked) : Type 0 where
+pub record IsKept (old new : ChunkListState) : Type 0 where
   pub items : new.items ≡ old.items
   pub room : old.room ≤ new.room

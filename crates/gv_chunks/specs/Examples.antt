@@ -2,16 +2,16 @@
 use Rattle.std.specs.Prelude.{◌≡◌, [], ◌∷◌, vec_len, vec_capacity}
 use Rattle.std.specs.Global.{Vec}
 use Rattle.gv_types.specs.declared.mapping.Mapping.{Mapping}
-use Rattle.gv_chunks.specs.Chunks.{joined, AreChunks, Packed}
+use Rattle.gv_chunks.specs.Chunks.{chunks_joined, AreChunks, Packed}
 
 -- two mappings in a chunk, none in the next and one in the last are three in a row
 abbrev pub ThreeInARow : Type 0
 ThreeInARow = (a b c : Vec Mapping) (x y z : Mapping) → a.items ≡ x ∷ y ∷ [] → b.items ≡ [] → c.items ≡ z ∷ [] →
-    joined (a ∷ b ∷ c ∷ []) ≡ x ∷ y ∷ z ∷ []
+    chunks_joined (a ∷ b ∷ c ∷ []) ≡ x ∷ y ∷ z ∷ []
 
 -- no chunk holds nothing
 abbrev pub NoChunkHoldsNothing : Type 0
-NoChunkHoldsNothing = joined [] ≡ []
+NoChunkHoldsNothing = chunks_joined [] ≡ []
 
 -- a chunk has room for 128, and not for one less
 abbrev pub RoomOfAChunk : Type 0

@@ -2,7 +2,7 @@
 use Rattle.std.specs.Prelude.{◌≡◌, ◌<◌, ◌≤◌, ◌+◌, ◌-◌, ◌*◌, ℕ, List, [], length, take, drop, max, slice_index_or, vec_len}
 use Rattle.std.specs.Global.{Vec}
 use Rattle.gv_types.specs.declared.mapping.Mapping.{Mapping}
-use Rattle.gv_chunks.specs.Chunks.{joined, AreChunks, AreFilled, AreStarts, AreFirsts}
+use Rattle.gv_chunks.specs.Chunks.{chunks_joined, AreChunks, AreFilled, AreStarts, AreFirsts}
 use Rattle.gv_chunks.specs.declared.parts.Parts.{Parts}
 use Rattle.gv_chunks.specs.declared.TheConstants.{CHUNK}
 
@@ -10,9 +10,9 @@ use Rattle.gv_chunks.specs.declared.TheConstants.{CHUNK}
 -- room: one chunk for what fits into one
 pub record IsChunkList (chunks : List (Vec Mapping)) (standing count room : ℕ) : Type 0 where
   pub within : standing ≤ length chunks
-  pub spare : joined (drop standing chunks) ≡ []
+  pub spare : chunks_joined (drop standing chunks) ≡ []
   pub chunked : AreChunks chunks
-  pub held : count ≡ length (joined chunks)
+  pub held : count ≡ length (chunks_joined chunks)
   pub few : CHUNK * standing ≤ 2 * count + CHUNK
   pub filled : AreFilled (take standing chunks)
   pub fits : count ≤ room
@@ -20,7 +20,7 @@ pub record IsChunkList (chunks : List (Vec Mapping)) (standing count room : ℕ)
   pub short : room ≤ CHUNK → standing ≤ 1
   pub enough : CHUNK < room → 2 * room + 3 * CHUNK ≤ CHUNK * length chunks
 
--- the index says where each chunk that stands begins, and has a place for every chunk
+-- the index says where each chunk that stands begins, and has room for every chunk
 pub record IsIndexOf (chunks : List (Vec Mapping)) (standing : ℕ) (starts firsts : List ℕ) : Type 0 where
   pub are_starts : AreStarts starts (take standing chunks)
   pub are_firsts : AreFirsts firsts (take standing chunks)
@@ -29,38 +29,38 @@ pub record IsIndexOf (chunks : List (Vec Mapping)) (standing : ℕ) (starts firs
 
 -- the mappings of the parts
 abbrev pub items_of : Parts → List Mapping
-items_of p = joined p.chunks.items
+items_of p = chunks_joined p.chunks.items
 
 -- the parts are those of a list
 pub record AreParts (p : Parts) : Type 0 where
   pub list : IsChunkList p.chunks.items p.standing p.len p.room
   pub index : IsIndexOf p.chunks.items p.standing p.starts.items p.firsts.items
 
--- the place lies in the chunk or at its end, and only at its end where the list ends; where no chunk stands, it is the start of the first
-pub record IsSpot (p : Parts) (place chunk start : ℕ) : Type 0 where
+-- the index lies in the chunk or at its end, and only at its end where the list ends; where no chunk stands, it is the start of the first
+pub record IsSpot (p : Parts) (index chunk start : ℕ) : Type 0 where
   pub standing : chunk < max p.standing 1
-  pub start_is : start ≡ length (joined (take chunk p.chunks.items))
-  pub begun : start ≤ place
-  pub rest : (d : Vec Mapping) → 0 < length p.chunks.items → place ≤ start + vec_len (slice_index_or p.chunks.items chunk d)
-  pub later : (d : Vec Mapping) → place < length (items_of p) → place < start + vec_len (slice_index_or p.chunks.items chunk d)
+  pub start_is : start ≡ length (chunks_joined (take chunk p.chunks.items))
+  pub begun : start ≤ index
+  pub rest : (d : Vec Mapping) → 0 < length p.chunks.items → index ≤ start + vec_len (slice_index_or p.chunks.items chunk d)
+  pub later : (d : Vec Mapping) → index < length (items_of p) → index < start + vec_len (slice_index_or p.chunks.items chunk d)
 
--- `out_count` mappings from `place` on lie in the chunk that begins at `start`, and `in_count` fit in for them; it holds something then, and the
+-- `out_count` mappings from `index` on lie in the chunk that begins at `start`, and `in_count` fit in for them; it holds something then, and the
 -- chunks stay few
-pub record IsEditable (p : Parts) (chunk start place out_count in_count : ℕ) : Type 0 where
+pub record IsEditable (p : Parts) (chunk start index out_count in_count : ℕ) : Type 0 where
   pub some : 0 < length p.chunks.items
   pub standing : chunk < max p.standing 1
-  pub start_is : start ≡ length (joined (take chunk p.chunks.items))
-  pub begun : start ≤ place
-  pub within : (d : Vec Mapping) → place + out_count ≤ start + vec_len (slice_index_or p.chunks.items chunk d)
+  pub start_is : start ≡ length (chunks_joined (take chunk p.chunks.items))
+  pub begun : start ≤ index
+  pub within : (d : Vec Mapping) → index + out_count ≤ start + vec_len (slice_index_or p.chunks.items chunk d)
   pub holds : (d : Vec Mapping) → out_count < vec_len (slice_index_or p.chunks.items chunk d) + in_count
   pub fits : (d : Vec Mapping) → vec_len (slice_index_or p.chunks.items chunk d) + in_count ≤ CHUNK + out_count
   pub few : CHUNK * max p.standing 1 ≤ 2 * (p.len - out_count + in_count) + CHUNK
 
--- the `out_count` mappings from `place` on are all that a chunk holds, nothing comes in for them, and the chunks stay few
-pub record IsEmptied (p : Parts) (chunk start place out_count in_count : ℕ) : Type 0 where
+-- the `out_count` mappings from `index` on are all that a chunk holds, nothing comes in for them, and the chunks stay few
+pub record IsEmptied (p : Parts) (chunk start index out_count in_count : ℕ) : Type 0 where
   pub standing : chunk < p.standing
-  pub start_is : start ≡ length (joined (take chunk p.chunks.items))
-  pub at : place ≡ start
+  pub start_is : start ≡ length (chunks_joined (take chunk p.chunks.items))
+  pub at : index ≡ start
   pub all : (d : Vec Mapping) → out_count ≡ vec_len (slice_index_or p.chunks.items chunk d)
   pub none : in_count ≡ 0
   pub few : CHUNK * (p.standing - 1) ≤ 2 * (p.len - out_count) + CHUNK

@@ -26,10 +26,10 @@ pub struct ChunkList {
 }
 
 impl Model for ChunkList {
-    ghost use Rattle.gv_chunks.specs.Chunks.{Chunked};
+    ghost use Rattle.gv_chunks.specs.Chunks.{ChunkListState};
     ghost use Rattle.gv_chunks.specs.Inside.{AreParts, items_of};
 
-    ghost Value = { Chunked };
+    ghost Value = { ChunkListState };
 
     ghost view = { λ l. record { items = items_of l.parts; room = l.parts.room } };
 
@@ -38,7 +38,7 @@ impl Model for ChunkList {
 
 impl ChunkList {
     ghost use Rattle.std.specs.List.{splice};
-    ghost use Rattle.gv_chunks.specs.Chunks.{joined, AreFilled, AreStarts, AreFirsts, IsKept};
+    ghost use Rattle.gv_chunks.specs.Chunks.{chunks_joined, AreFilled, AreStarts, AreFirsts, IsKept};
 
     /// A list of no mapping, which takes no memory.
     pub fn new(alloc: Global) -> ChunkList
@@ -68,7 +68,7 @@ impl ChunkList {
     /// The chunks that stand.
     #[inline(always)]
     pub fn chunks(&self) -> Standing<'_>
-        ensures items { joined result.chunks.now ≡ self.now.items }
+        ensures items { chunks_joined result.chunks.now ≡ self.now.items }
         ensures filled { AreFilled result.chunks.now }
         ensures starts { AreStarts result.starts.now result.chunks.now }
         ensures firsts { AreFirsts result.firsts.now result.chunks.now }
@@ -80,24 +80,24 @@ impl ChunkList {
         }
     }
 
-    /// What the chunk of a place holds from the place on. Where the list ends before the place, nothing.
-    pub fn piece(&self, place: usize) -> &[Mapping]
-        ensures value { result.now ≡ take (length result.now) (drop place self.now.items) }
-        ensures some { place < length self.now.items → 0 < length result.now }
+    /// What the chunk of an index holds from the index on. Where the list ends before the index, nothing.
+    pub fn piece(&self, index: usize) -> &[Mapping]
+        ensures value { result.now ≡ take (length result.now) (drop index self.now.items) }
+        ensures some { index < length self.now.items → 0 < length result.now }
     {
-        if place >= self.parts.len {
+        if index >= self.parts.len {
             return &[];
         }
-        let (chunk, start) = self.parts.spot(place);
-        piece_of(&self.parts.chunks, chunk, place - start)
+        let (chunk, start) = self.parts.spot(index);
+        piece_of(&self.parts.chunks, chunk, index - start)
     }
 
-    /// The mapping at a place.
-    pub fn get(&self, place: usize) -> &Mapping
-        requires { place < length self.now.items }
-        ensures { (d : Mapping) → result.now ≡ slice_index_or self.now.items place d }
+    /// The mapping at an index.
+    pub fn get(&self, index: usize) -> &Mapping
+        requires { index < length self.now.items }
+        ensures { (d : Mapping) → result.now ≡ slice_index_or self.now.items index d }
     {
-        &self.piece(place)[0]
+        &self.piece(index)[0]
     }
 
     /// Makes room for `more` mappings beside those in the list: where the room has to grow, as much as the chunks
@@ -121,18 +121,18 @@ impl ChunkList {
         self.parts.grow(wanted)
     }
 
-    /// Replaces `out_count` mappings from `place` on by `pieces`. It takes no memory: the room has
+    /// Replaces `out_count` mappings from `index` on by `pieces`. It takes no memory: the room has
     /// to be there, and stays as it is.
-    pub fn splice(&mut self, place: usize, out_count: usize, pieces: &[Mapping])
-        requires within { place + out_count ≤ length self.old.items }
+    pub fn splice(&mut self, index: usize, out_count: usize, pieces: &[Mapping])
+        requires within { index + out_count ≤ length self.old.items }
         requires room { length self.old.items + length pieces.now ≤ self.old.room + out_count }
         ensures items { self.new.items
-            ≡ splice self.old.items place (place + out_count) pieces.now }
+            ≡ splice self.old.items index (index + out_count) pieces.now }
         ensures room { self.new.room ≡ self.old.room }
     {
         if out_count == 0 && pieces.is_empty() {
             return;
         }
-        self.parts.replace(place, out_count, pieces);
+        self.parts.replace(index, out_count, pieces);
     }
 }

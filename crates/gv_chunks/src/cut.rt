@@ -1,29 +1,29 @@
-//! A list of chunks cut at a place, and chunks filled.
+//! A list of chunks cut at an index, and chunks filled.
 ghost use Rattle.std.specs.Prelude.{◌≡◌, ◌+◌, ◌-◌, ◌*◌, ◌<◌, ◌≤◌, ℕ, [], length, take, drop, slice_index_or, vec_len};
 ghost use Rattle.std.specs.Global.{Vec};
 ghost use Rattle.gv_types.specs.declared.mapping.Mapping.{Mapping};
-ghost use Rattle.gv_chunks.specs.Chunks.{joined, AreChunks};
+ghost use Rattle.gv_chunks.specs.Chunks.{chunks_joined, AreChunks};
 
 use crate::CHUNK;
 use crate::replace::append;
-use crate::walk::place_in;
+use crate::walk::index_in;
 use gv_types::Mapping;
 
-/// Cuts the list before `place`, and answers how many chunks stand before the cut. The last chunk has to be empty: it
-/// takes what stands behind the place in its chunk.
-pub fn cut(chunks: &mut [Vec<Mapping>], place: usize) -> usize
+/// Cuts the list before `index`, and answers how many chunks stand before the cut. The last chunk has to be empty: it
+/// takes what stands behind the index in its chunk.
+pub fn cut(chunks: &mut [Vec<Mapping>], index: usize) -> usize
     requires some { 1 < length chunks.old }
-    requires spare { joined (drop (length chunks.old - 1) chunks.old) ≡ [] }
-    requires within { place ≤ length (joined chunks.old) }
+    requires spare { chunks_joined (drop (length chunks.old - 1) chunks.old) ≡ [] }
+    requires within { index ≤ length (chunks_joined chunks.old) }
     requires chunks { AreChunks chunks.old }
     ensures some { 0 < result }
     ensures within { result < length chunks.new }
-    ensures before { joined (take result chunks.new) ≡ take place (joined chunks.old) }
-    ensures behind { joined (drop result chunks.new) ≡ drop place (joined chunks.old) }
+    ensures before { chunks_joined (take result chunks.new) ≡ take index (chunks_joined chunks.old) }
+    ensures behind { chunks_joined (drop result chunks.new) ≡ drop index (chunks_joined chunks.old) }
     ensures chunks { AreChunks chunks.new }
 {
     let last = chunks.len() - 1;
-    let (chunk, left) = place_in(&chunks[..last], place);
+    let (chunk, left) = index_in(&chunks[..last], index);
     divide(chunks, chunk, left);
     chunk + 1
 }
@@ -31,13 +31,13 @@ pub fn cut(chunks: &mut [Vec<Mapping>], place: usize) -> usize
 /// Moves what a chunk holds from `left` on into the last chunk, which holds nothing, and puts that behind it.
 pub fn divide(chunks: &mut [Vec<Mapping>], chunk: usize, left: usize)
     requires within { chunk + 1 < length chunks.old }
-    requires spare { joined (drop (length chunks.old - 1) chunks.old) ≡ [] }
+    requires spare { chunks_joined (drop (length chunks.old - 1) chunks.old) ≡ [] }
     requires left { (d : Vec Mapping) → left ≤ vec_len (slice_index_or chunks.old chunk d) }
     requires chunks { AreChunks chunks.old }
-    ensures before { joined (take (chunk + 1) chunks.new)
-        ≡ take (length (joined (take chunk chunks.old)) + left) (joined chunks.old) }
-    ensures behind { joined (drop (chunk + 1) chunks.new)
-        ≡ drop (length (joined (take chunk chunks.old)) + left) (joined chunks.old) }
+    ensures before { chunks_joined (take (chunk + 1) chunks.new)
+        ≡ take (length (chunks_joined (take chunk chunks.old)) + left) (chunks_joined chunks.old) }
+    ensures behind { chunks_joined (drop (chunk + 1) chunks.new)
+        ≡ drop (length (chunks_joined (take chunk chunks.old)) + left) (chunks_joined chunks.old) }
     ensures front { take chunk chunks.new ≡ take chunk chunks.old }
     ensures first { (d : Vec Mapping) → (slice_index_or chunks.new chunk d).items ≡ take left (slice_index_or chunks.old chunk d).items }
     ensures second { (d : Vec Mapping) → (slice_index_or chunks.new (chunk + 1) d).items ≡ drop left (slice_index_or chunks.old chunk d).items }
@@ -55,7 +55,7 @@ pub fn divide(chunks: &mut [Vec<Mapping>], chunk: usize, left: usize)
 /// Takes the mappings out of each chunk.
 pub fn clear(chunks: &mut [Vec<Mapping>])
     requires { AreChunks chunks.old }
-    ensures items { joined chunks.new ≡ [] }
+    ensures items { chunks_joined chunks.new ≡ [] }
     ensures chunks { AreChunks chunks.new }
 {
     for i in 0..chunks.len() {
@@ -66,9 +66,9 @@ pub fn clear(chunks: &mut [Vec<Mapping>])
 /// Puts the pieces into the chunks, which are empty and have room for them.
 pub fn fill(chunks: &mut [Vec<Mapping>], pieces: &[Mapping])
     requires room { length pieces.now ≤ CHUNK * length chunks.old }
-    requires empty { joined chunks.old ≡ [] }
+    requires empty { chunks_joined chunks.old ≡ [] }
     requires chunks { AreChunks chunks.old }
-    ensures items { joined chunks.new ≡ pieces.now }
+    ensures items { chunks_joined chunks.new ≡ pieces.now }
     ensures chunks { AreChunks chunks.new }
 {
     let mut rest = pieces;

@@ -3,7 +3,7 @@ ghost use Rattle.std.specs.Prelude.{◌≡◌, ◌+◌, ◌-◌, ◌<◌, ◌≤
 ghost use Rattle.std.specs.Prelude.{ℕ, slice_index_or, vec_len};
 ghost use Rattle.std.specs.Global.{Vec};
 ghost use Rattle.gv_types.specs.declared.mapping.Mapping.{Mapping};
-ghost use Rattle.gv_chunks.specs.Chunks.{joined, AreChunks};
+ghost use Rattle.gv_chunks.specs.Chunks.{chunks_joined, AreChunks};
 
 use crate::cut::divide;
 use gv_types::Mapping;
@@ -14,7 +14,7 @@ fn turn_out(chunks: &mut [Vec<Mapping>], chunk: usize)
     requires chunks { AreChunks chunks.old }
     ensures before { take chunk chunks.new ≡ take chunk chunks.old }
     ensures behind { take (length chunks.old - (chunk + 1)) (drop chunk chunks.new) ≡ drop (chunk + 1) chunks.old }
-    ensures spare { joined (drop (length chunks.old - 1) chunks.new) ≡ [] }
+    ensures spare { chunks_joined (drop (length chunks.old - 1) chunks.new) ≡ [] }
     ensures chunks { AreChunks chunks.new }
 {
     let (_, back) = chunks.split_at_mut(chunk);
@@ -26,10 +26,10 @@ fn turn_out(chunks: &mut [Vec<Mapping>], chunk: usize)
 pub fn close(chunks: &mut [Vec<Mapping>], standing: usize, chunk: usize)
     requires chunk { chunk < standing }
     requires within { standing ≤ length chunks.old }
-    requires spare { joined (drop standing chunks.old) ≡ [] }
+    requires spare { chunks_joined (drop standing chunks.old) ≡ [] }
     requires chunks { AreChunks chunks.old }
     ensures standing { take (standing - 1) chunks.new ≡ take chunk (take standing chunks.old) ++ drop (chunk + 1) (take standing chunks.old) }
-    ensures spare { joined (drop (standing - 1) chunks.new) ≡ [] }
+    ensures spare { chunks_joined (drop (standing - 1) chunks.new) ≡ [] }
     ensures chunks { AreChunks chunks.new }
 {
     let (used, _) = chunks.split_at_mut(standing);
@@ -41,16 +41,16 @@ pub fn close(chunks: &mut [Vec<Mapping>], standing: usize, chunk: usize)
 pub fn open(chunks: &mut [Vec<Mapping>], standing: usize, chunk: usize, left: usize)
     requires chunk { chunk < standing }
     requires within { standing < length chunks.old }
-    requires spare { joined (drop standing chunks.old) ≡ [] }
+    requires spare { chunks_joined (drop standing chunks.old) ≡ [] }
     requires left { (d : Vec Mapping) → left ≤ vec_len (slice_index_or chunks.old chunk d) }
     requires chunks { AreChunks chunks.old }
-    ensures items { joined chunks.new ≡ joined chunks.old }
+    ensures items { chunks_joined chunks.new ≡ chunks_joined chunks.old }
     ensures front { take chunk chunks.new ≡ take chunk chunks.old }
     ensures first { (d : Vec Mapping) → (slice_index_or chunks.new chunk d).items ≡ take left (slice_index_or chunks.old chunk d).items }
     ensures second { (d : Vec Mapping) → (slice_index_or chunks.new (chunk + 1) d).items ≡ drop left (slice_index_or chunks.old chunk d).items }
     ensures later { (k : ℕ) (d : Vec Mapping) → chunk + 1 < k → k ≤ standing
         → slice_index_or chunks.new k d ≡ slice_index_or chunks.old (k - 1) d }
-    ensures spare { joined (drop (standing + 1) chunks.new) ≡ [] }
+    ensures spare { chunks_joined (drop (standing + 1) chunks.new) ≡ [] }
     ensures chunks { AreChunks chunks.new }
 {
     let (used, _) = chunks.split_at_mut(standing + 1);

@@ -1,6 +1,6 @@
 //! More chunks for a list.
 ghost use Rattle.std.specs.Prelude.{◌≡◌, ◌+◌, ◌*◌, ◌<◌, ◌≤◌, [], length, take, drop, max, vec_len, OnOk};
-ghost use Rattle.gv_chunks.specs.Chunks.{joined, AreChunks};
+ghost use Rattle.gv_chunks.specs.Chunks.{chunks_joined, AreChunks};
 
 use crate::CHUNK;
 use gv_types::{Mapping, OutOfMemory};
@@ -23,7 +23,7 @@ pub fn chunks_for(room: usize) -> usize
 /// refuses the memory, those made stay.
 pub fn add_chunks(chunks: &mut Vec<Vec<Mapping>>, count: usize) -> Result<(), OutOfMemory>
     ensures kept { take (length chunks.old.items) chunks.new.items ≡ chunks.old.items }
-    ensures spare { joined (drop (length chunks.old.items) chunks.new.items) ≡ [] }
+    ensures spare { chunks_joined (drop (length chunks.old.items) chunks.new.items) ≡ [] }
     ensures chunks { AreChunks chunks.old.items → AreChunks chunks.new.items }
     ensures ok { OnOk result (count ≤ length chunks.new.items) }
     ensures at_most { length chunks.new.items ≤ max (length chunks.old.items) count }

@@ -1,6 +1,6 @@
 //! Where the chunks of a list begin.
 ghost use Rattle.std.specs.Prelude.{◌≡◌, ◌+◌, ◌<◌, ◌≤◌, ◌^◌, ℕ, length, take, slice_index_or, OnOk};
-ghost use Rattle.gv_chunks.specs.Chunks.{joined, AreFilled, AreStarts, AreFirsts};
+ghost use Rattle.gv_chunks.specs.Chunks.{chunks_joined, AreFilled, AreStarts, AreFirsts};
 
 use gv_types::{Mapping, OutOfMemory};
 
@@ -17,20 +17,20 @@ pub fn pad<T: Copy>(items: &mut Vec<T>, count: usize, value: T) -> Result<(), Ou
     Ok(())
 }
 
-/// The last of the first `standing` numbers that is at most `place`. Each step halves what is left.
-pub fn last_at_most(starts: &[usize], standing: usize, place: usize) -> usize
+/// The last of the first `standing` numbers that is at most `index`. Each step halves what is left.
+pub fn last_at_most(starts: &[usize], standing: usize, index: usize) -> usize
     requires some { 0 < standing }
     requires within { standing ≤ length starts.now }
-    requires first { (d : ℕ) → slice_index_or starts.now 0 d ≤ place }
+    requires first { (d : ℕ) → slice_index_or starts.now 0 d ≤ index }
     ensures within { result < standing }
-    ensures begun { (d : ℕ) → slice_index_or starts.now result d ≤ place }
-    ensures next { (d : ℕ) → result + 1 < standing → place < slice_index_or starts.now (result + 1) d }
+    ensures begun { (d : ℕ) → slice_index_or starts.now result d ≤ index }
+    ensures next { (d : ℕ) → result + 1 < standing → index < slice_index_or starts.now (result + 1) d }
 {
     let mut low = 0;
     let mut left = standing;
     while left > 1 {
         let half = left / 2;
-        if starts[low + half] <= place {
+        if starts[low + half] <= index {
             low += half;
             left -= half;
         } else {
@@ -59,7 +59,7 @@ pub fn shift(starts: &mut [usize], from: usize, to: usize, out_count: usize, in_
 pub fn write_index(chunks: &[Vec<Mapping>], starts: &mut [usize], firsts: &mut [u64], from: usize)
     requires from { from ≤ length chunks.now }
     requires filled { AreFilled chunks.now }
-    requires few { length (joined chunks.now) < 2 ^ 64 }
+    requires few { length (chunks_joined chunks.now) < 2 ^ 64 }
     requires starts { AreStarts starts.old (take from chunks.now) }
     requires firsts { AreFirsts firsts.old (take from chunks.now) }
     requires starts_within { length chunks.now ≤ length starts.old }
@@ -80,9 +80,9 @@ pub fn write_index(chunks: &[Vec<Mapping>], starts: &mut [usize], firsts: &mut [
 /// How many mappings stand before a chunk, told by the one before it.
 fn end_of(chunks: &[Vec<Mapping>], starts: &[usize], chunk: usize) -> usize
     requires within { chunk ≤ length chunks.now }
-    requires few { length (joined chunks.now) < 2 ^ 64 }
+    requires few { length (chunks_joined chunks.now) < 2 ^ 64 }
     requires starts { AreStarts starts.now (take chunk chunks.now) }
-    ensures { result ≡ length (joined (take chunk chunks.now)) }
+    ensures { result ≡ length (chunks_joined (take chunk chunks.now)) }
 {
     if chunk == 0 {
         return 0;

@@ -3,7 +3,7 @@ ghost use Rattle.std.specs.Prelude.{◌≡◌, ◌+◌, ◌-◌, ◌*◌, ◌<�
 ghost use Rattle.std.specs.List.{splice};
 ghost use Rattle.std.specs.Global.{Vec};
 ghost use Rattle.gv_types.specs.declared.mapping.Mapping.{Mapping};
-ghost use Rattle.gv_chunks.specs.Chunks.{joined};
+ghost use Rattle.gv_chunks.specs.Chunks.{chunks_joined};
 ghost use Rattle.gv_chunks.specs.Inside.{AreParts, IsDivisible, IsSpot, IsEditable, IsEmptied, items_of};
 ghost use Rattle.gv_chunks.specs.declared.parts.Way.TheVariants.{Within, Emptied, Elsewhere};
 ghost use Rattle.gv_chunks.specs.declared.TheConstants.{CHUNK};
@@ -62,7 +62,7 @@ impl Parts {
         }
     }
 
-    /// Makes chunks and their places in the index for `room` mappings. Where the system refuses the memory the room stays.
+    /// Makes chunks and their entries in the index for `room` mappings. Where the system refuses the memory the room stays.
     pub fn grow(&mut self, room: usize) -> Result<(), OutOfMemory>
         requires parts { AreParts self.old }
         requires more { self.old.room ≤ room }
@@ -79,41 +79,41 @@ impl Parts {
         Ok(())
     }
 
-    /// The chunk of a place, and how many mappings stand before that chunk.
-    pub fn spot(&self, place: usize) -> (usize, usize)
+    /// The chunk of an index, and how many mappings stand before that chunk.
+    pub fn spot(&self, index: usize) -> (usize, usize)
         requires parts { AreParts self.now }
-        requires within { place ≤ length (items_of self.now) }
-        ensures { IsSpot self.now place result.0 result.1 }
+        requires within { index ≤ length (items_of self.now) }
+        ensures { IsSpot self.now index result.0 result.1 }
     {
         if self.standing == 0 {
             return (0, 0);
         }
-        let chunk = last_at_most(&self.starts, self.standing, place);
+        let chunk = last_at_most(&self.starts, self.standing, index);
         (chunk, self.starts[chunk])
     }
 
-    /// How the run of `out_count` mappings from a place on is replaced by `in_count`.
+    /// How the run of `out_count` mappings from an index on is replaced by `in_count`.
     fn way(
         &self,
         chunk: usize,
         start: usize,
-        place: usize,
+        index: usize,
         out_count: usize,
         in_count: usize,
     ) -> Way
         requires parts { AreParts self.now }
-        requires spot { IsSpot self.now place chunk start }
-        requires within { place + out_count ≤ length (items_of self.now) }
+        requires spot { IsSpot self.now index chunk start }
+        requires within { index + out_count ≤ length (items_of self.now) }
         requires room { self.now.len + in_count ≤ self.now.room + out_count }
         requires change { 0 < out_count + in_count }
-        ensures within { result ≡ Within → IsEditable self.now chunk start place out_count in_count }
-        ensures emptied { result ≡ Emptied → IsEmptied self.now chunk start place out_count in_count }
+        ensures within { result ≡ Within → IsEditable self.now chunk start index out_count in_count }
+        ensures emptied { result ≡ Emptied → IsEmptied self.now chunk start index out_count in_count }
         ensures elsewhere { result ≡ Elsewhere → CHUNK < self.now.room }
     {
         // Tells that the room is a number of a machine.
         let _room = self.room;
         let held = self.chunks[chunk].len();
-        if place - start + out_count > held {
+        if index - start + out_count > held {
             return Way::Elsewhere;
         }
         let now = held - out_count + in_count;
@@ -130,23 +130,23 @@ impl Parts {
         Way::Elsewhere
     }
 
-    /// Replaces `out_count` mappings from `place` on, which lie in the chunk, by pieces that fit into it.
+    /// Replaces `out_count` mappings from `index` on, which lie in the chunk, by pieces that fit into it.
     fn edit(
         &mut self,
         chunk: usize,
         start: usize,
-        place: usize,
+        index: usize,
         out_count: usize,
         pieces: &[Mapping],
     )
         requires parts { AreParts self.old }
-        requires editable { IsEditable self.old chunk start place out_count (length pieces.now) }
+        requires editable { IsEditable self.old chunk start index out_count (length pieces.now) }
         requires room { self.old.len + length pieces.now ≤ self.old.room + out_count }
-        ensures items { items_of self.new ≡ splice (items_of self.old) place (place + out_count) pieces.now }
+        ensures items { items_of self.new ≡ splice (items_of self.old) index (index + out_count) pieces.now }
         ensures room { self.new.room ≡ self.old.room }
         ensures parts { AreParts self.new }
     {
-        replace_run(&mut self.chunks[chunk], place - start, out_count, pieces);
+        replace_run(&mut self.chunks[chunk], index - start, out_count, pieces);
         self.len = self.len - out_count + pieces.len();
         self.standing = self.standing.max(1);
         self.starts[chunk] = start;
@@ -161,10 +161,10 @@ impl Parts {
     }
 
     /// Takes out all that a chunk holds, and with it the chunk.
-    fn remove(&mut self, chunk: usize, start: usize, place: usize, out_count: usize)
+    fn remove(&mut self, chunk: usize, start: usize, index: usize, out_count: usize)
         requires parts { AreParts self.old }
-        requires emptied { IsEmptied self.old chunk start place out_count 0 }
-        ensures items { items_of self.new ≡ splice (items_of self.old) place (place + out_count) [] }
+        requires emptied { IsEmptied self.old chunk start index out_count 0 }
+        ensures items { items_of self.new ≡ splice (items_of self.old) index (index + out_count) [] }
         ensures room { self.new.room ≡ self.old.room }
         ensures parts { AreParts self.new }
     {
@@ -181,19 +181,19 @@ impl Parts {
         );
     }
 
-    /// Replaces `out_count` mappings from `place` on by the pieces, wherever they lie. All chunks are gone through.
+    /// Replaces `out_count` mappings from `index` on by the pieces, wherever they lie. All chunks are gone through.
     #[cold]
     #[inline(never)]
-    fn replace_all(&mut self, place: usize, out_count: usize, pieces: &[Mapping])
+    fn replace_all(&mut self, index: usize, out_count: usize, pieces: &[Mapping])
         requires parts { AreParts self.old }
-        requires within { place + out_count ≤ length (items_of self.old) }
+        requires within { index + out_count ≤ length (items_of self.old) }
         requires long { CHUNK < self.old.room }
         requires room { self.old.len + length pieces.now ≤ self.old.room + out_count }
-        ensures items { items_of self.new ≡ splice (items_of self.old) place (place + out_count) pieces.now }
+        ensures items { items_of self.new ≡ splice (items_of self.old) index (index + out_count) pieces.now }
         ensures room { self.new.room ≡ self.old.room }
         ensures parts { AreParts self.new }
     {
-        let used = replace_anywhere(&mut self.chunks, self.standing, place, out_count, pieces);
+        let used = replace_anywhere(&mut self.chunks, self.standing, index, out_count, pieces);
         self.len = self.len - out_count + pieces.len();
         self.standing = if self.len == 0 { 0 } else { used };
         write_index(
@@ -226,42 +226,42 @@ impl Parts {
         );
     }
 
-    /// Replaces `out_count` mappings from `place` on by the pieces: in their chunk, where they lie in one and fit.
-    fn replace_one(&mut self, place: usize, out_count: usize, pieces: &[Mapping])
+    /// Replaces `out_count` mappings from `index` on by the pieces: in their chunk, where they lie in one and fit.
+    fn replace_one(&mut self, index: usize, out_count: usize, pieces: &[Mapping])
         requires parts { AreParts self.old }
-        requires within { place + out_count ≤ length (items_of self.old) }
+        requires within { index + out_count ≤ length (items_of self.old) }
         requires room { self.old.len + length pieces.now ≤ self.old.room + out_count }
         requires change { 0 < out_count + length pieces.now }
-        ensures items { items_of self.new ≡ splice (items_of self.old) place (place + out_count) pieces.now }
+        ensures items { items_of self.new ≡ splice (items_of self.old) index (index + out_count) pieces.now }
         ensures room { self.new.room ≡ self.old.room }
         ensures parts { AreParts self.new }
     {
-        let (chunk, start) = self.spot(place);
-        match self.way(chunk, start, place, out_count, pieces.len()) {
-            Way::Within => self.edit(chunk, start, place, out_count, pieces),
-            Way::Emptied => self.remove(chunk, start, place, out_count),
-            Way::Elsewhere => self.replace_all(place, out_count, pieces),
+        let (chunk, start) = self.spot(index);
+        match self.way(chunk, start, index, out_count, pieces.len()) {
+            Way::Within => self.edit(chunk, start, index, out_count, pieces),
+            Way::Emptied => self.remove(chunk, start, index, out_count),
+            Way::Elsewhere => self.replace_all(index, out_count, pieces),
         }
     }
 
     /// Replaces a run of which `beyond` mappings lie beyond the chunk in which it begins: first these go.
-    fn replace_across(&mut self, place: usize, out_count: usize, beyond: usize, pieces: &[Mapping])
+    fn replace_across(&mut self, index: usize, out_count: usize, beyond: usize, pieces: &[Mapping])
         requires parts { AreParts self.old }
         requires beyond { 0 < beyond }
         requires less { beyond < out_count }
-        requires within { place + out_count ≤ length (items_of self.old) }
+        requires within { index + out_count ≤ length (items_of self.old) }
         requires room { self.old.len + length pieces.now ≤ self.old.room + out_count }
-        ensures items { items_of self.new ≡ splice (items_of self.old) place (place + out_count) pieces.now }
+        ensures items { items_of self.new ≡ splice (items_of self.old) index (index + out_count) pieces.now }
         ensures room { self.new.room ≡ self.old.room }
         ensures parts { AreParts self.new }
     {
         let here = out_count - beyond;
-        self.replace_one(place + here, beyond, &[]);
-        self.replace_one(place, here, pieces);
+        self.replace_one(index + here, beyond, &[]);
+        self.replace_one(index, here, pieces);
     }
 
     /// Divides a chunk where that is few, and two chunks have room for so many more.
-    fn make_place(&mut self, chunk: usize, more: usize)
+    fn make_room(&mut self, chunk: usize, more: usize)
         requires parts { AreParts self.old }
         requires long { CHUNK < self.old.room }
         ensures items { items_of self.new ≡ items_of self.old }
@@ -285,48 +285,48 @@ impl Parts {
         &mut self,
         chunk: usize,
         end: usize,
-        place: usize,
+        index: usize,
         out_count: usize,
         pieces: &[Mapping],
     )
         requires parts { AreParts self.old }
         requires long { CHUNK < self.old.room }
-        requires within { place + out_count ≤ length (items_of self.old) }
+        requires within { index + out_count ≤ length (items_of self.old) }
         requires room { self.old.len + length pieces.now ≤ self.old.room + out_count }
         requires change { 0 < out_count + length pieces.now }
-        ensures items { items_of self.new ≡ splice (items_of self.old) place (place + out_count) pieces.now }
+        ensures items { items_of self.new ≡ splice (items_of self.old) index (index + out_count) pieces.now }
         ensures room { self.new.room ≡ self.old.room }
         ensures parts { AreParts self.new }
     {
-        let beyond = out_count.saturating_sub(end.saturating_sub(place));
+        let beyond = out_count.saturating_sub(end.saturating_sub(index));
         if 0 < beyond && beyond < out_count {
-            self.replace_across(place, out_count, beyond, pieces);
+            self.replace_across(index, out_count, beyond, pieces);
             return;
         }
-        self.make_place(chunk, pieces.len());
-        self.replace_one(place, out_count, pieces);
+        self.make_room(chunk, pieces.len());
+        self.replace_one(index, out_count, pieces);
     }
 
-    /// Replaces `out_count` mappings from `place` on by the pieces. In most lists of most sizes they lie in one chunk, and what
+    /// Replaces `out_count` mappings from `index` on by the pieces. In most lists of most sizes they lie in one chunk, and what
     /// comes in fits into it.
-    pub fn replace(&mut self, place: usize, out_count: usize, pieces: &[Mapping])
+    pub fn replace(&mut self, index: usize, out_count: usize, pieces: &[Mapping])
         requires parts { AreParts self.old }
-        requires within { place + out_count ≤ length (items_of self.old) }
+        requires within { index + out_count ≤ length (items_of self.old) }
         requires room { self.old.len + length pieces.now ≤ self.old.room + out_count }
         requires change { 0 < out_count + length pieces.now }
-        ensures items { items_of self.new ≡ splice (items_of self.old) place (place + out_count) pieces.now }
+        ensures items { items_of self.new ≡ splice (items_of self.old) index (index + out_count) pieces.now }
         ensures room { self.new.room ≡ self.old.room }
         ensures parts { AreParts self.new }
     {
-        let (chunk, start) = self.spot(place);
-        match self.way(chunk, start, place, out_count, pieces.len()) {
-            Way::Within => self.edit(chunk, start, place, out_count, pieces),
-            Way::Emptied => self.remove(chunk, start, place, out_count),
+        let (chunk, start) = self.spot(index);
+        match self.way(chunk, start, index, out_count, pieces.len()) {
+            Way::Within => self.edit(chunk, start, index, out_count, pieces),
+            Way::Emptied => self.remove(chunk, start, index, out_count),
             Way::Elsewhere => {
                 // Tells that the list's length is a number of a machine.
                 let _len = self.len;
                 let end = start + self.chunks[chunk].len();
-                self.replace_elsewhere(chunk, end, place, out_count, pieces);
+                self.replace_elsewhere(chunk, end, index, out_count, pieces);
             }
         }
     }

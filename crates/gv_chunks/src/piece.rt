@@ -1,17 +1,17 @@
-//! A chunk of a list read from a place on.
+//! A chunk of a list read from an index on.
 ghost use Rattle.std.specs.Prelude.{◌≡◌, ◌+◌, ◌<◌, ◌≤◌, length, take, drop, slice_index_or, vec_len};
 ghost use Rattle.std.specs.Global.{Vec};
 ghost use Rattle.gv_types.specs.declared.mapping.Mapping.{Mapping};
-ghost use Rattle.gv_chunks.specs.Chunks.{joined};
+ghost use Rattle.gv_chunks.specs.Chunks.{chunks_joined};
 
 use gv_types::Mapping;
 
-/// The mappings of a chunk from its place `left` on.
+/// The mappings of a chunk from its index `left` on.
 pub fn piece_of(chunks: &[Vec<Mapping>], chunk: usize, left: usize) -> &[Mapping]
     requires chunk { chunk < length chunks.now }
     requires within { (d : Vec Mapping) → left ≤ vec_len (slice_index_or chunks.now chunk d) }
     ensures value { result.now ≡ take (length result.now)
-        (drop (length (joined (take chunk chunks.now)) + left) (joined chunks.now)) }
+        (drop (length (chunks_joined (take chunk chunks.now)) + left) (chunks_joined chunks.now)) }
     ensures len { (d : Vec Mapping) → length result.now + left ≡ vec_len (slice_index_or chunks.now chunk d) }
 {
     &chunks[chunk][left..]

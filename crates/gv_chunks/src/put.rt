@@ -2,7 +2,7 @@
 ghost use Rattle.std.specs.Prelude.{◌≡◌, ◌+◌, ◌*◌, ◌≤◌, ◌++◌, [], length, drop};
 ghost use Rattle.std.specs.Global.{Vec};
 ghost use Rattle.gv_types.specs.declared.mapping.Mapping.{Mapping};
-ghost use Rattle.gv_chunks.specs.Chunks.{joined, AreChunks};
+ghost use Rattle.gv_chunks.specs.Chunks.{chunks_joined, AreChunks};
 
 use crate::CHUNK;
 use crate::cut::fill;
@@ -12,11 +12,11 @@ use gv_types::Mapping;
 /// many chunks stand now.
 pub fn put_first(chunks: &mut [Vec<Mapping>], standing: usize, pieces: &[Mapping]) -> usize
     requires room { length pieces.now + CHUNK * standing ≤ CHUNK * length chunks.old }
-    requires spare { joined (drop standing chunks.old) ≡ [] }
+    requires spare { chunks_joined (drop standing chunks.old) ≡ [] }
     requires chunks { AreChunks chunks.old }
-    ensures items { joined chunks.new ≡ pieces.now ++ joined chunks.old }
+    ensures items { chunks_joined chunks.new ≡ pieces.now ++ chunks_joined chunks.old }
     ensures within { result ≤ length chunks.new }
-    ensures spare { joined (drop result chunks.new) ≡ [] }
+    ensures spare { chunks_joined (drop result chunks.new) ≡ [] }
     ensures chunks { AreChunks chunks.new }
 {
     let count = pieces.len().div_ceil(CHUNK);

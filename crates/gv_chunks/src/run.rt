@@ -3,7 +3,7 @@ ghost use Rattle.std.specs.Prelude.{◌≡◌, ◌+◌, ◌-◌, ◌*◌, ◌<�
 ghost use Rattle.std.specs.List.{splice};
 ghost use Rattle.std.specs.Global.{Vec};
 ghost use Rattle.gv_types.specs.declared.mapping.Mapping.{Mapping};
-ghost use Rattle.gv_chunks.specs.Chunks.{joined, AreChunks, Packed};
+ghost use Rattle.gv_chunks.specs.Chunks.{chunks_joined, AreChunks, Packed};
 
 use crate::CHUNK;
 use crate::cut::{clear, cut};
@@ -11,34 +11,34 @@ use crate::put::put_first;
 use crate::settle::settle;
 use gv_types::Mapping;
 
-/// Cuts the list before `place`, and answers how many chunks stand before the cut. Of the first `used` chunks the last has to be
+/// Cuts the list before `index`, and answers how many chunks stand before the cut. Of the first `used` chunks the last has to be
 /// empty, and so have those behind them.
-fn cut_used(chunks: &mut [Vec<Mapping>], used: usize, place: usize) -> usize
+fn cut_used(chunks: &mut [Vec<Mapping>], used: usize, index: usize) -> usize
     requires used { used ≤ length chunks.old }
-    requires spare { joined (drop (used - 1) chunks.old) ≡ [] }
-    requires within { place ≤ length (joined chunks.old) }
+    requires spare { chunks_joined (drop (used - 1) chunks.old) ≡ [] }
+    requires within { index ≤ length (chunks_joined chunks.old) }
     requires chunks { AreChunks chunks.old }
     ensures within { result ≤ used }
-    ensures before { joined (take result chunks.new) ≡ take place (joined chunks.old) }
-    ensures behind { joined (drop result chunks.new) ≡ drop place (joined chunks.old) }
-    ensures spare { joined (drop used chunks.new) ≡ [] }
+    ensures before { chunks_joined (take result chunks.new) ≡ take index (chunks_joined chunks.old) }
+    ensures behind { chunks_joined (drop result chunks.new) ≡ drop index (chunks_joined chunks.old) }
+    ensures spare { chunks_joined (drop used chunks.new) ≡ [] }
     ensures chunks { AreChunks chunks.new }
 {
-    if place == 0 {
+    if index == 0 {
         return 0;
     }
     let (front, _) = chunks.split_at_mut(used);
-    cut(front, place)
+    cut(front, index)
 }
 
 /// Takes the first `out_count` mappings out, and answers how many chunks stand now. The last chunk has to be empty.
 pub fn drop_first(chunks: &mut [Vec<Mapping>], out_count: usize) -> usize
-    requires spare { joined (drop (length chunks.old - 1) chunks.old) ≡ [] }
-    requires within { out_count ≤ length (joined chunks.old) }
+    requires spare { chunks_joined (drop (length chunks.old - 1) chunks.old) ≡ [] }
+    requires within { out_count ≤ length (chunks_joined chunks.old) }
     requires chunks { AreChunks chunks.old }
-    ensures items { joined chunks.new ≡ drop out_count (joined chunks.old) }
+    ensures items { chunks_joined chunks.new ≡ drop out_count (chunks_joined chunks.old) }
     ensures within { result ≤ length chunks.new }
-    ensures spare { joined (drop result chunks.new) ≡ [] }
+    ensures spare { chunks_joined (drop result chunks.new) ≡ [] }
     ensures chunks { AreChunks chunks.new }
 {
     let gone = cut_used(chunks, chunks.len(), out_count);
@@ -48,77 +48,77 @@ pub fn drop_first(chunks: &mut [Vec<Mapping>], out_count: usize) -> usize
     chunks.len() - gone
 }
 
-/// Takes `out_count` mappings out from `place` on, and answers how many chunks stand now. Of those before the call it is given the
+/// Takes `out_count` mappings out from `index` on, and answers how many chunks stand now. Of those before the call it is given the
 /// number; two more that hold nothing have to stand behind them.
 pub fn take_out_run(
     chunks: &mut [Vec<Mapping>],
     standing: usize,
-    place: usize,
+    index: usize,
     out_count: usize,
 ) -> usize
     requires room { standing + 2 ≤ length chunks.old }
-    requires spare { joined (drop standing chunks.old) ≡ [] }
-    requires within { place + out_count ≤ length (joined chunks.old) }
+    requires spare { chunks_joined (drop standing chunks.old) ≡ [] }
+    requires within { index + out_count ≤ length (chunks_joined chunks.old) }
     requires chunks { AreChunks chunks.old }
-    ensures items { joined chunks.new ≡ take place (joined chunks.old) ++ drop (place + out_count) (joined chunks.old) }
+    ensures items { chunks_joined chunks.new ≡ take index (chunks_joined chunks.old) ++ drop (index + out_count) (chunks_joined chunks.old) }
     ensures within { result ≤ length chunks.new }
-    ensures spare { joined (drop result chunks.new) ≡ [] }
-    ensures few { CHUNK * result ≤ 2 * length (joined chunks.new) + CHUNK }
+    ensures spare { chunks_joined (drop result chunks.new) ≡ [] }
+    ensures few { CHUNK * result ≤ 2 * length (chunks_joined chunks.new) + CHUNK }
     ensures chunks { AreChunks chunks.new }
 {
-    let start = cut_used(chunks, standing + 1, place);
+    let start = cut_used(chunks, standing + 1, index);
     let (_, tail) = chunks.split_at_mut(start);
     let left = drop_first(tail, out_count);
     settle(chunks, start + left)
 }
 
-/// Puts the pieces in before `place`, and answers how many chunks stand now.
+/// Puts the pieces in before `index`, and answers how many chunks stand now.
 pub fn put_in_run(
     chunks: &mut [Vec<Mapping>],
     standing: usize,
-    place: usize,
+    index: usize,
     pieces: &[Mapping],
 ) -> usize
     requires room { length pieces.now + CHUNK * (standing + 1) ≤ CHUNK * length chunks.old }
-    requires spare { joined (drop standing chunks.old) ≡ [] }
-    requires within { place ≤ length (joined chunks.old) }
+    requires spare { chunks_joined (drop standing chunks.old) ≡ [] }
+    requires within { index ≤ length (chunks_joined chunks.old) }
     requires chunks { AreChunks chunks.old }
-    ensures items { joined chunks.new ≡ splice (joined chunks.old) place place pieces.now }
+    ensures items { chunks_joined chunks.new ≡ splice (chunks_joined chunks.old) index index pieces.now }
     ensures within { result ≤ length chunks.new }
-    ensures spare { joined (drop result chunks.new) ≡ [] }
+    ensures spare { chunks_joined (drop result chunks.new) ≡ [] }
     ensures packed { Packed (take result chunks.new) }
-    ensures few { CHUNK * result ≤ 2 * length (joined chunks.new) + CHUNK }
+    ensures few { CHUNK * result ≤ 2 * length (chunks_joined chunks.new) + CHUNK }
     ensures chunks { AreChunks chunks.new }
 {
-    let start = cut_used(chunks, standing + 1, place);
+    let start = cut_used(chunks, standing + 1, index);
     let (_, tail) = chunks.split_at_mut(start);
     let now = put_first(tail, standing + 1 - start, pieces);
     settle(chunks, start + now)
 }
 
-/// Replaces `out_count` mappings from `place` on by the pieces, and answers how many chunks stand now. All that stands is gone
+/// Replaces `out_count` mappings from `index` on by the pieces, and answers how many chunks stand now. All that stands is gone
 /// through, and neighbours that fit into one chunk are joined.
 pub fn replace_anywhere(
     chunks: &mut [Vec<Mapping>],
     standing: usize,
-    place: usize,
+    index: usize,
     out_count: usize,
     pieces: &[Mapping],
 ) -> usize
     requires standing { standing + 2 ≤ length chunks.old }
-    requires room { 2 * (length (joined chunks.old) - out_count) + length pieces.now + 3 * CHUNK ≤ CHUNK * length chunks.old }
-    requires spare { joined (drop standing chunks.old) ≡ [] }
-    requires within { place + out_count ≤ length (joined chunks.old) }
+    requires room { 2 * (length (chunks_joined chunks.old) - out_count) + length pieces.now + 3 * CHUNK ≤ CHUNK * length chunks.old }
+    requires spare { chunks_joined (drop standing chunks.old) ≡ [] }
+    requires within { index + out_count ≤ length (chunks_joined chunks.old) }
     requires chunks { AreChunks chunks.old }
-    ensures items { joined chunks.new ≡ splice (joined chunks.old) place (place + out_count) pieces.now }
+    ensures items { chunks_joined chunks.new ≡ splice (chunks_joined chunks.old) index (index + out_count) pieces.now }
     ensures within { result ≤ length chunks.new }
-    ensures spare { joined (drop result chunks.new) ≡ [] }
+    ensures spare { chunks_joined (drop result chunks.new) ≡ [] }
     ensures packed { Packed (take result chunks.new) }
-    ensures few { CHUNK * result ≤ 2 * length (joined chunks.new) + CHUNK }
+    ensures few { CHUNK * result ≤ 2 * length (chunks_joined chunks.new) + CHUNK }
     ensures chunks { AreChunks chunks.new }
 {
     let (used, _) = chunks.split_at_mut(standing + 2);
-    let left = take_out_run(used, standing, place, out_count);
+    let left = take_out_run(used, standing, index, out_count);
     let (used, _) = chunks.split_at_mut(left + 1 + pieces.len().div_ceil(CHUNK));
-    put_in_run(used, left, place, pieces)
+    put_in_run(used, left, index, pieces)
 }

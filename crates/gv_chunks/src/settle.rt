@@ -2,7 +2,7 @@
 ghost use Rattle.std.specs.Prelude.{◌≡◌, ◌+◌, ◌*◌, ◌<◌, ◌≤◌, [], length, take, drop};
 ghost use Rattle.std.specs.Global.{Vec};
 ghost use Rattle.gv_types.specs.declared.mapping.Mapping.{Mapping};
-ghost use Rattle.gv_chunks.specs.Chunks.{joined, AreChunks, Packed};
+ghost use Rattle.gv_chunks.specs.Chunks.{chunks_joined, AreChunks, Packed};
 
 use crate::CHUNK;
 use crate::join::join;
@@ -12,14 +12,14 @@ use gv_types::Mapping;
 /// chunks stand now. Those behind them hold nothing, before and after.
 pub fn settle(chunks: &mut [Vec<Mapping>], used: usize) -> usize
     requires within { used ≤ length chunks.old }
-    requires spare { joined (drop used chunks.old) ≡ [] }
+    requires spare { chunks_joined (drop used chunks.old) ≡ [] }
     requires chunks { AreChunks chunks.old }
-    ensures items { joined chunks.new ≡ joined chunks.old }
+    ensures items { chunks_joined chunks.new ≡ chunks_joined chunks.old }
     ensures fewer { result ≤ used }
     ensures some { 0 < used → 0 < result }
-    ensures spare { joined (drop result chunks.new) ≡ [] }
+    ensures spare { chunks_joined (drop result chunks.new) ≡ [] }
     ensures packed { Packed (take result chunks.new) }
-    ensures few { CHUNK * result ≤ 2 * length (joined chunks.new) + CHUNK }
+    ensures few { CHUNK * result ≤ 2 * length (chunks_joined chunks.new) + CHUNK }
     ensures chunks { AreChunks chunks.new }
 {
     let mut standing = used;

@@ -87,8 +87,8 @@ IsStatusOfOne kinds status = (status ≡ no_memory) ⊎ ((one : ErrorKind) × Is
 abbrev pub AskForText : Kinds → Type 0
 AskForText kinds = (kinds ≡ kind.DisplayHelp ∷ []) ⊎ (kinds ≡ kind.DisplayVersion ∷ [])
 
-abbrev pub texts : List (String Global) → List (List ℕ)
-texts = map string_bytes
+abbrev pub words_of : List (String Global) → List (List ℕ)
+words_of = map string_bytes
 
 -- the words are read where no kind of error comes, and else the error has one of these kinds
 abbrev pub ReadsBy : {T : Type 0} → Kinds → Result T WordsFault → Type 0

@@ -31,16 +31,16 @@ status_of (Queues fault) = queues_status fault
 status_of ArgumentNotText = bad_words
 
 -- the line on standard error, but for its line end
-abbrev pub line_of : ProgramFault → List ℕ
-line_of (Script (BadLine line)) = codes "vmbind: bad line " ++ decimal line
-line_of (Script ScriptTooLong) = codes "vmbind: script too long"
-line_of (Script ReadFault) = codes "vmbind: read fault"
-line_of (Script WriteFault) = codes "vmbind: write fault"
-line_of (Script OutOfMemory) = codes "vmbind: out of memory"
-line_of (Queues NotMade) = codes "vmbind: out of memory"
-line_of (Queues (NotStarted queue)) = codes "vmbind: worker not started " ++ decimal queue
-line_of (Queues (Disagree queue)) = codes "vmbind: queues disagree " ++ decimal queue
-line_of ArgumentNotText = codes "vmbind: argument is not text"
+abbrev pub line_of_fault : ProgramFault → List ℕ
+line_of_fault (Script (BadLine line)) = codes "vmbind: bad line " ++ decimal line
+line_of_fault (Script ScriptTooLong) = codes "vmbind: script too long"
+line_of_fault (Script ReadFault) = codes "vmbind: read fault"
+line_of_fault (Script WriteFault) = codes "vmbind: write fault"
+line_of_fault (Script OutOfMemory) = codes "vmbind: out of memory"
+line_of_fault (Queues NotMade) = codes "vmbind: out of memory"
+line_of_fault (Queues (NotStarted queue)) = codes "vmbind: worker not started " ++ decimal queue
+line_of_fault (Queues (Disagree queue)) = codes "vmbind: queues disagree " ++ decimal queue
+line_of_fault ArgumentNotText = codes "vmbind: argument is not text"
 
 -- a threads script's fault as the program's
 abbrev pub of_threads : ThreadsFault → ProgramFault

@@ -1,7 +1,7 @@
 //! What the program says of a failure: a line on standard error, and an exit status.
 ghost use Rattle.std.specs.Prelude.{◌≡◌, Some};
 ghost use Rattle.gv_text.specs.declared.fault.ScriptFault.TheVariants as script;
-ghost use Rattle.gv_cli.specs.Fault.{line_of, queues_status, script_status, status_of};
+ghost use Rattle.gv_cli.specs.Fault.{line_of_fault, queues_status, script_status, status_of};
 ghost use Rattle.gv_cli.specs.declared.fault.ProgramFault.TheVariants as fault;
 
 use crate::status::{BAD_QUEUES, BAD_SCRIPT, BAD_WORDS, BROKEN_STREAM, NO_MEMORY};
@@ -58,7 +58,7 @@ fn queues_status(fault: &QueuesFault) -> u8
 }
 
 impl fmt::Display for ProgramFault {
-    ghost output = { λ fault. Some (line_of fault) };
+    ghost output = { λ fault. Some (line_of_fault fault) };
 
     fn fmt<W: fmt::Write>(&self, f: &mut fmt::Formatter<W>) -> fmt::Result {
         match self {

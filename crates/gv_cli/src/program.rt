@@ -6,7 +6,7 @@ ghost use Rattle.gv_text.specs.declared.fault.ScriptFault.{ScriptFault};
 ghost use Rattle.clap.specs.Words.{fault_of, kind_of};
 ghost use Rattle.clap.specs.declared.error.kind.ErrorKind.TheVariants as kind;
 ghost use Rattle.gv_types.specs.Limits.{IsFromOneTo};
-ghost use Rattle.gv_cli.specs.CommandLine.{AreReadAs, AskForText, IsStatusOfOne, command_line, most_queues, texts};
+ghost use Rattle.gv_cli.specs.CommandLine.{AreReadAs, AskForText, IsStatusOfOne, command_line, most_queues, words_of};
 ghost use Rattle.gv_cli.specs.Fault.{status_of};
 ghost use Rattle.gv_threads.specs.declared.fault.ThreadsFault.{ThreadsFault};
 ghost use Rattle.gv_cli.specs.Run.{HasRun, HasRunThreads, exit_status, threads_status};
@@ -53,31 +53,31 @@ fn obey<R: AllocGlobal + Print + Eprint, T: Threads + Wait + Sync, S: Source, K:
     writer: &mut K,
 ) -> u8
     // The word `run` runs the script, unless memory for reading the words is refused.
-    ensures run { (name : List ℕ) → texts words.now ≡ name ∷ codes "run" ∷ []
+    ensures run { (name : List ℕ) → words_of words.now ≡ name ∷ codes "run" ∷ []
         → ((result ≡ no_memory) × (reader.new ≡ reader.old) × (writer.new ≡ writer.old))
         ⊎ ((answer : Result (Unit {0}) ScriptFault) × HasRun S.remaining S.failed K.written K.failed
         reader.old reader.new writer.old writer.new answer × (result ≡ exit_status answer)) }
     // So do all other words that are read as `run`.
-    ensures read_as_run { AreReadAs (codes "run") (texts words.now)
+    ensures read_as_run { AreReadAs (codes "run") (words_of words.now)
         → ((result ≡ no_memory) × (reader.new ≡ reader.old) × (writer.new ≡ writer.old))
         ⊎ ((answer : Result (Unit {0}) ScriptFault) × HasRun S.remaining S.failed K.written K.failed
         reader.old reader.new writer.old writer.new answer × (result ≡ exit_status answer)) }
     // Words that are read as `threads` run the threads script, on some number of queues that they may ask for.
-    ensures threads { AreReadAs (codes "threads") (texts words.now)
+    ensures threads { AreReadAs (codes "threads") (words_of words.now)
         → ((result ≡ no_memory) × (reader.new ≡ reader.old) × (writer.new ≡ writer.old))
         ⊎ ((count : ℕ) × IsFromOneTo most_queues count × (answer : Result (Unit {0}) ThreadsFault)
         × HasRunThreads S.remaining S.failed K.written K.failed
         reader.old reader.new writer.old writer.new count answer × (result ≡ threads_status answer)) }
     // Other words touch no device.
-    ensures refused { fault_of command_line (texts words.now) ≢ []
+    ensures refused { fault_of command_line (words_of words.now) ≢ []
         → (reader.new ≡ reader.old) × (writer.new ≡ writer.old) }
     // Words that are refused end with the status of their error.
-    ensures refused_status { fault_of command_line (texts words.now) ≢ []
-        → IsStatusOfOne (fault_of command_line (texts words.now)) result }
+    ensures refused_status { fault_of command_line (words_of words.now) ≢ []
+        → IsStatusOfOne (fault_of command_line (words_of words.now)) result }
     // Words that ask for help or for the version: it is printed, or there is no memory for it, or nobody takes it.
-    ensures shown { AskForText (fault_of command_line (texts words.now))
+    ensures shown { AskForText (fault_of command_line (words_of words.now))
         → (result ≡ done) ⊎ (result ≡ no_memory) ⊎ (result ≡ broken_stream) }
-    ensures version { (name : List ℕ) → texts words.now ≡ name ∷ codes "--version" ∷ []
+    ensures version { (name : List ℕ) → words_of words.now ≡ name ∷ codes "--version" ∷ []
         → (result ≡ done) ⊎ (result ≡ no_memory) ⊎ (result ≡ broken_stream) }
     ensures status { IsStatus result }
 {

@@ -1,7 +1,7 @@
 //! The words of the command line.
 ghost use Rattle.std.specs.Prelude.{◌≡◌, ◌≢◌, ◌⊎◌, ◌∷◌, [], ℕ, List, IfOk, Ok, Err, codes, false};
 ghost use Rattle.clap.specs.Words.{app_of, fault_of, kind_of, rule_of};
-ghost use Rattle.gv_cli.specs.CommandLine.{IsEntered, IsFaultOf, IsTask, ReadsBy, command_line, entered, queues_rule, texts, turns_rule};
+ghost use Rattle.gv_cli.specs.CommandLine.{IsEntered, IsFaultOf, IsTask, ReadsBy, command_line, entered, queues_rule, words_of, turns_rule};
 ghost use Rattle.gv_cli.specs.declared.words.WordsFault.TheVariants as words;
 
 use crate::help;
@@ -56,10 +56,10 @@ pub enum Task {
 
 /// Reads the words, of which the first is the program's name: what they ask for.
 pub fn read_words<'a>(alloc: Global, words: &'a [String]) -> Result<Task, WordsFault>
-    ensures kinds { ReadsBy (fault_of command_line (texts words.entry.now)) result }
-    ensures run { (name : List ℕ) → texts words.entry.now ≡ name ∷ codes "run" ∷ []
+    ensures kinds { ReadsBy (fault_of command_line (words_of words.entry.now)) result }
+    ensures run { (name : List ℕ) → words_of words.entry.now ≡ name ∷ codes "run" ∷ []
         → (result ≡ Ok Task.Run) ⊎ (result ≡ Err WordsFault.OutOfMemory) }
-    ensures entered { IfOk result (IsEntered (entered (texts words.entry.now))) }
+    ensures entered { IfOk result (IsEntered (entered (words_of words.entry.now))) }
     ensures task { IfOk result IsTask }
 {
     let command = command(alloc)?;

@@ -2,7 +2,7 @@
 ghost use Rattle.std.specs.Prelude.{◌≡◌, ◌+◌, ◌≤◌, ◌++◌, [], ◌∷◌, IfOk, IsTrue, OnOk, length};
 ghost use Rattle.std.specs.List.{All};
 ghost use Rattle.std.specs.Option.{option_to_list};
-ghost use Rattle.gv_types.specs.Span.{span, meets};
+ghost use Rattle.gv_types.specs.PageRange.{span, meets};
 ghost use Rattle.gv_types.specs.Mapping.{IsMapping};
 ghost use Rattle.gv_types.specs.Operation.{IsPageOp, range_of};
 ghost use Rattle.gv_ranges.specs.List.{run, IsLaidOut};

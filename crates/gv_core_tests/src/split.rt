@@ -1,6 +1,6 @@
 //! The steps of an operation.
 ghost use Rattle.gv_types.specs.Operation.{IsChecked};
-ghost use Rattle.gv_split.specs.Examples.{HoleLeavesBothRests, MapOverThree, SameMapIsKept};
+ghost use Rattle.gv_split.specs.Examples.{HoleKeepsBothRests, MapUnmapsTheMiddle, SameMapIsKept};
 ghost use Rattle.gv_split.specs.Examples.{PartOfMapIsKept, ZerosAreNotKept};
 ghost use Rattle.gv_split.specs.Examples.{UnmapOfBuffer, HoleCarriedOut, MapOverThreeCarriedOut};
 ghost use Rattle.gv_split.specs.Examples.{SameMapCarriedOut, UnmapOfBufferCarriedOut, NothingToUnmap};
@@ -14,8 +14,8 @@ use std::test::Fail;
 
 /// What the definitions say of worked examples.
 fn examples()
-    ensures hole { HoleLeavesBothRests }
-    ensures three { MapOverThree }
+    ensures hole { HoleKeepsBothRests }
+    ensures three { MapUnmapsTheMiddle }
     ensures kept { SameMapIsKept }
     ensures part_kept { PartOfMapIsKept }
     ensures zeros { ZerosAreNotKept }

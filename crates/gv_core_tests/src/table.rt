@@ -1,6 +1,6 @@
 //! The page table: trees painted to new lists and back, and their spare tables.
 ghost use Rattle.std.specs.Prelude.{◌≡◌, ◌≤◌, IfOk, List, OnOk};
-ghost use Rattle.gv_types.specs.Span.{end_of};
+ghost use Rattle.gv_types.specs.PageRange.{end_of};
 ghost use Rattle.gv_types.specs.Operation.{IsPageOp, own_mapping, range_of};
 ghost use Rattle.gv_types.specs.declared.mapping.Mapping.{Mapping};
 ghost use Rattle.gv_ranges.specs.List.{IsLaidOut};

@@ -7,11 +7,11 @@ use Rattle.gv_types.specs.declared.mapping.Mapping.{Mapping}
 use Rattle.gv_types.specs.declared.operation.Op.{Op}
 use Rattle.gv_types.specs.declared.operation.PageOp.{PageOp}
 use Rattle.gv_types.specs.declared.request.Request.{Request}
-use Rattle.gv_space.specs.State.{AddressSpace}
+use Rattle.gv_space.specs.State.{SpaceState}
 use Rattle.gv_space.specs.Undo.{released}
 use Rattle.gv_space.specs.Refusal.{first_of}
 use Rattle.gv_journal.specs.Undoing.{taken_by, undone_by, reverted_by}
-use Rattle.gv_journal.specs.Items.{Journaled, next, done_by}
+use Rattle.gv_journal.specs.Items.{JournalState, next, done_by}
 use Rattle.gv_journal.specs.History.{undos_of, kept_by, back, AreUndosOf}
 use Rattle.gv_journal.specs.Applying.{all_do, after_all}
 use Rattle.gv_journal.specs.Verdict.{request_fault, refused_or, verdict_from, verdict}
@@ -66,9 +66,9 @@ journal_same : (limit limit' first first' : ℕ) (items items' : List BareItem) 
     one ≡ other
 journal_same limit limit' first first' items items' limits firsts all = rw (limits, firsts, all) refl
 
-module _ (s s' : AddressSpace) (j j' : Journaled) (space : s ≡ s') (journal : bare_journal j ≡ bare_journal j') where
+module _ (s s' : SpaceState) (j j' : JournalState) (space : s ≡ s') (journal : bare_journal j ≡ bare_journal j') where
   pub list_alike : s.mappings ≡ s'.mappings
-  list_alike = ap (λ (t : AddressSpace). t.mappings) space
+  list_alike = ap (λ (t : SpaceState). t.mappings) space
 
   -- the lists before the items
   pub back_alike : (n : ℕ) → back s.mappings j.items n ≡ back s'.mappings j'.items n
@@ -82,7 +82,7 @@ module _ (s s' : AddressSpace) (j j' : Journaled) (space : s ≡ s') (journal : 
   -- the verdict on a request
   pub verdict_alike : (ops : List Op) → verdict s j ops ≡ verdict s' j' ops
   verdict_alike ops =
-      let turns : verdict_from 0 s ops ≡ verdict_from 0 s' ops = ap (λ (t : AddressSpace). verdict_from 0 t ops) space in
+      let turns : verdict_from 0 s ops ≡ verdict_from 0 s' ops = ap (λ (t : SpaceState). verdict_from 0 t ops) space in
       let whole : request_fault j ops ≡ request_fault j' ops = rw (full_fault_alike j j' journal) refl in
       ap (refused_or 0 (request_fault j ops)) turns ∙ ap (λ (o : Option Fault). refused_or 0 o (verdict_from 0 s' ops)) whole
 
@@ -96,7 +96,7 @@ module _ (s s' : AddressSpace) (j j' : Journaled) (space : s ≡ s') (journal : 
       ap (first_of (entry_fault j n)) limits ∙ ap (λ (o : Option Fault). first_of o (withdrawal_limits (list_before s' j' n) (ops_at j' n) s')) (entry_fault_alike j j' journal n)
 
   -- one item more
-  more_alike : (new new' : Journaled) (item item' : Item) → new ≡ record j { items = item ∷ j.items } → new' ≡ record j' { items = item' ∷ j'.items } →
+  more_alike : (new new' : JournalState) (item item' : Item) → new ≡ record j { items = item ∷ j.items } → new' ≡ record j' { items = item' ∷ j'.items } →
       bare_item item ≡ bare_item item' → bare_journal new ≡ bare_journal new'
   more_alike new new' item item' is is' same =
       ap bare_journal is
@@ -105,7 +105,7 @@ module _ (s s' : AddressSpace) (j j' : Journaled) (space : s ≡ s') (journal : 
       ∙ sym (ap bare_journal is')
 
   -- the same request was accepted
-  pub bound_alike : (new new' : Journaled) (queue number : ℕ) (request request' : Request) (saw saw' : Vec ℕ Global) → bare_request request ≡ bare_request request' → saw.items ≡ saw'.items →
+  pub bound_alike : (new new' : JournalState) (queue number : ℕ) (request request' : Request) (saw saw' : Vec ℕ Global) → bare_request request ≡ bare_request request' → saw.items ≡ saw'.items →
       IsBound s j new queue number request saw → IsBound s' j' new' queue number request' saw' → bare_journal new ≡ bare_journal new'
   bound_alike new new' queue number request request' saw saw' same seen now now' =
       let did : now.done.items ≡ now'.done.items =
@@ -122,17 +122,17 @@ module _ (s s' : AddressSpace) (j j' : Journaled) (space : s ≡ s') (journal : 
       more_alike new new' now.item now'.item now.items now'.items
       (item_same now.item now'.item bind (ap withdrawn_by now.kind ∙ sym (ap withdrawn_by now'.kind)) (ap done_by now.kind ∙ did ∙ sym (ap done_by now'.kind)) undos)
 
-  pub applied_alike : (t t' : AddressSpace) (request request' : Request) → bare_request request ≡ bare_request request' → t.room ≡ t'.room → IsApplied s t request → IsApplied s' t' request' → t ≡ t'
+  pub applied_alike : (t t' : SpaceState) (request request' : Request) → bare_request request ≡ bare_request request' → t.room ≡ t'.room → IsApplied s t request → IsApplied s' t' request' → t ≡ t'
   applied_alike t t' request request' same room now now' =
       let ops : all_do s.mappings request.ops.items ≡ all_do s'.mappings request'.ops.items =
       ap (λ (ms : List Mapping). all_do ms request.ops.items) list_alike ∙ ap (λ (r : BareRequest). all_do s'.mappings r.ops) same in
       now.state ∙ ap (λ k. record (after_all (reverse (all_do s.mappings request.ops.items)) s) { room = k }) room
-      ∙ ap (λ (x : AddressSpace). record (after_all (reverse (all_do s.mappings request.ops.items)) x) { room = t'.room }) space
+      ∙ ap (λ (x : SpaceState). record (after_all (reverse (all_do s.mappings request.ops.items)) x) { room = t'.room }) space
       ∙ ap (λ (done : List PageOp). record (after_all (reverse done) s') { room = t'.room }) ops
       ∙ sym now'.state
 
   -- the same item was withdrawn
-  pub withdrawn_alike : (t t' : AddressSpace) (new new' : Journaled) (n : ℕ) → t.room ≡ t'.room → IsWithdrawn s t j new n → IsWithdrawn s' t' j' new' n →
+  pub withdrawn_alike : (t t' : SpaceState) (new new' : JournalState) (n : ℕ) → t.room ≡ t'.room → IsWithdrawn s t j new n → IsWithdrawn s' t' j' new' n →
       (t ≡ t') × (bare_journal new ≡ bare_journal new')
   withdrawn_alike t t' new new' n room out out' =
       let before : list_before s j n ≡ list_before s' j' n = list_before_alike n in
@@ -143,7 +143,7 @@ module _ (s s' : AddressSpace) (j j' : Journaled) (space : s ≡ s') (journal : 
       (subst (λ (done : List PageOp). AreUndosOfWithdrawal (list_before s' j' n) done s.mappings out'.item.undos.items) (sym ops)
       (subst (λ (ms : List Mapping). AreUndosOfWithdrawal (list_before s' j' n) (ops_at j' n) ms out'.item.undos.items) (sym list_alike) out'.undos))) in (
         out.state ∙ ap (λ k. record (after_withdrawal (list_before s j n) (ops_at j n) s) { room = k }) room
-            ∙ ap (λ (x : AddressSpace). record (after_withdrawal (list_before s j n) (ops_at j n) x) { room = t'.room }) space
+            ∙ ap (λ (x : SpaceState). record (after_withdrawal (list_before s j n) (ops_at j n) x) { room = t'.room }) space
             ∙ ap (λ (ms : List Mapping). record (after_withdrawal ms (ops_at j n) s') { room = t'.room }) before
             ∙ ap (λ (done : List PageOp). record (after_withdrawal (list_before s' j' n) done s') { room = t'.room }) ops
             ∙ sym out'.state,
@@ -154,18 +154,18 @@ module _ (s s' : AddressSpace) (j j' : Journaled) (space : s ≡ s') (journal : 
       )
 
   -- the newest item was taken back
-  pub rewound_alike : (t t' : AddressSpace) (new new' : Journaled) → IsRewound s t j new → IsRewound s' t' j' new' → (t ≡ t') × (bare_journal new ≡ bare_journal new')
+  pub rewound_alike : (t t' : SpaceState) (new new' : JournalState) → IsRewound s t j new → IsRewound s' t' j' new' → (t ≡ t') × (bare_journal new ≡ bare_journal new')
   rewound_alike t t' new new' now now' =
       let items : bare_item now.item ∷ map bare_item new.items ≡ bare_item now'.item ∷ map bare_item new'.items =
-      ap (λ (x : Journaled). map bare_item x.items) (sym now.items) ∙ items_alike j j' journal ∙ ap (λ (x : Journaled). map bare_item x.items) now'.items in
+      ap (λ (x : JournalState). map bare_item x.items) (sym now.items) ∙ items_alike j j' journal ∙ ap (λ (x : JournalState). map bare_item x.items) now'.items in
       let undos : map bare_undo (undos_of now.item) ≡ map bare_undo (undos_of now'.item) =
       ap (λ (item : BareItem). item.undos) (head_same (bare_item now.item) (bare_item now'.item) (map bare_item new.items) (map bare_item new'.items) items) in (
-        now.space ∙ ap (λ (x : AddressSpace). reverted_by x (undos_of now.item)) space
+        now.space ∙ ap (λ (x : SpaceState). reverted_by x (undos_of now.item)) space
             ∙ reverted_by_bare s' (undos_of now.item) ∙ ap (λ (us : List BareUndo). reverted_by s' (all_filled us)) undos
             ∙ sym (reverted_by_bare s' (undos_of now'.item)) ∙ sym now'.space,
         journal_same new.limit new'.limit new.first new'.first (map bare_item new.items) (map bare_item new'.items)
-            (ap (λ (x : Journaled). x.limit) (sym now.items) ∙ limit_alike j j' journal ∙ ap (λ (x : Journaled). x.limit) now'.items)
-            (ap (λ (x : Journaled). x.first) (sym now.items) ∙ first_alike j j' journal ∙ ap (λ (x : Journaled). x.first) now'.items)
+            (ap (λ (x : JournalState). x.limit) (sym now.items) ∙ limit_alike j j' journal ∙ ap (λ (x : JournalState). x.limit) now'.items)
+            (ap (λ (x : JournalState). x.first) (sym now.items) ∙ first_alike j j' journal ∙ ap (λ (x : JournalState). x.first) now'.items)
             (tail_same (bare_item now.item) (bare_item now'.item) (map bare_item new.items) (map bare_item new'.items) items),
       )
 
@@ -177,10 +177,10 @@ module _ (s s' : AddressSpace) (j j' : Journaled) (space : s ≡ s') (journal : 
       ∙ sym (kept_by_bare (earlier j' to))
 
   -- the items below the same number were settled
-  pub settled_alike : (t t' : AddressSpace) (new new' : Journaled) (to : ℕ) → IsSettled s t j new to → IsSettled s' t' j' new' to →
+  pub settled_alike : (t t' : SpaceState) (new new' : JournalState) (to : ℕ) → IsSettled s t j new to → IsSettled s' t' j' new' to →
       (t ≡ t') × (bare_journal new ≡ bare_journal new')
   settled_alike t t' new new' to now now' = (
-    now.space ∙ ap (λ (x : AddressSpace). released x (kept_by (earlier j to))) space ∙ ap (released s') (earlier_alike to) ∙ sym now'.space,
+    now.space ∙ ap (λ (x : SpaceState). released x (kept_by (earlier j to))) space ∙ ap (released s') (earlier_alike to) ∙ sym now'.space,
     ap bare_journal now.items
         ∙ journal_same j.limit j'.limit to to (map bare_item (take (next j - to) j.items)) (map bare_item (take (next j' - to) j'.items)) (limit_alike j j' journal) refl
         (sym (take-map bare_item (next j - to) j.items) ∙ ap (take (next j - to)) (items_alike j j' journal)

@@ -7,7 +7,7 @@ use Rattle.gv_types.specs.declared.fault.Fault.{Fault}
 use Rattle.gv_types.specs.declared.fault.Fault.TheVariants.{NoEntry, NotABind, Withdrawn, Crossed}
 use Rattle.gv_types.specs.declared.operation.PageOp.{PageOp}
 use Rattle.gv_space.specs.Refusal.{first_of}
-use Rattle.gv_journal.specs.Items.{Journaled, numbered, entries, next, names, is_withdrawn, done_by}
+use Rattle.gv_journal.specs.Items.{JournalState, numbered, entries, next, names, is_withdrawn, done_by}
 use Rattle.gv_journal.specs.Verdict.{full_fault}
 use Rattle.gv_journal.specs.Withdrawing.{item_at, touch, touched_from, touched_by, touched_fault, kind_fault, found_fault, entry_fault, done_of, ops_at}
 use Rattle.gv_journal.specs.Settling.{later, crosses, crossing, settle_fault}
@@ -63,12 +63,12 @@ abbrev found_bare : Bool → (List PageOp → Option ℕ) → Option BareItem �
 found_bare gone touched None = Some NoEntry
 found_bare gone touched (Some item) = kind_bare gone touched item.withdraws item.done
 
-kind_fault_bare : (j : Journaled) (n : ℕ) (kind : ItemKind) →
+kind_fault_bare : (j : JournalState) (n : ℕ) (kind : ItemKind) →
     kind_fault j n kind ≡ kind_bare (is_withdrawn (entries j) n) (touched_by j n) (withdrawn_by kind) (done_by kind)
 kind_fault_bare j n (Bind queue number request seen done) = refl
 kind_fault_bare j n (Withdrawal of) = refl
 
-found_fault_bare : (j : Journaled) (n : ℕ) (o : Option Item) →
+found_fault_bare : (j : JournalState) (n : ℕ) (o : Option Item) →
     found_fault j n o ≡ found_bare (is_withdrawn (entries j) n) (touched_by j n) (option_map bare_item o)
 found_fault_bare j n None = refl
 found_fault_bare j n (Some item) = kind_fault_bare j n item.kind
@@ -108,7 +108,7 @@ option_map-cond f false o = refl
 abbrev bare_at : BareJournal → ℕ → Option BareItem
 bare_at j n = cond (nat_lt n j.first) None (slice_get (reverse j.items) (n - j.first))
 
-item_at_bare : (j : Journaled) (n : ℕ) → option_map bare_item (item_at j n) ≡ bare_at (bare_journal j) n
+item_at_bare : (j : JournalState) (n : ℕ) → option_map bare_item (item_at j n) ≡ bare_at (bare_journal j) n
 item_at_bare j n =
     option_map-cond bare_item (nat_lt n j.first) (slice_get (reverse j.items) (n - j.first))
     ∙ ap (λ (o : Option BareItem). cond (nat_lt n j.first) None o)
@@ -117,18 +117,18 @@ item_at_bare j n =
 abbrev touched_after : BareJournal → (ℕ → Bool) → ℕ → List PageOp → Option ℕ
 touched_after j gone n ops = touched_bare gone ops (n + 1) (drop (n + 1 - j.first) (reverse j.items))
 
-touched_by_bare : (j : Journaled) (n : ℕ) (ops : List PageOp) → touched_by j n ops ≡ touched_after (bare_journal j) (is_withdrawn (entries j)) n ops
+touched_by_bare : (j : JournalState) (n : ℕ) (ops : List PageOp) → touched_by j n ops ≡ touched_after (bare_journal j) (is_withdrawn (entries j)) n ops
 touched_by_bare j n ops =
     touched_from_bare (is_withdrawn (entries j)) ops (n + 1) (drop (n + 1 - j.first) (reverse j.items))
     ∙ ap (touched_bare (is_withdrawn (entries j)) ops (n + 1))
     (sym (drop-map bare_item (n + 1 - j.first) (reverse j.items)) ∙ ap (drop (n + 1 - j.first)) (sym (reverse-map bare_item j.items)))
 
 abbrev crossing_bare : BareJournal → ℕ → ℕ → Option ℕ
-crossing_bare j next to = option_map (λ place. to + place) (position (λ item. crosses_it to item.withdraws) (reverse (take (next - to) j.items)))
+crossing_bare j next to = option_map (λ index. to + index) (position (λ item. crosses_it to item.withdraws) (reverse (take (next - to) j.items)))
 
-crossing_is : (j : Journaled) (to : ℕ) → crossing j to ≡ crossing_bare (bare_journal j) (next j) to
+crossing_is : (j : JournalState) (to : ℕ) → crossing j to ≡ crossing_bare (bare_journal j) (next j) to
 crossing_is j to =
-    ap (option_map (λ place. to + place))
+    ap (option_map (λ index. to + index))
     (position-map (λ (item : BareItem). crosses_it to item.withdraws) bare_item (λ item. crosses to item.kind) (reverse (later j to)) (λ item. crosses_bare to item.kind)
     ∙ ap (position (λ (item : BareItem). crosses_it to item.withdraws))
     (sym (reverse-map bare_item (later j to)) ∙ ap (λ (xs : List BareItem). reverse xs) (sym (take-map bare_item (next j - to) j.items))))
@@ -136,7 +136,7 @@ crossing_is j to =
 abbrev settle_bare : ℕ → ℕ → ℕ → Option ℕ → Option Fault
 settle_bare to first next found = cond (nat_lt to first || nat_lt next to) (Some NoEntry) (option_map (λ by. Crossed by) found)
 
-module _ (j j' : Journaled) (same : bare_journal j ≡ bare_journal j') where
+module _ (j j' : JournalState) (same : bare_journal j ≡ bare_journal j') where
   pub limit_alike : j.limit ≡ j'.limit
   limit_alike = ap (λ (b : BareJournal). b.limit) same
 

@@ -8,11 +8,11 @@ use Rattle.gv_types.specs.declared.mapping.Mapping.{Mapping}
 use Rattle.gv_types.specs.declared.operation.PageOp.{PageOp}
 use Rattle.gv_types.specs.declared.request.Request.{Request}
 use Rattle.gv_ranges.specs.List.{at}
-use Rattle.gv_space.specs.State.{AddressSpace}
-use Rattle.gv_space.specs.Undo.{UndoValue}
+use Rattle.gv_space.specs.State.{SpaceState}
+use Rattle.gv_space.specs.Undo.{OpUndoState}
 use Rattle.gv_space.specs.declared.undo.OpUndo.{OpUndo}
 use Rattle.gv_journal.specs.Undoing.{undone_by}
-use Rattle.gv_journal.specs.Items.{Journaled, numbered, entries, names, is_withdrawn, live_ops, view}
+use Rattle.gv_journal.specs.Items.{JournalState, numbered, entries, names, is_withdrawn, live_ops, view}
 use Rattle.gv_journal.specs.History.{undos_of, kept_by, base, Translates, Save, UndoSavesTheView, Rewinds, AreUndosOf}
 use Rattle.gv_journal.specs.State.{FitsOver, FitsSpace}
 use Rattle.gv_journal.specs.Applying.{after_all, AreApplied}
@@ -43,25 +43,25 @@ not_named first (item ∷ items) n older le =
     (not_named first items n older.1 (omega arith))
 
 -- undo values save the same where the maps below agree
-pub Save-at : (ops : List PageOp) (us : List UndoValue) (below other : ℕ → Option Entry) → ((page : ℕ) → IsPage page → below page ≡ other page) → Save ops us below → Save ops us other
+pub Save-at : (ops : List PageOp) (us : List OpUndoState) (below other : ℕ → Option Entry) → ((page : ℕ) → IsPage page → below page ≡ other page) → Save ops us below → Save ops us other
 Save-at [] [] below other same h = tt
 Save-at (op ∷ ops) (u ∷ us) below other same h =
     (λ page is c. h.0 page is c ∙ view-at ops below other page (same page is), Save-at ops us below other same h.1)
 Save-at [] (u ∷ us) below other same h = absurd h
 Save-at (op ∷ ops) [] below other same h = absurd h
 
-after_all-limit : (ops : List PageOp) (s : AddressSpace) → (after_all ops s).limits.mappings ≡ s.limits.mappings
+after_all-limit : (ops : List PageOp) (s : SpaceState) → (after_all ops s).limits.mappings ≡ s.limits.mappings
 after_all-limit [] s = refl
 after_all-limit (op ∷ ops) s = after_all-limit ops s
 
-pub limit_applied : (old new : AddressSpace) (ops : List PageOp) → new ≡ record (after_all ops old) { room = new.room } → new.limits.mappings ≡ old.limits.mappings
-limit_applied old new ops is = ap (λ (s : AddressSpace). s.limits.mappings) is ∙ after_all-limit ops old
+pub limit_applied : (old new : SpaceState) (ops : List PageOp) → new ≡ record (after_all ops old) { room = new.room } → new.limits.mappings ≡ old.limits.mappings
+limit_applied old new ops is = ap (λ (s : SpaceState). s.limits.mappings) is ∙ after_all-limit ops old
 
 -- the base stays where the newest item's undo values give the list before
 pub base_stays : (old new : List Mapping) (item : Item) (items : List Item) → undone_by new (undos_of item) ≡ old → base new (item ∷ items) ≡ base old items
 base_stays old new item items is = ap (λ (ms : List Mapping). base ms items) is
 
-module _ (s t : AddressSpace) (first : ℕ) (items : List Item) (below : ℕ → Option Entry) (queue number : ℕ) (request : Request) (seen : Vec ℕ Global) (done : Vec PageOp Global) (undos : Vec OpUndo Global)
+module _ (s t : SpaceState) (first : ℕ) (items : List Item) (below : ℕ → Option Entry) (queue number : ℕ) (request : Request) (seen : Vec ℕ Global) (done : Vec PageOp Global) (undos : Vec OpUndo Global)
     (applied : AreApplied s t (reverse done.items) (reverse undos.items)) (older : NameOlder (numbered first items)) where
   live : is_withdrawn (numbered first items) (first + length items) ≡ false
   live = not_named first items (first + length items) older (omega arith)
@@ -102,7 +102,7 @@ module _ (s t : AddressSpace) (first : ℕ) (items : List Item) (below : ℕ →
   }
 
 -- a journal with one Bind more fits
-pub fits_bound : (s t : AddressSpace) (j : Journaled) (queue number : ℕ) (request : Request) (seen : Vec ℕ Global) (done : Vec PageOp Global) (undos : Vec OpUndo Global) →
+pub fits_bound : (s t : SpaceState) (j : JournalState) (queue number : ℕ) (request : Request) (seen : Vec ℕ Global) (done : Vec PageOp Global) (undos : Vec OpUndo Global) →
     AreApplied s t (reverse done.items) (reverse undos.items) → NameOlder (entries j) → FitsSpace s j →
     FitsSpace t (record j { items = bound queue number request seen done undos ∷ j.items })
 fits_bound s t j queue number request seen done undos applied older fits =

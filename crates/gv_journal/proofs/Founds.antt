@@ -8,20 +8,20 @@ use Rattle.std.proofs.lemmas.Option.{slice_get-get_or}
 use Rattle.gv_types.specs.declared.fault.Fault.TheVariants.{Withdrawn}
 use Rattle.gv_types.specs.declared.operation.PageOp.{PageOp}
 use Rattle.gv_types.specs.declared.request.Request.{Request}
-use Rattle.gv_journal.specs.Items.{Journaled, entries, next, is_withdrawn, done_by}
-use Rattle.gv_journal.specs.Notes.{named_by, reach_of, notes_of, AreReaches, TellGone}
+use Rattle.gv_journal.specs.Items.{JournalState, entries, next, is_withdrawn, done_by}
+use Rattle.gv_journal.specs.Notes.{named_by, extent_of, notes_of, AreReaches, TellGone}
 use Rattle.gv_journal.specs.Withdrawing.{item_at, touched_from, touched_by, touched_fault, kind_fault, found_fault}
 use Rattle.gv_journal.specs.declared.item.Item.{Item}
 use Rattle.gv_journal.specs.declared.item.ItemKind.{ItemKind}
 use Rattle.gv_journal.specs.declared.item.ItemKind.TheVariants.{Bind}
-use Rattle.gv_journal.specs.Note.{Note}
+use Rattle.gv_journal.specs.Note.{NoteState}
 use Rattle.gv_journal.proofs.Noted.{named_is, note_at, length-notes}
 
 not_less : (n low : ℕ) → low ≤ n → nat_lt n low ≡ false
 not_less n low le = grind (arith, nat_tests)
 
 -- the item that is found
-pub item_found : (j : Journaled) (n start : ℕ) (items : List Item) (item : Item) → start ≡ j.first → start ≤ n → n < next j → items ≡ reverse j.items → item ≡ get_or items (n - start) item →
+pub item_found : (j : JournalState) (n start : ℕ) (items : List Item) (item : Item) → start ≡ j.first → start ≤ n → n < next j → items ≡ reverse j.items → item ≡ get_or items (n - start) item →
     item_at j n ≡ Some item
 item_found j n start items item is low high all at =
     let below : n - start < length items = omega (arith, ap (λ (xs : List Item). length xs) all, length-reverse j.items) in
@@ -29,7 +29,7 @@ item_found j n start items item is low high all at =
     ap (λ (b : Bool). cond b None (slice_get (reverse j.items) (n - j.first))) (not_less n j.first (omega arith))
     ∙ ap (λ (k : ℕ). slice_get (reverse j.items) (n - k)) (sym is) ∙ ap (λ (xs : List Item). slice_get xs (n - start)) (sym all) ∙ got
 
-module _ (j : Journaled) (n start : ℕ) (items : List Item) (item : Item) (queue number : ℕ) (request : Request) (seen : Vec ℕ Global) (done : Vec PageOp Global)
+module _ (j : JournalState) (n start : ℕ) (items : List Item) (item : Item) (queue number : ℕ) (request : Request) (seen : Vec ℕ Global) (done : Vec PageOp Global)
     (is : start ≡ j.first) (low : start ≤ n) (high : n < next j) (all : items ≡ reverse j.items) (at : item ≡ get_or items (n - start) item) (kind : item.kind ≡ Bind queue number request seen done) where
   pub bind_fault : found_fault j n (item_at j n) ≡ kind_fault j n (Bind queue number request seen done)
   bind_fault = ap (λ (o : Option Item). found_fault j n o) (item_found j n start items item is low high all at) ∙ ap (λ (k : ItemKind). kind_fault j n k) kind
@@ -42,37 +42,37 @@ module _ (j : Journaled) (n start : ℕ) (items : List Item) (item : Item) (queu
       o ≡ touched_from (is_withdrawn (entries j)) done.items (n + 1) (take (length items - (n - start + 1)) (drop (n - start + 1) items)) →
       found_fault j n (item_at j n) ≡ touched_fault o
   found_touched live o found =
-      let place : n + 1 - j.first ≡ n - start + 1 = omega arith in
+      let index : n + 1 - j.first ≡ n - start + 1 = omega arith in
       let whole : take (length items - (n - start + 1)) (drop (n - start + 1) items) ≡ drop (n + 1 - j.first) (reverse j.items) =
       take_all (length items - (n - start + 1)) (drop (n - start + 1) items) (omega (arith, length-drop (n - start + 1) items))
-      ∙ ap (λ (k : ℕ). drop k items) (sym place) ∙ ap (λ (xs : List Item). drop (n + 1 - j.first) xs) all in
+      ∙ ap (λ (k : ℕ). drop k items) (sym index) ∙ ap (λ (xs : List Item). drop (n + 1 - j.first) xs) all in
       let same : touched_by j n done.items ≡ o =
       ap (λ (xs : List Item). touched_from (is_withdrawn (entries j)) done.items (n + 1) xs) (sym whole) ∙ sym found in
       bind_fault ∙ ap (λ (b : Bool). cond b (Some Withdrawn) (touched_fault (touched_by j n done.items))) live
       ∙ ap (λ (x : Option ℕ). touched_fault x) same
 
 -- the notes beside the items
-module _ (j : Journaled) (n start : ℕ) (items : List Item) (notes : List Note) (is : start ≡ j.first) (low : start ≤ n) (high : n < next j) (all : items ≡ reverse j.items)
+module _ (j : JournalState) (n start : ℕ) (items : List Item) (notes : List NoteState) (is : start ≡ j.first) (low : start ≤ n) (high : n < next j) (all : items ≡ reverse j.items)
     (noted : notes ≡ notes_of (entries j)) where
   beside : length notes ≡ length items
-  beside = ap (λ (ms : List Note). length ms) noted ∙ length-notes (entries j) j.first j.items ∙ sym (ap (λ (xs : List Item). length xs) all ∙ length-reverse j.items)
+  beside = ap (λ (ms : List NoteState). length ms) noted ∙ length-notes (entries j) j.first j.items ∙ sym (ap (λ (xs : List Item). length xs) all ∙ length-reverse j.items)
 
-  each_note : (i : ℕ) (note : Note) (item : Item) → i < length items →
-      get_or notes i note ≡ record { withdrawal = named_by (entries j) (j.first + i); reach = reach_of (done_by (get_or items i item).kind) }
+  each_note : (i : ℕ) (note : NoteState) (item : Item) → i < length items →
+      get_or notes i note ≡ record { withdrawal = named_by (entries j) (j.first + i); extent = extent_of (done_by (get_or items i item).kind) }
   each_note i note item below =
-      ap (λ (ms : List Note). get_or ms i note) noted
+      ap (λ (ms : List NoteState). get_or ms i note) noted
       ∙ note_at (entries j) j.first j.items i note item (omega (arith, ap (λ (xs : List Item). length xs) all, length-reverse j.items))
-      ∙ ap (λ (xs : List Item). record { withdrawal = named_by (entries j) (j.first + i); reach = reach_of (done_by (get_or xs i item).kind) }) (sym all)
+      ∙ ap (λ (xs : List Item). record { withdrawal = named_by (entries j) (j.first + i); extent = extent_of (done_by (get_or xs i item).kind) }) (sym all)
 
   -- that of the item itself
-  pub own_note : (own : Note) (item : Item) → own ≡ get_or notes (n - start) own → item ≡ get_or items (n - start) item →
-      (is_some own.withdrawal ≡ is_withdrawn (entries j) n) × (own.reach ≡ reach_of (done_by item.kind))
-  own_note own item at item_at_place =
+  pub own_note : (own : NoteState) (item : Item) → own ≡ get_or notes (n - start) own → item ≡ get_or items (n - start) item →
+      (is_some own.withdrawal ≡ is_withdrawn (entries j) n) × (own.extent ≡ extent_of (done_by item.kind))
+  own_note own item at item_at_index =
       let below : n - start < length items = omega (arith, ap (λ (xs : List Item). length xs) all, length-reverse j.items) in
       let number : j.first + (n - start) ≡ n = omega arith in
       let whole = at ∙ each_note (n - start) own item below in (
-        ap (λ (x : Note). is_some x.withdrawal) whole ∙ ap (λ (k : ℕ). is_some (named_by (entries j) k)) number ∙ named_is (entries j) n,
-        ap (λ (x : Note). x.reach) whole ∙ ap (λ (x : Item). reach_of (done_by x.kind)) (sym item_at_place),
+        ap (λ (x : NoteState). is_some x.withdrawal) whole ∙ ap (λ (k : ℕ). is_some (named_by (entries j) k)) number ∙ named_is (entries j) n,
+        ap (λ (x : NoteState). x.extent) whole ∙ ap (λ (x : Item). extent_of (done_by x.kind)) (sym item_at_index),
       )
 
   abbrev from : ℕ
@@ -86,21 +86,21 @@ module _ (j : Journaled) (n start : ℕ) (items : List Item) (notes : List Note)
 
   pub same_many : length (take (length notes - from) (drop from notes)) ≡ length (take (length items - from) (drop from items))
   same_many =
-      ap (λ (ms : List Note). length ms) later_notes ∙ length-drop from notes ∙ ap (λ (k : ℕ). k - from) beside ∙ sym (length-drop from items)
+      ap (λ (ms : List NoteState). length ms) later_notes ∙ length-drop from notes ∙ ap (λ (k : ℕ). k - from) beside ∙ sym (length-drop from items)
       ∙ sym (ap (λ (xs : List Item). length xs) later_items)
 
   -- those of the later items
   pub later_reaches : AreReaches (take (length notes - from) (drop from notes)) (take (length items - from) (drop from items))
   later_reaches i note item below =
       let within : from + i < length items = omega (arith, below, ap (λ (xs : List Item). length xs) later_items, length-drop from items) in
-      ap (λ (ms : List Note). (get_or ms i note).reach) later_notes ∙ ap (λ (x : Note). x.reach) (get_or-drop from notes i note ∙ each_note (from + i) note item within)
-      ∙ ap (λ (x : Item). reach_of (done_by x.kind)) (sym (ap (λ (xs : List Item). get_or xs i item) later_items ∙ get_or-drop from items i item))
+      ap (λ (ms : List NoteState). (get_or ms i note).extent) later_notes ∙ ap (λ (x : NoteState). x.extent) (get_or-drop from notes i note ∙ each_note (from + i) note item within)
+      ∙ ap (λ (x : Item). extent_of (done_by x.kind)) (sym (ap (λ (xs : List Item). get_or xs i item) later_items ∙ get_or-drop from items i item))
 
   pub later_gone : Item → TellGone (is_withdrawn (entries j)) (n + 1) (take (length notes - from) (drop from notes))
   later_gone item i note below =
-      let within : from + i < length items = omega (arith, below, beside, ap (λ (ms : List Note). length ms) later_notes, length-drop from notes) in
+      let within : from + i < length items = omega (arith, below, beside, ap (λ (ms : List NoteState). length ms) later_notes, length-drop from notes) in
       let number : j.first + (from + i) ≡ n + 1 + i = omega arith in
       sym (named_is (entries j) (n + 1 + i))
       ∙ ap (λ (k : ℕ). is_some (named_by (entries j) k)) (sym number)
-      ∙ ap (λ (x : Note). is_some x.withdrawal) (sym (get_or-drop from notes i note ∙ each_note (from + i) note item within))
-      ∙ ap (λ (ms : List Note). is_some (get_or ms i note).withdrawal) (sym later_notes)
+      ∙ ap (λ (x : NoteState). is_some x.withdrawal) (sym (get_or-drop from notes i note ∙ each_note (from + i) note item within))
+      ∙ ap (λ (ms : List NoteState). is_some (get_or ms i note).withdrawal) (sym later_notes)

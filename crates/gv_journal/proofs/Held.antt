@@ -7,10 +7,10 @@ use Rattle.gv_types.specs.declared.fault.Fault.TheVariants.{JournalFull}
 use Rattle.std.proofs.lemmas.List.{reverse-reverse}
 use Rattle.std.proofs.lemmas.Bool.{or_parts}
 use Rattle.gv_types.specs.declared.mapping.Mapping.{Mapping}
-use Rattle.gv_space.specs.State.{AddressSpace, IsUnchanged}
+use Rattle.gv_space.specs.State.{SpaceState, IsUnchanged}
 use Rattle.gv_space.proofs.KeptLemmas.{AreKept-room_alone}
 use Rattle.gv_journal.specs.Undoing.{undone_by}
-use Rattle.gv_journal.specs.Items.{Journaled, next}
+use Rattle.gv_journal.specs.Items.{JournalState, next}
 use Rattle.gv_journal.specs.Verdict.{full_fault, numbers}
 use Rattle.gv_journal.specs.History.{undos_of, kept_by, back, base, Translates, UndoSavesTheView, Rewinds}
 use Rattle.gv_journal.specs.Items.{entries}
@@ -19,18 +19,18 @@ use Rattle.gv_journal.specs.declared.item.Item.{Item}
 use Rattle.gv_journal.proofs.Lists.{last_first}
 use Rattle.gv_journal.proofs.Histories.{Rewinds-room}
 
-abbrev pub journaled : ℕ → ℕ → List Item → Journaled
+abbrev pub journaled : ℕ → ℕ → List Item → JournalState
 journaled limit first items = record { limit = limit; first = first; items = items }
 
 -- a journal with one item more
-pub one_more : (limit first : ℕ) (all mid more : List Item) (j : Journaled) (item : Item) → journaled limit first (reverse all) ≡ j → mid ≡ all → more ≡ mid ++ item ∷ [] →
+pub one_more : (limit first : ℕ) (all mid more : List Item) (j : JournalState) (item : Item) → journaled limit first (reverse all) ≡ j → mid ≡ all → more ≡ mid ++ item ∷ [] →
     journaled limit first (reverse more) ≡ record j { items = item ∷ j.items }
 one_more limit first all mid more j item is same grown =
     ap (λ (xs : List Item). journaled limit first xs) (last_first more all item (grown ∙ ap (λ (xs : List Item). xs ++ item ∷ []) same))
-    ∙ ap (λ (k : Journaled). record k { items = item ∷ k.items }) is
+    ∙ ap (λ (k : JournalState). record k { items = item ∷ k.items }) is
 
 -- a journal with one item less
-pub one_less : (limit first : ℕ) (all rest : List Item) (j : Journaled) (item : Item) → journaled limit first (reverse all) ≡ j → all ≡ rest ++ item ∷ [] →
+pub one_less : (limit first : ℕ) (all rest : List Item) (j : JournalState) (item : Item) → journaled limit first (reverse all) ≡ j → all ≡ rest ++ item ∷ [] →
     j ≡ record (journaled limit first (reverse rest)) { items = item ∷ reverse rest }
 one_less limit first all rest j item is was =
     sym is ∙ ap (λ (xs : List Item). journaled limit first xs) (last_first all rest item was)
@@ -44,10 +44,10 @@ back_one_more now items older item before n is undone =
     ∙ ap (λ (ms : List Mapping). back ms older n) undone
 
 -- a journal fits a space that only has more room
-pub fits_room : (s t : AddressSpace) (j : Journaled) → IsUnchanged s t → FitsSpace s j → FitsSpace t j
+pub fits_room : (s t : SpaceState) (j : JournalState) → IsUnchanged s t → FitsSpace s j → FitsSpace t j
 fits_room s t j same fits =
-    let list_is : t.mappings ≡ s.mappings = ap (λ (x : AddressSpace). x.mappings) same.state in
-    let limit_is : t.limits.mappings ≡ s.limits.mappings = ap (λ (x : AddressSpace). x.limits.mappings) same.state in
+    let list_is : t.mappings ≡ s.mappings = ap (λ (x : SpaceState). x.mappings) same.state in
+    let limit_is : t.limits.mappings ≡ s.limits.mappings = ap (λ (x : SpaceState). x.limits.mappings) same.state in
     let below = base s.mappings j.items in
     record {
       translates = subst (λ (ms : List Mapping). Translates ms (entries j) (base ms j.items)) (sym list_is) fits.translates;
@@ -58,23 +58,23 @@ fits_room s t j same fits =
       kept = AreKept-room_alone s t (kept_by j.items) same.state fits.kept;
     }
 
--- an item stands at its place among those held
-pub found_at : (limit first place : ℕ) (all mid : List Item) (j : Journaled) (item : Item) → journaled limit first (reverse all) ≡ j → mid ≡ all → item ≡ get_or mid place item →
-    item ≡ get_or (reverse j.items) place item
-found_at limit first place all mid j item is same at =
-    at ∙ ap (λ (xs : List Item). get_or xs place item) same
-    ∙ ap (λ (xs : List Item). get_or xs place item) (sym (reverse-reverse all) ∙ ap (λ (k : Journaled). reverse k.items) is)
+-- an item stands at its index among those held
+pub found_at : (limit first index : ℕ) (all mid : List Item) (j : JournalState) (item : Item) → journaled limit first (reverse all) ≡ j → mid ≡ all → item ≡ get_or mid index item →
+    item ≡ get_or (reverse j.items) index item
+found_at limit first index all mid j item is same at =
+    at ∙ ap (λ (xs : List Item). get_or xs index item) same
+    ∙ ap (λ (xs : List Item). get_or xs index item) (sym (reverse-reverse all) ∙ ap (λ (k : JournalState). reverse k.items) is)
 
 not_some : (b : Bool) → cond b (Some JournalFull) None ≡ None → b ≡ false
 not_some true h = cc
 not_some false h = refl
 
 -- a number is left where a journal isn't full
-pub number_left : (j : Journaled) → full_fault j ≡ None → next j < numbers
+pub number_left : (j : JournalState) → full_fault j ≡ None → next j < numbers
 number_left j room =
     let free : nat_le numbers (next j) ≡ false = (or_parts (nat_le j.limit (length j.items)) (nat_le numbers (next j)) (not_some (nat_le j.limit (length j.items) || nat_le numbers (next j)) room)).1 in
     grind (arith, nat_tests)
 
--- what stands on its shelf
-pub shelf_items : (limit first : ℕ) (all : List Item) (j : Journaled) → journaled limit first (reverse all) ≡ j → all ≡ reverse j.items
-shelf_items limit first all j is = sym (reverse-reverse all) ∙ ap (λ (k : Journaled). reverse k.items) is
+-- what stands on its store
+pub item_store_items : (limit first : ℕ) (all : List Item) (j : JournalState) → journaled limit first (reverse all) ≡ j → all ≡ reverse j.items
+item_store_items limit first all j is = sym (reverse-reverse all) ∙ ap (λ (k : JournalState). reverse k.items) is

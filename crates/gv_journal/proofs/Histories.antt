@@ -5,13 +5,13 @@ use Rattle.std.proofs.lemmas.List.Elements.{All-head, All-tail}
 use Rattle.std.specs.List.{All}
 use Rattle.gv_types.specs.declared.mapping.Entry.{Entry}
 use Rattle.gv_types.specs.declared.mapping.Mapping.{Mapping}
-use Rattle.gv_space.specs.State.{AddressSpace, AreKept}
-use Rattle.gv_space.specs.Undo.{UndoValue, AreAmongKept, reverted, released}
+use Rattle.gv_space.specs.State.{SpaceState, AreKept}
+use Rattle.gv_space.specs.Undo.{OpUndoState, AreAmongKept, reverted, released}
 use Rattle.gv_journal.specs.Undoing.{taken_by, undone_by, reverted_by, AreRevertible}
 use Rattle.gv_journal.specs.History.{undos_of, kept_by, base, Translates, UndoSavesTheView, Rewinds}
-use Rattle.gv_journal.specs.Items.{Journaled, numbered}
+use Rattle.gv_journal.specs.Items.{JournalState, numbered}
 use Rattle.gv_journal.specs.State.{FitsSpace}
-use Rattle.gv_journal.specs.Shelf.{IsSpent}
+use Rattle.gv_journal.specs.ItemStore.{IsSpent}
 use Rattle.gv_journal.specs.declared.item.Item.{Item}
 use Rattle.gv_space.proofs.ReleasedLemmas.{released-released}
 use Rattle.gv_journal.proofs.Undoings.{reverted_by-mappings}
@@ -43,27 +43,27 @@ held_keep all spent gone =
     ∙ append-nil (kept_by (reverse (drop spent all)))
 
 -- an item's mappings are given up
-pub kept_without : (s new : AddressSpace) (items : List Item) (item : Item) (older : List Item) → items ≡ item ∷ older →
+pub kept_without : (s new : SpaceState) (items : List Item) (item : Item) (older : List Item) → items ≡ item ∷ older →
     ((others : List Mapping) → AreKept s (taken_by (undos_of item) ++ others) → AreKept new others) → AreKept s (kept_by items) → AreKept new (kept_by older)
 kept_without s new items item older is spent saved =
     spent (kept_by older) (subst (λ (xs : List Item). AreKept s (kept_by xs)) is saved)
 
-pub released_without : (s new : AddressSpace) (items : List Item) (item : Item) (older : List Item) → items ≡ item ∷ older →
+pub released_without : (s new : SpaceState) (items : List Item) (item : Item) (older : List Item) → items ≡ item ∷ older →
     new ≡ released s (taken_by (undos_of item)) → released new (kept_by older) ≡ released s (kept_by items)
 released_without s new items item older is state =
-    ap (λ (t : AddressSpace). released t (kept_by older)) state
+    ap (λ (t : SpaceState). released t (kept_by older)) state
     ∙ released-released s (taken_by (undos_of item)) (kept_by older)
     ∙ ap (λ (xs : List Item). released s (kept_by xs)) (sym is)
 
-pub newest_held : (s : AddressSpace) (items : List Item) (item : Item) (older : List Item) → items ≡ item ∷ older → AreKept s (kept_by items) → AreAmongKept s (taken_by (undos_of item))
+pub newest_held : (s : SpaceState) (items : List Item) (item : Item) (older : List Item) → items ≡ item ∷ older → AreKept s (kept_by items) → AreAmongKept s (taken_by (undos_of item))
 newest_held s items item older is saved = record { others = kept_by older; are_kept = subst (λ (xs : List Item). AreKept s (kept_by xs)) is saved }
 
 -- a space that is reverted has its limits and its room
-pub reverted_by-limit : (s : AddressSpace) (us : List UndoValue) → (reverted_by s us).limits.mappings ≡ s.limits.mappings
+pub reverted_by-limit : (s : SpaceState) (us : List OpUndoState) → (reverted_by s us).limits.mappings ≡ s.limits.mappings
 reverted_by-limit s [] = refl
 reverted_by-limit s (u ∷ us) = reverted_by-limit (reverted s u) us
 
-pub reverted_by-room_is : (s : AddressSpace) (us : List UndoValue) → (reverted_by s us).room ≡ s.room
+pub reverted_by-room_is : (s : SpaceState) (us : List OpUndoState) → (reverted_by s us).room ≡ s.room
 reverted_by-room_is s [] = refl
 reverted_by-room_is s (u ∷ us) = reverted_by-room_is (reverted s u) us
 
@@ -75,13 +75,13 @@ Rewinds-room limit room more first ms (item ∷ older) below le h =
     (AreRevertible-room limit room more ms (undos_of item) le h.0, h.1, h.2, h.3, Rewinds-room limit room more first (undone_by ms (undos_of item)) older below le h.4)
 
 -- the newest item is taken back
-fits_back : (s t : AddressSpace) (limit first : ℕ) (item : Item) (older : List Item) →
+fits_back : (s t : SpaceState) (limit first : ℕ) (item : Item) (older : List Item) →
     FitsSpace s (record { limit = limit; first = first; items = item ∷ older }) → t ≡ reverted_by s (undos_of item) → AreKept t (kept_by older) →
     FitsSpace t (record { limit = limit; first = first; items = older })
 fits_back s t limit first item older fits state kept =
-    let list_is : t.mappings ≡ undone_by s.mappings (undos_of item) = ap (λ (x : AddressSpace). x.mappings) state ∙ reverted_by-mappings s (undos_of item) in
-    let limit_is : t.limits.mappings ≡ s.limits.mappings = ap (λ (x : AddressSpace). x.limits.mappings) state ∙ reverted_by-limit s (undos_of item) in
-    let room_is : t.room ≡ s.room = ap (λ (x : AddressSpace). x.room) state ∙ reverted_by-room_is s (undos_of item) in
+    let list_is : t.mappings ≡ undone_by s.mappings (undos_of item) = ap (λ (x : SpaceState). x.mappings) state ∙ reverted_by-mappings s (undos_of item) in
+    let limit_is : t.limits.mappings ≡ s.limits.mappings = ap (λ (x : SpaceState). x.limits.mappings) state ∙ reverted_by-limit s (undos_of item) in
+    let room_is : t.room ≡ s.room = ap (λ (x : SpaceState). x.room) state ∙ reverted_by-room_is s (undos_of item) in
     let below = base (undone_by s.mappings (undos_of item)) older in
     record {
       translates = subst (λ (ms : List Mapping). Translates ms (numbered first older) (base ms older)) (sym list_is) fits.rewinds.2;
@@ -92,13 +92,13 @@ fits_back s t limit first item older fits state kept =
       kept = kept;
     }
 
-pub fits_rewound : (s t : AddressSpace) (old new : Journaled) (item : Item) → old ≡ record new { items = item ∷ new.items } →
+pub fits_rewound : (s t : SpaceState) (old new : JournalState) (item : Item) → old ≡ record new { items = item ∷ new.items } →
     FitsSpace s old → t ≡ reverted_by s (undos_of item) → AreKept t (kept_by new.items) → FitsSpace t new
 fits_rewound s t old new item is fits state kept =
-    fits_back s t new.limit new.first item new.items (subst (λ (j : Journaled). FitsSpace s j) is fits) state kept
+    fits_back s t new.limit new.first item new.items (subst (λ (j : JournalState). FitsSpace s j) is fits) state kept
 
 -- the newest item can be taken back
-pub newest_revertible : (s : AddressSpace) (j : Journaled) (item : Item) (older : List Item) → j.items ≡ item ∷ older → FitsSpace s j →
+pub newest_revertible : (s : SpaceState) (j : JournalState) (item : Item) (older : List Item) → j.items ≡ item ∷ older → FitsSpace s j →
     AreRevertible s.limits.mappings s.room s.mappings (undos_of item)
 newest_revertible s j item older is fits =
     (subst (λ (xs : List Item). Rewinds s.limits.mappings s.room j.first s.mappings xs (base s.mappings j.items)) is fits.rewinds).0

@@ -5,9 +5,9 @@ use Rattle.std.specs.List.{position_from}
 use Rattle.std.proofs.lemmas.Bool.{cases_lt}
 use Rattle.std.proofs.lemmas.Bool.Decides.{nat_tests}
 use Rattle.gv_journal.specs.Notes.{crossed, lesser, crossing_from}
-use Rattle.gv_journal.specs.Note.{Note}
+use Rattle.gv_journal.specs.Note.{NoteState}
 
--- the place of the first element of a list that passes
+-- the index of the first element of a list that passes
 pub record IsFirstAt {A : Type 0} (p : A → Bool) (xs : List A) (k : ℕ) : Type 0 where
   pub below : k < length xs
   pub here : (d : A) → p (get_or xs k d) ≡ true
@@ -33,14 +33,14 @@ first_passes {A = A} p i (x ∷ xs) k some = by_cases (p x) refl some (λ h. fir
     by_cases : (b : Bool) → p x ≡ b → cond b (Some i) (position_from p (i + 1) xs) ≡ Some k →
         (position_from p (i + 1) xs ≡ Some k → (i + 1 ≤ k) × IsFirstAt p xs (k - (i + 1))) → (i ≤ k) × IsFirstAt p (x ∷ xs) (k - i)
     by_cases true is h rest =
-        let place : i ≡ k = cc in
-        let none : 0 ≡ k - i = omega (arith, place) in
-        (omega (arith, place), subst (λ (n : ℕ). IsFirstAt p (x ∷ xs) n) none (record { below = omega arith; here = λ d. is; before = λ m d less. absurd (omega arith) }))
+        let index : i ≡ k = cc in
+        let none : 0 ≡ k - i = omega (arith, index) in
+        (omega (arith, index), subst (λ (n : ℕ). IsFirstAt p (x ∷ xs) n) none (record { below = omega arith; here = λ d. is; before = λ m d less. absurd (omega arith) }))
     by_cases false is h passed =
         let rest = passed h in
-        let place : suc (k - (i + 1)) ≡ k - i = omega (arith, rest.0) in (
+        let index : suc (k - (i + 1)) ≡ k - i = omega (arith, rest.0) in (
           omega (arith, rest.0),
-          subst (λ (n : ℕ). IsFirstAt p (x ∷ xs) n) place (record {
+          subst (λ (n : ℕ). IsFirstAt p (x ∷ xs) n) index (record {
             below = omega (arith, rest.1.below);
             here = rest.1.here;
             before = earlier rest.1.before;
@@ -66,7 +66,7 @@ lesser_second None b n h = h
 lesser_second (Some a) None n h = absurd h
 lesser_second (Some a) (Some b) n h = omega (arith, h)
 
-still_least : (to : ℕ) (least : Option ℕ) (notes : List Note) (n : ℕ) → AtMost least n → AtMost (crossing_from to least notes) n
+still_least : (to : ℕ) (least : Option ℕ) (notes : List NoteState) (n : ℕ) → AtMost least n → AtMost (crossing_from to least notes) n
 still_least to least [] n h = h
 still_least to least (note ∷ notes) n h = still_least to (lesser least (crossed to note.withdrawal)) notes n (lesser_first least (crossed to note.withdrawal) n h)
 
@@ -75,17 +75,17 @@ is_crossed to by w is le =
     let test : nat_le to by ≡ true = grind (arith, nat_tests) in
     subst (λ (o : Option ℕ). AtMost o by) (sym (ap (crossed to) is ∙ ap (λ (b : Bool). cond b (Some by) None) test)) (omega arith)
 
-pub at_most_each : (to : ℕ) (least : Option ℕ) (notes : List Note) (i by : ℕ) (d : Note) → i < length notes → (get_or notes i d).withdrawal ≡ Some by → to ≤ by → AtMost (crossing_from to least notes) by
+pub at_most_each : (to : ℕ) (least : Option ℕ) (notes : List NoteState) (i by : ℕ) (d : NoteState) → i < length notes → (get_or notes i d).withdrawal ≡ Some by → to ≤ by → AtMost (crossing_from to least notes) by
 at_most_each to least [] i by d below is le = absurd (omega arith)
 at_most_each to least (note ∷ notes) zero by d below is le =
     still_least to (lesser least (crossed to note.withdrawal)) notes by (lesser_second least (crossed to note.withdrawal) by (is_crossed to by note.withdrawal is le))
 at_most_each to least (note ∷ notes) (suc i) by d below is le = at_most_each to (lesser least (crossed to note.withdrawal)) notes i by d (omega arith) is le
 
 -- a note has the number
-pub record StandsIn (to : ℕ) (notes : List Note) (by : ℕ) (d : Note) : Type 0 where
-  pub place : ℕ
-  pub below : place < length notes
-  pub here : (get_or notes place d).withdrawal ≡ Some by
+pub record StandsIn (to : ℕ) (notes : List NoteState) (by : ℕ) (d : NoteState) : Type 0 where
+  pub index : ℕ
+  pub below : index < length notes
+  pub here : (get_or notes index d).withdrawal ≡ Some by
   pub from : to ≤ by
 
 crossed_is : (to by : ℕ) (w : Option ℕ) → crossed to w ≡ Some by → (w ≡ Some by) × (to ≤ by)
@@ -108,14 +108,14 @@ lesser_is (Some a) (Some b) n is = by_cases (cases_lt a b)
     by_cases (inl less) = let same : min a b ≡ a = omega arith in inl (ap (λ (k : ℕ). Some k) (sym same) ∙ is)
     by_cases (inr le) = let same : min a b ≡ b = omega arith in inr (ap (λ (k : ℕ). Some k) (sym same) ∙ is)
 
-pub stands_in : (to : ℕ) (least : Option ℕ) (notes : List Note) (by : ℕ) (d : Note) → crossing_from to least notes ≡ Some by → (least ≡ Some by) ⊎ StandsIn to notes by d
+pub stands_in : (to : ℕ) (least : Option ℕ) (notes : List NoteState) (by : ℕ) (d : NoteState) → crossing_from to least notes ≡ Some by → (least ≡ Some by) ⊎ StandsIn to notes by d
 stands_in to least [] by d is = inl is
 stands_in to least (note ∷ notes) by d is = by_cases (stands_in to (lesser least (crossed to note.withdrawal)) notes by d is)
   where
     own : (least ≡ Some by) ⊎ (crossed to note.withdrawal ≡ Some by) → (least ≡ Some by) ⊎ StandsIn to (note ∷ notes) by d
     own (inl h) = inl h
-    own (inr h) = let at = crossed_is to by note.withdrawal h in inr (record { place = 0; below = omega arith; here = at.0; from = at.1 })
+    own (inr h) = let at = crossed_is to by note.withdrawal h in inr (record { index = 0; below = omega arith; here = at.0; from = at.1 })
 
     by_cases : (lesser least (crossed to note.withdrawal) ≡ Some by) ⊎ StandsIn to notes by d → (least ≡ Some by) ⊎ StandsIn to (note ∷ notes) by d
     by_cases (inl h) = own (lesser_is least (crossed to note.withdrawal) by h)
-    by_cases (inr at) = inr (record { place = suc at.place; below = omega (arith, at.below); here = at.here; from = at.from })
+    by_cases (inr at) = inr (record { index = suc at.index; below = omega (arith, at.below); here = at.here; from = at.from })

@@ -13,7 +13,7 @@ pub mod Bindings
 pub mod Held
 pub mod Reaches
 pub mod Noted
-pub mod Shelves
+pub mod ItemStores
 pub mod SettledViews
 pub mod Settlings
 pub mod Spending

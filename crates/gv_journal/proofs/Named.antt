@@ -10,7 +10,7 @@ use Rattle.gv_types.specs.declared.operation.Op.{Op}
 use Rattle.gv_types.specs.declared.operation.Op.TheVariants.{Map, MapZero, Unmap, UnmapBuffer}
 use Rattle.gv_types.specs.declared.operation.PageOp.{PageOp}
 use Rattle.gv_ranges.specs.Edit.{edited}
-use Rattle.gv_space.specs.State.{AddressSpace}
+use Rattle.gv_space.specs.State.{SpaceState}
 use Rattle.gv_space.specs.Refusal.{first_of, operation_fault, limit_fault, apply_fault}
 use Rattle.gv_journal.specs.Applying.{does}
 use Rattle.gv_journal.specs.Verdict.{limits_fault, turn_fault}
@@ -27,12 +27,12 @@ or_none : (o : Option Fault) → first_of o None ≡ o
 or_none None = refl
 or_none (Some fault) = refl
 
-pub named_fault : (s : AddressSpace) (op : Op) → IsTrue (has_range op) → turn_fault s op ≡ apply_fault s op
+pub named_fault : (s : SpaceState) (op : Op) → IsTrue (has_range op) → turn_fault s op ≡ apply_fault s op
 named_fault s op ranged =
     ap (λ (ops : List PageOp). first_of (operation_fault s op) (limits_fault s ops)) (does_itself s.mappings op ranged)
     ∙ ap (λ (o : Option Fault). first_of (operation_fault s op) o) (or_none (limit_fault s (range_of (in_pages op)) (edited s.mappings (in_pages op))))
 
-pub named_refused : {A : Type 0} (s : AddressSpace) (op : Op) (r : Result A Fault) (fault : Fault) → IsTrue (has_range op) → r ≡ Err fault →
+pub named_refused : {A : Type 0} (s : SpaceState) (op : Op) (r : Result A Fault) (fault : Fault) → IsTrue (has_range op) → r ≡ Err fault →
     MatchOption (apply_fault s op) (IsOkUnless r OutOfMemory) (λ g. r ≡ Err g) → IsTurnRefused s op fault
 named_refused s op r fault ranged is why = by_cases (apply_fault s op) refl why
   where

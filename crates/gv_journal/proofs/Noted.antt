@@ -1,16 +1,16 @@
--- The notes that stand beside items, place by place.
+-- The notes that stand beside items, index by index.
 use Rattle.std.proofs.Common.{◌≡◌, ℕ, ◌+◌, ◌<◌, ◌≤◌, suc, Bool, true, false, cond, ◌||◌, List, [], ◌∷◌, ◌++◌, map, length, set, get_or, reverse, Option, Some, None, inl, inr, refl, ap, sym, ◌∙◌, arith}
 use Rattle.std.specs.Prelude.{is_some, ◌⊎◌}
 use Rattle.std.proofs.lemmas.List.{reverse-append, length-reverse, length-map, length-set, get_or-map, get_or_append_left, get_or_at, get_or-set_same, get_or-set_other, get_or_default, same_lists}
 use Rattle.std.proofs.lemmas.Bool.{cases_lt, cases_eq}
-use Rattle.gv_types.specs.Span.{Span}
-use Rattle.gv_journal.specs.Items.{Numbered, numbered, names, is_withdrawn, done_by}
-use Rattle.gv_journal.specs.Notes.{named_by, reach_of, note_of}
+use Rattle.gv_types.specs.PageRange.{PageRangeState}
+use Rattle.gv_journal.specs.Items.{NumberedItem, numbered, names, is_withdrawn, done_by}
+use Rattle.gv_journal.specs.Notes.{named_by, extent_of, note_of}
 use Rattle.gv_journal.specs.declared.item.Item.{Item}
-use Rattle.gv_journal.specs.Note.{Note}
+use Rattle.gv_journal.specs.Note.{NoteState}
 
 -- an item is gone where one names it
-pub named_is : (xs : List Numbered) (n : ℕ) → is_some (named_by xs n) ≡ is_withdrawn xs n
+pub named_is : (xs : List NumberedItem) (n : ℕ) → is_some (named_by xs n) ≡ is_withdrawn xs n
 named_is [] n = refl
 named_is (x ∷ xs) n = by_cases (names x.item.kind n) (named_is xs n)
   where
@@ -22,20 +22,20 @@ no_name : (o : Option ℕ) → is_some o ≡ false → o ≡ None
 no_name None h = refl
 no_name (Some n) h = cc
 
-pub not_named_by : (xs : List Numbered) (n : ℕ) → is_withdrawn xs n ≡ false → named_by xs n ≡ None
+pub not_named_by : (xs : List NumberedItem) (n : ℕ) → is_withdrawn xs n ≡ false → named_by xs n ≡ None
 not_named_by xs n none = no_name (named_by xs n) (named_is xs n ∙ none)
 
 pub length-numbered : (first : ℕ) (items : List Item) → length (numbered first items) ≡ length items
 length-numbered first [] = refl
 length-numbered first (item ∷ items) = ap suc (length-numbered first items)
 
--- the item at a place, with its number
-pub numbered_at : (first : ℕ) (items : List Item) (i : ℕ) (x : Numbered) → i < length items →
+-- the item at an index, with its number
+pub numbered_at : (first : ℕ) (items : List Item) (i : ℕ) (x : NumberedItem) → i < length items →
     get_or (reverse (numbered first items)) i x ≡ record { number = first + i; item = get_or (reverse items) i x.item }
 numbered_at first [] i x below = absurd (omega arith)
 numbered_at first (item ∷ items) i x below = by_cases (cases_lt i (length items)) (λ less. numbered_at first items i x less)
   where
-    last : Numbered
+    last : NumberedItem
     last = record { number = first + length items; item = item }
 
     split : reverse (numbered first (item ∷ items)) ≡ reverse (numbered first items) ++ last ∷ []
@@ -49,56 +49,56 @@ numbered_at first (item ∷ items) i x below = by_cases (cases_lt i (length item
 
     by_cases : (i < length items) ⊎ (length items ≤ i) → (i < length items → get_or (reverse (numbered first items)) i x ≡ record { number = first + i; item = get_or (reverse items) i x.item }) → get_or (reverse (numbered first (item ∷ items))) i x ≡ record { number = first + i; item = get_or (reverse (item ∷ items)) i x.item }
     by_cases (inl less) rest =
-        ap (λ (ys : List Numbered). get_or ys i x) split
+        ap (λ (ys : List NumberedItem). get_or ys i x) split
         ∙ get_or_append_left (reverse (numbered first items)) (last ∷ []) x i (omega (arith, size))
         ∙ rest less
         ∙ ap (λ (y : Item). record { number = first + i; item = y })
         (sym (ap (λ (ys : List Item). get_or ys i x.item) items_split ∙ get_or_append_left (reverse items) (item ∷ []) x.item i (omega (arith, length-reverse items))))
     by_cases (inr le) rest =
         let is : i ≡ length items = omega arith in
-        ap (λ (ys : List Numbered). get_or ys i x) split
+        ap (λ (ys : List NumberedItem). get_or ys i x) split
         ∙ get_or_at (reverse (numbered first items)) last [] x i (size ∙ sym is)
         ∙ ap (λ (n : ℕ). record { number = first + n; item = item }) (sym is)
         ∙ ap (λ (y : Item). record { number = first + i; item = y })
         (sym (ap (λ (ys : List Item). get_or ys i x.item) items_split ∙ get_or_at (reverse items) item [] x.item i (length-reverse items ∙ sym is)))
 
--- the note at a place, of items among others
-pub note_at : (xs : List Numbered) (first : ℕ) (items : List Item) (i : ℕ) (note : Note) (item : Item) → i < length items →
-    get_or (map (note_of xs) (reverse (numbered first items))) i note ≡ record { withdrawal = named_by xs (first + i); reach = reach_of (done_by (get_or (reverse items) i item).kind) }
+-- the note at an index, of items among others
+pub note_at : (xs : List NumberedItem) (first : ℕ) (items : List Item) (i : ℕ) (note : NoteState) (item : Item) → i < length items →
+    get_or (map (note_of xs) (reverse (numbered first items))) i note ≡ record { withdrawal = named_by xs (first + i); extent = extent_of (done_by (get_or (reverse items) i item).kind) }
 note_at xs first items i note item below =
-    let x : Numbered = record { number = 0; item = item } in
+    let x : NumberedItem = record { number = 0; item = item } in
     get_or-map (note_of xs) (reverse (numbered first items)) i x note (omega (arith, length-reverse (numbered first items), length-numbered first items))
     ∙ ap (note_of xs) (numbered_at first items i x below)
 
-pub length-notes : (xs : List Numbered) (first : ℕ) (items : List Item) → length (map (note_of xs) (reverse (numbered first items))) ≡ length items
+pub length-notes : (xs : List NumberedItem) (first : ℕ) (items : List Item) → length (map (note_of xs) (reverse (numbered first items))) ≡ length items
 length-notes xs first items =
     length-map (reverse (numbered first items)) (note_of xs) ∙ length-reverse (numbered first items) ∙ length-numbered first items
 
--- lists of notes that differ in the withdrawal at one place
-pub marked_one : (ms ns : List Note) (p : ℕ) (w : Option ℕ) (note : Note) → length ms ≡ length ns → p < length ns →
-    ((i : ℕ) (d : Note) → i < length ns → (i ≡ p → ⊥) → get_or ms i d ≡ get_or ns i d) →
-    ((d : Note) → get_or ms p d ≡ record (get_or ns p d) { withdrawal = w }) →
+-- lists of notes that differ in the withdrawal at one index
+pub marked_one : (ms ns : List NoteState) (p : ℕ) (w : Option ℕ) (note : NoteState) → length ms ≡ length ns → p < length ns →
+    ((i : ℕ) (d : NoteState) → i < length ns → (i ≡ p → ⊥) → get_or ms i d ≡ get_or ns i d) →
+    ((d : NoteState) → get_or ms p d ≡ record (get_or ns p d) { withdrawal = w }) →
     set ns p (record (get_or ns p note) { withdrawal = w }) ≡ ms
 marked_one ms ns p w note size below others here =
     same_lists (set ns p (record (get_or ns p note) { withdrawal = w })) ms (length-set ns p _ ∙ sym size)
     (λ i d within. by_cases i d (omega (arith, length-set ns p (record (get_or ns p note) { withdrawal = w }))) (cases_eq i p))
   where
-    by_cases : (i : ℕ) (d : Note) → i < length ns → (i ≡ p) ⊎ (i ≡ p → ⊥) → get_or (set ns p (record (get_or ns p note) { withdrawal = w })) i d ≡ get_or ms i d
+    by_cases : (i : ℕ) (d : NoteState) → i < length ns → (i ≡ p) ⊎ (i ≡ p → ⊥) → get_or (set ns p (record (get_or ns p note) { withdrawal = w })) i d ≡ get_or ms i d
     by_cases i d within (inl is) =
         ap (λ (k : ℕ). get_or (set ns p (record (get_or ns p note) { withdrawal = w })) k d) is
         ∙ get_or-set_same ns p (record (get_or ns p note) { withdrawal = w }) d below
-        ∙ ap (λ (x : Note). record x { withdrawal = w }) (get_or_default ns p note d below)
+        ∙ ap (λ (x : NoteState). record x { withdrawal = w }) (get_or_default ns p note d below)
         ∙ sym (here d) ∙ ap (λ (k : ℕ). get_or ms k d) (sym is)
     by_cases i d within (inr apart) = get_or-set_other ns p i (record (get_or ns p note) { withdrawal = w }) d apart ∙ sym (others i d within apart)
 
 -- a note that nothing withdraws
-pub fresh : (note : Note) (reach : Option Span) → note.withdrawal ≡ None → note.reach ≡ reach → note ≡ record { withdrawal = None; reach = reach }
-fresh note reach none is =
-    ap (λ (w : Option ℕ). let n : Note = record { withdrawal = w; reach = note.reach } in n) none
-    ∙ ap (λ (r : Option Span). let n : Note = record { withdrawal = None; reach = r } in n) is
+pub fresh : (note : NoteState) (extent : Option PageRangeState) → note.withdrawal ≡ None → note.extent ≡ extent → note ≡ record { withdrawal = None; extent = extent }
+fresh note extent none is =
+    ap (λ (w : Option ℕ). let n : NoteState = record { withdrawal = w; extent = note.extent } in n) none
+    ∙ ap (λ (r : Option PageRangeState). let n : NoteState = record { withdrawal = None; extent = r } in n) is
 
 -- a note once it is marked
-pub once_marked : (was new : Note) (withdrawal : Option ℕ) → new.withdrawal ≡ withdrawal → new.reach ≡ was.reach → new ≡ record { withdrawal = withdrawal; reach = was.reach }
+pub once_marked : (was new : NoteState) (withdrawal : Option ℕ) → new.withdrawal ≡ withdrawal → new.extent ≡ was.extent → new ≡ record { withdrawal = withdrawal; extent = was.extent }
 once_marked was new withdrawal is same =
-    ap (λ (w : Option ℕ). let n : Note = record { withdrawal = w; reach = new.reach } in n) is
-    ∙ ap (λ (r : Option Span). let n : Note = record { withdrawal = withdrawal; reach = r } in n) same
+    ap (λ (w : Option ℕ). let n : NoteState = record { withdrawal = w; extent = new.extent } in n) is
+    ∙ ap (λ (r : Option PageRangeState). let n : NoteState = record { withdrawal = withdrawal; extent = r } in n) same

@@ -1,21 +1,21 @@
 -- The notes that stay when older items are settled.
 use Rattle.std.proofs.Common.{◌≡◌, ℕ, ◌+◌, ◌<◌, ◌≤◌, Bool, true, false, cond, ◌||◌, List, [], ◌∷◌, ◌++◌, length, take, drop, get_or, reverse, Option, Some, None, refl, ap, sym, ◌∙◌, subst, arith}
 use Rattle.std.proofs.lemmas.List.{reverse-append, reverse-reverse, length-reverse, length-drop, length-take-le, take-append-drop, get_or-drop, same_lists}
-use Rattle.gv_journal.specs.Items.{Numbered, numbered, names, is_withdrawn, done_by}
+use Rattle.gv_journal.specs.Items.{NumberedItem, numbered, names, is_withdrawn, done_by}
 use Rattle.gv_journal.specs.Inside.{NameOlder, NamesOnce, NameOnce}
-use Rattle.gv_journal.specs.Notes.{named_by, reach_of, notes_of}
+use Rattle.gv_journal.specs.Notes.{named_by, extent_of, notes_of}
 use Rattle.gv_journal.specs.Settling.{crosses}
 use Rattle.gv_journal.specs.declared.item.Item.{Item}
 use Rattle.gv_journal.specs.declared.item.ItemKind.{ItemKind}
 use Rattle.gv_journal.specs.declared.item.ItemKind.TheVariants.{Bind, Withdrawal}
-use Rattle.gv_journal.specs.Note.{Note}
+use Rattle.gv_journal.specs.Note.{NoteState}
 use Rattle.gv_journal.proofs.Bindings.{not_named}
 use Rattle.gv_journal.proofs.Noted.{not_named_by, note_at, length-notes}
 use Rattle.gv_journal.proofs.SettledViews.{numbered-append, is_withdrawn-append, NoneCross}
 use Rattle.gv_journal.proofs.Settlings.{names_apart}
 use Rattle.std.proofs.lemmas.Bool.Decides.{nat_tests}
 
-named_by-append : (newer older : List Numbered) (n : ℕ) → named_by older n ≡ None → named_by (newer ++ older) n ≡ named_by newer n
+named_by-append : (newer older : List NumberedItem) (n : ℕ) → named_by older n ≡ None → named_by (newer ++ older) n ≡ named_by newer n
 named_by-append [] older n none = none
 named_by-append (x ∷ newer) older n none = ap (λ (o : Option ℕ). cond (names x.item.kind n) (Some x.number) o) (named_by-append newer older n none)
 
@@ -24,14 +24,14 @@ or_first false b h = refl
 or_first true b h = h
 
 -- a withdrawal that doesn't cross names a later item
-not_crossing : (kind : ItemKind) (to first : ℕ) (newer older : List Numbered) → crosses to kind ≡ false → NamesOnce kind first (newer ++ older) → NamesOnce kind to newer
+not_crossing : (kind : ItemKind) (to first : ℕ) (newer older : List NumberedItem) → crosses to kind ≡ false → NamesOnce kind first (newer ++ older) → NamesOnce kind to newer
 not_crossing (Bind queue number request seen done) to first newer older none once = tt
 not_crossing (Withdrawal of) to first newer older none once = (
   grind (arith, nat_tests),
   or_first (is_withdrawn newer of) (is_withdrawn older of) (sym (is_withdrawn-append newer older of) ∙ once.1),
 )
 
-once_later : (to first : ℕ) (later : List Item) (older : List Numbered) → NoneCross to later → NameOnce first (numbered to later ++ older) → NameOnce to (numbered to later)
+once_later : (to first : ℕ) (later : List Item) (older : List NumberedItem) → NoneCross to later → NameOnce first (numbered to later ++ older) → NameOnce to (numbered to later)
 once_later to first [] older none once = tt
 once_later to first (item ∷ later) older none once = (not_crossing item.kind to first (numbered to later) older none.0 once.0, once_later to first later older none.1 once.1)
 
@@ -54,16 +54,16 @@ module _ (first : ℕ) (held : List Item) (count : ℕ) (le : count ≤ length h
 
   named_late : NameOlder (numbered first early) → (n : ℕ) → first + count ≤ n → named_by (numbered first (reverse held)) n ≡ named_by (numbered (first + count) late) n
   named_late older n ge =
-      ap (λ (xs : List Numbered). named_by xs n) apart
+      ap (λ (xs : List NumberedItem). named_by xs n) apart
       ∙ named_by-append (numbered (first + count) late) (numbered first early) n
       (not_named_by (numbered first early) n (not_named first early n older (omega (arith, early_size))))
 
   size : length (drop count (notes_of (numbered first (reverse held)))) ≡ length (drop count held)
   size = length-drop count (notes_of (numbered first (reverse held))) ∙ omega (arith, length-notes (numbered first (reverse held)) first (reverse held), length-reverse held, length-drop count held)
 
-  module _ (older : NameOlder (numbered first early)) (i : ℕ) (note : Note) (item : Item) (below : i < length (drop count held)) where
-    place : count + i < length (reverse held)
-    place = omega (arith, below, length-drop count held, length-reverse held)
+  module _ (older : NameOlder (numbered first early)) (i : ℕ) (note : NoteState) (item : Item) (below : i < length (drop count held)) where
+    index : count + i < length (reverse held)
+    index = omega (arith, below, length-drop count held, length-reverse held)
 
     item_same : get_or (reverse (reverse held)) (count + i) item ≡ get_or (reverse late) i item
     item_same =
@@ -77,10 +77,10 @@ module _ (first : ℕ) (held : List Item) (count : ℕ) (le : count ≤ length h
     note_same : get_or (drop count (notes_of (numbered first (reverse held)))) i note ≡ get_or (notes_of (numbered (first + count) late)) i note
     note_same =
         get_or-drop count (notes_of (numbered first (reverse held))) i note
-        ∙ note_at (numbered first (reverse held)) first (reverse held) (count + i) note item place
-        ∙ ap (λ (w : Option ℕ). record { withdrawal = w; reach = reach_of (done_by (get_or (reverse (reverse held)) (count + i) item).kind) })
+        ∙ note_at (numbered first (reverse held)) first (reverse held) (count + i) note item index
+        ∙ ap (λ (w : Option ℕ). record { withdrawal = w; extent = extent_of (done_by (get_or (reverse (reverse held)) (count + i) item).kind) })
         (ap (named_by (numbered first (reverse held))) number ∙ named_late older (first + count + i) (omega arith))
-        ∙ ap (λ (x : Item). record { withdrawal = named_by (numbered (first + count) late) (first + count + i); reach = reach_of (done_by x.kind) }) item_same
+        ∙ ap (λ (x : Item). record { withdrawal = named_by (numbered (first + count) late) (first + count + i); extent = extent_of (done_by x.kind) }) item_same
         ∙ sym (note_at (numbered (first + count) late) (first + count) late i note item (omega (arith, length-reverse (drop count held))))
 
   pub notes_settled : NameOlder (numbered first early) → drop count (notes_of (numbered first (reverse held))) ≡ notes_of (numbered (first + count) late)
@@ -89,7 +89,7 @@ module _ (first : ℕ) (held : List Item) (count : ℕ) (le : count ≤ length h
       (size ∙ sym (length-notes (numbered (first + count) late) (first + count) late ∙ length-reverse (drop count held)))
       (λ i note below. at_each i note (omega (arith, size)))
     where
-      at_each : (i : ℕ) (note : Note) → i < length (drop count held) → get_or (drop count (notes_of (numbered first (reverse held)))) i note ≡ get_or (notes_of (numbered (first + count) late)) i note
+      at_each : (i : ℕ) (note : NoteState) → i < length (drop count held) → get_or (drop count (notes_of (numbered first (reverse held)))) i note ≡ get_or (notes_of (numbered (first + count) late)) i note
       at_each i note below = by_items (drop count held) refl
         where
           by_items : (xs : List Item) → drop count held ≡ xs → get_or (drop count (notes_of (numbered first (reverse held)))) i note ≡ get_or (notes_of (numbered (first + count) late)) i note
@@ -103,4 +103,4 @@ module _ (first : ℕ) (held : List Item) (count : ℕ) (le : count ≤ length h
       (ap (λ (xs : List Item). reverse xs) (sym (take-append-drop count held)) ∙ reverse-append (take count held) (drop count held)) older)).1
 
   pub once_settled : NoneCross (first + count) late → NameOnce first (numbered first (reverse held)) → NameOnce (first + count) (numbered (first + count) late)
-  once_settled none once = once_later (first + count) first late (numbered first early) none (subst (λ (xs : List Numbered). NameOnce first xs) apart once)
+  once_settled none once = once_later (first + count) first late (numbered first early) none (subst (λ (xs : List NumberedItem). NameOnce first xs) apart once)

@@ -3,15 +3,15 @@ use Rattle.std.proofs.Common.{◌≡◌, ◌⊎◌, inl, inr, ℕ, ◌+◌, ◌-
 use Rattle.std.specs.Prelude.{MatchOption, IsOkUnless}
 use Rattle.std.proofs.lemmas.List.{drop_more, take_more, reverse-append, take-append-drop}
 use Rattle.gv_types.specs.Page.{IsPage}
-use Rattle.gv_types.specs.Span.{covers}
+use Rattle.gv_types.specs.PageRange.{covers}
 use Rattle.gv_types.specs.declared.fault.Fault.{Fault}
 use Rattle.gv_types.specs.declared.fault.Fault.TheVariants.{OutOfMemory}
 use Rattle.gv_types.specs.declared.mapping.Entry.{Entry}
 use Rattle.gv_types.specs.declared.mapping.Mapping.{Mapping}
 use Rattle.gv_ranges.specs.List.{at}
 use Rattle.gv_ranges.specs.Edit.{restored, undone}
-use Rattle.gv_space.specs.State.{AddressSpace, AreKept}
-use Rattle.gv_space.specs.Undo.{UndoValue, AreAmongKept}
+use Rattle.gv_space.specs.State.{SpaceState, AreKept}
+use Rattle.gv_space.specs.Undo.{OpUndoState, AreAmongKept}
 use Rattle.gv_space.specs.Refusal.{first_of, limit_fault}
 use Rattle.gv_space.specs.Change.{IsChanged, changed_to}
 use Rattle.gv_space.proofs.KeptLemmas.{kept_in_any_order}
@@ -24,76 +24,76 @@ use Rattle.gv_journal.proofs.Limits.{not_refused}
 use Rattle.gv_journal.proofs.Passing.{same_err}
 use Rattle.gv_journal.proofs.Changing.{AreChanges-none, AreChanges-more}
 
-after_puts-last : (newer : List UndoValue) (u : UndoValue) (s : AddressSpace) → after_puts (newer ++ u ∷ []) s ≡ after_put (after_puts newer s) u
+after_puts-last : (newer : List OpUndoState) (u : OpUndoState) (s : SpaceState) → after_puts (newer ++ u ∷ []) s ≡ after_put (after_puts newer s) u
 after_puts-last [] u s = refl
 after_puts-last (v ∷ newer) u s = after_puts-last newer u (after_put s v)
 
-put_back-last : (newer : List UndoValue) (u : UndoValue) (page : ℕ) (now : Option Entry) →
+put_back-last : (newer : List OpUndoState) (u : OpUndoState) (page : ℕ) (now : Option Entry) →
     put_back (newer ++ u ∷ []) page now ≡ cond (covers u.range page) (at u.change.taken page) (put_back newer page now)
 put_back-last [] u page now = refl
 put_back-last (v ∷ newer) u page now = put_back-last newer u page (cond (covers v.range page) (at v.change.taken page) now)
 
-put_limits-room : (us : List UndoValue) (s : AddressSpace) (room : ℕ) → put_limits us (record s { room = room }) ≡ put_limits us s
+put_limits-room : (us : List OpUndoState) (s : SpaceState) (room : ℕ) → put_limits us (record s { room = room }) ≡ put_limits us s
 put_limits-room [] s room = refl
 put_limits-room (u ∷ us) s room =
     ap (λ (o : Option Fault). first_of (limit_fault s u.range (restored s.mappings u.range u.change.taken)) o) (put_limits-room us (after_put s u) room)
 
-taken_by-append : (newer older : List UndoValue) → taken_by (newer ++ older) ≡ taken_by newer ++ taken_by older
+taken_by-append : (newer older : List OpUndoState) → taken_by (newer ++ older) ≡ taken_by newer ++ taken_by older
 taken_by-append [] older = refl
 taken_by-append (u ∷ newer) older = ap (λ (ms : List Mapping). u.change.taken ++ ms) (taken_by-append newer older) ∙ sym (append_assoc u.change.taken (taken_by newer) (taken_by older))
 
 -- nothing was put back yet
-pub ArePutBack-none : (s : AddressSpace) → ArePutBack s s [] []
+pub ArePutBack-none : (s : SpaceState) → ArePutBack s s [] []
 ArePutBack-none s = record { state = refl; changes = AreChanges-none s; pages = λ page _. refl }
 
 -- the state once one is put back
-pub state_put : (mid new : AddressSpace) (u fresh : UndoValue) → IsChanged mid new (restored mid.mappings u.range u.change.taken) fresh → fresh.range ≡ u.range →
+pub state_put : (mid new : SpaceState) (u fresh : OpUndoState) → IsChanged mid new (restored mid.mappings u.range u.change.taken) fresh → fresh.range ≡ u.range →
     new ≡ record (after_put mid u) { room = new.room }
 state_put mid new u fresh did range_is =
     let taken_is : fresh.change.taken ≡ met mid.mappings u.range = rw range_is at (taken_met mid.mappings new.mappings fresh did.undo) in
     did.state ∙ ap (λ (ms : List Mapping). record (changed_to (restored mid.mappings u.range u.change.taken) ms mid) { room = new.room }) taken_is
 
-pub ArePutBack-more : (old mid new : AddressSpace) (newer fresh : List UndoValue) (u undo : UndoValue) → ArePutBack old mid newer fresh →
+pub ArePutBack-more : (old mid new : SpaceState) (newer fresh : List OpUndoState) (u undo : OpUndoState) → ArePutBack old mid newer fresh →
     IsChanged mid new (restored mid.mappings u.range u.change.taken) undo → undo.range ≡ u.range →
     ((page : ℕ) → IsPage page → at new.mappings page ≡ cond (covers u.range page) (at u.change.taken page) (at mid.mappings page)) →
     undone new.mappings undo.change ≡ mid.mappings → ArePutBack old new (newer ++ u ∷ []) (undo ∷ fresh)
 ArePutBack-more old mid new newer fresh u undo was did range_is says undone_is = record {
   state = state_put mid new u undo did range_is
-      ∙ ap (λ (s : AddressSpace). record (after_put s u) { room = new.room }) was.state
-      ∙ ap (λ (s : AddressSpace). record s { room = new.room }) (sym (after_puts-last newer u old));
+      ∙ ap (λ (s : SpaceState). record (after_put s u) { room = new.room }) was.state
+      ∙ ap (λ (s : SpaceState). record s { room = new.room }) (sym (after_puts-last newer u old));
   changes = AreChanges-more old mid new (restored mid.mappings u.range u.change.taken) undo fresh was.changes did undone_is;
   pages = λ page is. says page is ∙ ap (λ (e : Option Entry). cond (covers u.range page) (at u.change.taken page) e) (was.pages page is)
       ∙ sym (put_back-last newer u page (at old.mappings page));
 }
 
-module _ (saved : List UndoValue) (left : ℕ) (u : UndoValue) (some : 0 < left) (within : left ≤ length saved) (is : u ≡ get_or saved (left - 1) u) where
+module _ (saved : List OpUndoState) (left : ℕ) (u : OpUndoState) (some : 0 < left) (within : left ≤ length saved) (is : u ≡ get_or saved (left - 1) u) where
   back_up : left - 1 + 1 ≡ left
   back_up = omega arith
 
   behind : drop (left - 1) saved ≡ u ∷ drop left saved
-  behind = drop_more saved (left - 1) u (omega arith) ∙ ap (λ (x : UndoValue). x ∷ drop (left - 1 + 1) saved) (sym is) ∙ ap (λ (n : ℕ). u ∷ drop n saved) back_up
+  behind = drop_more saved (left - 1) u (omega arith) ∙ ap (λ (x : OpUndoState). x ∷ drop (left - 1 + 1) saved) (sym is) ∙ ap (λ (n : ℕ). u ∷ drop n saved) back_up
 
   -- it comes last of those put back
   pub put_last : reverse (drop (left - 1) saved) ≡ reverse (drop left saved) ++ u ∷ []
-  put_last = ap (λ (us : List UndoValue). reverse us) behind ∙ reverse-append (u ∷ []) (drop left saved)
+  put_last = ap (λ (us : List OpUndoState). reverse us) behind ∙ reverse-append (u ∷ []) (drop left saved)
 
   -- and first of those left
   pub left_first : reverse (take left saved) ≡ u ∷ reverse (take (left - 1) saved)
   left_first =
       let grown : take (left - 1 + 1) saved ≡ take (left - 1) saved ++ get_or saved (left - 1) u ∷ [] = take_more saved (left - 1) u (omega arith) in
       last_first (take left saved) (take (left - 1) saved) u
-      (ap (λ (n : ℕ). take n saved) (sym back_up) ∙ grown ∙ ap (λ (x : UndoValue). take (left - 1) saved ++ x ∷ []) (sym is))
+      (ap (λ (n : ℕ). take n saved) (sym back_up) ∙ grown ∙ ap (λ (x : OpUndoState). take (left - 1) saved ++ x ∷ []) (sym is))
 
   -- its mappings are kept as long as it isn't spent
-  pub still_kept : (old now : AddressSpace) (fresh : List UndoValue) → AreChanges old now fresh → AreAmongKept old (taken_by (reverse saved)) → AreAmongKept now u.change.taken
+  pub still_kept : (old now : SpaceState) (fresh : List OpUndoState) → AreChanges old now fresh → AreAmongKept old (taken_by (reverse saved)) → AreAmongKept now u.change.taken
   still_kept old now fresh changes among =
       let front : List Mapping = taken_by fresh ++ taken_by (reverse (drop left saved)) in
       let rest : List Mapping = taken_by (reverse (take (left - 1) saved)) ++ among.others in
       let split : reverse saved ≡ reverse (drop left saved) ++ (u ∷ reverse (take (left - 1) saved)) =
-      ap (λ (us : List UndoValue). reverse us) (sym (take-append-drop left saved)) ∙ reverse-append (take left saved) (drop left saved)
-      ∙ ap (λ (us : List UndoValue). reverse (drop left saved) ++ us) left_first in
+      ap (λ (us : List OpUndoState). reverse us) (sym (take-append-drop left saved)) ∙ reverse-append (take left saved) (drop left saved)
+      ∙ ap (λ (us : List OpUndoState). reverse (drop left saved) ++ us) left_first in
       let taken_is : taken_by (reverse saved) ++ among.others ≡ taken_by (reverse (drop left saved)) ++ (u.change.taken ++ rest) =
-      ap (λ (us : List UndoValue). taken_by us ++ among.others) split
+      ap (λ (us : List OpUndoState). taken_by us ++ among.others) split
       ∙ ap (λ (ms : List Mapping). ms ++ among.others) (taken_by-append (reverse (drop left saved)) (u ∷ reverse (take (left - 1) saved)))
       ∙ append_assoc (taken_by (reverse (drop left saved))) (u.change.taken ++ taken_by (reverse (take (left - 1) saved))) among.others
       ∙ ap (λ (ms : List Mapping). taken_by (reverse (drop left saved)) ++ ms) (append_assoc u.change.taken (taken_by (reverse (take (left - 1) saved))) among.others) in
@@ -103,11 +103,11 @@ module _ (saved : List UndoValue) (left : ℕ) (u : UndoValue) (some : 0 < left)
       record { others = front ++ rest; are_kept = kept_in_any_order now front u.change.taken rest all }
 
   -- the limits at its turn
-  limits_turn : (now : AddressSpace) → put_limits (reverse (take left saved)) now
+  limits_turn : (now : SpaceState) → put_limits (reverse (take left saved)) now
       ≡ first_of (limit_fault now u.range (restored now.mappings u.range u.change.taken)) (put_limits (reverse (take (left - 1) saved)) (after_put now u))
-  limits_turn now = ap (λ (us : List UndoValue). put_limits us now) left_first
+  limits_turn now = ap (λ (us : List OpUndoState). put_limits us now) left_first
 
-  pub put_more : {A : Type 0} (old now new : AddressSpace) (answer : Result A Fault) (x : A) → answer ≡ Ok x →
+  pub put_more : {A : Type 0} (old now new : SpaceState) (answer : Result A Fault) (x : A) → answer ≡ Ok x →
       MatchOption (limit_fault now u.range (restored now.mappings u.range u.change.taken)) (IsOkUnless answer OutOfMemory) (λ g. answer ≡ Err g) →
       new ≡ record (after_put now u) { room = new.room } → put_limits (reverse saved) old ≡ put_limits (reverse (take left saved)) now →
       put_limits (reverse saved) old ≡ put_limits (reverse (take (left - 1) saved)) new
@@ -115,9 +115,9 @@ module _ (saved : List UndoValue) (left : ℕ) (u : UndoValue) (some : 0 < left)
       was ∙ limits_turn now
       ∙ ap (λ (o : Option Fault). first_of o (put_limits (reverse (take (left - 1) saved)) (after_put now u))) (not_refused answer x ok (limit_fault now u.range (restored now.mappings u.range u.change.taken)) why)
       ∙ sym (put_limits-room (reverse (take (left - 1) saved)) (after_put now u) new.room)
-      ∙ ap (λ (s : AddressSpace). put_limits (reverse (take (left - 1) saved)) s) (sym state)
+      ∙ ap (λ (s : SpaceState). put_limits (reverse (take (left - 1) saved)) s) (sym state)
 
-  pub put_refused : {A : Type 0} (old now : AddressSpace) (answer : Result A Fault) (fault : Fault) → answer ≡ Err fault →
+  pub put_refused : {A : Type 0} (old now : SpaceState) (answer : Result A Fault) (fault : Fault) → answer ≡ Err fault →
       MatchOption (limit_fault now u.range (restored now.mappings u.range u.change.taken)) (IsOkUnless answer OutOfMemory) (λ g. answer ≡ Err g) →
       put_limits (reverse saved) old ≡ put_limits (reverse (take left saved)) now → (put_limits (reverse saved) old ≡ Some fault) ⊎ (fault ≡ OutOfMemory)
   put_refused old now answer fault is_err why was = by_cases (limit_fault now u.range (restored now.mappings u.range u.change.taken)) refl why

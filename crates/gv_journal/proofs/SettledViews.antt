@@ -6,9 +6,9 @@ use Rattle.gv_types.specs.Operation.{view as view_of_ops}
 use Rattle.gv_types.specs.declared.mapping.Entry.{Entry}
 use Rattle.gv_types.specs.declared.mapping.Mapping.{Mapping}
 use Rattle.gv_types.specs.declared.operation.PageOp.{PageOp}
-use Rattle.gv_space.specs.Undo.{UndoValue}
+use Rattle.gv_space.specs.Undo.{OpUndoState}
 use Rattle.gv_journal.specs.Undoing.{undone_by}
-use Rattle.gv_journal.specs.Items.{Numbered, numbered, names, is_withdrawn, done_by, ops_without, view}
+use Rattle.gv_journal.specs.Items.{NumberedItem, numbered, names, is_withdrawn, done_by, ops_without, view}
 use Rattle.gv_journal.specs.History.{undos_of, Translates, SavesBelow, EachSaves, UndoSavesTheView, Rewinds}
 use Rattle.gv_journal.specs.Settling.{crosses, later, earlier}
 use Rattle.gv_journal.specs.Inside.{NameOlder}
@@ -24,9 +24,9 @@ numbered-append first [] earlier = refl
 numbered-append first (item ∷ later) earlier =
     let number : first + length (later ++ earlier) ≡ first + length earlier + length later = omega (arith, length-append later earlier) in
     ap (λ (n : ℕ). record { number = n; item = item } ∷ numbered first (later ++ earlier)) number
-    ∙ ap (λ (xs : List Numbered). record { number = first + length earlier + length later; item = item } ∷ xs) (numbered-append first later earlier)
+    ∙ ap (λ (xs : List NumberedItem). record { number = first + length earlier + length later; item = item } ∷ xs) (numbered-append first later earlier)
 
-pub ops_without-append : (gone : ℕ → Bool) (newer older : List Numbered) → ops_without gone (newer ++ older) ≡ ops_without gone newer ++ ops_without gone older
+pub ops_without-append : (gone : ℕ → Bool) (newer older : List NumberedItem) → ops_without gone (newer ++ older) ≡ ops_without gone newer ++ ops_without gone older
 ops_without-append gone [] older = refl
 ops_without-append gone (x ∷ newer) older =
     ap (λ (ops : List PageOp). cond (gone x.number) [] (reverse (done_by x.item.kind)) ++ ops) (ops_without-append gone newer older)
@@ -49,11 +49,11 @@ pub view_over : (first : ℕ) (later earlier : List Item) (gone : ℕ → Bool) 
     view_of_ops (ops_without gone (numbered first (later ++ earlier))) below page
     ≡ view_of_ops (ops_without gone (numbered (first + length earlier) later)) (view_of_ops (ops_without gone (numbered first earlier)) below) page
 view_over first later earlier gone below page =
-    ap (λ (xs : List Numbered). view_of_ops (ops_without gone xs) below page) (numbered-append first later earlier)
+    ap (λ (xs : List NumberedItem). view_of_ops (ops_without gone xs) below page) (numbered-append first later earlier)
     ∙ ap (λ (ops : List PageOp). view_of_ops ops below page) (ops_without-append gone (numbered (first + length earlier) later) (numbered first earlier))
     ∙ view-append (ops_without gone (numbered (first + length earlier) later)) (ops_without gone (numbered first earlier)) below page
 
-pub is_withdrawn-append : (newer older : List Numbered) (n : ℕ) → is_withdrawn (newer ++ older) n ≡ (is_withdrawn newer n || is_withdrawn older n)
+pub is_withdrawn-append : (newer older : List NumberedItem) (n : ℕ) → is_withdrawn (newer ++ older) n ≡ (is_withdrawn newer n || is_withdrawn older n)
 is_withdrawn-append [] older n = refl
 is_withdrawn-append (x ∷ newer) older n =
     ap (λ (b : Bool). names x.item.kind n || b) (is_withdrawn-append newer older n) ∙ or_assoc (names x.item.kind n) (is_withdrawn newer n) (is_withdrawn older n)
@@ -84,7 +84,7 @@ or_nothing false b h = h
 gone_of_both : (first : ℕ) (later earlier : List Item) (n : ℕ) →
     is_withdrawn (numbered first (later ++ earlier)) n ≡ (is_withdrawn (numbered (first + length earlier) later) n || is_withdrawn (numbered first earlier) n)
 gone_of_both first later earlier n =
-    ap (λ (xs : List Numbered). is_withdrawn xs n) (numbered-append first later earlier)
+    ap (λ (xs : List NumberedItem). is_withdrawn xs n) (numbered-append first later earlier)
     ∙ is_withdrawn-append (numbered (first + length earlier) later) (numbered first earlier) n
 
 -- of the later items only later ones decide which are withdrawn, and of the earlier ones only earlier ones
@@ -122,7 +122,7 @@ module _ (first : ℕ) (earlier : List Item) (below other : ℕ → Option Entry
       ∙ ap (λ (ops : List PageOp). view_of_ops ops other page)
       (ops_without-same (first + length earlier) later (is_withdrawn (numbered first (later ++ earlier))) (is_withdrawn (numbered (first + length earlier) later)) (λ n low high. gone_of_later first later earlier older n low))
 
-  saves_at : (kind : ItemKind) (us : List UndoValue) (map map' : ℕ → Option Entry) → ((page : ℕ) → IsPage page → map page ≡ map' page) → SavesBelow kind us map → SavesBelow kind us map'
+  saves_at : (kind : ItemKind) (us : List OpUndoState) (map map' : ℕ → Option Entry) → ((page : ℕ) → IsPage page → map page ≡ map' page) → SavesBelow kind us map → SavesBelow kind us map'
   saves_at (Bind queue number request seen done) us map map' agree h = Save-at (reverse done.items) us map map' agree h
   saves_at (Withdrawal of) us map map' agree h = tt
 

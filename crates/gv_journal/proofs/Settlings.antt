@@ -7,11 +7,11 @@ use Rattle.std.specs.Option.{option_map}
 use Rattle.gv_types.specs.Page.{IsPage}
 use Rattle.gv_types.specs.declared.mapping.Entry.{Entry}
 use Rattle.gv_types.specs.declared.mapping.Mapping.{Mapping}
-use Rattle.gv_space.specs.State.{AddressSpace, AreKept}
+use Rattle.gv_space.specs.State.{SpaceState, AreKept}
 use Rattle.gv_space.specs.Undo.{AreAmongKept, released}
 use Rattle.gv_space.proofs.KeptLemmas.{kept_in_any_order}
 use Rattle.gv_journal.specs.Undoing.{undone_by}
-use Rattle.gv_journal.specs.Items.{Journaled, next, Numbered, numbered, entries, view}
+use Rattle.gv_journal.specs.Items.{JournalState, next, NumberedItem, numbered, entries, view}
 use Rattle.gv_journal.specs.History.{undos_of, kept_by, back, base, Translates, Rewinds}
 use Rattle.gv_journal.specs.Settling.{crosses, crossing, later, earlier, settle_fault, IsSettled}
 use Rattle.gv_types.specs.declared.fault.Fault.TheVariants.{Crossed}
@@ -40,7 +40,7 @@ back_settled ms later earlier zero le = refl
 back_settled ms [] earlier (suc n) le = absurd (omega arith)
 back_settled ms (item ∷ later) earlier (suc n) le = back_settled (undone_by ms (undos_of item)) later earlier n (omega arith)
 
--- the journal's items stand in their places
+-- the journal's items stand in their indices
 pub held_settled : (held : List Item) (count : ℕ) → count ≤ length held →
     (take (length held - count) (reverse held) ≡ reverse (drop count held)) × (drop (length held - count) (reverse held) ≡ reverse (take count held))
 held_settled held count le =
@@ -52,7 +52,7 @@ held_settled held count le =
     )
 
 -- names stay in order
-NameOlder-append : (newer older : List Numbered) → NameOlder (newer ++ older) → NameOlder newer × NameOlder older
+NameOlder-append : (newer older : List NumberedItem) → NameOlder (newer ++ older) → NameOlder newer × NameOlder older
 NameOlder-append [] older h = (tt, h)
 NameOlder-append (x ∷ newer) older h =
     let rest = NameOlder-append newer older h.1 in
@@ -81,11 +81,11 @@ none_from to i (item ∷ items) none =
 pub none_cross : (to : ℕ) (items : List Item) → position (λ item. crosses to item.kind) items ≡ None → NoneCross to (reverse items)
 none_cross to items none = none_from to 0 items (sym (position_from-zero (λ (item : Item). crosses to item.kind) items) ∙ none)
 
-module _ (s t : AddressSpace) (limit first : ℕ) (held : List Item) (count : ℕ) (le : count ≤ length held) where
-  abbrev pub old_journal : Journaled
+module _ (s t : SpaceState) (limit first : ℕ) (held : List Item) (count : ℕ) (le : count ≤ length held) where
+  abbrev pub old_journal : JournalState
   old_journal = record { limit = limit; first = first; items = reverse held }
 
-  abbrev pub new_journal : Journaled
+  abbrev pub new_journal : JournalState
   new_journal = record { limit = limit; first = first + count; items = reverse (drop count held) }
 
   early_size : length (reverse (take count held)) ≡ count
@@ -139,14 +139,14 @@ module _ (s t : AddressSpace) (limit first : ℕ) (held : List Item) (count : �
     base_is = translates_under s.limits.mappings s.room first s.mappings (reverse (drop count held)) (reverse (take count held)) below was.translates was.rewinds
 
     list_is : t.mappings ≡ s.mappings
-    list_is = ap (λ (x : AddressSpace). x.mappings) released_is
+    list_is = ap (λ (x : SpaceState). x.mappings) released_is
 
     fits_at : FitsOver t (record { limit = limit; first = first + length (reverse (take count held)); items = reverse (drop count held) }) (base s.mappings (reverse (drop count held)))
     fits_at = record {
       translates = subst (λ (ms : List Mapping). Translates ms (numbered (first + length (reverse (take count held))) (reverse (drop count held))) (base s.mappings (reverse (drop count held)))) (sym list_is)
           (translates_settled first (reverse (take count held)) below (base s.mappings (reverse (drop count held))) older_early base_is s.mappings (reverse (drop count held)) uncrossed was.translates);
       saves = saves_settled first (reverse (take count held)) below (base s.mappings (reverse (drop count held))) older_early base_is (reverse (drop count held)) uncrossed was.saves;
-      rewinds = subst (λ (x : AddressSpace). Rewinds x.limits.mappings x.room (first + length (reverse (take count held))) x.mappings (reverse (drop count held)) (base s.mappings (reverse (drop count held)))) (sym released_is)
+      rewinds = subst (λ (x : SpaceState). Rewinds x.limits.mappings x.room (first + length (reverse (take count held))) x.mappings (reverse (drop count held)) (base s.mappings (reverse (drop count held)))) (sym released_is)
           (rewinds_settled first (reverse (take count held)) below (base s.mappings (reverse (drop count held))) older_early base_is s.limits.mappings s.room s.mappings (reverse (drop count held)) uncrossed was.rewinds);
       kept = subst (λ (ms : List Mapping). AreKept t ms) (append-nil (kept_by (reverse (drop count held)))) (spent (kept_by (reverse (drop count held)) ++ []) (earlier_first fits.kept));
     }
@@ -168,7 +168,7 @@ module _ (s t : AddressSpace) (limit first : ℕ) (held : List Item) (count : �
     }
 
 -- the later items, the oldest one first
-pub reversed_later : (j : Journaled) (to count : ℕ) → j.first + count ≡ to → to ≤ next j → reverse (later j to) ≡ drop count (reverse j.items)
+pub reversed_later : (j : JournalState) (to count : ℕ) → j.first + count ≡ to → to ≤ next j → reverse (later j to) ≡ drop count (reverse j.items)
 reversed_later j to count is within =
     let size : length (reverse j.items) ≡ length j.items = length-reverse j.items in
     let le : count ≤ length (reverse j.items) = omega arith in
@@ -183,7 +183,7 @@ in_range : (low n high : ℕ) → low ≤ n → n ≤ high → (nat_lt n low || 
 in_range low n high le ge = grind (arith, nat_tests)
 
 -- the fault of a number of an item held or of the next one
-pub settle_fault_is : (j : Journaled) (to : ℕ) → j.first ≤ to → to ≤ next j → (o : Option ℕ) → crossing j to ≡ o → settle_fault j to ≡ option_map (λ by. Crossed by) o
+pub settle_fault_is : (j : JournalState) (to : ℕ) → j.first ≤ to → to ≤ next j → (o : Option ℕ) → crossing j to ≡ o → settle_fault j to ≡ option_map (λ by. Crossed by) o
 settle_fault_is j to low high o is = rw (in_range j.first to (next j) low high, is) refl
 
 later_alone : (limit first : ℕ) (held : List Item) (count : ℕ) → count ≤ length held → later (journaled limit first (reverse held)) (first + count) ≡ reverse (drop count held)
@@ -192,11 +192,11 @@ later_alone limit first held count le =
     ap (λ (n : ℕ). take n (reverse held)) split ∙ (held_settled held count le).0
 
 -- how many items of a journal are settled
-pub count_is : (limit first : ℕ) (held : List Item) (j : Journaled) (to count : ℕ) → journaled limit first (reverse held) ≡ j → j.first + count ≡ to → to ≤ next j →
+pub count_is : (limit first : ℕ) (held : List Item) (j : JournalState) (to count : ℕ) → journaled limit first (reverse held) ≡ j → j.first + count ≡ to → to ≤ next j →
     (first + count ≡ to) × (count ≤ length held)
 count_is limit first held j to count is number within =
-    let first_is : first ≡ j.first = ap (λ (k : Journaled). k.first) is in
-    let size : length (reverse held) ≡ length j.items = ap (λ (k : Journaled). length k.items) is in
+    let first_is : first ≡ j.first = ap (λ (k : JournalState). k.first) is in
+    let size : length (reverse held) ≡ length j.items = ap (λ (k : JournalState). length k.items) is in
     (omega arith, omega (arith, length-reverse held))
 
 -- the journal that is left
@@ -206,10 +206,10 @@ left_is limit first to count items held number is =
     ap (λ (xs : List Item). journaled limit to (reverse xs)) is ∙ ap (λ (n : ℕ). journaled limit n (reverse (drop count held))) (sym number)
 
 -- none of the later items crosses
-pub none_left : (limit first to count : ℕ) (held : List Item) (j : Journaled) → journaled limit first (reverse held) ≡ j → first + count ≡ to → count ≤ length held →
+pub none_left : (limit first to count : ℕ) (held : List Item) (j : JournalState) → journaled limit first (reverse held) ≡ j → first + count ≡ to → count ≤ length held →
     position (λ item. crosses to item.kind) (reverse (later j to)) ≡ None → NoneCross (first + count) (reverse (drop count held))
 none_left limit first to count held j is number le none =
     let which : reverse (reverse (later j to)) ≡ reverse (drop count held) =
-    reverse-reverse (later j to) ∙ ap (λ (k : Journaled). later k to) (sym is) ∙ ap (λ (n : ℕ). later (journaled limit first (reverse held)) n) (sym number)
+    reverse-reverse (later j to) ∙ ap (λ (k : JournalState). later k to) (sym is) ∙ ap (λ (n : ℕ). later (journaled limit first (reverse held)) n) (sym number)
     ∙ later_alone limit first held count le in
     subst (λ (n : ℕ). NoneCross n (reverse (drop count held))) (sym number) (subst (λ (xs : List Item). NoneCross to xs) which (none_cross to (reverse (later j to)) none))

@@ -4,10 +4,10 @@ use Rattle.std.specs.List.{All}
 use Rattle.std.proofs.lemmas.List.{take_more, take-set, drop-set, take-take}
 use Rattle.std.proofs.lemmas.List.Elements.{All-cons}
 use Rattle.gv_types.specs.declared.mapping.Mapping.{Mapping}
-use Rattle.gv_space.specs.State.{AddressSpace, AreKept}
+use Rattle.gv_space.specs.State.{SpaceState, AreKept}
 use Rattle.gv_journal.specs.Undoing.{taken_by}
 use Rattle.gv_journal.specs.History.{undos_of, kept_by}
-use Rattle.gv_journal.specs.Shelf.{IsSpent}
+use Rattle.gv_journal.specs.ItemStore.{IsSpent}
 use Rattle.gv_journal.specs.declared.item.Item.{Item}
 use Rattle.gv_journal.proofs.Lists.{last_first}
 
@@ -37,7 +37,7 @@ module _ (now all : List Item) (left : ℕ) (item : Item) (some : 0 < left) (wit
       ∙ ap (λ (x : Item). take (left - 1) now ++ x ∷ []) (sym is) ∙ ap (λ (xs : List Item). xs ++ item ∷ []) still_ahead)
 
 -- an item's mappings are given up, and others stay kept
-pub others_stay : (s new : AddressSpace) (items : List Item) (item : Item) (older : List Item) (others : List Mapping) → items ≡ item ∷ older →
+pub others_stay : (s new : SpaceState) (items : List Item) (item : Item) (older : List Item) (others : List Mapping) → items ≡ item ∷ older →
     ((xs : List Mapping) → AreKept s (taken_by (undos_of item) ++ xs) → AreKept new xs) → AreKept s (kept_by items ++ others) → AreKept new (kept_by older ++ others)
 others_stay s new items item older others is spent kept =
     spent (kept_by older ++ others)

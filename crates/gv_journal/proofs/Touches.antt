@@ -6,11 +6,11 @@ use Rattle.std.proofs.lemmas.List.{reverse-append, drop_more}
 use Rattle.std.proofs.lemmas.Bool.Decides.{nat_tests}
 use Rattle.std.proofs.lemmas.Bool.{or_parts}
 use Rattle.gv_types.specs.Page.{IsPage}
-use Rattle.gv_types.specs.Span.{Span, covers, meets}
+use Rattle.gv_types.specs.PageRange.{PageRangeState, covers, meets}
 use Rattle.gv_types.specs.Operation.{range_of, own_part, view as view_of_ops}
 use Rattle.gv_types.specs.declared.mapping.Entry.{Entry}
 use Rattle.gv_types.specs.declared.operation.PageOp.{PageOp}
-use Rattle.gv_space.specs.Undo.{UndoValue}
+use Rattle.gv_space.specs.Undo.{OpUndoState}
 use Rattle.gv_journal.specs.Items.{numbered, done_by, ops_without}
 use Rattle.gv_journal.specs.History.{Save}
 use Rattle.gv_journal.specs.Withdrawing.{touch, touched_from}
@@ -55,10 +55,10 @@ any-reverse p (x ∷ xs) =
     ∙ ap (λ (b : Bool). b || p x) (any-reverse p xs) ∙ or_swap (list_any p xs) (p x)
 
 -- two ranges that don't meet share no page
-apart : (r s : Span) (page : ℕ) → meets r s ≡ false → covers r page ≡ true → covers s page ≡ false
+apart : (r s : PageRangeState) (page : ℕ) → meets r s ≡ false → covers r page ≡ true → covers s page ≡ false
 apart r s page none here = grind (arith, nat_tests)
 
-apart_from_all : (r : Span) (others : List PageOp) (page : ℕ) → list_any (λ other. meets r (range_of other)) others ≡ false → covers r page ≡ true → covers_any others page ≡ false
+apart_from_all : (r : PageRangeState) (others : List PageOp) (page : ℕ) → list_any (λ other. meets r (range_of other)) others ≡ false → covers r page ≡ true → covers_any others page ≡ false
 apart_from_all r [] page none here = refl
 apart_from_all r (other ∷ others) page none here =
     let first : covers (range_of other) page ≡ false = apart r (range_of other) page (or_parts (meets r (range_of other)) (list_any (λ (o : PageOp). meets r (range_of o)) others) none).0 here in
@@ -115,7 +115,7 @@ newer_silent gone ops base (item ∷ newer) page none here =
     own false is = any-reverse (λ (op : PageOp). covers (range_of op) page) (done_by item.kind) ∙ touch_none ops (done_by item.kind) page (none.0 is) here
 
 -- undo values save the same where the maps below agree at the pages of the operations
-pub Save-where : (ops : List PageOp) (us : List UndoValue) (below other : ℕ → Option Entry) → ((page : ℕ) → IsPage page → covers_any ops page ≡ true → below page ≡ other page) →
+pub Save-where : (ops : List PageOp) (us : List OpUndoState) (below other : ℕ → Option Entry) → ((page : ℕ) → IsPage page → covers_any ops page ≡ true → below page ≡ other page) →
     Save ops us below → Save ops us other
 Save-where [] [] below other same h = tt
 Save-where (op ∷ ops) (u ∷ us) below other same h = (
@@ -132,7 +132,7 @@ Save-where (op ∷ ops) (u ∷ us) below other same h = (
 Save-where [] (u ∷ us) below other same h = absurd h
 Save-where (op ∷ ops) [] below other same h = absurd h
 
--- the item at a place, and those behind it
+-- the item at an index, and those behind it
 touched_at : (gone : ℕ → Bool) (ops : List PageOp) (n : ℕ) (later : List Item) (i : ℕ) (item : Item) → i < length later → item ≡ get_or later i item →
     touched_from gone ops (n + i) (drop i later) ≡ cond (touch ops (done_by item.kind) && not (gone (n + i))) (Some (n + i)) (touched_from gone ops (n + i + 1) (drop (i + 1) later))
 touched_at gone ops n later i item below is =

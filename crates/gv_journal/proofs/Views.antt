@@ -1,6 +1,6 @@
 -- What operations say of a page over what lies below them.
 use Rattle.std.proofs.Common.{◌≡◌, ℕ, cond, List, [], ◌∷◌, ◌++◌, Option, refl, ap}
-use Rattle.gv_types.specs.Span.{covers}
+use Rattle.gv_types.specs.PageRange.{covers}
 use Rattle.gv_types.specs.Operation.{range_of, own_part, view as view_of_ops}
 use Rattle.gv_types.specs.declared.mapping.Entry.{Entry}
 use Rattle.gv_types.specs.declared.operation.PageOp.{PageOp}

@@ -4,15 +4,15 @@ use Rattle.std.proofs.Common.{◌≡◌, ℕ, ◌+◌, ◌<◌, ◌==◌, Bool, 
 use Rattle.std.proofs.lemmas.Bool.Decides.{nat_tests}
 use Rattle.std.proofs.lemmas.Bool.{or_parts}
 use Rattle.gv_types.specs.Page.{IsPage}
-use Rattle.gv_types.specs.Span.{Span, covers}
+use Rattle.gv_types.specs.PageRange.{PageRangeState, covers}
 use Rattle.gv_types.specs.Operation.{range_of, view as view_of_ops}
 use Rattle.gv_types.specs.declared.mapping.Entry.{Entry}
 use Rattle.gv_types.specs.declared.mapping.Mapping.{Mapping}
 use Rattle.gv_types.specs.declared.operation.PageOp.{PageOp}
 use Rattle.gv_types.specs.declared.request.Request.{Request}
 use Rattle.gv_ranges.specs.List.{at}
-use Rattle.gv_space.specs.State.{AddressSpace}
-use Rattle.gv_space.specs.Undo.{UndoValue}
+use Rattle.gv_space.specs.State.{SpaceState}
+use Rattle.gv_space.specs.Undo.{OpUndoState}
 use Rattle.gv_space.specs.declared.undo.OpUndo.{OpUndo}
 use Rattle.gv_journal.specs.Undoing.{undone_by}
 use Rattle.gv_journal.specs.Items.{numbered, is_withdrawn, done_by, ops_without, view}
@@ -52,17 +52,17 @@ gone_itself : (e : ℕ) (gone' gone : ℕ → Bool) → OneMoreGone e gone' gone
 gone_itself e gone' gone more = more e ∙ ap (λ (b : Bool). b || gone e) (itself e)
 
 -- what is put back at a page that no undo value covers
-put_back-silent : (ops : List PageOp) (us : List UndoValue) (before : List Mapping) (page : ℕ) (now : Option Entry) → AreUndosOf before ops us → covers_any ops page ≡ false → put_back us page now ≡ now
+put_back-silent : (ops : List PageOp) (us : List OpUndoState) (before : List Mapping) (page : ℕ) (now : Option Entry) → AreUndosOf before ops us → covers_any ops page ≡ false → put_back us page now ≡ now
 put_back-silent [] [] before page now undos none = refl
 put_back-silent (op ∷ ops) (u ∷ us) before page now undos none =
-    let clear : covers u.range page ≡ false = ap (λ (r : Span). covers r page) undos.0 ∙ (or_parts (covers (range_of op) page) (covers_any ops page) none).0 in
+    let clear : covers u.range page ≡ false = ap (λ (r : PageRangeState). covers r page) undos.0 ∙ (or_parts (covers (range_of op) page) (covers_any ops page) none).0 in
     ap (λ (b : Bool). put_back us page (cond b (at u.change.taken page) now)) clear
     ∙ put_back-silent ops us before page now undos.2 (or_parts (covers (range_of op) page) (covers_any ops page) none).1
 put_back-silent [] (u ∷ us) before page now undos none = absurd undos
 put_back-silent (op ∷ ops) [] before page now undos none = absurd undos
 
 -- and at one that some cover: what was below them
-put_back-covered : (ops : List PageOp) (us : List UndoValue) (before : List Mapping) (below : ℕ → Option Entry) (page : ℕ) (now : Option Entry) → IsPage page → AreUndosOf before ops us → Save ops us below →
+put_back-covered : (ops : List PageOp) (us : List OpUndoState) (before : List Mapping) (below : ℕ → Option Entry) (page : ℕ) (now : Option Entry) → IsPage page → AreUndosOf before ops us → Save ops us below →
     covers_any ops page ≡ true → put_back us page now ≡ below page
 put_back-covered [] [] before below page now is undos save some = cc
 put_back-covered (op ∷ ops) (u ∷ us) before below page now is undos save some =
@@ -78,7 +78,7 @@ put_back-covered (op ∷ ops) (u ∷ us) before below page now is undos save som
     by_cases false none later =
         let own : covers (range_of op) page ≡ true = only (covers (range_of op) page) (covers_any ops page) some none in
         put_back-silent ops us before page (cond (covers u.range page) (at u.change.taken page) now) undos.2 none
-        ∙ ap (λ (b : Bool). cond b (at u.change.taken page) now) (ap (λ (r : Span). covers r page) undos.0 ∙ own)
+        ∙ ap (λ (b : Bool). cond b (at u.change.taken page) now) (ap (λ (r : PageRangeState). covers r page) undos.0 ∙ own)
         ∙ save.0 page is own ∙ view-silent ops below page none
 put_back-covered [] (u ∷ us) before below page now is undos save some = absurd undos
 put_back-covered (op ∷ ops) [] before below page now is undos save some = absurd undos
@@ -190,7 +190,7 @@ no_ops : (b : Bool) (ops : List PageOp) → cond b [] (reverse (done_by (Withdra
 no_ops true ops = refl
 no_ops false ops = refl
 
-module _ (s t : AddressSpace) (limit first : ℕ) (newer older : List Item) (queue number : ℕ) (request : Request) (seen : Vec ℕ Global) (done : Vec PageOp Global) (undos fresh : Vec OpUndo Global)
+module _ (s t : SpaceState) (limit first : ℕ) (newer older : List Item) (queue number : ℕ) (request : Request) (seen : Vec ℕ Global) (done : Vec PageOp Global) (undos fresh : Vec OpUndo Global)
     (below : ℕ → Option Entry) where
   abbrev pub entry : Item
   entry = bound queue number request seen done undos

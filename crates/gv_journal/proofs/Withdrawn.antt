@@ -8,12 +8,12 @@ use Rattle.gv_types.specs.declared.mapping.Entry.{Entry}
 use Rattle.gv_types.specs.declared.mapping.Mapping.{Mapping}
 use Rattle.gv_types.specs.declared.operation.PageOp.{PageOp}
 use Rattle.gv_ranges.specs.List.{at}
-use Rattle.gv_space.specs.State.{AddressSpace, AreKept}
+use Rattle.gv_space.specs.State.{SpaceState, AreKept}
 use Rattle.gv_space.specs.Undo.{AreAmongKept}
 use Rattle.gv_space.specs.Refusal.{first_of}
 use Rattle.gv_space.specs.declared.undo.OpUndo.{OpUndo}
 use Rattle.gv_journal.specs.Undoing.{taken_by}
-use Rattle.gv_journal.specs.Items.{Journaled, numbered, entries, next, is_withdrawn, done_by, view_without}
+use Rattle.gv_journal.specs.Items.{JournalState, numbered, entries, next, is_withdrawn, done_by, view_without}
 use Rattle.gv_journal.specs.History.{undos_of, kept_by, back, base, IsDone, AreUndosOf, Rewinds}
 use Rattle.gv_journal.specs.State.{FitsOver, FitsSpace}
 use Rattle.gv_journal.specs.Verdict.{full_fault}
@@ -30,22 +30,22 @@ use Rattle.gv_journal.proofs.PutUndos.{AreUndosOfWithdrawal-puts}
 use Rattle.gv_journal.proofs.PutGrowing.{longest_of_puts-withdrawn}
 use Rattle.gv_journal.proofs.Withdrawals.{withdrawal, fits_over_withdrawn, put_is_view, others_stay}
 
-module _ (s : AddressSpace) (j : Journaled) (n place : ℕ) (item : Item) (fits : FitsSpace s j) (number : j.first + place ≡ n) (within : place < length j.items)
-    (is : item ≡ get_or (reverse j.items) place item) (found : found_fault j n (item_at j n) ≡ None) where
+module _ (s : SpaceState) (j : JournalState) (n index : ℕ) (item : Item) (fits : FitsSpace s j) (number : j.first + index ≡ n) (within : index < length j.items)
+    (is : item ≡ get_or (reverse j.items) index item) (found : found_fault j n (item_at j n) ≡ None) where
   abbrev newer : List Item
-  newer = reverse (drop (place + 1) (reverse j.items))
+  newer = reverse (drop (index + 1) (reverse j.items))
 
   abbrev older : List Item
-  older = reverse (take place (reverse j.items))
+  older = reverse (take index (reverse j.items))
 
   split : j.items ≡ newer ++ item ∷ older
-  split = items_around j.items place item within is
+  split = items_around j.items index item within is
 
-  place_is : n - j.first ≡ place
-  place_is = omega arith
+  index_is : n - j.first ≡ index
+  index_is = omega arith
 
   pub which : item_at j n ≡ Some item
-  which = item_found j n j.first (reverse j.items) item refl (omega arith) (omega arith) refl (is ∙ ap (λ (k : ℕ). get_or (reverse j.items) k item) (sym place_is))
+  which = item_found j n j.first (reverse j.items) item refl (omega arith) (omega arith) refl (is ∙ ap (λ (k : ℕ). get_or (reverse j.items) k item) (sym index_is))
 
   pub w : IsWithdrawable j n item.kind
   w = withdrawable j n item.kind (sym (ap (λ (o : Option Item). found_fault j n o) which) ∙ found)
@@ -57,7 +57,7 @@ module _ (s : AddressSpace) (j : Journaled) (n place : ℕ) (item : Item) (fits 
   kept_here = item_kept s newer item older (subst (λ (xs : List Item). AreKept s (kept_by xs)) split fits.kept)
 
   depth : next j - n ≡ suc (length newer)
-  depth = omega (arith, length-reverse (drop (place + 1) (reverse j.items)), length-drop (place + 1) (reverse j.items), length-reverse j.items)
+  depth = omega (arith, length-reverse (drop (index + 1) (reverse j.items)), length-drop (index + 1) (reverse j.items), length-reverse j.items)
 
   pub undos_here : AreUndosOf (list_before s j n) (reverse w.done.items) (undos_of item)
   undos_here =
@@ -68,8 +68,8 @@ module _ (s : AddressSpace) (j : Journaled) (n place : ℕ) (item : Item) (fits 
       subst (λ (ms : List Mapping). AreUndosOf ms (reverse w.done.items) (undos_of item)) (sym before)
       (subst (λ (k : ItemKind). IsDone k (undos_of item) (back s.mappings (newer ++ item ∷ older) (suc (length newer)))) w.is there)
 
-  size : length older ≡ place
-  size = older_count j.items place within
+  size : length older ≡ index
+  size = older_count j.items index within
 
   e_is : j.first + length older ≡ n
   e_is = omega (arith, size)
@@ -82,18 +82,18 @@ module _ (s : AddressSpace) (j : Journaled) (n place : ℕ) (item : Item) (fits 
 
   none_touches : NoneTouch (is_withdrawn (entries j)) w.done.items (j.first + length (item ∷ older)) newer
   none_touches =
-      let behind : n + 1 - j.first ≡ place + 1 = omega arith in
+      let behind : n + 1 - j.first ≡ index + 1 = omega arith in
       let from : n + 1 ≡ j.first + length (item ∷ older) = omega (arith, size) in
       subst (λ (k : ℕ). NoneTouch (is_withdrawn (entries j)) w.done.items k newer) from
       (subst (λ (k : ℕ). NoneTouch (is_withdrawn (entries j)) w.done.items (n + 1) (reverse (drop k (reverse j.items)))) behind
       (none_touch (is_withdrawn (entries j)) w.done.items (n + 1) (drop (n + 1 - j.first) (reverse j.items)) w.untouched))
 
-  module _ (t : AddressSpace) (fresh : Vec OpUndo Global) (put : ArePutBack s t (undos_of item) (reverse fresh.items)) where
+  module _ (t : SpaceState) (fresh : Vec OpUndo Global) (put : ArePutBack s t (undos_of item) (reverse fresh.items)) where
     state : t ≡ record (after_withdrawal (list_before s j n) (reverse w.done.items) s) { room = t.room }
-    state = put.state ∙ ap (λ (x : AddressSpace). record x { room = t.room }) (after_puts_are (list_before s j n) (reverse w.done.items) (undos_of item) s undos_here)
+    state = put.state ∙ ap (λ (x : SpaceState). record x { room = t.room }) (after_puts_are (list_before s j n) (reverse w.done.items) (undos_of item) s undos_here)
 
     limit_is : t.limits.mappings ≡ s.limits.mappings
-    limit_is = ap (λ (x : AddressSpace). x.limits.mappings) state ∙ after_withdrawal-limit (list_before s j n) (reverse w.done.items) s
+    limit_is = ap (λ (x : SpaceState). x.limits.mappings) state ∙ after_withdrawal-limit (list_before s j n) (reverse w.done.items) s
 
     abbrev below : ℕ → Option Entry
     below = base s.mappings j.items
@@ -125,7 +125,7 @@ module _ (s : AddressSpace) (j : Journaled) (n place : ℕ) (item : Item) (fits 
         ∙ ap (λ (k : ℕ). view_without k (numbered j.first all) below page) e_is
         ∙ ap (λ (xs : List Item). view_without n (numbered j.first xs) below page) (sym all_is)
 
-    pub is_withdrawn_there : AreUndosOfPuts s.mappings (undos_of item) fresh.items → (new : Journaled) → new ≡ record j { items = withdrawal n fresh ∷ j.items } → IsWithdrawn s t j new n
+    pub is_withdrawn_there : AreUndosOfPuts s.mappings (undos_of item) fresh.items → (new : JournalState) → new ≡ record j { items = withdrawal n fresh ∷ j.items } → IsWithdrawn s t j new n
     is_withdrawn_there puts new added =
         let there : t ≡ record (after_withdrawal (list_before s j n) (ops_at j n) s) { room = t.room } =
         state ∙ ap (λ (ops : List PageOp). record (after_withdrawal (list_before s j n) ops s) { room = t.room }) (sym its_ops) in
@@ -134,7 +134,7 @@ module _ (s : AddressSpace) (j : Journaled) (n place : ℕ) (item : Item) (fits 
           items = added;
           kind = refl;
           state = there;
-          list = ap (λ (x : AddressSpace). x.mappings) there ∙ after_withdrawal-mappings (list_before s j n) (ops_at j n) s;
+          list = ap (λ (x : SpaceState). x.mappings) there ∙ after_withdrawal-mappings (list_before s j n) (ops_at j n) s;
           pages = pages;
           undos = subst (λ (ops : List PageOp). AreUndosOfWithdrawal (list_before s j n) ops s.mappings fresh.items) (sym its_ops)
               (AreUndosOfWithdrawal-puts (list_before s j n) (reverse w.done.items) (undos_of item) fresh.items s.mappings undos_here puts);
@@ -144,7 +144,7 @@ module _ (s : AddressSpace) (j : Journaled) (n place : ℕ) (item : Item) (fits 
         }
 
   -- what is put back makes no more room than the withdrawal may
-  pub grown_there : (t : AddressSpace) → GrowsForPuts (undos_of item) s t → GrowsForWithdrawal j n s t
+  pub grown_there : (t : SpaceState) → GrowsForPuts (undos_of item) s t → GrowsForWithdrawal j n s t
   grown_there t grown =
       let same : longest_of_puts (undos_of item) s.mappings ≡ longest_withdrawn (list_before s j n) (ops_at j n) s.mappings =
       longest_of_puts-withdrawn (list_before s j n) (reverse w.done.items) (undos_of item) s.mappings undos_here

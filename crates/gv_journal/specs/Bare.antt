@@ -1,14 +1,14 @@
 -- A journal bare of memory: without what a vector has beside its contents, and without the tables that undo values own. All that
 -- calls answer follows from what is left, but for want of memory.
 use Rattle.std.specs.Prelude.{ℕ, List, map, Option, Some, None}
-use Rattle.gv_types.specs.Span.{Span}
+use Rattle.gv_types.specs.PageRange.{PageRangeState}
 use Rattle.gv_types.specs.declared.operation.Op.{Op}
 use Rattle.gv_types.specs.declared.operation.PageOp.{PageOp}
 use Rattle.gv_types.specs.declared.request.Point.{Point}
 use Rattle.gv_types.specs.declared.request.Request.{Request}
 use Rattle.gv_ranges.specs.Edit.{Undo}
-use Rattle.gv_space.specs.Undo.{UndoValue}
-use Rattle.gv_journal.specs.Items.{Journaled, done_by}
+use Rattle.gv_space.specs.Undo.{OpUndoState}
+use Rattle.gv_journal.specs.Items.{JournalState, done_by}
 use Rattle.gv_journal.specs.History.{undos_of}
 use Rattle.gv_journal.specs.declared.item.Item.{Item}
 use Rattle.gv_journal.specs.declared.item.ItemKind.{ItemKind}
@@ -25,9 +25,9 @@ bare_request request = record { ops = request.ops.items; waits = request.waits.i
 -- an undo value without its tables
 pub record BareUndo : Type 0 where
   pub change : Undo
-  pub range : Span
+  pub range : PageRangeState
 
-abbrev pub bare_undo : UndoValue → BareUndo
+abbrev pub bare_undo : OpUndoState → BareUndo
 bare_undo u = record { change = u.change; range = u.range }
 
 -- of a Bind: its queue, its number there, its request, and what its waits saw
@@ -67,5 +67,5 @@ pub record BareJournal : Type 0 where
   pub first : ℕ
   pub items : List BareItem
 
-abbrev pub bare_journal : Journaled → BareJournal
+abbrev pub bare_journal : JournalState → BareJournal
 bare_journal j = record { limit = j.limit; first = j.first; items = map bare_item j.items }

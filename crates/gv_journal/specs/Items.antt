@@ -10,27 +10,27 @@ use Rattle.gv_journal.specs.declared.item.ItemKind.{ItemKind}
 use Rattle.gv_journal.specs.declared.item.ItemKind.TheVariants.{Bind, Withdrawal}
 
 -- what contracts see of a `Journal`: how many items it may hold, the number of the oldest one, and the items
-pub record Journaled : Type 0 where
+pub record JournalState : Type 0 where
   pub limit : ℕ
   pub first : ℕ
   pub items : List Item
 
 -- the number of the next item
-abbrev pub next : Journaled → ℕ
+abbrev pub next : JournalState → ℕ
 next j = j.first + length j.items
 
 -- an item with its number
-pub record Numbered : Type 0 where
+pub record NumberedItem : Type 0 where
   pub number : ℕ
   pub item : Item
 
 -- items with their numbers, the oldest of which is `first`
-abbrev pub numbered : ℕ → List Item → List Numbered
+abbrev pub numbered : ℕ → List Item → List NumberedItem
 numbered first [] = []
 numbered first (item ∷ older) = record { number = first + length older; item = item } ∷ numbered first older
 
 -- the items of a journal with their numbers
-abbrev pub entries : Journaled → List Numbered
+abbrev pub entries : JournalState → List NumberedItem
 entries j = numbered j.first j.items
 
 -- a Withdrawal names the item that it withdraws
@@ -39,12 +39,12 @@ names (Bind queue number request seen done) n = false
 names (Withdrawal of) n = of == n
 
 -- some item names this number
-abbrev pub is_withdrawn : List Numbered → ℕ → Bool
+abbrev pub is_withdrawn : List NumberedItem → ℕ → Bool
 is_withdrawn xs n = list_any (λ x. names x.item.kind n) xs
 
 -- a Bind is live where no item names it
-abbrev pub IsLive : List Numbered → ℕ → Type 0
-IsLive xs n = is_withdrawn xs n ≡ false
+abbrev pub IsLiveItem : List NumberedItem → ℕ → Type 0
+IsLiveItem xs n = is_withdrawn xs n ≡ false
 
 -- what an item did, the first operation first: a Withdrawal has no operations of its own
 abbrev pub done_by : ItemKind → List PageOp
@@ -52,20 +52,20 @@ done_by (Bind queue number request seen done) = done.items
 done_by (Withdrawal of) = []
 
 -- the operations of those items whose numbers aren't among these
-abbrev pub ops_without : (ℕ → Bool) → List Numbered → List PageOp
+abbrev pub ops_without : (ℕ → Bool) → List NumberedItem → List PageOp
 ops_without gone [] = []
 ops_without gone (x ∷ older) = (if gone x.number then [] else reverse (done_by x.item.kind)) ++ ops_without gone older
 
 -- the operations of the live items
-abbrev pub live_ops : List Numbered → List PageOp
+abbrev pub live_ops : List NumberedItem → List PageOp
 live_ops xs = ops_without (is_withdrawn xs) xs
 
 -- looking back from the newest item: the newest live operation that covers a page decides what it holds, and where none
 -- covers it, what lay below the oldest item
-abbrev pub view : List Numbered → (ℕ → Option Entry) → ℕ → Option Entry
+abbrev pub view : List NumberedItem → (ℕ → Option Entry) → ℕ → Option Entry
 view xs base page = view_of_ops (live_ops xs) base page
 
 -- what the items say without one of them, the others with their numbers: its operations are left out as those of one that
 -- isn't live
-abbrev pub view_without : ℕ → List Numbered → (ℕ → Option Entry) → ℕ → Option Entry
+abbrev pub view_without : ℕ → List NumberedItem → (ℕ → Option Entry) → ℕ → Option Entry
 view_without n xs base page = view_of_ops (ops_without (λ m. (n == m) || is_withdrawn xs m) xs) base page

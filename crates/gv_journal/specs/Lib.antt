@@ -8,7 +8,7 @@ pub mod Binding
 pub mod Work
 pub mod Note
 pub mod Notes
-pub mod Shelf
+pub mod ItemStore
 pub mod Inside
 pub mod Settling
 pub mod Withdrawing

@@ -1,23 +1,23 @@
--- What contracts see of a `Note`: which withdrawal names an item, and the pages that its operations cover.
+-- What contracts see of a `NoteState`: which withdrawal names an item, and the pages that its operations cover.
 -- No public clause cites this module.
 use Rattle.std.specs.Prelude.{◌≡◌, ℕ, ◌-◌, ◌≤◌, nat_le, if◌then◌else◌, Option, Some, None}
-use Rattle.gv_types.specs.Span.{Span, span}
+use Rattle.gv_types.specs.PageRange.{PageRangeState, span}
 use Rattle.gv_journal.specs.declared.note.Note.TheInside.{Inside}
 
-pub record Note : Type 0 where
+pub record NoteState : Type 0 where
   pub withdrawal : Option ℕ
-  pub reach : Option Span
+  pub extent : Option PageRangeState
 
 -- a number, where it isn't the one that stands for none
-abbrev pub number_of : ℕ → Option ℕ
-number_of n = if nat_le 0xffff_ffff_ffff_ffff n then None else Some n
+abbrev pub number_noted : ℕ → Option ℕ
+number_noted n = if nat_le 0xffff_ffff_ffff_ffff n then None else Some n
 
 -- the pages from one up to another, where there are any
-abbrev pub pages_between : ℕ → ℕ → Option Span
+abbrev pub pages_between : ℕ → ℕ → Option PageRangeState
 pages_between first past = if nat_le past first then None else Some (span first (past - first))
 
-abbrev pub noted : Inside → Note
-noted n = record { withdrawal = number_of n.withdrawal; reach = pages_between n.first n.past }
+abbrev pub noted : Inside → NoteState
+noted n = record { withdrawal = number_noted n.withdrawal; extent = pages_between n.first n.past }
 
 -- no pages end at page 0
 abbrev pub IsNote : Inside → Type 0

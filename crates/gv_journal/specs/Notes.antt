@@ -1,45 +1,45 @@
 -- What stands beside each item, so that it can be passed over unread. No public clause cites this module.
 use Rattle.std.specs.Prelude.{◌≡◌, ℕ, ◌+◌, ◌-◌, ◌<◌, ◌≤◌, Bool, false, nat_le, is_some, if◌then◌else◌, List, [], ◌∷◌, map, reverse, length, slice_index_or, set, min, max, Option, Some, None}
-use Rattle.gv_types.specs.Span.{Span, span, end_of, meets}
+use Rattle.gv_types.specs.PageRange.{PageRangeState, span, end_of, meets}
 use Rattle.gv_types.specs.declared.operation.PageOp.{PageOp}
-use Rattle.gv_journal.specs.Items.{Numbered, names, done_by}
+use Rattle.gv_journal.specs.Items.{NumberedItem, names, done_by}
 use Rattle.gv_journal.specs.Restoring.{pages_named}
 use Rattle.gv_journal.specs.declared.item.Item.{Item}
 use Rattle.gv_journal.specs.declared.item.ItemKind.{ItemKind}
 use Rattle.gv_journal.specs.declared.item.ItemKind.TheVariants.{Bind, Withdrawal}
-use Rattle.gv_journal.specs.Note.{Note}
+use Rattle.gv_journal.specs.Note.{NoteState}
 
 -- the number of the newest item that names a number
-abbrev pub named_by : List Numbered → ℕ → Option ℕ
+abbrev pub named_by : List NumberedItem → ℕ → Option ℕ
 named_by [] n = None
 named_by (x ∷ older) n = if names x.item.kind n then Some x.number else named_by older n
 
 -- the pages from the least to the greatest of both
-abbrev pub joined : Option Span → Option Span → Option Span
-joined None other = other
-joined (Some s) None = Some s
-joined (Some s) (Some t) = Some (span (min s.first t.first) (max (end_of s) (end_of t) - min s.first t.first))
+abbrev pub extents_joined : Option PageRangeState → Option PageRangeState → Option PageRangeState
+extents_joined None other = other
+extents_joined (Some s) None = Some s
+extents_joined (Some s) (Some t) = Some (span (min s.first t.first) (max (end_of s) (end_of t) - min s.first t.first))
 
 -- and of those of operations
-abbrev pub reach_from : Option Span → List PageOp → Option Span
-reach_from reach [] = reach
-reach_from reach (op ∷ ops) = reach_from (joined reach (pages_named op)) ops
+abbrev pub reach_from : Option PageRangeState → List PageOp → Option PageRangeState
+reach_from extent [] = extent
+reach_from extent (op ∷ ops) = reach_from (extents_joined extent (pages_named op)) ops
 
-abbrev pub reach_of : List PageOp → Option Span
-reach_of ops = reach_from None ops
+abbrev pub extent_of : List PageOp → Option PageRangeState
+extent_of ops = reach_from None ops
 
 -- some page is in both
-abbrev pub reaches : Option Span → Option Span → Bool
+abbrev pub reaches : Option PageRangeState → Option PageRangeState → Bool
 reaches (Some s) (Some t) = meets s t
 reaches (Some s) None = false
 reaches None other = false
 
 -- the note of an item among others
-abbrev pub note_of : List Numbered → Numbered → Note
-note_of xs x = record { withdrawal = named_by xs x.number; reach = reach_of (done_by x.item.kind) }
+abbrev pub note_of : List NumberedItem → NumberedItem → NoteState
+note_of xs x = record { withdrawal = named_by xs x.number; extent = extent_of (done_by x.item.kind) }
 
 -- the notes of items, the oldest one first
-abbrev pub notes_of : List Numbered → List Note
+abbrev pub notes_of : List NumberedItem → List NoteState
 notes_of xs = map (note_of xs) (reverse xs)
 
 -- the number of a withdrawal, where it is this one or above
@@ -53,18 +53,18 @@ lesser (Some least) None = Some least
 lesser (Some least) (Some other) = Some (min least other)
 
 -- the least number, from `to` on, of a withdrawal of an item with one of these notes
-abbrev pub crossing_from : ℕ → Option ℕ → List Note → Option ℕ
+abbrev pub crossing_from : ℕ → Option ℕ → List NoteState → Option ℕ
 crossing_from to least [] = least
 crossing_from to least (note ∷ notes) = crossing_from to (lesser least (crossed to note.withdrawal)) notes
 
 -- notes have the pages of these items
-abbrev pub AreReaches : List Note → List Item → Type 0
+abbrev pub AreReaches : List NoteState → List Item → Type 0
 AreReaches notes items =
-    (i : ℕ) (note : Note) (item : Item) → i < length items → (slice_index_or notes i note).reach ≡ reach_of (done_by (slice_index_or items i item).kind)
+    (i : ℕ) (note : NoteState) (item : Item) → i < length items → (slice_index_or notes i note).extent ≡ extent_of (done_by (slice_index_or items i item).kind)
 
 -- the notes of items numbered from `n` on tell which of these are gone
-abbrev pub TellGone : (ℕ → Bool) → ℕ → List Note → Type 0
-TellGone gone n notes = (i : ℕ) (note : Note) → i < length notes → gone (n + i) ≡ is_some (slice_index_or notes i note).withdrawal
+abbrev pub TellGone : (ℕ → Bool) → ℕ → List NoteState → Type 0
+TellGone gone n notes = (i : ℕ) (note : NoteState) → i < length notes → gone (n + i) ≡ is_some (slice_index_or notes i note).withdrawal
 
 -- what it names, if anything, is one of so many items, the oldest of which is `first`
 abbrev pub NamesWithin : ItemKind → ℕ → ℕ → Type 0
@@ -72,6 +72,6 @@ NamesWithin (Bind queue number request seen done) first count = Unit {0}
 NamesWithin (Withdrawal of) first count = (first ≤ of) × (of < first + count)
 
 -- the notes once an item of this kind names none any more
-abbrev pub cleared : Note → ItemKind → ℕ → List Note → List Note
+abbrev pub cleared : NoteState → ItemKind → ℕ → List NoteState → List NoteState
 cleared note (Bind queue number request seen done) first notes = notes
 cleared note (Withdrawal of) first notes = set notes (of - first) (record (slice_index_or notes (of - first) note) { withdrawal = None })

@@ -5,7 +5,7 @@ use Rattle.gv_types.specs.declared.fault.Fault.TheVariants.{TooManyMappings, Out
 use Rattle.gv_types.specs.declared.mapping.BufferId.{BufferId}
 use Rattle.gv_types.specs.declared.operation.Op.{Op}
 use Rattle.gv_types.specs.declared.operation.Op.TheVariants.{UnmapBuffer}
-use Rattle.gv_space.specs.State.{AddressSpace}
+use Rattle.gv_space.specs.State.{SpaceState}
 use Rattle.gv_journal.specs.Applying.{AreApplied}
 use Rattle.gv_journal.specs.Verdict.{turn_fault, verdict_from, ComesBefore}
 use Rattle.gv_journal.specs.declared.applying.Work.{Work}
@@ -17,9 +17,9 @@ pub record HasRoom (more : ℕ) (w : Work) : Type 0 where
   pub undos : vec_len w.undos + more ≤ vec_capacity w.undos
 
 -- what was applied since any earlier state, and what came now, is applied since then
-abbrev pub Continues : AddressSpace → AddressSpace → Work → Work → Type 0
+abbrev pub Continues : SpaceState → SpaceState → Work → Work → Type 0
 Continues old new before after =
-    (origin : AddressSpace) → AreApplied origin old (reverse before.ops.items) (reverse before.undos.items)
+    (origin : SpaceState) → AreApplied origin old (reverse before.ops.items) (reverse before.undos.items)
     → AreApplied origin new (reverse after.ops.items) (reverse after.undos.items)
 
 -- an unmap of a whole buffer
@@ -28,13 +28,13 @@ pub record IsUnmapAll (op : Op) : Type 0 where
   pub is : op ≡ UnmapBuffer buffer
 
 -- An operation is refused by its fault, or for want of memory, which comes before the limits in an unmap of a whole buffer.
-abbrev pub IsTurnRefused : AddressSpace → Op → Fault → Type 0
+abbrev pub IsTurnRefused : SpaceState → Op → Fault → Type 0
 IsTurnRefused s op fault =
     (turn_fault s op ≡ Some fault)
     ⊎ ((fault ≡ OutOfMemory) × ((turn_fault s op ≡ None) ⊎ (IsUnmapAll op × (turn_fault s op ≡ Some TooManyMappings))))
 
 -- a request of which the first operation has this number is refused by its verdict, or for want of memory at an operation
-abbrev pub IsRefusedInTurn : AddressSpace → List Op → Refusal → Type 0
+abbrev pub IsRefusedInTurn : SpaceState → List Op → Refusal → Type 0
 IsRefusedInTurn s ops refused =
     (verdict_from 0 s ops ≡ Some refused)
     ⊎ ((refused.fault ≡ OutOfMemory)

@@ -6,7 +6,7 @@ ghost use Rattle.gv_types.specs.Operation.{has_range, in_pages, own_mapping, ran
 ghost use Rattle.gv_types.specs.declared.mapping.Mapping.{Mapping};
 ghost use Rattle.gv_types.specs.declared.operation.Op.TheVariants.{UnmapBuffer};
 ghost use Rattle.gv_ranges.specs.Edit.{edited};
-ghost use Rattle.gv_space.specs.State.{AddressSpace, AreKept, IsPlaced, IsUnchanged};
+ghost use Rattle.gv_space.specs.State.{SpaceState, AreKept, IsPlaced, IsUnchanged};
 ghost use Rattle.gv_space.specs.Refusal.{apply_fault, limit_fault};
 ghost use Rattle.gv_space.specs.Undo.{AreAmongKept};
 ghost use Rattle.gv_journal.specs.Undoing.{taken_by, reverted_by, AreRevertible};

@@ -4,11 +4,11 @@ ghost use Rattle.std.specs.Prelude.{IfOk, IfErr, OnOk, OnErr};
 
 use crate::applying::{Work, apply_all};
 use crate::item::{Item, ItemKind};
-use crate::note::{Note, reach_of};
+use crate::item_store::ItemStore;
+use crate::note::{Note, extent_of};
 use crate::refusal::{Refusal, whole};
 use crate::restoring::restore_all;
 use crate::settling::first_crossing;
-use crate::shelf::Shelf;
 use crate::touching::first_touched;
 use crate::undoing::revert_all;
 use gv_space::Space;
@@ -26,25 +26,25 @@ const NUMBERS: u64 = 1 << 63;
 /// number is how many items stood before it, settled ones counted; after a rewind the number is given out again. A journal
 /// has to be closed: it isn't `Drop`, so a program that lets one go is refused.
 pub struct Journal {
-    shelf: Shelf,
+    item_store: ItemStore,
     first: u64,
     limit: u64,
 }
 
 impl Model for Journal {
-    ghost use Rattle.gv_journal.specs.Items.{Journaled};
+    ghost use Rattle.gv_journal.specs.Items.{JournalState};
 
-    ghost Value = { Journaled };
+    ghost Value = { JournalState };
 
-    ghost use Rattle.gv_journal.specs.Inside.{journal_of, IsSound};
+    ghost use Rattle.gv_journal.specs.Inside.{journal_of, IsSoundJournal};
 
     ghost view = { journal_of };
 
-    ghost invariant = { IsSound };
+    ghost invariant = { IsSoundJournal };
 }
 
 impl Journal {
-    ghost use Rattle.gv_space.specs.State.{AddressSpace, AreKept, IsUnchanged};
+    ghost use Rattle.gv_space.specs.State.{SpaceState, AreKept, IsUnchanged};
     ghost use Rattle.gv_space.specs.Undo.{released};
     ghost use Rattle.gv_journal.specs.Items.{next};
     ghost use Rattle.gv_journal.specs.History.{back, kept_by};
@@ -60,7 +60,7 @@ impl Journal {
         ensures { result ≡ record { limit = limit; first = 0; items = [] } }
     {
         Journal {
-            shelf: Shelf::new(alloc),
+            item_store: ItemStore::new(alloc),
             first: 0,
             limit,
         }
@@ -70,7 +70,7 @@ impl Journal {
     pub fn items(&self) -> &[Item]
         ensures { result.now ≡ reverse self.now.items }
     {
-        self.shelf.items()
+        self.item_store.items()
     }
 
     /// The number of the oldest item held, or of the next one where none is.
@@ -84,19 +84,19 @@ impl Journal {
     pub fn next(&self) -> u64
         ensures { result ≡ next self.now }
     {
-        self.first + self.shelf.len() as u64
+        self.first + self.item_store.len() as u64
     }
 
     /// Whether it holds as many items as it may, or has no number left.
     fn is_full(&self) -> bool
         ensures { IsTrue result ↔ (full_fault self.now ≡ Some Fault.JournalFull) }
     {
-        self.shelf.len() as u64 >= self.limit || self.next() >= NUMBERS
+        self.item_store.len() as u64 >= self.limit || self.next() >= NUMBERS
     }
 
     /// Applies a request whole or not at all, and answers the number of its item. The refusals in this order:
     /// `TooManyOps` over 256 operations, `JournalFull` where the limit's items are held or no number is left, `OutOfMemory`
-    /// for the item's place, then at the first operation that has one the faults of `Space::apply`. An unmap of a whole
+    /// for the item's slot, then at the first operation that has one the faults of `Space::apply`. An unmap of a whole
     /// buffer is, at its turn, an unmap of each of its mappings in ascending order: `NoBuffer`, then `OutOfMemory` for
     /// their list. After a refusal space and journal are as before, but for room.
     pub fn bind(
@@ -127,7 +127,7 @@ impl Journal {
         if self.is_full() {
             return Err(whole(Fault::JournalFull));
         }
-        if self.shelf.make_room().is_err() {
+        if self.item_store.make_room().is_err() {
             return Err(whole(Fault::OutOfMemory));
         }
         let Work { ops: done, undos } = match apply_all(alloc, space, &request.ops) {
@@ -135,7 +135,7 @@ impl Journal {
             Err(refusal) => return Err(refusal),
         };
         let entry = self.next();
-        let note = Note::new(reach_of(&done));
+        let note = Note::new(extent_of(&done));
         let kind = ItemKind::Bind {
             queue,
             number,
@@ -143,7 +143,7 @@ impl Journal {
             seen,
             done,
         };
-        self.shelf.push(Item { kind, undos }, note);
+        self.item_store.push(Item { kind, undos }, note);
         Ok(entry)
     }
 
@@ -161,7 +161,7 @@ impl Journal {
         ensures space_unchanged { OnErr result (space.new ≡ space.old) }
         ensures unchanged { OnErr result (self.new ≡ self.old) }
     {
-        match self.shelf.take(self.first) {
+        match self.item_store.take(self.first) {
             None => Err(Fault::NoEntry),
             Some(Item { kind: _, undos }) => {
                 revert_all(space, undos);
@@ -173,7 +173,7 @@ impl Journal {
     /// Withdraws an older request that no later live one touches: the pages that its operations cover hold again what they
     /// held before each of them, boundaries apart, and the withdrawal is an item of its own, whose number is answered. The
     /// refusals in this order: `NoEntry`, `NotABind`, `Withdrawn`, `Touched` with the least live later item that touches it,
-    /// `JournalFull`, `OutOfMemory` for the item's place, then for each operation from the last to the first
+    /// `JournalFull`, `OutOfMemory` for the item's slot, then for each operation from the last to the first
     /// `TooManyMappings` and `OutOfMemory`. After a refusal space and journal are as before, but for room.
     pub fn withdraw(&mut self, alloc: Global, space: &mut Space, entry: u64) -> Result<u64, Fault>
         requires { FitsSpace space.old self.old }
@@ -188,17 +188,17 @@ impl Journal {
         ensures unchanged { OnErr result (self.new ≡ self.old) }
         ensures grown { GrowsForWithdrawal self.old entry space.old space.new }
     {
-        let place = match self.find_entry(entry) {
-            Ok(place) => place,
+        let index = match self.find_entry(entry) {
+            Ok(index) => index,
             Err(fault) => return Err(fault),
         };
         if self.is_full() {
             return Err(Fault::JournalFull);
         }
-        if self.shelf.make_room().is_err() {
+        if self.item_store.make_room().is_err() {
             return Err(Fault::OutOfMemory);
         }
-        let saved = &self.shelf.items()[place].undos;
+        let saved = &self.item_store.items()[index].undos;
         let undos = match restore_all(alloc, space, saved) {
             Ok(undos) => undos,
             Err(fault) => return Err(fault),
@@ -206,33 +206,33 @@ impl Journal {
         let number = self.next();
         let kind = ItemKind::Withdrawal { of: entry };
         let note = Note::new(None);
-        self.shelf.mark(place, Some(number));
-        self.shelf.push(Item { kind, undos }, note);
+        self.item_store.mark(index, Some(number));
+        self.item_store.push(Item { kind, undos }, note);
         Ok(number)
     }
 
-    /// The place among the held items of an item that can be withdrawn, if there is room for one more.
+    /// The index among the held items of an item that can be withdrawn, if there is room for one more.
     fn find_entry(&self, entry: u64) -> Result<usize, Fault>
         ensures accepted { OnOk result (found_fault self.now entry (item_at self.now entry) ≡ None) }
         ensures refused { IfErr result (λ fault. found_fault self.now entry (item_at self.now entry) ≡ Some fault) }
-        ensures place { IfOk result (λ place. (self.now.first + place ≡ entry) × (place < length self.now.items)) }
+        ensures index { IfOk result (λ index. (self.now.first + index ≡ entry) × (index < length self.now.items)) }
     {
         if entry < self.first || self.next() <= entry {
             return Err(Fault::NoEntry);
         }
-        let (items, notes) = (self.shelf.items(), self.shelf.notes());
-        let place = (entry - self.first) as usize;
-        let ItemKind::Bind { done, .. } = &items[place].kind else {
+        let (items, notes) = (self.item_store.items(), self.item_store.notes());
+        let index = (entry - self.first) as usize;
+        let ItemKind::Bind { done, .. } = &items[index].kind else {
             return Err(Fault::NotABind);
         };
-        let own = &notes[place];
+        let own = &notes[index];
         if own.is_withdrawn() {
             return Err(Fault::Withdrawn);
         }
-        let from = place + 1;
+        let from = index + 1;
         match first_touched(&items[from..], &notes[from..], own, done, entry + 1) {
             Some(by) => Err(Fault::Touched { by }),
-            None => Ok(place),
+            None => Ok(index),
         }
     }
 
@@ -253,7 +253,7 @@ impl Journal {
             Ok(count) => count,
             Err(fault) => return Err(fault),
         };
-        self.shelf.settle(space, count as usize);
+        self.item_store.settle(space, count as usize);
         self.first = to;
         Ok(count)
     }
@@ -270,7 +270,7 @@ impl Journal {
             return Err(Fault::NoEntry);
         }
         let count = to - self.first;
-        let settled = &self.shelf.notes()[..count as usize];
+        let settled = &self.item_store.notes()[..count as usize];
         match first_crossing(settled, to) {
             Some(by) => Err(Fault::Crossed { by }),
             None => Ok(count),
@@ -284,10 +284,10 @@ impl Journal {
         ensures kept { AreKept space.new [] }
     {
         let Journal {
-            shelf,
+            item_store,
             first: _,
             limit: _,
         } = self;
-        shelf.close(space);
+        item_store.close(space);
     }
 }

@@ -4,13 +4,13 @@
 
 mod applying;
 mod item;
+mod item_store;
 mod journal;
 pub mod laws;
 mod note;
 mod refusal;
 mod restoring;
 mod settling;
-mod shelf;
 mod touching;
 mod undoing;
 

@@ -1,6 +1,6 @@
 //! What stands beside each item of a journal, so that it can be passed over unread.
 ghost use Rattle.std.specs.Prelude.{◌≡◌, ◌<◌, ◌-◌, ◌^◌, IfSome, None, Some, is_some};
-ghost use Rattle.gv_journal.specs.Notes.{joined, reach_of, reaches};
+ghost use Rattle.gv_journal.specs.Notes.{extents_joined, extent_of, reaches};
 
 use crate::touching::pages_of;
 use gv_types::{PageOp, PageRange};
@@ -20,7 +20,7 @@ pub struct Note {
 }
 
 impl Model for Note {
-    ghost use Rattle.gv_journal.specs.Note.{Note as Noted, noted, IsNote};
+    ghost use Rattle.gv_journal.specs.Note.{NoteState as Noted, noted, IsNote};
 
     ghost Value = { Noted };
 
@@ -31,11 +31,11 @@ impl Model for Note {
 
 impl Note {
     /// Of an item that nothing withdraws, whose operations cover these pages from the least to the greatest.
-    pub fn new(reach: Option<PageRange>) -> Note
+    pub fn new(extent: Option<PageRange>) -> Note
         ensures withdrawal { result.withdrawal ≡ None }
-        ensures reach { result.reach ≡ reach }
+        ensures extent { result.extent ≡ extent }
     {
-        match reach {
+        match extent {
             Some(range) => Note {
                 withdrawal: NONE,
                 first: range.first(),
@@ -71,7 +71,7 @@ impl Note {
     pub fn mark(&mut self, withdrawal: Option<u64>)
         requires { IfSome withdrawal (λ number. number < 2 ^ 64 - 1) }
         ensures withdrawal { self.new.withdrawal ≡ withdrawal }
-        ensures reach { self.new.reach ≡ self.old.reach }
+        ensures extent { self.new.extent ≡ self.old.extent }
     {
         self.withdrawal = match withdrawal {
             Some(number) => number,
@@ -81,15 +81,15 @@ impl Note {
 
     /// Whether some page is in what both cover.
     pub fn reaches(&self, other: &Note) -> bool
-        ensures { result ≡ reaches self.now.reach other.now.reach }
+        ensures { result ≡ reaches self.now.extent other.now.extent }
     {
         self.first < other.past && other.first < self.past
     }
 }
 
 /// The pages from the least to the greatest of both.
-fn joined(range: PageRange, other: PageRange) -> PageRange
-    ensures { joined (Some range) (Some other) ≡ Some result }
+fn extents_joined(range: PageRange, other: PageRange) -> PageRange
+    ensures { extents_joined (Some range) (Some other) ≡ Some result }
 {
     let first = range.first().min(other.first());
     let end = range.end().max(other.end());
@@ -97,23 +97,23 @@ fn joined(range: PageRange, other: PageRange) -> PageRange
 }
 
 /// The pages from the least to the greatest of those that there are.
-fn joined_any(reach: Option<PageRange>, other: Option<PageRange>) -> Option<PageRange>
-    ensures { result ≡ joined reach other }
+fn joined_any(extent: Option<PageRange>, other: Option<PageRange>) -> Option<PageRange>
+    ensures { result ≡ extents_joined extent other }
 {
-    match (reach, other) {
-        (Some(range), Some(other)) => Some(joined(range, other)),
+    match (extent, other) {
+        (Some(range), Some(other)) => Some(extents_joined(range, other)),
         (Some(range), None) => Some(range),
         (None, other) => other,
     }
 }
 
 /// The pages from the least to the greatest that operations cover.
-pub fn reach_of(ops: &[PageOp]) -> Option<PageRange>
-    ensures { result ≡ reach_of ops.now }
+pub fn extent_of(ops: &[PageOp]) -> Option<PageRange>
+    ensures { result ≡ extent_of ops.now }
 {
-    let mut reach = None;
+    let mut extent = None;
     for op in ops {
-        reach = joined_any(reach, pages_of(op));
+        extent = joined_any(extent, pages_of(op));
     }
-    reach
+    extent
 }

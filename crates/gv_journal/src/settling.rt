@@ -6,7 +6,7 @@ ghost use Rattle.gv_space.specs.State.{AreKept};
 ghost use Rattle.gv_space.specs.Undo.{AreAmongKept, released};
 ghost use Rattle.gv_journal.specs.History.{kept_by};
 ghost use Rattle.gv_journal.specs.Notes.{crossed, lesser, crossing_from};
-ghost use Rattle.gv_journal.specs.Shelf.{IsSpent};
+ghost use Rattle.gv_journal.specs.ItemStore.{IsSpent};
 
 use crate::item::{Item, ItemKind};
 use crate::note::Note;
@@ -46,7 +46,7 @@ pub fn first_crossing(notes: &[Note], to: u64) -> Option<u64>
     least
 }
 
-/// What stands in the place of a settled item. It takes no memory.
+/// What stands in the slot of a settled item. It takes no memory.
 fn blank(alloc: Global) -> Item
     ensures { IsSpent result }
 {

@@ -1,10 +1,10 @@
 //! Which items touch.
 ghost use Rattle.std.specs.Prelude.{◌≡◌, ℕ, ◌+◌, ◌<◌, ◌^◌, Bool, ◌&&◌, not, is_some, length};
 ghost use Rattle.std.specs.List.{list_any};
-ghost use Rattle.gv_types.specs.Span.{meets};
+ghost use Rattle.gv_types.specs.PageRange.{meets};
 ghost use Rattle.gv_types.specs.Operation.{range_of};
 ghost use Rattle.gv_journal.specs.Items.{done_by};
-ghost use Rattle.gv_journal.specs.Notes.{reach_of, AreReaches, TellGone};
+ghost use Rattle.gv_journal.specs.Notes.{extent_of, AreReaches, TellGone};
 ghost use Rattle.gv_journal.specs.Restoring.{pages_named};
 ghost use Rattle.gv_journal.specs.Withdrawing.{touch, touched_from};
 
@@ -60,8 +60,8 @@ fn done_by(kind: &ItemKind) -> &[PageOp]
 /// Whether an item that isn't withdrawn touches operations: they are compared only where the pages from the least to the
 /// greatest of both meet.
 fn is_in_way(note: &Note, item: &Item, own: &Note, ops: &[PageOp]) -> bool
-    requires note { note.now.reach ≡ reach_of (done_by item.now.kind) }
-    requires own { own.now.reach ≡ reach_of ops.now }
+    requires note { note.now.extent ≡ extent_of (done_by item.now.kind) }
+    requires own { own.now.extent ≡ extent_of ops.now }
     ensures { result ≡ (touch ops.now (done_by item.now.kind) && not (is_some note.now.withdrawal)) }
 {
     if note.is_withdrawn() {
@@ -85,12 +85,12 @@ pub fn first_touched(
     requires numbers { from + length items.now < 2 ^ 64 }
     requires beside { length notes.now ≡ length items.now }
     requires notes { AreReaches notes.now items.now }
-    requires own { own.now.reach ≡ reach_of ops.now }
+    requires own { own.now.extent ≡ extent_of ops.now }
     ensures { (gone : ℕ → Bool) → TellGone gone from notes.now → result ≡ touched_from gone ops.now from items.now }
 {
-    for (place, note) in notes.iter().enumerate() {
-        if is_in_way(note, &items[place], own, ops) {
-            return Some(from + place as u64);
+    for (index, note) in notes.iter().enumerate() {
+        if is_in_way(note, &items[index], own, ops) {
+            return Some(from + index as u64);
         }
     }
     None

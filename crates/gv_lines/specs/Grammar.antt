@@ -191,10 +191,10 @@ abbrev pub comment_sign : ℕ
 comment_sign = 35
 
 -- an empty line and a comment say nothing
-abbrev pub said : List ℕ → Option Line
-said [] = Some Silent
-said (c ∷ cs) = if c == comment_sign then Some Silent else worded (words (c ∷ cs))
+abbrev pub line_said : List ℕ → Option Line
+line_said [] = Some Silent
+line_said (c ∷ cs) = if c == comment_sign then Some Silent else worded (words (c ∷ cs))
 
 -- what a line says; one with a byte that is not ASCII is none, also inside a comment
 unfoldable pub parsed : List ℕ → Option Line
-parsed text = if list_all is_ascii text then said text else None
+parsed text = if list_all is_ascii text then line_said text else None

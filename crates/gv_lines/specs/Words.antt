@@ -58,8 +58,8 @@ is_name (c ∷ cs) =
     && not (bytes_eq (c ∷ cs) (codes "zero"))
 
 -- the name that a word is, if it is one
-abbrev pub name_of : List ℕ → Option (List ℕ)
-name_of word = if is_name word then Some word else None
+abbrev pub name_read : List ℕ → Option (List ℕ)
+name_read word = if is_name word then Some word else None
 
 -- the base of decimal numbers, and of hexadecimal ones
 abbrev pub decimal_base : ℕ
@@ -101,12 +101,12 @@ number_of word =
     else decimal_of word
 
 -- how many queues there are, numbered from 0
-abbrev pub queues : ℕ
-queues = 16
+abbrev pub queue_count : ℕ
+queue_count = 16
 
 -- the queue of a number, if there is one
 abbrev pub queue_of : ℕ → Option ℕ
-queue_of number = if nat_lt number queues then Some number else None
+queue_of number = if nat_lt number queue_count then Some number else None
 
 -- the queue that a word names, by a decimal number
 abbrev pub queue_named : List ℕ → Option ℕ
@@ -122,7 +122,7 @@ with_rest (Some x) more = Some (x, more)
 -- the first word, if it is a name, and the other words
 abbrev pub first_name : List (List ℕ) → Option (List ℕ × List (List ℕ))
 first_name [] = None
-first_name (word ∷ more) = with_rest (name_of word) more
+first_name (word ∷ more) = with_rest (name_read word) more
 
 -- the first word, if it is a number, and the other words
 abbrev pub first_number : List (List ℕ) → Option (ℕ × List (List ℕ))

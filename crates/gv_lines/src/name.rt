@@ -6,7 +6,7 @@ ghost use Rattle.std.specs.Cmp.Lexicographic.{pointwise, nat_list_eq_equiv};
 ghost use Rattle.std.specs.Cmp.Rules.{hashing};
 ghost use Rattle.std.specs.Hash as fed;
 ghost use Rattle.std.proofs.Common.{rules};
-ghost use Rattle.gv_lines.specs.Words.{is_name, is_name_byte, name_of};
+ghost use Rattle.gv_lines.specs.Words.{is_name, is_name_byte, name_read};
 
 use arrayvec::ArrayString;
 use std::hash::{Hash, Hasher};
@@ -33,7 +33,7 @@ impl Model for Name {
 impl Name {
     /// The name that a word is, if it is one.
     pub fn from_word(word: &[u8]) -> Option<Name>
-        ensures { result ≡ name_of word.now }
+        ensures { result ≡ name_read word.now }
     {
         if !is_name(word) {
             return None;

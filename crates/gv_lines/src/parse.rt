@@ -2,7 +2,7 @@
 ghost use Rattle.std.specs.Prelude.{◌≡◌};
 ghost use Rattle.std.specs.List.{list_all};
 ghost use Rattle.std.specs.Char.{is_ascii};
-ghost use Rattle.gv_lines.specs.Grammar.{parsed, said, worded, line_of};
+ghost use Rattle.gv_lines.specs.Grammar.{parsed, line_said, worded, line_of};
 ghost use Rattle.gv_lines.specs.Grammar.{space_line, limits_line, buffer_line, destroy_line, uses_line};
 ghost use Rattle.gv_lines.specs.Grammar.{timeline_line, raise_line, value_line, bind_line, plan_line};
 ghost use Rattle.gv_lines.specs.Grammar.{map_line, at_line, tables_line, rewind_line, journal_line};
@@ -22,7 +22,11 @@ use super::words::{Clauses, Words, queue_of};
 pub fn parse_line(text: &[u8]) -> Option<Line<'_>>
     ensures { result ≡ parsed text.now }
 {
-    if is_ascii(text) { said(text) } else { None }
+    if is_ascii(text) {
+        line_said(text)
+    } else {
+        None
+    }
 }
 
 fn is_ascii(text: &[u8]) -> bool
@@ -31,8 +35,8 @@ fn is_ascii(text: &[u8]) -> bool
     text.iter().all(u8::is_ascii)
 }
 
-fn said(text: &[u8]) -> Option<Line<'_>>
-    ensures { result ≡ said text.now }
+fn line_said(text: &[u8]) -> Option<Line<'_>>
+    ensures { result ≡ line_said text.now }
 {
     if text.is_empty() || text[0] == b'#' {
         return Some(Line::Silent);

@@ -7,7 +7,7 @@ use native.Mathlib.Decide.{dec_lt}
 use Rattle.gv_types.specs.declared.request.Request.{Request}
 use Rattle.gv_vm.specs.Outcomes.{told_to}
 use Rattle.gv_vm.specs.declared.outcome.Outcome.{Outcome}
-use Rattle.gv_vm.specs.State.{Machine}
+use Rattle.gv_vm.specs.State.{VmState}
 use Rattle.gv_queues.specs.declared.finishing.QueueEnd.{QueueEnd}
 use Rattle.gv_queues.specs.Driving.{ArePut}
 use Rattle.gv_queues.specs.Ending.{AreCountedEnds, AreEndsOf, AreInOrder, ArePuts, IsEndOf, no_put, put_at}
@@ -35,7 +35,7 @@ each_more P xs ys x is here each k d lt = one_more P xs ys x d is here (λ k' lt
 pub in_order_more : {X : Type 0} (queue : X → ℕ) (xs ys : List X) (x : X) → AreInOrder queue xs → queue x ≡ length xs → ys ≡ xs ++ x ∷ [] → AreInOrder queue ys
 in_order_more queue xs ys x order here is = each_more (λ k e. queue e ≡ k) xs ys x is here order
 
-pub ends_more : (vm : Machine) (puts : List PutEndState) (workers : List WorkerEndState) (ends longer : List QueueEnd) (end : QueueEnd)
+pub ends_more : (vm : VmState) (puts : List PutEndState) (workers : List WorkerEndState) (ends longer : List QueueEnd) (end : QueueEnd)
     → longer ≡ ends ++ end ∷ [] → IsEndOf vm (put_at puts (length ends)) (end_at workers (length ends)) end → AreEndsOf vm puts workers ends → AreEndsOf vm puts workers longer
 ends_more vm puts workers ends longer end is here each = each_more (λ k e. IsEndOf vm (put_at puts k) (end_at workers k) e) ends longer end is here each
 
@@ -80,7 +80,7 @@ left_count taken gave left h =
     let few = h.few in let d = length-drop (length gave) taken in let e = ap (λ (l : List Request). length l) h.left_is in omega (arith, few, d, e)
 
 -- the ends of queues whose requests the driver counted
-pub counted_ends : (vm : Machine) (count : ℕ → ℕ) (may_put : ℕ → List Request → Type 0) (puts : List PutEndState) (workers : List WorkerEndState) (ends : List QueueEnd)
+pub counted_ends : (vm : VmState) (count : ℕ → ℕ) (may_put : ℕ → List Request → Type 0) (puts : List PutEndState) (workers : List WorkerEndState) (ends : List QueueEnd)
     → length ends ≡ length puts → length workers ≡ length puts → ArePuts count may_put puts → AreInOrder (λ (w : WorkerEndState). w.queue) workers
     → AreEndsOf vm puts workers ends → AreCountedEnds vm count may_put ends
 counted_ends vm count may_put puts workers ends even same were order each queue d lt =

@@ -27,12 +27,12 @@ use Rattle.gv_types.proofs.mapping.Mapping.TheSendSync.{the_send as mapping_send
 use Rattle.smallvec.proofs.small_vec.SmallVec.TheSendSync.{the_send as small_vec_send}
 use Rattle.gv_space.specs.contracts.list_with_table.ListWithTable.TheInside.{the_row as list_with_table_inside, the_type as list_with_table_type}
 use Rattle.gv_space.specs.contracts.space.Space.TheInside.{the_row as space_inside, the_type as space_type}
-use Rattle.gv_journal.specs.contracts.shelf.Shelf.TheInside.{the_row as shelf_inside, the_type as shelf_type}
+use Rattle.gv_journal.specs.contracts.item_store.ItemStore.TheInside.{the_row as item_store_inside, the_type as item_store_type}
 use Rattle.gv_journal.specs.contracts.journal.Journal.TheInside.{the_row as journal_inside, the_type as journal_type}
 use Rattle.gv_vm.specs.contracts.vm.Vm.TheInside.{the_row as vm_inside, the_type as vm_type}
 use Rattle.gv_space.specs.contracts.list_with_table.ListWithTable.{the_row as list_with_table}
 use Rattle.gv_space.specs.contracts.space.Space.{the_row as space}
-use Rattle.gv_journal.specs.contracts.shelf.Shelf.{the_row as shelf}
+use Rattle.gv_journal.specs.contracts.item_store.ItemStore.{the_row as item_store}
 use Rattle.gv_journal.specs.contracts.journal.Journal.{the_row as journal}
 use Rattle.gv_vm.specs.contracts.vm.Vm.{the_row as vm}
 use Rattle.gv_queues.specs.contracts.vm_lock.VmLock.{the_row as vm_lock, the_type as vm_lock_type}
@@ -81,11 +81,11 @@ undo_send = view_send undo_inside _ _ _ _ (declared_send undo_type (number, (num
 pub item_send : IsSend item
 item_send = declared_send item_type (kind_send, (Vec-send _ undo_send, tt))
 
-pub shelf_send : IsSend shelf
-shelf_send = view_send shelf_inside _ _ _ _ (declared_send shelf_type (Vec-send _ item_send, (search (sendable, crosses, note_send) depth 8, (number, tt))))
+pub item_store_send : IsSend item_store
+item_store_send = view_send item_store_inside _ _ _ _ (declared_send item_store_type (Vec-send _ item_send, (search (sendable, crosses, note_send) depth 8, (number, tt))))
 
 pub journal_send : IsSend journal
-journal_send = view_send journal_inside _ _ _ _ (declared_send journal_type (shelf_send, (wide, (wide, tt))))
+journal_send = view_send journal_inside _ _ _ _ (declared_send journal_type (item_store_send, (wide, (wide, tt))))
 
 pub vm_send : IsSend vm
 vm_send = view_send vm_inside _ _ _ _ (declared_send vm_type (space_send, (journal_send, (as_row_send (row_field _) jobs_send, (search (sendable, crosses, outcome_send) depth 8, tt)))))

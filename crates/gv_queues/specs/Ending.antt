@@ -1,7 +1,7 @@
 -- The ends of queues.
 use Rattle.std.specs.Prelude.{◌≡◌, ℕ, ◌+◌, ◌<◌, List, [], length, slice_index_or}
 use Rattle.gv_types.specs.declared.request.Request.{Request}
-use Rattle.gv_vm.specs.State.{Machine}
+use Rattle.gv_vm.specs.State.{VmState}
 use Rattle.gv_vm.specs.Outcomes.{told_to}
 use Rattle.gv_queues.specs.Submitting.{ChannelId, PutEndState, SubmitterState, no_channel, submitter_at}
 use Rattle.gv_queues.specs.Working.{WorkerEndState, WorkerState, end_at, worker_at}
@@ -14,7 +14,7 @@ abbrev pub AreInOrder : {X : Type 0} → (X → ℕ) → List X → Type 0
 AreInOrder {X} queue xs = (k : ℕ) (d : X) → k < length xs → queue (slice_index_or xs k d) ≡ k
 
 -- the worker of a queue took as many requests as were put, and gave the outcomes that the address space tells
-pub record Agrees (vm : Machine) (put : PutEndState) (worker : WorkerEndState) : Type 0 where
+pub record Agrees (vm : VmState) (put : PutEndState) (worker : WorkerEndState) : Type 0 where
   pub took_all : length worker.taken ≡ length put.put
   pub told : worker.gave ≡ told_to vm.told worker.queue
 
@@ -45,32 +45,32 @@ AreClosed submitters puts =
     (queue : ℕ) → queue < length puts → (put_at puts queue).channel ≡ (submitter_at submitters queue).channel
 
 -- the ends of this queue agree
-abbrev pub AgreesAt : Machine → List PutEndState → List WorkerEndState → ℕ → Type 0
+abbrev pub AgreesAt : VmState → List PutEndState → List WorkerEndState → ℕ → Type 0
 AgreesAt vm puts workers queue = Agrees vm (put_at puts queue) (end_at workers queue)
 
 -- the queue at which the ends don't agree, and at each before they do
-pub record IsFirstOther (vm : Machine) (puts : List PutEndState) (workers : List WorkerEndState) (queue : ℕ) : Type 0 where
+pub record IsFirstOther (vm : VmState) (puts : List PutEndState) (workers : List WorkerEndState) (queue : ℕ) : Type 0 where
   pub exists : queue < length puts
   pub disagrees : ¬ AgreesAt vm puts workers queue
   pub before : (other : ℕ) → other < queue → AgreesAt vm puts workers other
 
 -- what a queue comes to: how many its submitter put, how many outcomes the address space tells, and what its worker left.
 -- As many requests were put as were told and are left
-pub record IsEndOf (vm : Machine) (submitted : PutEndState) (worker : WorkerEndState) (end : QueueEnd) : Type 0 where
+pub record IsEndOf (vm : VmState) (submitted : PutEndState) (worker : WorkerEndState) (end : QueueEnd) : Type 0 where
   pub put : end.put ≡ length submitted.put
   pub told : end.told ≡ length (told_to vm.told worker.queue)
   pub left : end.left.items ≡ worker.left
   pub each : end.put ≡ end.told + length end.left.items
 
 -- each queue's end
-abbrev pub AreEndsOf : Machine → List PutEndState → List WorkerEndState → List QueueEnd → Type 0
+abbrev pub AreEndsOf : VmState → List PutEndState → List WorkerEndState → List QueueEnd → Type 0
 AreEndsOf vm puts workers ends =
     (queue : ℕ) (d : QueueEnd) → queue < length ends
     → IsEndOf vm (put_at puts queue) (end_at workers queue) (slice_index_or ends queue d)
 
 -- Of each queue, as many requests were put as were told and are left. So many did the driver count, such as it may put; and so
 -- many outcomes the address space tells.
-pub record IsCounted (vm : Machine) (count : ℕ → ℕ) (may_put : ℕ → List Request → Type 0) (queue : ℕ) (end : QueueEnd) : Type 0 where
+pub record IsCounted (vm : VmState) (count : ℕ → ℕ) (may_put : ℕ → List Request → Type 0) (queue : ℕ) (end : QueueEnd) : Type 0 where
   pub each : end.put ≡ end.told + length end.left.items
   pub driven : end.put ≡ count queue
   pub put : List Request
@@ -78,7 +78,7 @@ pub record IsCounted (vm : Machine) (count : ℕ → ℕ) (may_put : ℕ → Lis
   pub many : end.put ≡ length put
   pub told : end.told ≡ length (told_to vm.told queue)
 
-abbrev pub AreCountedEnds : Machine → (ℕ → ℕ) → (ℕ → List Request → Type 0) → List QueueEnd → Type 0
+abbrev pub AreCountedEnds : VmState → (ℕ → ℕ) → (ℕ → List Request → Type 0) → List QueueEnd → Type 0
 AreCountedEnds vm count may_put ends =
     (queue : ℕ) (d : QueueEnd) → queue < length ends → IsCounted vm count may_put queue (slice_index_or ends queue d)
 
@@ -89,7 +89,7 @@ pub record ArePuts (count : ℕ → ℕ) (may_put : ℕ → List Request → Typ
   pub allowed : (queue : ℕ) → queue < length puts → may_put queue (put_at puts queue).put
 
 -- no queue was told an outcome yet
-abbrev pub IsUntold : Machine → Type 0
+abbrev pub IsUntold : VmState → Type 0
 IsUntold vm = (queue : ℕ) → told_to vm.told queue ≡ []
 
 -- the queue that a fault names is one of so many

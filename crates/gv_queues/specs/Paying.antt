@@ -24,10 +24,10 @@ owed (Refused op fault) signals = []
 owed (NotReady point have) signals = []
 
 -- The signals of an accepted request were raised, each by one step, in order. Else the seat is as before.
-abbrev pub IsPaid : List Point → SeatState → SeatState → Outcome → Type 0
-IsPaid signals old new (Accepted entry) = HasRaised signals old new
-IsPaid signals old new (Refused op fault) = new ≡ old
-IsPaid signals old new (NotReady point have) = new ≡ old
+abbrev pub ArePaid : List Point → SeatState → SeatState → Outcome → Type 0
+ArePaid signals old new (Accepted entry) = HasRaised signals old new
+ArePaid signals old new (Refused op fault) = new ≡ old
+ArePaid signals old new (NotReady point have) = new ≡ old
 
 -- Among any number of loads, the seat raised just these points, in order, each by one step. No seat was split off it.
 pub record RaisedJust (points : List Point) (old new : SeatState) : Type 0 where
@@ -55,9 +55,9 @@ WereReached sights = All (λ (s : Sight). s.point.value ≤ s.number) sights
 -- A wait that was not reached when it was looked at, and the first: these are the sights of the waits before it in order, and
 -- each of those was reached
 pub record IsFirstLacking (waits : List Point) (seat : SeatState) (reached : List Sight) (lacking : Sight) : Type 0 where
-  pub place : ℕ
-  pub exists : place < length waits
-  pub point : (d : Point) → slice_index_or waits place d ≡ lacking.point
+  pub index : ℕ
+  pub exists : index < length waits
+  pub point : (d : Point) → slice_index_or waits index d ≡ lacking.point
   pub short : lacking.number < lacking.point.value
-  pub sights : AreReached (take place waits) seat reached
+  pub sights : AreReached (take index waits) seat reached
   pub before : WereReached reached

@@ -1,7 +1,7 @@
 //! What puts requests while the workers run.
 ghost use Rattle.std.specs.Prelude.{◌≡◌, ◌≤◌, ℕ, List, length};
 ghost use Rattle.gv_types.specs.declared.request.Request.{Request};
-ghost use Rattle.gv_sync.specs.Seats.{IsSeatOf, SeatState, count_of};
+ghost use Rattle.gv_sync.specs.Seats.{IsSeatOf, SeatState, timeline_count};
 ghost use Rattle.gv_queues.specs.Driving.{ArePut};
 ghost use Rattle.gv_queues.specs.Submitting.{AreCounted, AreOpened, AreSameSubmitters};
 
@@ -38,7 +38,7 @@ pub trait Driver {
     )
         requires own { IsSeatOf timelines.now seat.old }
         requires opened { (limit : ℕ) × (depth : ℕ)
-            × AreOpened limit depth (count_of timelines.now) submitters.old
+            × AreOpened limit depth (timeline_count timelines.now) submitters.old
             × relies_on self.old limit depth (length submitters.old) }
         ensures own { IsSeatOf timelines.now seat.new }
         ensures driven { does_with self.new seat.old seat.new }

@@ -72,20 +72,20 @@ pub fn finish(
     ensures disagree { IfErr result (λ fault. (queue : ℕ) × (fault ≡ QueuesFault.Disagree queue)
         × IsFirstOther vm.now puts.now workers.items queue) }
 {
-    let mut place = 0;
+    let mut index = 0;
     for worker in workers {
-        let put = &puts[place];
+        let put = &puts[index];
         if !worker.agrees(vm, put) {
             return Err(QueuesFault::Disagree {
-                queue: place as u64,
+                queue: index as u64,
             });
         }
         ends.push_reserved(QueueEnd {
             put: put.put(),
-            told: vm.told(place as u64).len() as u64,
+            told: vm.told(index as u64).len() as u64,
             left: worker.into_left(),
         });
-        place += 1;
+        index += 1;
     }
     Ok(ends)
 }

@@ -1,7 +1,7 @@
 //! All that running queues takes, asked for before any of them starts.
 ghost use Rattle.std.specs.Prelude.{◌≡◌, ◌<◌, ◌≤◌, ℕ, [], IfOk, IfErr, vec_len, vec_capacity};
 ghost use Rattle.std.specs.List.{All};
-ghost use Rattle.gv_sync.specs.Seats.{IsSeatOf, count_of};
+ghost use Rattle.gv_sync.specs.Seats.{IsSeatOf, timeline_count};
 ghost use Rattle.gv_types.specs.Limits.{IsFromOneTo};
 ghost use Rattle.gv_vm.specs.Outcomes.{queues};
 ghost use Rattle.gv_queues.specs.Ending.{AreInOrder, AreOnOwnChannels};
@@ -72,7 +72,7 @@ pub fn open_all(
     ensures share { IfOk result (λ _. seat.new ≡ after_splits seat.old count) }
     ensures seats { IfOk result (λ o. All (λ w. w.of ≡ timelines.now) o.workers.items) }
     ensures given { IfOk result (λ o. HaveSplits seat.old o.workers.items) }
-    ensures opened { IfOk result (λ o. AreOpened limit depth (count_of timelines.now) o.submitters.items) }
+    ensures opened { IfOk result (λ o. AreOpened limit depth (timeline_count timelines.now) o.submitters.items) }
     ensures order { IfOk result (λ o. AreInOrder (λ w. w.queue) o.workers.items) }
     ensures channels { IfOk result (λ o. AreOnOwnChannels o.submitters.items o.workers.items) }
     ensures even { IfOk result (λ o. (vec_len o.workers ≡ count) × (vec_len o.submitters ≡ count)) }

@@ -1,6 +1,6 @@
 //! A driver that puts requests in order.
 ghost use Rattle.std.specs.Prelude.{◌≡◌, [], length};
-ghost use Rattle.gv_queues.specs.Counts.{count_at};
+ghost use Rattle.gv_queues.specs.Counts.{count_of_queue};
 ghost use Rattle.gv_queues.specs.Driving.{AreSomePut, MayPutOne};
 ghost use Rattle.gv_queues.specs.Submitting.{AreCounted, AreSameSubmitters};
 
@@ -49,20 +49,20 @@ fn put<R: Wait>(
     queue: u64,
     request: Request,
 )
-    requires counts { AreCounted (count_at counts.old) submitters.old }
+    requires counts { AreCounted (count_of_queue counts.old) submitters.old }
     ensures same { AreSameSubmitters submitters.old submitters.new }
     ensures put { MayPutOne queue request submitters.old submitters.new }
-    ensures counts { AreCounted (count_at counts.new) submitters.new }
+    ensures counts { AreCounted (count_of_queue counts.new) submitters.new }
     ensures len { length submitters.new ≡ length submitters.old }
 {
-    let place = queue as usize;
-    if place >= submitters.len() || place >= QUEUES {
+    let index = queue as usize;
+    if index >= submitters.len() || index >= QUEUES {
         return;
     }
-    if request.fits(submitters[place].timelines()) {
+    if request.fits(submitters[index].timelines()) {
         // A request that is refused is not tried again.
-        let _ = submitters[place].put(rt, request);
-        counts[place] = submitters[place].count();
+        let _ = submitters[index].put(rt, request);
+        counts[index] = submitters[index].count();
     }
 }
 
@@ -73,11 +73,11 @@ fn put_all<R: Wait>(
     counts: &mut [u64; QUEUES],
     requests: Vec<(u64, Request)>,
 )
-    requires counts { AreCounted (count_at counts.old) submitters.old }
+    requires counts { AreCounted (count_of_queue counts.old) submitters.old }
     requires none { AreSomePut [] submitters.old }
     ensures same { AreSameSubmitters submitters.old submitters.new }
     ensures put { AreSomePut requests.items submitters.new }
-    ensures counts { AreCounted (count_at counts.new) submitters.new }
+    ensures counts { AreCounted (count_of_queue counts.new) submitters.new }
     ensures len { length submitters.new ≡ length submitters.old }
 {
     for (queue, request) in requests {
@@ -87,10 +87,10 @@ fn put_all<R: Wait>(
 
 impl Driver for PutAll {
     ghost use Rattle.std.specs.Prelude.{◌≡◌};
-    ghost use Rattle.gv_queues.specs.Counts.{count_at};
+    ghost use Rattle.gv_queues.specs.Counts.{count_of_queue};
     ghost use Rattle.gv_queues.specs.Driving.{AreSomeOf, requests_on};
 
-    ghost put_on = { λ d. count_at d.put };
+    ghost put_on = { λ d. count_of_queue d.put };
 
     ghost may_put = { λ d queue put. AreSomeOf (requests_on queue d.asked) put };
 

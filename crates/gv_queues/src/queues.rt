@@ -3,7 +3,7 @@ ghost use Rattle.std.specs.Prelude.{◌≡◌, ◌<◌, ◌≤◌, ℕ, [], Err,
 ghost use Rattle.gv_sync.specs.Seats.{IsSeatOf};
 ghost use Rattle.gv_types.specs.Limits.{IsFromOneTo};
 ghost use Rattle.gv_vm.specs.Outcomes.{queues};
-ghost use Rattle.gv_vm.specs.State.{IsMachine};
+ghost use Rattle.gv_vm.specs.State.{IsVm};
 ghost use Rattle.gv_queues.specs.Ending.{AreCountedEnds, HasNotRun, IsOfQueueBelow, IsUntold};
 ghost use Rattle.gv_queues.specs.Sharing.{ComesBack};
 ghost use Rattle.gv_queues.specs.Submitting.{most_places};
@@ -44,7 +44,7 @@ pub fn run_queues<G: Gate + Sync, D: Driver, R: Threads + Wait + Sync>(
     ensures own { IsSeatOf timelines.now seat.new }
     // The driver's steps are seen on the seat that was lent, and no others were taken with it.
     ensures lent { ComesBack count (D.does_with driver.new) seat.old seat.new result.1 }
-    ensures sound { IsMachine result.0 }
+    ensures sound { IsVm result.0 }
     ensures not_made { result.1 ≡ Err QueuesFault.NotMade → result.0 ≡ vm }
     ensures not_run { IfErr result.1 (λ fault. HasNotRun fault → driver.new ≡ driver.old) }
     ensures len { IfOk result.1 (λ ends. vec_len ends ≡ count) }

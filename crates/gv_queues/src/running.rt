@@ -1,7 +1,7 @@
 //! Workers that run while a driver puts requests.
 ghost use Rattle.std.specs.Prelude.{◌≡◌, ◌<◌, ◌≤◌, ℕ, [], IfNone, IfSome, map, vec_len, vec_capacity};
 ghost use Rattle.std.specs.List.{All};
-ghost use Rattle.gv_sync.specs.Seats.{IsSeatOf, count_of};
+ghost use Rattle.gv_sync.specs.Seats.{IsSeatOf, timeline_count};
 ghost use Rattle.gv_queues.specs.Ending.{AreClosed, AreInOrder, AreOnOwnChannels, ArePuts, EndOnOwnChannels};
 ghost use Rattle.gv_queues.specs.Submitting.{AreOpened, put_end_of};
 ghost use Rattle.gv_queues.specs.Working.{AreEndsOfWorkers, IsEndOfWorker};
@@ -61,7 +61,7 @@ fn drive_all<D: Driver, R: Wait>(
     puts: Vec<PutEnd>,
 ) -> Vec<PutEnd>
     requires own { IsSeatOf timelines.now seat.old }
-    requires opened { (limit : ℕ) × (depth : ℕ) × AreOpened limit depth (count_of timelines.now) submitters.items
+    requires opened { (limit : ℕ) × (depth : ℕ) × AreOpened limit depth (timeline_count timelines.now) submitters.items
         × D.relies_on driver.old limit depth (vec_len submitters) }
     requires none { puts.items ≡ [] }
     requires room { vec_len submitters ≤ vec_capacity puts }
@@ -115,7 +115,7 @@ pub fn run_workers<L: Locked + Sync, G: Gate + Sync, D: Driver, R: Threads + Wai
     requires own { IsSeatOf around.timelines.now seat.old
         × All (λ w. w.of ≡ around.timelines.now) opened.workers.items }
     requires opened { (limit : ℕ) × (depth : ℕ)
-        × AreOpened limit depth (count_of around.timelines.now) opened.submitters.items
+        × AreOpened limit depth (timeline_count around.timelines.now) opened.submitters.items
         × D.relies_on driver.old limit depth (vec_len opened.submitters) }
     requires order { AreInOrder (λ w. w.queue) opened.workers.items }
     requires channels { AreOnOwnChannels opened.submitters.items opened.workers.items }
@@ -155,7 +155,7 @@ pub fn run_workers<L: Locked + Sync, G: Gate + Sync, D: Driver, R: Threads + Wai
         move |scope| -> (&mut D, &mut Seat, Ran)
             requires own { IsSeatOf timelines.now seat.now × All (λ w. w.of ≡ timelines.now) workers.items }
             requires opened { (limit : ℕ) × (depth : ℕ)
-                × AreOpened limit depth (count_of timelines.now) submitters.items
+                × AreOpened limit depth (timeline_count timelines.now) submitters.items
                 × D.relies_on driver.now limit depth (vec_len submitters) }
             requires order { AreInOrder (λ w. w.queue) workers.items }
             requires channels { AreOnOwnChannels submitters.items workers.items }

@@ -2,11 +2,11 @@
 ghost use Rattle.std.specs.Prelude.{◌≡◌, ◌<◌, Contains, IfOk, IfErr, OnErr, IsErrAnd, MatchOption, length};
 ghost use Rattle.std.specs.List.{All};
 ghost use Rattle.gv_types.specs.Request.{Fits as FitsTimelines};
-ghost use Rattle.gv_sync.specs.Seats.{IsSeatOf, count_of};
+ghost use Rattle.gv_sync.specs.Seats.{IsSeatOf, timeline_count};
 ghost use Rattle.gv_sync.specs.Turns.{HasRaised};
 ghost use Rattle.gv_vm.specs.Outcomes.{tell_fault, with_outcome};
-ghost use Rattle.gv_vm.specs.Told.{IsCarriedOut, seen_by};
-ghost use Rattle.gv_queues.specs.Paying.{AreReached, IfBind, IsPaid};
+ghost use Rattle.gv_vm.specs.Told.{IsBoundAndTold, seen_by};
+ghost use Rattle.gv_queues.specs.Paying.{AreReached, IfBind, ArePaid};
 
 use crate::taking::Taken;
 use gv_journal::{Item, ItemKind};
@@ -18,7 +18,7 @@ use std::alloc::Global;
 /// Raises the points in order, each by one step.
 fn pay(timelines: &Timelines, seat: &mut Seat, signals: &[Point])
     requires own { IsSeatOf timelines.now seat.old }
-    requires named { All (λ p. p.timeline < count_of timelines.now) signals.now }
+    requires named { All (λ p. p.timeline < timeline_count timelines.now) signals.now }
     ensures own { IsSeatOf timelines.now seat.new }
     ensures paid { HasRaised signals.now seat.old seat.new }
 {
@@ -33,7 +33,7 @@ fn pay(timelines: &Timelines, seat: &mut Seat, signals: &[Point])
 fn pay_for(timelines: &Timelines, seat: &mut Seat, item: &Item)
     requires own { IsSeatOf timelines.now seat.old }
     requires named { IfBind item.now.kind (λ request.
-        All (λ p. p.timeline < count_of timelines.now) request.signals.items) }
+        All (λ p. p.timeline < timeline_count timelines.now) request.signals.items) }
     ensures own { IsSeatOf timelines.now seat.new }
     ensures paid { IfBind item.now.kind (λ request. HasRaised request.signals.items seat.old seat.new) }
 {
@@ -54,15 +54,15 @@ pub fn serve(
     reached: &[Reached],
 ) -> Result<Outcome, NotTold>
     requires own { IsSeatOf timelines.now seat.old }
-    requires fits { FitsTimelines (count_of timelines.now) taken.request }
+    requires fits { FitsTimelines (timeline_count timelines.now) taken.request }
     requires reached { AreReached taken.request.waits.items seat.old reached.now }
     ensures own { IsSeatOf timelines.now seat.new }
     ensures fault { MatchOption (tell_fault vm.old.space.limits.told vm.old.told taken.queue taken.number)
         (IfErr result (λ n. n.fault ≡ Fault.OutOfMemory)) (λ fault. IsErrAnd result (λ n. n.fault ≡ fault)) }
     ensures request { IfErr result (λ n. n.request ≡ taken.request) }
     ensures outcome { IfOk result
-        (IsCarriedOut vm.old vm.new taken.queue taken.number taken.request (seen_by reached.now)) }
-    ensures paid { IfOk result (IsPaid taken.request.signals.items seat.old seat.new) }
+        (IsBoundAndTold vm.old vm.new taken.queue taken.number taken.request (seen_by reached.now)) }
+    ensures paid { IfOk result (ArePaid taken.request.signals.items seat.old seat.new) }
     ensures err { OnErr result ((vm.new ≡ vm.old) × (seat.new ≡ seat.old)) }
 {
     let (queue, number) = (taken.queue(), taken.number());

@@ -1,7 +1,7 @@
 //! How a worker waits for the points of a request.
 ghost use Rattle.std.specs.Prelude.{◌≡◌, ◌<◌, ◌≤◌, [], length, vec_capacity, Contains, IfOk, IfErr, OnOk};
 ghost use Rattle.std.specs.List.{All};
-ghost use Rattle.gv_sync.specs.Seats.{IsSeatOf, count_of, mark_of};
+ghost use Rattle.gv_sync.specs.Seats.{IsSeatOf, timeline_count, mark_of};
 ghost use Rattle.gv_sync.specs.Turns.{HasLooked};
 ghost use Rattle.gv_queues.specs.Paying.{AreReached, IsFirstLacking};
 
@@ -47,7 +47,7 @@ fn wait_for<G: Gate, R: Wait>(
     point: &Point,
 ) -> Result<Reached, Lacking>
     requires own { IsSeatOf timelines.now seat.old }
-    requires named { point.now.timeline < count_of timelines.now }
+    requires named { point.now.timeline < timeline_count timelines.now }
     ensures own { IsSeatOf timelines.now seat.new }
     ensures looked { HasLooked seat.old seat.new }
     ensures reached { IfOk result (λ r. (r.point ≡ point.now)
@@ -81,7 +81,7 @@ pub fn wait_for_all<G: Gate, R: Wait>(
     reached: &mut Vec<Reached>,
 ) -> Result<(), Lacking>
     requires own { IsSeatOf timelines.now seat.old }
-    requires named { All (λ p. p.timeline < count_of timelines.now) waits.now }
+    requires named { All (λ p. p.timeline < timeline_count timelines.now) waits.now }
     requires none { reached.old.items ≡ [] }
     requires room { length waits.now ≤ vec_capacity reached.old }
     ensures own { IsSeatOf timelines.now seat.new }

@@ -1,7 +1,7 @@
 //! A worker of one queue.
 ghost use Rattle.std.specs.Prelude.{◌≡◌, ◌<◌, ℕ, [], length, vec_capacity, IfErr};
 ghost use Rattle.gv_types.specs.Request.{Fits as FitsTimelines};
-ghost use Rattle.gv_sync.specs.Seats.{IsSeatOf, count_of, mark_of};
+ghost use Rattle.gv_sync.specs.Seats.{IsSeatOf, timeline_count, mark_of};
 ghost use Rattle.gv_queues.specs.Paying.{RaisedJust, all_owed};
 ghost use Rattle.gv_queues.specs.Working.{owed_by};
 
@@ -36,7 +36,7 @@ pub struct Worker {
 
 impl Model for Worker {
     ghost use Rattle.std.specs.Prelude.{◌≡◌, ◌<◌, ℕ, [], vec_capacity};
-    ghost use Rattle.gv_sync.specs.Seats.{count_of, mark_of};
+    ghost use Rattle.gv_sync.specs.Seats.{timeline_count, mark_of};
     ghost use Rattle.gv_queues.specs.Working.{WorkerState};
 
     ghost Value = { WorkerState };
@@ -51,7 +51,7 @@ impl Model for Worker {
 
     ghost invariant = { λ w.
         (w.taker.taken ≡ [])
-        × (w.taker.timelines ≡ count_of w.seat.of)
+        × (w.taker.timelines ≡ timeline_count w.seat.of)
         × (w.seat.raises ≡ [])
         × ((timeline : ℕ) → (mark_of w.seat timeline).raised ≡ 0)
         × (w.left.items ≡ [])
@@ -61,7 +61,7 @@ impl Model for Worker {
 impl Worker {
     pub fn new(taker: Taker, seat: Seat, left: Vec<Request>) -> Worker
         requires none { taker.taken ≡ [] }
-        requires timelines { taker.timelines ≡ count_of seat.of }
+        requires timelines { taker.timelines ≡ timeline_count seat.of }
         requires raises { seat.raises ≡ [] }
         requires raised { (timeline : ℕ) → (mark_of seat timeline).raised ≡ 0 }
         requires left { (left.items ≡ []) × (0 < vec_capacity left) }
@@ -93,7 +93,7 @@ fn attend<G: Gate, R: Wait>(
     taken: Taken,
 ) -> Result<Outcome, NotTold>
     requires own { IsSeatOf shared.now.timelines.now seat.old }
-    requires fits { FitsTimelines (count_of shared.now.timelines.now) taken.request }
+    requires fits { FitsTimelines (timeline_count shared.now.timelines.now) taken.request }
     ensures own { IsSeatOf shared.now.timelines.now seat.new }
     ensures request { IfErr result (λ n. n.request ≡ taken.request) }
     ensures raised { RaisedJust (owed_by result taken.request.signals.items) seat.old seat.new }

@@ -92,8 +92,8 @@ impl WorkerEnd {
         } = self;
         let taken = gave.len() as u64 + left.len() as u64;
         let room = left.capacity() - left.len();
-        for place in 0..room {
-            let Some(request) = taker.take(rt, taken + place as u64) else {
+        for index in 0..room {
+            let Some(request) = taker.take(rt, taken + index as u64) else {
                 break;
             };
             left.push_reserved(request.into_request());

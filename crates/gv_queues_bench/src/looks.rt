@@ -1,6 +1,6 @@
 //! A look at a timeline beside a load of an atomic word.
 ghost use Rattle.std.specs.Prelude.{◌<◌};
-ghost use Rattle.gv_sync.specs.Seats.{IsSeatOf, count_of};
+ghost use Rattle.gv_sync.specs.Seats.{IsSeatOf, timeline_count};
 
 use crate::failure::Failure;
 use crate::timing::nanoseconds;
@@ -37,7 +37,7 @@ fn least_of_looks<R: CpuClock>(
     seat: &mut Seat,
 ) -> Result<(u64, u64), Failure>
     requires own { IsSeatOf timelines.now seat.old }
-    requires some { 0 < count_of timelines.now }
+    requires some { 0 < timeline_count timelines.now }
 {
     let mut least = u64::MAX;
     let mut reached = 0u64;
@@ -66,7 +66,7 @@ fn least_of_loads<R: CpuClock>(rt: &R, word: &AtomicU64) -> Result<(u64, u64), F
 /// How many of so many points are reached.
 fn look_all(timelines: &Timelines, seat: &mut Seat) -> u64
     requires own { IsSeatOf timelines.now seat.old }
-    requires some { 0 < count_of timelines.now }
+    requires some { 0 < timeline_count timelines.now }
     ensures { IsSeatOf timelines.now seat.new }
 {
     let mut reached = 0u64;

@@ -1,7 +1,7 @@
 //! A driver that does what it is told, step by step, and compares what it is answered.
 ghost use Rattle.std.specs.Prelude.{◌≡◌, length};
 ghost use Rattle.gv_sync.specs.Seats.{IsSeatOf};
-ghost use Rattle.gv_queues.specs.Counts.{count_at};
+ghost use Rattle.gv_queues.specs.Counts.{count_of_queue};
 ghost use Rattle.gv_queues.specs.Submitting.{AreCounted, AreSameSubmitters};
 
 use crate::gates::{TURNS, await_flag};
@@ -60,9 +60,9 @@ fn is_put_on(step: &Step, on: u64) -> bool {
 }
 
 impl Driver for Plan<'_> {
-    ghost use Rattle.gv_queues.specs.Counts.{count_at};
+    ghost use Rattle.gv_queues.specs.Counts.{count_of_queue};
 
-    ghost put_on = { λ d. count_at d.counts };
+    ghost put_on = { λ d. count_of_queue d.counts };
 
     ghost may_put = { λ d queue put. Unit {0} };
 
@@ -114,10 +114,10 @@ impl Stage<'_> {
         steps: &[Step],
     ) -> Option<usize>
         requires own { IsSeatOf self.now.timelines.now seat.old }
-        requires counts { AreCounted (count_at counts.old) submitters.old }
+        requires counts { AreCounted (count_of_queue counts.old) submitters.old }
         ensures own { IsSeatOf self.now.timelines.now seat.new }
         ensures same { AreSameSubmitters submitters.old submitters.new }
-        ensures counts { AreCounted (count_at counts.new) submitters.new }
+        ensures counts { AreCounted (count_of_queue counts.new) submitters.new }
     {
         let mut other = None;
         for (place, step) in steps.iter().enumerate() {
@@ -145,9 +145,9 @@ impl Stage<'_> {
         sent: &Sent,
         wanted: &Result<u64, Fault>,
     ) -> bool
-        requires counts { AreCounted (count_at counts.old) submitters.old }
+        requires counts { AreCounted (count_of_queue counts.old) submitters.old }
         ensures same { AreSameSubmitters submitters.old submitters.new }
-        ensures counts { AreCounted (count_at counts.new) submitters.new }
+        ensures counts { AreCounted (count_of_queue counts.new) submitters.new }
         ensures len { length submitters.new ≡ length submitters.old }
     {
         let place = queue as usize;

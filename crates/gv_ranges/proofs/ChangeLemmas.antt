@@ -4,7 +4,7 @@ use Rattle.std.proofs.lemmas.Bool.{le-leb, leb-true, ltb-true, and_from, and_par
 use Rattle.std.proofs.lemmas.List.Elements.{All-nil, All-cons}
 use Rattle.std.specs.Prelude.{IsTrue}
 use Rattle.std.specs.List.{splice}
-use Rattle.gv_types.specs.Span.{Span, span, end_of, covers, lies_in}
+use Rattle.gv_types.specs.PageRange.{PageRangeState, span, end_of, covers, lies_in}
 use Rattle.gv_types.specs.Operation.{range_of, own_mapping, own_part, after, view, IsPageOp}
 use Rattle.gv_types.specs.declared.mapping.Mapping.{Mapping}
 use Rattle.gv_types.specs.declared.operation.PageOp.{PageOp}
@@ -56,22 +56,22 @@ pub laid_out-edited : EditedListIsLaidOut
 laid_out-edited ms op laid is = laid_out-replaced ms (range_of op) (own_mapping op) laid (own_laid_out op is) (own_lies_in op)
 
 pub edited_run_in_place : EditedRunInPlace
-edited_run_in_place ms op place count laid is = replaced_run_in_place ms (range_of op) (own_mapping op) place count laid is
+edited_run_in_place ms op index count laid is = replaced_run_in_place ms (range_of op) (own_mapping op) index count laid is
 
 pub undone-edited : UndoneEditIsOld
-undone-edited ms op place count laid is = undone-replaced ms (range_of op) (own_mapping op) place count laid is
+undone-edited ms op index count laid is = undone-replaced ms (range_of op) (own_mapping op) index count laid is
 
 -- The edited list is a splice of what `replacement` gives for the run that `overlapping` found. The premises are what
 -- the calls ensure: `now` is the list at the splice, `all` the list that the run was taken from.
-pub spliced_edit : (ms now all ys pieces : List Mapping) (op : PageOp) (range : Span) (place count : ℕ) →
-    IsLaidOut ms → range ≡ range_of op → IsOverlappingRun ms range place count →
-    now ≡ ms → all ≡ ms → ys ≡ pieces → pieces ≡ edited (take (place + count - place) (drop place all)) op →
-    splice now place (place + count) ys ≡ edited ms op
-spliced_edit ms now all ys pieces op range place count laid range_is is now_is all_is ys_is pieces_are =
-    let is' : IsOverlappingRun ms (range_of op) place count = rw range_is at is in
-    let size : place + count - place ≡ count = omega arith in
-    let pieces' : pieces ≡ edited (run ms place count) op = rw (all_is, size) at pieces_are in
-    rw (now_is, ys_is, pieces') (sym (edited_run_in_place ms op place count laid is'))
+pub spliced_edit : (ms now all ys pieces : List Mapping) (op : PageOp) (range : PageRangeState) (index count : ℕ) →
+    IsLaidOut ms → range ≡ range_of op → IsOverlappingRun ms range index count →
+    now ≡ ms → all ≡ ms → ys ≡ pieces → pieces ≡ edited (take (index + count - index) (drop index all)) op →
+    splice now index (index + count) ys ≡ edited ms op
+spliced_edit ms now all ys pieces op range index count laid range_is is now_is all_is ys_is pieces_are =
+    let is' : IsOverlappingRun ms (range_of op) index count = rw range_is at is in
+    let size : index + count - index ≡ count = omega arith in
+    let pieces' : pieces ≡ edited (run ms index count) op = rw (all_is, size) at pieces_are in
+    rw (now_is, ys_is, pieces') (sym (edited_run_in_place ms op index count laid is'))
 
 pub at-restored : RestoredListSays
 at-restored ms saved range page in_space =
@@ -86,9 +86,9 @@ laid_out-restored ms saved range laid saved_laid =
     (laid_out-clipped range.first (end_of range) 0 0 saved saved_laid (omega arith)) (lie_in-clipped range saved)
 
 pub restored_run_in_place : RestoredRunInPlace
-restored_run_in_place ms saved range place count laid is =
-    replaced_run_in_place ms range (clipped range.first (end_of range) saved) place count laid is
+restored_run_in_place ms saved range index count laid is =
+    replaced_run_in_place ms range (clipped range.first (end_of range) saved) index count laid is
 
 pub undone-restored : UndoneRestoreIsOld
-undone-restored ms saved range place count laid is =
-    undone-replaced ms range (clipped range.first (end_of range) saved) place count laid is
+undone-restored ms saved range index count laid is =
+    undone-replaced ms range (clipped range.first (end_of range) saved) index count laid is

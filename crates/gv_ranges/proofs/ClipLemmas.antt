@@ -1,7 +1,7 @@
 -- What is left of a mapping between two pages, and of a list.
 use Rattle.std.proofs.Common.{◌≡◌, ℕ, ◌+◌, ◌-◌, ◌≤◌, ◌<◌, max, min, ◌++◌, List, [], ◌∷◌, true, false, cond, arith, refl, sym, ◌∙◌, ap, leb, ltb, ⊎_elim, ◌⊎◌, Some, None}
 use Rattle.std.proofs.lemmas.Bool.{lt-leb, le-leb, lt-ltb, le-ltb, cases_lt}
-use Rattle.gv_types.specs.Span.{Span, span, end_of, covers, IsInSpace}
+use Rattle.gv_types.specs.PageRange.{PageRangeState, span, end_of, covers, IsInSpace}
 use Rattle.gv_types.specs.Mapping.{part, piece, clip, advanced}
 use Rattle.gv_types.specs.declared.mapping.Backing.{Backing}
 use Rattle.gv_types.specs.declared.mapping.Backing.TheVariants.{Buffer, Zero}
@@ -54,7 +54,7 @@ leb_iff a b c d there back =
     (cases_lt b a)
 
 -- between the two pages a piece covers what the mapping covers
-pub covers-clip : (low high page : ℕ) (s : Span) → low ≤ page → page < high → max low s.first < min high (end_of s) →
+pub covers-clip : (low high page : ℕ) (s : PageRangeState) → low ≤ page → page < high → max low s.first < min high (end_of s) →
     covers (span (max low s.first) (min high (end_of s) - max low s.first)) page ≡ covers s page
 covers-clip low high page s up down some =
     let a : leb (max low s.first) page ≡ leb s.first page = leb_iff _ _ _ _ (λ h. omega arith) (λ h. omega arith) in
@@ -62,7 +62,7 @@ covers-clip low high page s up down some =
     rw (a, b) refl
 
 -- where nothing is left of a mapping, it covers no page between the two
-pub uncovered-clip : (low high page : ℕ) (s : Span) → low ≤ page → page < high → min high (end_of s) ≤ max low s.first → covers s page ≡ false
+pub uncovered-clip : (low high page : ℕ) (s : PageRangeState) → low ≤ page → page < high → min high (end_of s) ≤ max low s.first → covers s page ≡ false
 uncovered-clip low high page s up down none =
     ⊎_elim
     (λ (before : page < s.first). rw (lt-leb _ _ before) refl)

@@ -5,16 +5,16 @@ use Rattle.std.proofs.lemmas.Bool.{leb-true, leb-false}
 use Rattle.std.specs.List.{All}
 use Rattle.std.specs.Global.{Vec}
 use Rattle.gv_types.specs.Page.{PAGES}
-use Rattle.gv_types.specs.Span.{end_of}
+use Rattle.gv_types.specs.PageRange.{end_of}
 use Rattle.gv_types.specs.declared.mapping.Mapping.{Mapping}
-use Rattle.gv_chunks.specs.Chunks.{joined, AreFilled, AreFirsts}
+use Rattle.gv_chunks.specs.Chunks.{chunks_joined, AreFilled, AreFirsts}
 use Rattle.gv_chunks.proofs.StartLemmas.{take_start, drop_start, start_within, start_rises, end_of_chunk, at_in_chunk}
 use Rattle.gv_ranges.specs.List.{IsLaidOut}
 use Rattle.gv_ranges.proofs.LookupLemmas.{is_mapping}
-use Rattle.gv_ranges.proofs.Places.{chosen, ended-before, begun-from, not_begun-from}
+use Rattle.gv_ranges.proofs.Indices.{chosen, ended-before, begun-from, not_begun-from}
 
 -- a chunk that holds something begins within the list
-begins_within : (xs : List (Vec Mapping)) (i : ℕ) → AreFilled xs → i < length xs → length (joined (take i xs)) < length (joined xs)
+begins_within : (xs : List (Vec Mapping)) (i : ℕ) → AreFilled xs → i < length xs → length (chunks_joined (take i xs)) < length (chunks_joined xs)
 begins_within [] i filled within = absurd (omega arith)
 begins_within (x ∷ xs) i filled within =
     let v : Vec Mapping = slice_index_or (x ∷ xs) i x in
@@ -22,68 +22,68 @@ begins_within (x ∷ xs) i filled within =
 
 -- where it begins is the first page of the mapping there
 begins_at : (xs : List (Vec Mapping)) (firsts : List ℕ) (i : ℕ) → AreFilled xs → AreFirsts firsts xs → i < length xs →
-    (d : ℕ) (m : Mapping) → (get_or (joined xs) (length (joined (take i xs))) m).range.first ≡ slice_index_or firsts i d
+    (d : ℕ) (m : Mapping) → (get_or (chunks_joined xs) (length (chunks_joined (take i xs))) m).range.first ≡ slice_index_or firsts i d
 begins_at [] firsts i filled are within d m = absurd (omega arith)
 begins_at (x ∷ xs) firsts i filled are within d m =
     let v : Vec Mapping = slice_index_or (x ∷ xs) i x in
-    let start : ℕ = length (joined (take i (x ∷ xs))) in
-    let same : get_or (joined (x ∷ xs)) (start + 0) m ≡ get_or v.items 0 m =
+    let start : ℕ = length (chunks_joined (take i (x ∷ xs))) in
+    let same : get_or (chunks_joined (x ∷ xs)) (start + 0) m ≡ get_or v.items 0 m =
     at_in_chunk (x ∷ xs) i x v.items within refl 0 m (omega (arith, filled i x within, v.ok)) in
-    ap (λ n. (get_or (joined (x ∷ xs)) n m).range.first) (omega arith) ∙ (ap (λ (e : Mapping). e.range.first) same ∙ sym (are i d x m within).1)
+    ap (λ n. (get_or (chunks_joined (x ∷ xs)) n m).range.first) (omega arith) ∙ (ap (λ (e : Mapping). e.range.first) same ∙ sym (are i d x m within).1)
 
--- a list with a place has a mapping
-mapping_of : (ms : List Mapping) (place : ℕ) → place < length ms → Mapping
-mapping_of [] place within = absurd (omega arith)
-mapping_of (m ∷ ms) place within = m
+-- a list with an index has a mapping
+mapping_of : (ms : List Mapping) (index : ℕ) → index < length ms → Mapping
+mapping_of [] index within = absurd (omega arith)
+mapping_of (m ∷ ms) index within = m
 
 -- each chunk has its page
 pub first_within : (xs : List (Vec Mapping)) (firsts : List ℕ) (i : ℕ) → AreFilled xs → AreFirsts firsts xs → i < length xs → i < length firsts
 first_within [] firsts i filled are within = absurd (omega arith)
 first_within (x ∷ xs) firsts i filled are within =
-    let m : Mapping = mapping_of (joined (x ∷ xs)) _ (begins_within (x ∷ xs) i filled within) in
+    let m : Mapping = mapping_of (chunks_joined (x ∷ xs)) _ (begins_within (x ∷ xs) i filled within) in
     (are i 0 x m within).0
 
-module _ (xs : List (Vec Mapping)) (firsts : List ℕ) (i d : ℕ) (filled : AreFilled xs) (are : AreFirsts firsts xs) (laid : IsLaidOut (joined xs))
+module _ (xs : List (Vec Mapping)) (firsts : List ℕ) (i d : ℕ) (filled : AreFilled xs) (are : AreFirsts firsts xs) (laid : IsLaidOut (chunks_joined xs))
     (within : i < length xs) where
   -- a chunk begins in the address space
   pub first_in_space : slice_index_or firsts i d ≤ PAGES
   first_in_space =
-      let begins : length (joined (take i xs)) < length (joined xs) = begins_within xs i filled within in
-      let m : Mapping = mapping_of (joined xs) _ begins in
-      let is = is_mapping (joined xs) 0 (length (joined (take i xs))) m laid begins in
+      let begins : length (chunks_joined (take i xs)) < length (chunks_joined xs) = begins_within xs i filled within in
+      let m : Mapping = mapping_of (chunks_joined xs) _ begins in
+      let is = is_mapping (chunks_joined xs) 0 (length (chunks_joined (take i xs))) m laid begins in
       omega (arith, is.0, begins_at xs firsts i filled are within d m)
 
   -- the chunks before one that begins at a page or before it end there
-  pub chunks_ended : (page : ℕ) → slice_index_or firsts i d ≤ page → All (λ m. end_of m.range ≤ page) (joined (take i xs))
+  pub chunks_ended : (page : ℕ) → slice_index_or firsts i d ≤ page → All (λ m. end_of m.range ≤ page) (chunks_joined (take i xs))
   chunks_ended page low =
       subst (λ (ms : List Mapping). All (λ (m : Mapping). end_of m.range ≤ page) ms) (take_start xs i)
-      (ended-before (joined xs) page (length (joined (take i xs))) laid (begins_within xs i filled within) (λ m. rw (begins_at xs firsts i filled are within d m) low)).ended
+      (ended-before (chunks_joined xs) page (length (chunks_joined (take i xs))) laid (begins_within xs i filled within) (λ m. rw (begins_at xs firsts i filled are within d m) low)).ended
 
   -- they begin before a page where it does
-  pub chunks_begun : (page : ℕ) → slice_index_or firsts i d < page → All (λ m. m.range.first < page) (joined (take i xs))
+  pub chunks_begun : (page : ℕ) → slice_index_or firsts i d < page → All (λ m. m.range.first < page) (chunks_joined (take i xs))
   chunks_begun page low k m below =
       let ends = chunks_ended (slice_index_or firsts i d) (omega arith) k m below in
       omega (arith, ends)
 
   -- the chunks from one that begins past a page on begin past it
-  pub chunks_later : (page j : ℕ) → i ≤ j → page < slice_index_or firsts i d → All (λ m. page < m.range.first) (joined (drop j xs))
+  pub chunks_later : (page j : ℕ) → i ≤ j → page < slice_index_or firsts i d → All (λ m. page < m.range.first) (chunks_joined (drop j xs))
   chunks_later page j up high =
       subst (λ (ms : List Mapping). All (λ (m : Mapping). page < m.range.first) ms) (drop_start xs j)
-      (begun-from (joined xs) page (length (joined (take i xs))) laid (begins_within xs i filled within) (length (joined (take j xs)))
+      (begun-from (chunks_joined xs) page (length (chunks_joined (take i xs))) laid (begins_within xs i filled within) (length (chunks_joined (take j xs)))
       (start_rises xs i j up) (start_within xs j) (λ m. rw (begins_at xs firsts i filled are within d m) high))
 
   -- and those from one on that begins at it or past it do so
-  pub chunks_not_begun : (page : ℕ) → page ≤ slice_index_or firsts i d → All (λ m. page ≤ m.range.first) (joined (drop i xs))
+  pub chunks_not_begun : (page : ℕ) → page ≤ slice_index_or firsts i d → All (λ m. page ≤ m.range.first) (chunks_joined (drop i xs))
   chunks_not_begun page high =
       subst (λ (ms : List Mapping). All (λ (m : Mapping). page ≤ m.range.first) ms) (drop_start xs i)
-      (not_begun-from (joined xs) page (length (joined (take i xs))) laid (begins_within xs i filled within) (λ m. rw (begins_at xs firsts i filled are within d m) high))
+      (not_begun-from (chunks_joined xs) page (length (chunks_joined (take i xs))) laid (begins_within xs i filled within) (λ m. rw (begins_at xs firsts i filled are within d m) high))
 
 -- a step of the search: what is left is halved by a look at where the chunk in the middle begins
-pub halved_chunks : (xs : List (Vec Mapping)) (firsts : List ℕ) (page chunk left half next step : ℕ) → AreFilled xs → AreFirsts firsts xs → IsLaidOut (joined xs) →
+pub halved_chunks : (xs : List (Vec Mapping)) (firsts : List ℕ) (page chunk left half next step : ℕ) → AreFilled xs → AreFirsts firsts xs → IsLaidOut (chunks_joined xs) →
     chunk + left ≤ length xs → 1 < left → half ≡ left / 2 →
-    All (λ m. end_of m.range ≤ page) (joined (take chunk xs)) → All (λ m. page < m.range.first) (joined (drop (chunk + left) xs)) →
+    All (λ m. end_of m.range ≤ page) (chunks_joined (take chunk xs)) → All (λ m. page < m.range.first) (chunks_joined (drop (chunk + left) xs)) →
     step ≡ (if leb (slice_index_or firsts (chunk + half) 0) page then half else 0) → next ≡ chunk + step →
-    (next + (left - half) ≤ length xs) × All (λ m. end_of m.range ≤ page) (joined (take next xs)) × All (λ m. page < m.range.first) (joined (drop (next + (left - half)) xs))
+    (next + (left - half) ≤ length xs) × All (λ m. end_of m.range ≤ page) (chunks_joined (take next xs)) × All (λ m. page < m.range.first) (chunks_joined (drop (next + (left - half)) xs))
 halved_chunks xs firsts page chunk left half next step filled are laid within more middle ended past step_is is =
     let inside : chunk + half < length xs = omega arith in
     elim (chosen (leb (slice_index_or firsts (chunk + half) 0) page) next chunk half step step_is is) [

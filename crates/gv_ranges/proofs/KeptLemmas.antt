@@ -4,7 +4,7 @@ use Rattle.std.proofs.lemmas.Bool.{lt-ltb, le-ltb, cases_lt}
 use Rattle.std.proofs.lemmas.List.Elements.{All-nil, All-cons, All-head, All-tail, All-append}
 use Rattle.std.specs.List.{All}
 use Rattle.gv_types.specs.Page.{PAGES}
-use Rattle.gv_types.specs.Span.{Span, end_of}
+use Rattle.gv_types.specs.PageRange.{PageRangeState, end_of}
 use Rattle.gv_types.specs.Mapping.{piece, clip, IsMapping}
 use Rattle.gv_types.specs.Operation.{range_of, own_mapping}
 use Rattle.gv_types.specs.declared.mapping.Mapping.{Mapping}
@@ -55,7 +55,7 @@ clipped_kept P low high ms pieces mappings all =
     All-clipped P low high ms (λ k d below n is. pieces low high _ n (mappings k d below) (all k d below) is)
 
 -- the mappings of a replaced list are pieces of those of the list, or the given ones
-pub All-replaced : (P : Mapping → Type 0) (ms : List Mapping) (range : Span) (given : List Mapping) → HoldsOfPieces P →
+pub All-replaced : (P : Mapping → Type 0) (ms : List Mapping) (range : PageRangeState) (given : List Mapping) → HoldsOfPieces P →
     All IsMapping ms → All P ms → All P given → All P (replaced ms range given)
 All-replaced P ms range given pieces mappings all all_given =
     All-append P (clipped 0 range.first ms ++ given) (clipped (end_of range) PAGES ms)
@@ -66,7 +66,7 @@ pub All-edited : (P : Mapping → Type 0) (ms : List Mapping) (op : PageOp) → 
     All IsMapping ms → All P ms → All P (own_mapping op) → All P (edited ms op)
 All-edited P ms op pieces mappings all all_own = All-replaced P ms (range_of op) (own_mapping op) pieces mappings all all_own
 
-pub All-restored : (P : Mapping → Type 0) (ms saved : List Mapping) (range : Span) → HoldsOfPieces P →
+pub All-restored : (P : Mapping → Type 0) (ms saved : List Mapping) (range : PageRangeState) → HoldsOfPieces P →
     All IsMapping ms → All P ms → All IsMapping saved → All P saved → All P (restored ms range saved)
 All-restored P ms saved range pieces mappings all saved_mappings all_saved =
     All-replaced P ms range (clipped range.first (end_of range) saved) pieces mappings all

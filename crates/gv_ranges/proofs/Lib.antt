@@ -1,6 +1,6 @@
 pub mod PartLemmas
 pub mod LookupLemmas
-pub mod Places
+pub mod Indices
 pub mod Firsts
 pub mod JoinedLemmas
 pub mod ClipLemmas
@@ -11,4 +11,4 @@ pub mod ChangeLemmas
 pub mod OverlapLemmas
 pub mod RestLemmas
 pub mod OverlappingLemmas
-pub mod PlaceLemmas
+pub mod IndexLemmas

@@ -1,4 +1,4 @@
--- What a list in order holds at a page, found by its place.
+-- What a list in order holds at a page, found by its index.
 use Rattle.std.proofs.Common.{◌≡◌, ℕ, zero, suc, ◌+◌, ◌-◌, ◌≤◌, ◌<◌, length, take, drop, List, [], ◌∷◌, true, false, cond, arith, refl, ◌∙◌, get_or, leb, ltb, ⊎_elim, ◌&&◌, Some, None}
 use Rattle.std.proofs.lemmas.Bool.{lt-leb, le-leb, lt-ltb, le-ltb, and_from, cases_lt}
 use Rattle.std.proofs.lemmas.List.{length-take-le, length-drop, get_or-take, get_or-drop}
@@ -6,7 +6,7 @@ use Rattle.std.proofs.lemmas.List.Elements.{All-from_get_or, All-get_or, All-hea
 use Rattle.std.specs.List.{All}
 use Rattle.std.specs.List.Sorted.{IsNonDecreasingBy}
 use Rattle.gv_types.specs.Page.{PAGES}
-use Rattle.gv_types.specs.Span.{Span, end_of, meets, IsInSpace}
+use Rattle.gv_types.specs.PageRange.{PageRangeState, end_of, meets, IsInSpace}
 use Rattle.gv_types.specs.Mapping.{part, IsMapping}
 use Rattle.gv_types.specs.declared.mapping.Mapping.{Mapping}
 use Rattle.gv_ranges.specs.List.{at, IsLaidOutFrom, run}
@@ -20,13 +20,13 @@ at_below (m ∷ ms) low page laid below =
     rw above rest
 
 -- the first mapping that ends past a page decides what the page holds
-pub at_place : (ms : List Mapping) (low page : ℕ) (i : ℕ) (d : Mapping) → IsLaidOutFrom low ms → i ≤ length ms →
+pub at_index : (ms : List Mapping) (low page : ℕ) (i : ℕ) (d : Mapping) → IsLaidOutFrom low ms → i ≤ length ms →
     ((k : ℕ) → k < i → end_of (get_or ms k d).range ≤ page) → at ms page ≡ at (drop i ms) page
-at_place ms low page zero d laid within before = refl
-at_place [] low page (suc i) d laid within before = refl
-at_place (m ∷ ms) low page (suc i) d laid within before =
+at_index ms low page zero d laid within before = refl
+at_index [] low page (suc i) d laid within before = refl
+at_index (m ∷ ms) low page (suc i) d laid within before =
     let past : ltb page (end_of m.range) ≡ false = le-ltb _ _ (before 0 (omega arith)) in
-    let rest : at ms page ≡ at (drop i ms) page = at_place ms (end_of m.range) page i d laid.2 (omega arith) (λ k below. before (suc k) (omega arith)) in
+    let rest : at ms page ≡ at (drop i ms) page = at_index ms (end_of m.range) page i d laid.2 (omega arith) (λ k below. before (suc k) (omega arith)) in
     elim (leb m.range.first page) as (λ b. cond (b && ltb page (end_of m.range)) (Some (part m page)) (at ms page) ≡ at (drop i ms) page)
     [ true ↦ rw past rest | false ↦ rest ]
 
@@ -97,38 +97,38 @@ at_none (m ∷ ms) page before =
     at_none ms page (All-tail (λ (m : Mapping). end_of m.range ≤ page) m ms before)
 
 -- what ends before a range stands before what begins behind it
-pub ended_before_begun : (ms : List Mapping) (low : ℕ) (range : Span) (place behind : ℕ) → IsLaidOutFrom low ms → IsInSpace range →
-    place ≤ length ms → behind ≤ length ms →
-    All (λ m. end_of m.range ≤ range.first) (take place ms) → All (λ m. end_of range ≤ m.range.first) (drop behind ms) → place ≤ behind
-ended_before_begun [] low range place behind laid some within within' ended later = omega arith
-ended_before_begun (n ∷ ns) low range place behind laid some within within' ended later =
+pub ended_before_begun : (ms : List Mapping) (low : ℕ) (range : PageRangeState) (index behind : ℕ) → IsLaidOutFrom low ms → IsInSpace range →
+    index ≤ length ms → behind ≤ length ms →
+    All (λ m. end_of m.range ≤ range.first) (take index ms) → All (λ m. end_of range ≤ m.range.first) (drop behind ms) → index ≤ behind
+ended_before_begun [] low range index behind laid some within within' ended later = omega arith
+ended_before_begun (n ∷ ns) low range index behind laid some within within' ended later =
     ⊎_elim (λ less.
     let m : Mapping = get_or (n ∷ ns) behind n in
     let is : IsMapping m = is_mapping (n ∷ ns) low behind n laid (omega arith) in
-    let ends : end_of (get_or (take place (n ∷ ns)) behind n).range ≤ range.first = All-get_or (λ (m : Mapping). end_of m.range ≤ range.first) _ behind n (omega (arith, length-take-le place (n ∷ ns) within)) ended in
-    let ends' : end_of m.range ≤ range.first = rw (get_or-take place (n ∷ ns) behind n less) at ends in
+    let ends : end_of (get_or (take index (n ∷ ns)) behind n).range ≤ range.first = All-get_or (λ (m : Mapping). end_of m.range ≤ range.first) _ behind n (omega (arith, length-take-le index (n ∷ ns) within)) ended in
+    let ends' : end_of m.range ≤ range.first = rw (get_or-take index (n ∷ ns) behind n less) at ends in
     let begins : end_of range ≤ (get_or (drop behind (n ∷ ns)) 0 n).range.first = All-get_or (λ (m : Mapping). end_of range ≤ m.range.first) _ 0 n (omega (arith, length-drop behind (n ∷ ns))) later in
     let begins' : end_of range ≤ (get_or (n ∷ ns) (behind + 0) n).range.first = rw (get_or-drop behind (n ∷ ns) 0 n) at begins in
     let same : behind + 0 ≡ behind = omega arith in
     let begins'' : end_of range ≤ m.range.first = rw same at begins' in
     absurd (omega (arith, is.0, ends', begins'', some)))
     (λ h. h)
-    (cases_lt behind place)
+    (cases_lt behind index)
 
--- the mappings between the two places meet the range
-pub run_meets : (ms : List Mapping) (range : Span) (place behind : ℕ) → place ≤ behind → behind ≤ length ms →
-    All (λ m. range.first < end_of m.range) (drop place ms) → All (λ m. m.range.first < end_of range) (take behind ms) →
-    All (λ m. meets m.range range ≡ true) (run ms place (behind - place))
-run_meets [] range place behind up within after' before' =
-    let none : behind - place ≡ 0 = omega arith in rw none (λ k d below. absurd (omega arith))
-run_meets (n ∷ ns) range place behind up within after' before' =
-    All-from_get_or (λ (m : Mapping). meets m.range range ≡ true) (run (n ∷ ns) place (behind - place)) n (λ k below.
-    let less : k < behind - place = omega (arith, length-take-le (behind - place) (drop place (n ∷ ns)) (omega (arith, length-drop place (n ∷ ns)))) in
-    let a : range.first < end_of (get_or (drop place (n ∷ ns)) k n).range = All-get_or (λ (m : Mapping). range.first < end_of m.range) _ k n (omega (arith, length-drop place (n ∷ ns))) after' in
-    let b : (get_or (take behind (n ∷ ns)) (place + k) n).range.first < end_of range = All-get_or (λ (m : Mapping). m.range.first < end_of range) _ (place + k) n (omega (arith, length-take-le behind (n ∷ ns) within)) before' in
-    let a' : range.first < end_of (get_or (n ∷ ns) (place + k) n).range = rw (get_or-drop place (n ∷ ns) k n) at a in
-    let b' : (get_or (n ∷ ns) (place + k) n).range.first < end_of range = rw (get_or-take behind (n ∷ ns) (place + k) n (omega arith)) at b in
-    let is : get_or (run (n ∷ ns) place (behind - place)) k n ≡ get_or (n ∷ ns) (place + k) n = get_or-take _ _ k n less ∙ get_or-drop place (n ∷ ns) k n in
+-- the mappings between the two indices meet the range
+pub run_meets : (ms : List Mapping) (range : PageRangeState) (index behind : ℕ) → index ≤ behind → behind ≤ length ms →
+    All (λ m. range.first < end_of m.range) (drop index ms) → All (λ m. m.range.first < end_of range) (take behind ms) →
+    All (λ m. meets m.range range ≡ true) (run ms index (behind - index))
+run_meets [] range index behind up within after' before' =
+    let none : behind - index ≡ 0 = omega arith in rw none (λ k d below. absurd (omega arith))
+run_meets (n ∷ ns) range index behind up within after' before' =
+    All-from_get_or (λ (m : Mapping). meets m.range range ≡ true) (run (n ∷ ns) index (behind - index)) n (λ k below.
+    let less : k < behind - index = omega (arith, length-take-le (behind - index) (drop index (n ∷ ns)) (omega (arith, length-drop index (n ∷ ns)))) in
+    let a : range.first < end_of (get_or (drop index (n ∷ ns)) k n).range = All-get_or (λ (m : Mapping). range.first < end_of m.range) _ k n (omega (arith, length-drop index (n ∷ ns))) after' in
+    let b : (get_or (take behind (n ∷ ns)) (index + k) n).range.first < end_of range = All-get_or (λ (m : Mapping). m.range.first < end_of range) _ (index + k) n (omega (arith, length-take-le behind (n ∷ ns) within)) before' in
+    let a' : range.first < end_of (get_or (n ∷ ns) (index + k) n).range = rw (get_or-drop index (n ∷ ns) k n) at a in
+    let b' : (get_or (n ∷ ns) (index + k) n).range.first < end_of range = rw (get_or-take behind (n ∷ ns) (index + k) n (omega arith)) at b in
+    let is : get_or (run (n ∷ ns) index (behind - index)) k n ≡ get_or (n ∷ ns) (index + k) n = get_or-take _ _ k n less ∙ get_or-drop index (n ∷ ns) k n in
     rw is (and_from _ _ (lt-ltb _ _ b') (lt-ltb _ _ a')))
 
 -- nothing lies past the end of the address space

@@ -5,7 +5,7 @@ use Rattle.std.proofs.lemmas.List.Elements.{All-head, All-tail, All-append}
 use Rattle.std.specs.List.{All}
 use Rattle.std.specs.Prelude.{IsTrue}
 use Rattle.gv_types.specs.Page.{PAGES}
-use Rattle.gv_types.specs.Span.{Span, span, end_of, lies_in, IsInSpace}
+use Rattle.gv_types.specs.PageRange.{PageRangeState, span, end_of, lies_in, IsInSpace}
 use Rattle.gv_types.specs.Mapping.{piece, advanced, IsMapping, HasSmallPages}
 use Rattle.gv_types.specs.declared.mapping.Backing.{Backing}
 use Rattle.gv_types.specs.declared.mapping.Backing.TheVariants.{Buffer, Zero}
@@ -52,7 +52,7 @@ ends-clipped low high ms =
     (λ k d below n is. let h = clip_is_piece low high (get_or ms k d) n is in rw h.1 (omega (arith, h.0)))
 
 -- and what lies between the first and the last page of a range lies in it
-pub lie_in-clipped : (range : Span) (ms : List Mapping) → LieIn range (clipped range.first (end_of range) ms)
+pub lie_in-clipped : (range : PageRangeState) (ms : List Mapping) → LieIn range (clipped range.first (end_of range) ms)
 lie_in-clipped range ms =
     All-clipped (λ m. IsTrue (lies_in m.range range)) range.first (end_of range) ms
     (λ k d below n is. let h = clip_is_piece range.first (end_of range) (get_or ms k d) n is in
@@ -74,14 +74,14 @@ laid_out-append start bound (m ∷ ms) ys laid ends up later = (
 )
 
 -- mappings in order that lie in a range are in order from its first page on
-inside_laid_out : (range : Span) (pieces : List Mapping) → IsLaidOut pieces → LieIn range pieces → IsLaidOutFrom range.first pieces
+inside_laid_out : (range : PageRangeState) (pieces : List Mapping) → IsLaidOut pieces → LieIn range pieces → IsLaidOutFrom range.first pieces
 inside_laid_out range [] laid inside = tt
 inside_laid_out range (m ∷ ms) laid inside =
     let here : IsTrue (lies_in m.range range) = All-head (λ (n : Mapping). IsTrue (lies_in n.range range)) m ms inside in
     ((lies_in_bounds m.range range here).0, laid.1, laid.2)
 
 -- a list with a range replaced by mappings in order that lie in the range is in order
-pub laid_out-replaced : (ms : List Mapping) (range : Span) (pieces : List Mapping) →
+pub laid_out-replaced : (ms : List Mapping) (range : PageRangeState) (pieces : List Mapping) →
     IsLaidOut ms → IsLaidOut pieces → LieIn range pieces → IsLaidOut (replaced ms range pieces)
 laid_out-replaced ms range pieces laid pieces_laid inside =
     let front : IsLaidOutFrom 0 (clipped 0 range.first ms ++ pieces) =

@@ -3,7 +3,7 @@ use Rattle.std.proofs.Common.{◌≡◌, ℕ, ◌+◌, ◌<◌, ◌≤◌, take,
 use Rattle.std.proofs.lemmas.Bool.{lt-leb, leb-true, ltb-true, and_parts, and_left}
 use Rattle.std.proofs.lemmas.List.Elements.{All-head, All-tail, All-weaker}
 use Rattle.std.specs.List.{All}
-use Rattle.gv_types.specs.Span.{end_of}
+use Rattle.gv_types.specs.PageRange.{end_of}
 use Rattle.gv_types.specs.declared.mapping.Mapping.{Mapping}
 use Rattle.gv_ranges.specs.List.{at, run}
 use Rattle.gv_ranges.specs.Laws.{OverlappingRunSays}
@@ -20,18 +20,18 @@ at_begun_past (m ∷ ms) page past =
     rw (and_left _ _ (lt-leb m.range.first page here)) rest
 
 pub at_run : OverlappingRunSays
-at_run ms range place count page is covered =
+at_run ms range index count page is covered =
     let parts = and_parts _ _ covered in
     let from : range.first ≤ page = leb-true _ _ parts.0 in
     let below : page < end_of range = ltb-true _ _ parts.1 in
-    let before : at (take place ms) page ≡ None =
-    at_none (take place ms) page
-    (All-weaker (λ (m : Mapping). end_of m.range ≤ range.first) (λ (m : Mapping). end_of m.range ≤ page) (λ m h. omega (arith, h)) (take place ms) is.before) in
-    let behind : at (drop (place + count) ms) page ≡ None =
-    at_begun_past (drop (place + count) ms) page
-    (All-weaker (λ (m : Mapping). end_of range ≤ m.range.first) (λ (m : Mapping). page < m.range.first) (λ m h. omega (arith, h)) (drop (place + count) ms) is.beyond) in
+    let before : at (take index ms) page ≡ None =
+    at_none (take index ms) page
+    (All-weaker (λ (m : Mapping). end_of m.range ≤ range.first) (λ (m : Mapping). end_of m.range ≤ page) (λ m h. omega (arith, h)) (take index ms) is.before) in
+    let behind : at (drop (index + count) ms) page ≡ None =
+    at_begun_past (drop (index + count) ms) page
+    (All-weaker (λ (m : Mapping). end_of range ≤ m.range.first) (λ (m : Mapping). page < m.range.first) (λ m h. omega (arith, h)) (drop (index + count) ms) is.beyond) in
     sym (
-    ap (λ (xs : List Mapping). at xs page) (split_at_run ms place count) ∙
-    at-append_none (take place ms) (run ms place count ++ drop (place + count) ms) page before ∙
-    at-append_left (run ms place count) (drop (place + count) ms) page behind
+    ap (λ (xs : List Mapping). at xs page) (split_at_run ms index count) ∙
+    at-append_none (take index ms) (run ms index count ++ drop (index + count) ms) page before ∙
+    at-append_left (run ms index count) (drop (index + count) ms) page behind
     )

@@ -1,4 +1,4 @@
--- What holds of each place before and behind a point of a list.
+-- What holds of each index before and behind a point of a list.
 use Rattle.std.proofs.Common.{◌≡◌, ℕ, ◌+◌, ◌≤◌, ◌<◌, length, take, drop, List, [], ◌∷◌, arith, get_or, ap, ◌∙◌}
 use Rattle.std.proofs.lemmas.List.{length-take, length-take-le, length-drop, get_or-take, get_or-drop}
 use Rattle.std.proofs.lemmas.List.Elements.{All-from_get_or, All-get_or}
@@ -14,7 +14,7 @@ All-drop_within P [] i within all = let e : i ≡ 0 = omega arith in rw e (λ k 
 All-drop_within P (x ∷ xs) i within all =
     All-from_get_or P (drop i (x ∷ xs)) x (λ k below. rw get_or-drop (all (i + k) x (omega arith) (omega (arith, length-drop i (x ∷ xs)))))
 
--- each place before the point, and the place at it
+-- each index before the point, and the index at it
 pub All-take_at : {X : Type 0} (P : X → Type 0) (xs : List X) (i k : ℕ) (d : X) → i ≤ length xs → All P (take i xs) → k < i → P (get_or xs k d)
 All-take_at P xs i k d within all less =
     rw (← get_or-take i xs k d less) (All-get_or P (take i xs) k d (omega (arith, length-take-le i xs within)) all)

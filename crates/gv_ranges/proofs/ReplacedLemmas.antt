@@ -6,7 +6,7 @@ use Rattle.std.proofs.lemmas.List.Elements.{All-nil, All-cons, All-head, All-tai
 use Rattle.std.specs.List.{All, splice}
 use Rattle.std.specs.Prelude.{IsTrue}
 use Rattle.gv_types.specs.Page.{PAGES, IsPage}
-use Rattle.gv_types.specs.Span.{Span, end_of, covers, lies_in}
+use Rattle.gv_types.specs.PageRange.{PageRangeState, end_of, covers, lies_in}
 use Rattle.gv_types.specs.Mapping.{clip, IsMapping}
 use Rattle.gv_types.specs.declared.mapping.Mapping.{Mapping}
 use Rattle.gv_ranges.specs.List.{at, IsLaidOut, IsLaidOutFrom, IsOverlappingRun, run}
@@ -15,13 +15,13 @@ use Rattle.gv_ranges.proofs.ClipLemmas.{at-clipped, at-clipped_out, at-append_no
 use Rattle.gv_chunks.proofs.SpliceLemmas.{drop-splice}
 
 -- the ends of a run that lies in another
-pub lies_in_bounds : (s t : Span) → IsTrue (lies_in s t) → (t.first ≤ s.first) × (end_of s ≤ end_of t)
+pub lies_in_bounds : (s t : PageRangeState) → IsTrue (lies_in s t) → (t.first ≤ s.first) × (end_of s ≤ end_of t)
 lies_in_bounds s t is =
     let parts : (leb t.first s.first ≡ true) × (leb (end_of s) (end_of t) ≡ true) = and_parts _ _ is in
     (leb-true t.first s.first parts.0, leb-true (end_of s) (end_of t) parts.1)
 
 -- mappings that lie in a range say nothing of a page outside
-at_outside : (range : Span) (pieces : List Mapping) (page : ℕ) → LieIn range pieces →
+at_outside : (range : PageRangeState) (pieces : List Mapping) (page : ℕ) → LieIn range pieces →
     (page < range.first) ⊎ (end_of range ≤ page) → at pieces page ≡ None
 at_outside range [] page inside out = refl
 at_outside range (m ∷ ms) page inside out =
@@ -36,7 +36,7 @@ at_outside range (m ∷ ms) page inside out =
     rw not rest
 
 -- a replaced list says of each page of the range what the pieces say, and of each other page what the list said
-pub at-replaced : (ms : List Mapping) (range : Span) (pieces : List Mapping) (page : ℕ) → LieIn range pieces → IsPage page →
+pub at-replaced : (ms : List Mapping) (range : PageRangeState) (pieces : List Mapping) (page : ℕ) → LieIn range pieces → IsPage page →
     at (replaced ms range pieces) page ≡ cond (covers range page) (at pieces page) (at ms page)
 at-replaced ms range pieces page lie in_space =
     ⊎_elim
@@ -89,59 +89,59 @@ clipped_none low high (m ∷ ms) all =
     let rest : clipped low high ms ≡ [] = clipped_none low high ms (All-tail (LiesOutside low high) m ms all) in
     rw (clip_none low high m (All-head (LiesOutside low high) m ms all), rest) refl
 
--- a list is the mappings before a place, a run, and those behind it
-pub split_at_run : (ms : List Mapping) (place count : ℕ) → ms ≡ take place ms ++ (run ms place count ++ drop (place + count) ms)
-split_at_run ms place count =
-    let back : run ms place count ++ drop count (drop place ms) ≡ drop place ms = take-append-drop count (drop place ms) in
-    let far : drop count (drop place ms) ≡ drop (place + count) ms = drop-drop count place ms in
-    rw (← far, back, take-append-drop place ms) refl
+-- a list is the mappings before an index, a run, and those behind it
+pub split_at_run : (ms : List Mapping) (index count : ℕ) → ms ≡ take index ms ++ (run ms index count ++ drop (index + count) ms)
+split_at_run ms index count =
+    let back : run ms index count ++ drop count (drop index ms) ≡ drop index ms = take-append-drop count (drop index ms) in
+    let far : drop count (drop index ms) ≡ drop (index + count) ms = drop-drop count index ms in
+    rw (← far, back, take-append-drop index ms) refl
 
 -- a range is replaced in the run that meets it
-pub replaced_run_in_place : (ms : List Mapping) (range : Span) (pieces : List Mapping) (place count : ℕ) →
-    IsLaidOut ms → IsOverlappingRun ms range place count →
-    replaced ms range pieces ≡ splice ms place (place + count) (replaced (run ms place count) range pieces)
-replaced_run_in_place ms range pieces place count laid is =
+pub replaced_run_in_place : (ms : List Mapping) (range : PageRangeState) (pieces : List Mapping) (index count : ℕ) →
+    IsLaidOut ms → IsOverlappingRun ms range index count →
+    replaced ms range pieces ≡ splice ms index (index + count) (replaced (run ms index count) range pieces)
+replaced_run_in_place ms range pieces index count laid is =
     let mappings : All IsMapping ms = all_mappings ms 0 laid in
-    let before : All (LiesBetween 0 range.first) (take place ms) =
-    λ k d below. (All-take IsMapping place ms mappings k d below, omega arith, is.before k d below) in
-    let before' : All (LiesOutside (end_of range) PAGES) (take place ms) =
-    λ k d below. inl (let h : end_of (get_or (take place ms) k d).range ≤ range.first = is.before k d below in omega arith) in
-    let behind : All (LiesBetween (end_of range) PAGES) (drop (place + count) ms) =
-    λ k d below. let h : IsMapping (get_or (drop (place + count) ms) k d) = All-drop IsMapping (place + count) ms mappings k d below in (h, is.beyond k d below, h.0.1) in
-    let behind' : All (LiesOutside 0 range.first) (drop (place + count) ms) =
-    λ k d below. inr (let h : end_of range ≤ (get_or (drop (place + count) ms) k d).range.first = is.beyond k d below in omega arith) in
-    let low : clipped 0 range.first ms ≡ take place ms ++ clipped 0 range.first (run ms place count) =
-    ap (clipped 0 range.first) (split_at_run ms place count) ∙
-    filter_map-append (clip 0 range.first) (take place ms) (run ms place count ++ drop (place + count) ms) ∙
+    let before : All (LiesBetween 0 range.first) (take index ms) =
+    λ k d below. (All-take IsMapping index ms mappings k d below, omega arith, is.before k d below) in
+    let before' : All (LiesOutside (end_of range) PAGES) (take index ms) =
+    λ k d below. inl (let h : end_of (get_or (take index ms) k d).range ≤ range.first = is.before k d below in omega arith) in
+    let behind : All (LiesBetween (end_of range) PAGES) (drop (index + count) ms) =
+    λ k d below. let h : IsMapping (get_or (drop (index + count) ms) k d) = All-drop IsMapping (index + count) ms mappings k d below in (h, is.beyond k d below, h.0.1) in
+    let behind' : All (LiesOutside 0 range.first) (drop (index + count) ms) =
+    λ k d below. inr (let h : end_of range ≤ (get_or (drop (index + count) ms) k d).range.first = is.beyond k d below in omega arith) in
+    let low : clipped 0 range.first ms ≡ take index ms ++ clipped 0 range.first (run ms index count) =
+    ap (clipped 0 range.first) (split_at_run ms index count) ∙
+    filter_map-append (clip 0 range.first) (take index ms) (run ms index count ++ drop (index + count) ms) ∙
     rw (
-      clipped_whole 0 range.first (take place ms) before,
-      filter_map-append (clip 0 range.first) (run ms place count) (drop (place + count) ms),
-      clipped_none 0 range.first (drop (place + count) ms) behind',
+      clipped_whole 0 range.first (take index ms) before,
+      filter_map-append (clip 0 range.first) (run ms index count) (drop (index + count) ms),
+      clipped_none 0 range.first (drop (index + count) ms) behind',
     ) (simp append-nil) in
-    let high : clipped (end_of range) PAGES ms ≡ clipped (end_of range) PAGES (run ms place count) ++ drop (place + count) ms =
-    ap (clipped (end_of range) PAGES) (split_at_run ms place count) ∙
-    filter_map-append (clip (end_of range) PAGES) (take place ms) (run ms place count ++ drop (place + count) ms) ∙
+    let high : clipped (end_of range) PAGES ms ≡ clipped (end_of range) PAGES (run ms index count) ++ drop (index + count) ms =
+    ap (clipped (end_of range) PAGES) (split_at_run ms index count) ∙
+    filter_map-append (clip (end_of range) PAGES) (take index ms) (run ms index count ++ drop (index + count) ms) ∙
     rw (
-      clipped_none (end_of range) PAGES (take place ms) before',
-      filter_map-append (clip (end_of range) PAGES) (run ms place count) (drop (place + count) ms),
-      clipped_whole (end_of range) PAGES (drop (place + count) ms) behind,
+      clipped_none (end_of range) PAGES (take index ms) before',
+      filter_map-append (clip (end_of range) PAGES) (run ms index count) (drop (index + count) ms),
+      clipped_whole (end_of range) PAGES (drop (index + count) ms) behind,
     ) refl in
     rw (low, high) (simp append_assoc)
 
 -- a splice taken back gives the list before it
-undone-splice : (ms ys : List Mapping) (place count : ℕ) → place + count ≤ length ms →
-    undone (splice ms place (place + count) ys) (record { place = place; put_in = length ys; taken = run ms place count }) ≡ ms
-undone-splice ms ys place count within =
-    let front : take place (splice ms place (place + count) ys) ≡ take place ms =
-    take_at (take place ms) _ place (length-take-le place ms (omega arith)) in
-    let back : drop (place + length ys) (splice ms place (place + count) ys) ≡ drop (place + count) ms =
-    drop-splice ms ys place (place + count) (place + length ys) 0 (omega arith) (omega arith) ∙ ap (λ n. drop n ms) (omega arith) in
-    rw (front, back) (sym (split_at_run ms place count))
+undone-splice : (ms ys : List Mapping) (index count : ℕ) → index + count ≤ length ms →
+    undone (splice ms index (index + count) ys) (record { index = index; put_in = length ys; taken = run ms index count }) ≡ ms
+undone-splice ms ys index count within =
+    let front : take index (splice ms index (index + count) ys) ≡ take index ms =
+    take_at (take index ms) _ index (length-take-le index ms (omega arith)) in
+    let back : drop (index + length ys) (splice ms index (index + count) ys) ≡ drop (index + count) ms =
+    drop-splice ms ys index (index + count) (index + length ys) 0 (omega arith) (omega arith) ∙ ap (λ n. drop n ms) (omega arith) in
+    rw (front, back) (sym (split_at_run ms index count))
 
 -- a replaced range taken back gives the list before it, with its boundaries
-pub undone-replaced : (ms : List Mapping) (range : Span) (pieces : List Mapping) (place count : ℕ) →
-    IsLaidOut ms → IsOverlappingRun ms range place count →
-    undone (replaced ms range pieces) (record { place = place; put_in = length (replaced (run ms place count) range pieces); taken = run ms place count }) ≡ ms
-undone-replaced ms range pieces place count laid is =
-    rw (replaced_run_in_place ms range pieces place count laid is)
-    (undone-splice ms (replaced (run ms place count) range pieces) place count is.within)
+pub undone-replaced : (ms : List Mapping) (range : PageRangeState) (pieces : List Mapping) (index count : ℕ) →
+    IsLaidOut ms → IsOverlappingRun ms range index count →
+    undone (replaced ms range pieces) (record { index = index; put_in = length (replaced (run ms index count) range pieces); taken = run ms index count }) ≡ ms
+undone-replaced ms range pieces index count laid is =
+    rw (replaced_run_in_place ms range pieces index count laid is)
+    (undone-splice ms (replaced (run ms index count) range pieces) index count is.within)

@@ -5,7 +5,7 @@ use Rattle.std.specs.Prelude.{slice_get}
 use Rattle.std.specs.Option.{option_to_list}
 use Rattle.std.proofs.lemmas.List.Elements.{All-get_or}
 use Rattle.std.proofs.lemmas.List.{get_or-take, get_or-drop, length-take, length-drop}
-use Rattle.gv_types.specs.Span.{end_of}
+use Rattle.gv_types.specs.PageRange.{end_of}
 use Rattle.gv_types.specs.Mapping.{clip}
 use Rattle.gv_types.specs.declared.mapping.Mapping.{Mapping}
 use Rattle.gv_ranges.specs.List.{IsLaidOut, IsLaidOutFrom, run}
@@ -53,49 +53,49 @@ pub clipped_last : (ms : List Mapping) (low bound top : ℕ) (d : Mapping) → I
 clipped_last [] low bound top d laid some before = absurd (omega arith)
 clipped_last (m ∷ []) low bound top d laid some before = cons_option-nil (clip bound top m)
 clipped_last (m ∷ (n ∷ ns)) low bound top d laid some before =
-    let place : length (m ∷ (n ∷ ns)) - 1 ≡ suc (length ns) = omega arith in
+    let index : length (m ∷ (n ∷ ns)) - 1 ≡ suc (length ns) = omega arith in
     let last : length (n ∷ ns) - 1 ≡ length ns = omega arith in
-    let before' : (get_or (n ∷ ns) (length ns) d).range.first ≤ bound = rw place at before in
+    let before' : (get_or (n ∷ ns) (length ns) d).range.first ≤ bound = rw index at before in
     let ends : end_of m.range ≤ (get_or (n ∷ ns) (length ns) d).range.first = first_above (n ∷ ns) (end_of m.range) (length ns) d laid.2 (omega arith) in
     let rest : clipped bound top (n ∷ ns) ≡ option_to_list (clip bound top (get_or (n ∷ ns) (length (n ∷ ns) - 1) d)) =
     clipped_last (n ∷ ns) (end_of m.range) bound top d laid.2 (omega arith) (rw last before') in
-    rw (place, clip_none bound top m (inl (omega arith))) (rest ∙ rw last refl)
+    rw (index, clip_none bound top m (inl (omega arith))) (rest ∙ rw last refl)
 
 -- a run that has a last mapping has one
 pub some_of_last : (ms : List Mapping) (m : Mapping) → Some m ≡ slice_get ms (length ms - 1) → 0 < length ms
 some_of_last [] m is = absurd cc
 some_of_last (n ∷ ms) m is = omega arith
 
--- the mapping at a place of a run is the list's
-pub at_run : (ms : List Mapping) (place count k : ℕ) (d : Mapping) → k < count → get_or (run ms place count) k d ≡ get_or ms (place + k) d
-at_run ms place count k d less = get_or-take count (drop place ms) k d less ∙ get_or-drop place ms k d
+-- the mapping at an index of a run is the list's
+pub at_run : (ms : List Mapping) (index count k : ℕ) (d : Mapping) → k < count → get_or (run ms index count) k d ≡ get_or ms (index + k) d
+at_run ms index count k d less = get_or-take count (drop index ms) k d less ∙ get_or-drop index ms k d
 
-length_of_run : (ms : List Mapping) (place count : ℕ) → place + count ≤ length ms → length (run ms place count) ≡ count
-length_of_run ms place count within = rw (length-take count (drop place ms), length-drop place ms) (omega arith)
+length_of_run : (ms : List Mapping) (index count : ℕ) → index + count ≤ length ms → length (run ms index count) ≡ count
+length_of_run ms index count within = rw (length-take count (drop index ms), length-drop index ms) (omega arith)
 
-run_is_laid_out : (ms : List Mapping) (place count : ℕ) → IsLaidOut ms → IsLaidOut (run ms place count)
-run_is_laid_out ms place count laid = laid_out-take (drop place ms) 0 count (laid_out-drop ms 0 place laid)
+run_is_laid_out : (ms : List Mapping) (index count : ℕ) → IsLaidOut ms → IsLaidOut (run ms index count)
+run_is_laid_out ms index count laid = laid_out-take (drop index ms) 0 count (laid_out-drop ms 0 index laid)
 
 -- of a run whose mappings end past a page, the first one's rest lies below it
-pub rest_of_first : (ms : List Mapping) (place count page : ℕ) (d : Mapping) → 0 < count → place + count ≤ length ms → IsLaidOut ms →
-    All (λ m. page < end_of m.range) (run ms place count) → clipped 0 page (run ms place count) ≡ option_to_list (clip 0 page (get_or ms place d))
-rest_of_first ms place count page d some within laid past =
-    let long : length (run ms place count) ≡ count = length_of_run ms place count within in
-    let place_is : place + 0 ≡ place = omega arith in
-    let first : get_or (run ms place count) 0 d ≡ get_or ms place d = rw place_is at (at_run ms place count 0 d some) in
-    let ends : page < end_of (get_or (run ms place count) 0 d).range = All-get_or (λ (m : Mapping). page < end_of m.range) (run ms place count) 0 d (omega arith) past in
-    clipped_at_first (run ms place count) page d (omega arith) (run_is_laid_out ms place count laid) (omega arith)
+pub rest_of_first : (ms : List Mapping) (index count page : ℕ) (d : Mapping) → 0 < count → index + count ≤ length ms → IsLaidOut ms →
+    All (λ m. page < end_of m.range) (run ms index count) → clipped 0 page (run ms index count) ≡ option_to_list (clip 0 page (get_or ms index d))
+rest_of_first ms index count page d some within laid past =
+    let long : length (run ms index count) ≡ count = length_of_run ms index count within in
+    let index_is : index + 0 ≡ index = omega arith in
+    let first : get_or (run ms index count) 0 d ≡ get_or ms index d = rw index_is at (at_run ms index count 0 d some) in
+    let ends : page < end_of (get_or (run ms index count) 0 d).range = All-get_or (λ (m : Mapping). page < end_of m.range) (run ms index count) 0 d (omega arith) past in
+    clipped_at_first (run ms index count) page d (omega arith) (run_is_laid_out ms index count laid) (omega arith)
     ∙ ap (λ (m : Mapping). option_to_list (clip 0 page m)) first
 
 -- of a run whose mappings begin before a page, the last one's rest lies behind it
-pub rest_of_last : (ms : List Mapping) (place count page top : ℕ) (d : Mapping) → 0 < count → place + count ≤ length ms → IsLaidOut ms →
-    All (λ m. m.range.first < page) (run ms place count) → clipped page top (run ms place count) ≡ option_to_list (clip page top (get_or ms (place + count - 1) d))
-rest_of_last ms place count page top d some within laid before =
-    let long : length (run ms place count) ≡ count = length_of_run ms place count within in
-    let place_is : place + (count - 1) ≡ place + count - 1 = omega arith in
-    let last : get_or (run ms place count) (length (run ms place count) - 1) d ≡ get_or ms (place + count - 1) d =
-    rw (long, ← place_is) (at_run ms place count (count - 1) d (omega arith)) in
-    let begins : (get_or (run ms place count) (length (run ms place count) - 1) d).range.first < page =
-    All-get_or (λ (m : Mapping). m.range.first < page) (run ms place count) (length (run ms place count) - 1) d (omega arith) before in
-    clipped_last (run ms place count) 0 page top d (run_is_laid_out ms place count laid) (omega arith) (omega arith)
+pub rest_of_last : (ms : List Mapping) (index count page top : ℕ) (d : Mapping) → 0 < count → index + count ≤ length ms → IsLaidOut ms →
+    All (λ m. m.range.first < page) (run ms index count) → clipped page top (run ms index count) ≡ option_to_list (clip page top (get_or ms (index + count - 1) d))
+rest_of_last ms index count page top d some within laid before =
+    let long : length (run ms index count) ≡ count = length_of_run ms index count within in
+    let index_is : index + (count - 1) ≡ index + count - 1 = omega arith in
+    let last : get_or (run ms index count) (length (run ms index count) - 1) d ≡ get_or ms (index + count - 1) d =
+    rw (long, ← index_is) (at_run ms index count (count - 1) d (omega arith)) in
+    let begins : (get_or (run ms index count) (length (run ms index count) - 1) d).range.first < page =
+    All-get_or (λ (m : Mapping). m.range.first < page) (run ms index count) (length (run ms index count) - 1) d (omega arith) before in
+    clipped_last (run ms index count) 0 page top d (run_is_laid_out ms index count laid) (omega arith) (omega arith)
     ∙ ap (λ (m : Mapping). option_to_list (clip page top m)) last

@@ -1,7 +1,7 @@
 -- Worked examples of edited and restored lists.
 use Rattle.std.specs.Prelude.{ℕ, ◌≡◌, ◌-◌, true, false, [], ◌∷◌}
 use Rattle.gv_types.specs.Page.{PAGES}
-use Rattle.gv_types.specs.Span.{span}
+use Rattle.gv_types.specs.PageRange.{span}
 use Rattle.gv_types.specs.Mapping.{buffer_id}
 use Rattle.gv_types.specs.declared.mapping.Backing.{Backing}
 use Rattle.gv_types.specs.declared.mapping.Backing.TheVariants.{Buffer, Zero}

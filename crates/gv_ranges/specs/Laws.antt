@@ -2,7 +2,7 @@
 use Rattle.std.specs.Prelude.{ℕ, ◌≡◌, ◌+◌, if◌then◌else◌, IsTrue, List, length}
 use Rattle.std.specs.List.{splice}
 use Rattle.gv_types.specs.Page.{IsPage}
-use Rattle.gv_types.specs.Span.{Span, covers}
+use Rattle.gv_types.specs.PageRange.{PageRangeState, covers}
 use Rattle.gv_types.specs.Operation.{range_of, after, view, IsPageOp}
 use Rattle.gv_types.specs.declared.mapping.Mapping.{Mapping}
 use Rattle.gv_types.specs.declared.operation.PageOp.{PageOp}
@@ -24,34 +24,34 @@ EditedListIsLaidOut = (ms : List Mapping) (op : PageOp) → IsLaidOut ms → IsP
 
 -- to edit a list is to edit, in its place, the run that meets the range
 abbrev pub EditedRunInPlace : Type 0
-EditedRunInPlace = (ms : List Mapping) (op : PageOp) (place count : ℕ) → IsLaidOut ms → IsOverlappingRun ms (range_of op) place count →
-    edited ms op ≡ splice ms place (place + count) (edited (run ms place count) op)
+EditedRunInPlace = (ms : List Mapping) (op : PageOp) (index count : ℕ) → IsLaidOut ms → IsOverlappingRun ms (range_of op) index count →
+    edited ms op ≡ splice ms index (index + count) (edited (run ms index count) op)
 
 -- an operation taken back gives the list before it, with its boundaries
 abbrev pub UndoneEditIsOld : Type 0
-UndoneEditIsOld = (ms : List Mapping) (op : PageOp) (place count : ℕ) → IsLaidOut ms → IsOverlappingRun ms (range_of op) place count →
-    undone (edited ms op) (record { place = place; put_in = length (edited (run ms place count) op); taken = run ms place count }) ≡ ms
+UndoneEditIsOld = (ms : List Mapping) (op : PageOp) (index count : ℕ) → IsLaidOut ms → IsOverlappingRun ms (range_of op) index count →
+    undone (edited ms op) (record { index = index; put_in = length (edited (run ms index count) op); taken = run ms index count }) ≡ ms
 
 -- a restored list says of each page of the range what the saved mappings say, and of each other page what it said
 abbrev pub RestoredListSays : Type 0
-RestoredListSays = (ms saved : List Mapping) (range : Span) (page : ℕ) → IsPage page →
+RestoredListSays = (ms saved : List Mapping) (range : PageRangeState) (page : ℕ) → IsPage page →
     at (restored ms range saved) page ≡ (if covers range page then at saved page else at ms page)
 
 -- a restored list is in order
 abbrev pub RestoredListIsLaidOut : Type 0
-RestoredListIsLaidOut = (ms saved : List Mapping) (range : Span) → IsLaidOut ms → IsLaidOut saved → IsLaidOut (restored ms range saved)
+RestoredListIsLaidOut = (ms saved : List Mapping) (range : PageRangeState) → IsLaidOut ms → IsLaidOut saved → IsLaidOut (restored ms range saved)
 
 -- to restore a range is to restore it in the run that meets it, in its place
 abbrev pub RestoredRunInPlace : Type 0
-RestoredRunInPlace = (ms saved : List Mapping) (range : Span) (place count : ℕ) → IsLaidOut ms → IsOverlappingRun ms range place count →
-    restored ms range saved ≡ splice ms place (place + count) (restored (run ms place count) range saved)
+RestoredRunInPlace = (ms saved : List Mapping) (range : PageRangeState) (index count : ℕ) → IsLaidOut ms → IsOverlappingRun ms range index count →
+    restored ms range saved ≡ splice ms index (index + count) (restored (run ms index count) range saved)
 
 -- a restored range taken back gives the list before it, with its boundaries
 abbrev pub UndoneRestoreIsOld : Type 0
-UndoneRestoreIsOld = (ms saved : List Mapping) (range : Span) (place count : ℕ) → IsLaidOut ms → IsOverlappingRun ms range place count →
-    undone (restored ms range saved) (record { place = place; put_in = length (restored (run ms place count) range saved); taken = run ms place count }) ≡ ms
+UndoneRestoreIsOld = (ms saved : List Mapping) (range : PageRangeState) (index count : ℕ) → IsLaidOut ms → IsOverlappingRun ms range index count →
+    undone (restored ms range saved) (record { index = index; put_in = length (restored (run ms index count) range saved); taken = run ms index count }) ≡ ms
 
 -- the run that meets a range says of each page of the range what the list says
 abbrev pub OverlappingRunSays : Type 0
-OverlappingRunSays = (ms : List Mapping) (range : Span) (place count page : ℕ) → IsOverlappingRun ms range place count → IsTrue (covers range page) →
-    at (run ms place count) page ≡ at ms page
+OverlappingRunSays = (ms : List Mapping) (range : PageRangeState) (index count page : ℕ) → IsOverlappingRun ms range index count → IsTrue (covers range page) →
+    at (run ms index count) page ≡ at ms page

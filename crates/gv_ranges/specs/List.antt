@@ -1,7 +1,7 @@
 -- A list of mappings: what it says of a page, when it is in order, and where a range meets it.
 use Rattle.std.specs.Prelude.{ℕ, ◌≡◌, ◌+◌, ◌-◌, ◌<◌, ◌≤◌, IsTrue, if◌then◌else◌, Option, Some, None, List, [], ◌∷◌, take, drop, length}
 use Rattle.std.specs.List.{All}
-use Rattle.gv_types.specs.Span.{Span, end_of, covers, meets}
+use Rattle.gv_types.specs.PageRange.{PageRangeState, end_of, covers, meets}
 use Rattle.gv_types.specs.Mapping.{part, IsMapping}
 use Rattle.gv_types.specs.declared.mapping.Entry.{Entry}
 use Rattle.gv_types.specs.declared.mapping.Mapping.{Mapping}
@@ -21,18 +21,18 @@ abbrev pub IsLaidOut : List Mapping → Type 0
 IsLaidOut ms = IsLaidOutFrom 0 ms
 
 -- what contracts see of a `RangeList`: its mappings, and for how many it has room
-pub record Ranges : Type 0 where
+pub record RangeListState : Type 0 where
   pub mappings : List Mapping
   pub room : ℕ
 
 -- the same mappings, and no less room
-pub record IsUnchanged (old new : Ranges) : Type 0 where
+pub record IsUnchangedList (old new : RangeListState) : Type 0 where
   pub mappings : new.mappings ≡ old.mappings
   pub room : old.room ≤ new.room
 
--- the run of a list from `place` on
+-- the run of a list from `index` on
 abbrev pub run : List Mapping → ℕ → ℕ → List Mapping
-run ms place count = take count (drop place ms)
+run ms index count = take count (drop index ms)
 
 -- the last `left` of a list's first `end` mappings are still to come, and the block is of those, and of what is behind them
 pub record IsRunAhead (ms : List Mapping) (end left : ℕ) (block : List Mapping) : Type 0 where
@@ -47,20 +47,20 @@ pub record IsBlockOf (ms : List Mapping) (len base : ℕ) (block : List Mapping)
   pub within : base ≤ length ms
   pub ahead : block ≡ take (length block) (drop base ms)
 
--- the mappings that meet a range are the `count` from `place` on
-pub record IsOverlappingRun (ms : List Mapping) (range : Span) (place count : ℕ) : Type 0 where
-  pub within : place + count ≤ length ms
-  pub before : All (λ m. end_of m.range ≤ range.first) (take place ms)
-  pub meeting : All (λ m. IsTrue (meets m.range range)) (run ms place count)
-  pub beyond : All (λ m. end_of range ≤ m.range.first) (drop (place + count) ms)
+-- the mappings that meet a range are the `count` from `index` on
+pub record IsOverlappingRun (ms : List Mapping) (range : PageRangeState) (index count : ℕ) : Type 0 where
+  pub within : index + count ≤ length ms
+  pub before : All (λ m. end_of m.range ≤ range.first) (take index ms)
+  pub meeting : All (λ m. IsTrue (meets m.range range)) (run ms index count)
+  pub beyond : All (λ m. end_of range ≤ m.range.first) (drop (index + count) ms)
 
--- the mappings before the place end at the page or before it
-pub record AreEnded (ms : List Mapping) (page place : ℕ) : Type 0 where
-  pub within : place ≤ length ms
-  pub ended : All (λ m. end_of m.range ≤ page) (take place ms)
+-- the mappings before the index end at the page or before it
+pub record AreEnded (ms : List Mapping) (page index : ℕ) : Type 0 where
+  pub within : index ≤ length ms
+  pub ended : All (λ m. end_of m.range ≤ page) (take index ms)
 
--- the place is how many mappings end at the page or before it
-pub record IsPlaceOf (ms : List Mapping) (page place : ℕ) : Type 0 where
-  pub within : place ≤ length ms
-  pub ended : All (λ m. end_of m.range ≤ page) (take place ms)
-  pub not_ended : All (λ m. page < end_of m.range) (drop place ms)
+-- the index is how many mappings end at the page or before it
+pub record IsIndexOfPage (ms : List Mapping) (page index : ℕ) : Type 0 where
+  pub within : index ≤ length ms
+  pub ended : All (λ m. end_of m.range ≤ page) (take index ms)
+  pub not_ended : All (λ m. page < end_of m.range) (drop index ms)

@@ -1,11 +1,11 @@
-//! Places in a list in order that stands in chunks: the chunk by halving, and the place in it as in one slice.
+//! Indices in a list in order that stands in chunks: the chunk by halving, and the index in it as in one slice.
 ghost use Rattle.std.specs.Prelude.{◌≡◌, ◌<◌, ◌≤◌, ◌+◌, length, take, drop, slice_index_or, vec_len};
 ghost use Rattle.std.specs.List.{All};
 ghost use Rattle.std.specs.Global.{Vec};
 ghost use Rattle.gv_types.specs.Page.{PAGES};
-ghost use Rattle.gv_types.specs.Span.{end_of};
+ghost use Rattle.gv_types.specs.PageRange.{end_of};
 ghost use Rattle.gv_types.specs.declared.mapping.Mapping.{Mapping};
-ghost use Rattle.gv_chunks.specs.Chunks.{joined, AreFilled, AreStarts, AreFirsts};
+ghost use Rattle.gv_chunks.specs.Chunks.{chunks_joined, AreFilled, AreStarts, AreFirsts};
 ghost use Rattle.gv_ranges.specs.List.{at, IsLaidOut, IsOverlappingRun};
 
 use crate::search::{count_begun, count_ended, entry_at, step_past};
@@ -17,12 +17,12 @@ use gv_types::{Entry, Mapping, PageRange, SPACE_PAGES};
 fn chunk_of_page(chunks: &[Vec<Mapping>], firsts: &[u64], page: u64) -> usize
     requires filled { AreFilled chunks.now }
     requires firsts { AreFirsts firsts.now chunks.now }
-    requires laid_out { IsLaidOut (joined chunks.now) }
+    requires laid_out { IsLaidOut (chunks_joined chunks.now) }
     requires some { 0 < length chunks.now }
     requires page { page ≤ PAGES }
     ensures within { result < length chunks.now }
-    ensures ended { All (λ m. end_of m.range ≤ page) (joined (take result chunks.now)) }
-    ensures later { All (λ m. page < m.range.first) (joined (drop (result + 1) chunks.now)) }
+    ensures ended { All (λ m. end_of m.range ≤ page) (chunks_joined (take result chunks.now)) }
+    ensures later { All (λ m. page < m.range.first) (chunks_joined (drop (result + 1) chunks.now)) }
 {
     let mut chunk = 0;
     let mut left = chunks.len();
@@ -39,8 +39,8 @@ fn chunk_of_page(chunks: &[Vec<Mapping>], firsts: &[u64], page: u64) -> usize
 pub(crate) fn entry_in(standing: Standing<'_>, page: u64) -> Option<Entry>
     requires filled { AreFilled standing.chunks.now }
     requires firsts { AreFirsts standing.firsts.now standing.chunks.now }
-    requires laid_out { IsLaidOut (joined standing.chunks.now) }
-    ensures { result ≡ at (joined standing.entry.chunks.now) page }
+    requires laid_out { IsLaidOut (chunks_joined standing.chunks.now) }
+    ensures { result ≡ at (chunks_joined standing.entry.chunks.now) page }
 {
     if page >= SPACE_PAGES || standing.chunks.is_empty() {
         return None;
@@ -54,12 +54,12 @@ pub(crate) fn entry_in(standing: Standing<'_>, page: u64) -> Option<Entry>
 fn last_begun_chunk(chunks: &[Vec<Mapping>], firsts: &[u64], chunk: usize, page: u64) -> usize
     requires filled { AreFilled chunks.now }
     requires firsts { AreFirsts firsts.now chunks.now }
-    requires laid_out { IsLaidOut (joined chunks.now) }
+    requires laid_out { IsLaidOut (chunks_joined chunks.now) }
     requires chunk { chunk < length chunks.now }
-    requires before { All (λ m. m.range.first < page) (joined (take chunk chunks.now)) }
+    requires before { All (λ m. m.range.first < page) (chunks_joined (take chunk chunks.now)) }
     ensures within { result < length chunks.now }
-    ensures begun { All (λ m. m.range.first < page) (joined (take result chunks.now)) }
-    ensures not_begun { All (λ m. page ≤ m.range.first) (joined (drop (result + 1) chunks.now)) }
+    ensures begun { All (λ m. m.range.first < page) (chunks_joined (take result chunks.now)) }
+    ensures not_begun { All (λ m. page ≤ m.range.first) (chunks_joined (drop (result + 1) chunks.now)) }
 {
     let mut last = chunk;
     while last + 1 < chunks.len() && firsts[last + 1] < page {
@@ -74,15 +74,15 @@ fn count_begun_in(standing: Standing<'_>, chunk: usize, from: usize, page: u64) 
     requires filled { AreFilled standing.chunks.now }
     requires starts { AreStarts standing.starts.now standing.chunks.now }
     requires firsts { AreFirsts standing.firsts.now standing.chunks.now }
-    requires laid_out { IsLaidOut (joined standing.chunks.now) }
+    requires laid_out { IsLaidOut (chunks_joined standing.chunks.now) }
     requires chunk { chunk < length standing.chunks.now }
     requires within { (d : Vec Mapping) → from ≤ vec_len (slice_index_or standing.chunks.now chunk d) }
-    requires before { All (λ m. m.range.first < page) (joined (take chunk standing.chunks.now)) }
+    requires before { All (λ m. m.range.first < page) (chunks_joined (take chunk standing.chunks.now)) }
     requires begun { (d : Vec Mapping) → All (λ m. m.range.first < page)
         (take from (slice_index_or standing.chunks.now chunk d).items) }
-    ensures within { result ≤ length (joined standing.entry.chunks.now) }
-    ensures begun { All (λ m. m.range.first < page) (take result (joined standing.entry.chunks.now)) }
-    ensures not_begun { All (λ m. page ≤ m.range.first) (drop result (joined standing.entry.chunks.now)) }
+    ensures within { result ≤ length (chunks_joined standing.entry.chunks.now) }
+    ensures begun { All (λ m. m.range.first < page) (take result (chunks_joined standing.entry.chunks.now)) }
+    ensures not_begun { All (λ m. page ≤ m.range.first) (drop result (chunks_joined standing.entry.chunks.now)) }
 {
     let last = last_begun_chunk(standing.chunks, standing.firsts, chunk, page);
     let known = if last == chunk { from } else { 0 };
@@ -90,20 +90,20 @@ fn count_begun_in(standing: Standing<'_>, chunk: usize, from: usize, page: u64) 
     standing.starts[last] + count
 }
 
-/// The place of the first mapping that meets the range, in the list that the chunks are together, and how many do.
+/// The index of the first mapping that meets the range, in the list that the chunks are together, and how many do.
 pub(crate) fn overlapping_in(standing: Standing<'_>, range: PageRange) -> (usize, usize)
     requires filled { AreFilled standing.chunks.now }
     requires starts { AreStarts standing.starts.now standing.chunks.now }
     requires firsts { AreFirsts standing.firsts.now standing.chunks.now }
-    requires laid_out { IsLaidOut (joined standing.chunks.now) }
-    ensures { IsOverlappingRun (joined standing.entry.chunks.now) range result.0 result.1 }
+    requires laid_out { IsLaidOut (chunks_joined standing.chunks.now) }
+    ensures { IsOverlappingRun (chunks_joined standing.entry.chunks.now) range result.0 result.1 }
 {
     if standing.chunks.is_empty() {
         return (0, 0);
     }
     let chunk = chunk_of_page(standing.chunks, standing.firsts, range.first());
     let ended = count_ended(&standing.chunks[chunk], range.first());
-    let place = standing.starts[chunk] + ended;
+    let index = standing.starts[chunk] + ended;
     let behind = count_begun_in(standing, chunk, ended, range.end());
-    (place, behind - place)
+    (index, behind - index)
 }

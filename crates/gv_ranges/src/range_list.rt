@@ -18,9 +18,9 @@ pub struct RangeList {
 }
 
 impl Model for RangeList {
-    ghost use Rattle.gv_ranges.specs.List.{Ranges, IsLaidOut};
+    ghost use Rattle.gv_ranges.specs.List.{RangeListState, IsLaidOut};
 
-    ghost Value = { Ranges };
+    ghost Value = { RangeListState };
 
     ghost view = { λ l. record { mappings = l.list.items; room = l.list.room } };
 
@@ -29,7 +29,7 @@ impl Model for RangeList {
 
 impl RangeList {
     ghost use Rattle.std.specs.List.{splice};
-    ghost use Rattle.gv_ranges.specs.List.{at, run, IsLaidOut, IsOverlappingRun, IsUnchanged};
+    ghost use Rattle.gv_ranges.specs.List.{at, run, IsLaidOut, IsOverlappingRun, IsUnchangedList};
 
     /// A list of no mapping, which takes no memory.
     pub fn new(alloc: Global) -> RangeList
@@ -49,31 +49,31 @@ impl RangeList {
         self.list.len()
     }
 
-    /// The mapping at a place.
+    /// The mapping at an index.
     #[inline(always)]
-    pub fn get(&self, place: usize) -> &Mapping
-        requires { place < length self.now.mappings }
-        ensures { (d : Mapping) → result.now ≡ slice_index_or self.now.mappings place d }
+    pub fn get(&self, index: usize) -> &Mapping
+        requires { index < length self.now.mappings }
+        ensures { (d : Mapping) → result.now ≡ slice_index_or self.now.mappings index d }
     {
-        self.list.get(place)
+        self.list.get(index)
     }
 
-    /// The mappings from a place on that stand in one block of memory with the one at it.
+    /// The mappings from an index on that stand in one block of memory with the one at it.
     #[inline(always)]
-    pub fn piece(&self, place: usize) -> &[Mapping]
-        requires { place ≤ length self.now.mappings }
-        ensures value { result.now ≡ take (length result.now) (drop place self.now.mappings) }
-        ensures some { place < length self.now.mappings → 0 < length result.now }
+    pub fn piece(&self, index: usize) -> &[Mapping]
+        requires { index ≤ length self.now.mappings }
+        ensures value { result.now ≡ take (length result.now) (drop index self.now.mappings) }
+        ensures some { index < length self.now.mappings → 0 < length result.now }
     {
-        self.list.piece(place)
+        self.list.piece(index)
     }
 
-    /// The `count` mappings from a place on, one after another.
-    pub fn run(&self, place: usize, count: usize) -> Run<'_>
-        requires { place + count ≤ length self.now.mappings }
-        ensures { result ≡ run self.now.mappings place count }
+    /// The `count` mappings from an index on, one after another.
+    pub fn run(&self, index: usize, count: usize) -> Run<'_>
+        requires { index + count ≤ length self.now.mappings }
+        ensures { result ≡ run self.now.mappings index count }
     {
-        Run::new(self, place, count)
+        Run::new(self, index, count)
     }
 
     /// All mappings, in ascending order.
@@ -87,7 +87,7 @@ impl RangeList {
     /// is moved for it. `OutOfMemory` where the system refuses the memory, and only where that room
     /// was missing.
     pub fn reserve(&mut self, more: usize) -> Result<(), OutOfMemory>
-        ensures unchanged { IsUnchanged self.old self.new }
+        ensures unchanged { IsUnchangedList self.old self.new }
         ensures ok { OnOk result (length self.new.mappings + more ≤ self.new.room) }
         ensures err { OnErr result (self.old.room < length self.old.mappings + more) }
         ensures enough { length self.old.mappings + more ≤ self.old.room
@@ -105,8 +105,8 @@ impl RangeList {
         entry_in(self.list.chunks(), page)
     }
 
-    /// The place of the first mapping that meets the range, and how many mappings do. Where none
-    /// does, the place is the number of mappings that end before the range. One search, and a look at each
+    /// The index of the first mapping that meets the range, and how many mappings do. Where none
+    /// does, the index is the number of mappings that end before the range. One search, and a look at each
     /// of the mappings that meet it.
     pub fn overlapping(&self, range: PageRange) -> (usize, usize)
         ensures { IsOverlappingRun self.now.mappings range result.0 result.1 }
@@ -114,17 +114,17 @@ impl RangeList {
         overlapping_in(self.list.chunks(), range)
     }
 
-    /// Replaces `out_count` mappings from `place` on by `pieces`. It takes no memory: the room has
+    /// Replaces `out_count` mappings from `index` on by `pieces`. It takes no memory: the room has
     /// to be there, and stays as it is.
-    pub fn splice(&mut self, place: usize, out_count: usize, pieces: &[Mapping])
-        requires within { place + out_count ≤ length self.old.mappings }
+    pub fn splice(&mut self, index: usize, out_count: usize, pieces: &[Mapping])
+        requires within { index + out_count ≤ length self.old.mappings }
         requires room { length self.old.mappings + length pieces.now ≤ self.old.room + out_count }
         requires laid_out { IsLaidOut
-            (splice self.old.mappings place (place + out_count) pieces.now) }
+            (splice self.old.mappings index (index + out_count) pieces.now) }
         ensures mappings { self.new.mappings
-            ≡ splice self.old.mappings place (place + out_count) pieces.now }
+            ≡ splice self.old.mappings index (index + out_count) pieces.now }
         ensures room { self.new.room ≡ self.old.room }
     {
-        self.list.splice(place, out_count, pieces);
+        self.list.splice(index, out_count, pieces);
     }
 }

@@ -1,4 +1,4 @@
-//! A list read near a place.
+//! A list read near an index.
 ghost use Rattle.std.specs.Prelude.{◌≡◌, ◌<◌, ◌≤◌, length, slice_index_or};
 ghost use Rattle.gv_types.specs.declared.mapping.Mapping.{Mapping};
 ghost use Rattle.gv_ranges.specs.List.{IsLaidOut};
@@ -7,11 +7,11 @@ use crate::RangeList;
 use gv_types::Mapping;
 use std::marker::Model;
 
-/// A list, or a slice of pieces, read near a place: the block of memory that holds it is looked up once.
+/// A list, or a slice of pieces, read near an index: the block of memory that holds it is looked up once.
 #[derive(Drop)]
 pub struct Reader<'a> {
     block: &'a [Mapping],
-    // The place of the first mapping of the block.
+    // The index of the first mapping of the block.
     base: usize,
     len: usize,
     // None where the block is all that is read.
@@ -46,20 +46,20 @@ impl<'a> Reader<'a> {
         }
     }
 
-    /// The list, read from the mapping before the place on.
-    pub fn of_list(list: &'a RangeList, place: usize) -> Reader<'a>
-        requires { place ≤ length list.now.mappings }
+    /// The list, read from the mapping before the index on.
+    pub fn of_list(list: &'a RangeList, index: usize) -> Reader<'a>
+        requires { index ≤ length list.now.mappings }
         ensures { result ≡ list.now.mappings }
     {
-        let reader = Reader::from_base(list, place.saturating_sub(1));
-        if reader.is_near(place) {
+        let reader = Reader::from_base(list, index.saturating_sub(1));
+        if reader.is_near(index) {
             reader
         } else {
-            Reader::from_base(list, place)
+            Reader::from_base(list, index)
         }
     }
 
-    /// The list, read from a place on.
+    /// The list, read from an index on.
     fn from_base(list: &'a RangeList, base: usize) -> Reader<'a>
         requires { base ≤ length list.now.mappings }
         ensures { result ≡ list.now.mappings }
@@ -72,20 +72,20 @@ impl<'a> Reader<'a> {
         }
     }
 
-    /// Whether the block holds the place, or nothing does.
+    /// Whether the block holds the index, or nothing does.
     #[inline(always)]
-    fn is_near(&self, place: usize) -> bool {
-        place.wrapping_sub(self.base) < self.block.len() || place == self.len
+    fn is_near(&self, index: usize) -> bool {
+        index.wrapping_sub(self.base) < self.block.len() || index == self.len
     }
 
-    /// The same list, with the block looked up anew where it does not hold the place.
-    pub fn near(&self, place: usize) -> Reader<'a>
-        requires { place ≤ length self.now }
+    /// The same list, with the block looked up anew where it does not hold the index.
+    pub fn near(&self, index: usize) -> Reader<'a>
+        requires { index ≤ length self.now }
         ensures { result ≡ self.now }
     {
-        if !self.is_near(place) {
+        if !self.is_near(index) {
             if let Some(list) = self.list {
-                return Reader::of_list(list, place);
+                return Reader::of_list(list, index);
             }
         }
         Reader {
@@ -105,32 +105,32 @@ impl<'a> Reader<'a> {
         self.len
     }
 
-    /// The mapping at a place.
+    /// The mapping at an index.
     #[inline(always)]
-    pub fn get(&self, place: usize) -> &'a Mapping
-        requires { place < length self.now }
-        ensures { (d : Mapping) → result.now ≡ slice_index_or self.now place d }
+    pub fn get(&self, index: usize) -> &'a Mapping
+        requires { index < length self.now }
+        ensures { (d : Mapping) → result.now ≡ slice_index_or self.now index d }
     {
-        // Tells that the places are numbers of a machine.
+        // Tells that the indices are numbers of a machine.
         let _len = self.len;
-        let inside = place.wrapping_sub(self.base);
+        let inside = index.wrapping_sub(self.base);
         if inside < self.block.len() {
             &self.block[inside]
         } else {
-            self.get_beyond(place)
+            self.get_beyond(index)
         }
     }
 
-    /// The mapping at a place, wherever it stands.
+    /// The mapping at an index, wherever it stands.
     #[cold]
     #[inline(never)]
-    fn get_beyond(&self, place: usize) -> &'a Mapping
-        requires { place < length self.now }
-        ensures { (d : Mapping) → result.now ≡ slice_index_or self.now place d }
+    fn get_beyond(&self, index: usize) -> &'a Mapping
+        requires { index < length self.now }
+        ensures { (d : Mapping) → result.now ≡ slice_index_or self.now index d }
     {
         match self.list {
-            Some(list) => list.get(place),
-            None => &self.block[place],
+            Some(list) => list.get(index),
+            None => &self.block[index],
         }
     }
 }

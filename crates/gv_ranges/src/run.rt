@@ -31,31 +31,31 @@ impl<'a> Model for Run<'a> {
 }
 
 impl<'a> Run<'a> {
-    /// The `count` mappings of a list from a place on.
-    pub(crate) fn new(list: &'a RangeList, place: usize, count: usize) -> Run<'a>
-        requires { place + count ≤ length list.now.mappings }
-        ensures { result ≡ run list.now.mappings place count }
+    /// The `count` mappings of a list from an index on.
+    pub(crate) fn new(list: &'a RangeList, index: usize, count: usize) -> Run<'a>
+        requires { index + count ≤ length list.now.mappings }
+        ensures { result ≡ run list.now.mappings index count }
     {
-        // Tells that places are numbers of a machine.
+        // Tells that indices are numbers of a machine.
         let _len = list.len();
         Run {
             list,
-            end: place + count,
+            end: index + count,
             left: count,
             block: &[],
         }
     }
 }
 
-/// The mappings from a place on: those of a block, where it has any.
-fn block_at<'a>(list: &'a RangeList, place: usize, block: &'a [Mapping]) -> &'a [Mapping]
-    requires within { place < length list.now.mappings }
-    requires ahead { block.now ≡ take (length block.now) (drop place list.now.mappings) }
-    ensures ahead { result.now ≡ take (length result.now) (drop place list.now.mappings) }
+/// The mappings from an index on: those of a block, where it has any.
+fn block_at<'a>(list: &'a RangeList, index: usize, block: &'a [Mapping]) -> &'a [Mapping]
+    requires within { index < length list.now.mappings }
+    requires ahead { block.now ≡ take (length block.now) (drop index list.now.mappings) }
+    ensures ahead { result.now ≡ take (length result.now) (drop index list.now.mappings) }
     ensures some { 0 < length result.now }
 {
     if block.is_empty() {
-        list.piece(place)
+        list.piece(index)
     } else {
         block
     }

@@ -2,7 +2,7 @@
 use Rattle.std.specs.List.{All}
 use Rattle.std.specs.Prelude.{List, filter}
 use Rattle.std.proofs.lemmas.List.Elements.{All-filter, All-map}
-use Rattle.gv_types.specs.Span.{IsInSpace}
+use Rattle.gv_types.specs.PageRange.{IsInSpace}
 use Rattle.gv_types.specs.Mapping.{is_of, IsMapping}
 use Rattle.gv_types.specs.declared.mapping.BufferId.{BufferId}
 use Rattle.gv_types.specs.declared.mapping.Mapping.{Mapping}

@@ -1,11 +1,11 @@
 -- A change of the list, once all is there for it.
 use Rattle.std.proofs.Common.{◌≡◌, ℕ, ◌+◌, ◌≤◌, List, ◌++◌, length, arith, refl, sym, subst, ap, ◌∙◌, drop}
 use Rattle.std.specs.List.{All, splice}
-use Rattle.gv_types.specs.Span.{Span}
+use Rattle.gv_types.specs.PageRange.{PageRangeState}
 use Rattle.gv_types.specs.Mapping.{IsMapping}
 use Rattle.gv_types.specs.declared.mapping.Mapping.{Mapping}
-use Rattle.gv_ranges.specs.List.{AreEnded, IsLaidOut, Ranges}
-use Rattle.gv_ranges.proofs.PlaceLemmas.{met-ended}
+use Rattle.gv_ranges.specs.List.{AreEnded, IsLaidOut, RangeListState}
+use Rattle.gv_ranges.proofs.IndexLemmas.{met-ended}
 use Rattle.gv_ranges.specs.Edit.{Undo, replaced, undone}
 use Rattle.gv_ranges.proofs.KeptLemmas.{All-replaced}
 use Rattle.gv_ranges.proofs.OrderLemmas.{laid_out-replaced}
@@ -15,10 +15,10 @@ use Rattle.gv_table.specs.Reads.{AreAlikeOutside}
 use Rattle.gv_table.specs.Table.{IsTree, gained_by}
 use Rattle.gv_table.specs.declared.page_table.PageTable.{PageTable}
 use Rattle.gv_table.proofs.EditLemmas.{replaced-alike}
-use Rattle.gv_buffers.specs.Table.{Table}
+use Rattle.gv_buffers.specs.Buffers.{BuffersState}
 use Rattle.gv_space.specs.Counts.{by_count, counted, more_used, less_used, more_kept}
-use Rattle.gv_space.specs.State.{AddressSpace, IsSpace, IsPlaced, AreKept}
-use Rattle.gv_space.specs.Undo.{UndoValue, IsUndoOf}
+use Rattle.gv_space.specs.State.{SpaceState, IsSpace, IsPlaced, AreKept}
+use Rattle.gv_space.specs.Undo.{OpUndoState, IsUndoOf}
 use Rattle.gv_space.specs.Change.{changed_to, IsChanged}
 use Rattle.gv_space.specs.Ready.{IsReady}
 use Rattle.gv_space.proofs.Lengths.{length-splice}
@@ -27,18 +27,18 @@ use Rattle.gv_space.proofs.Recounted.{moved_counts}
 use Rattle.gv_space.proofs.KeptLemmas.{All-taken, AreKept-changed_room, reverted-changed_room}
 use Rattle.gv_space.proofs.Spaces.{IsSpace-changed, IsSpace-room}
 
-module _ (inside : List Mapping) (s : AddressSpace) (range : Span) (place : ℕ) (taken pieces : List Mapping) (spares : ℕ) (space : IsSpace s) (ready : IsReady inside s range place taken pieces spares) where
+module _ (inside : List Mapping) (s : SpaceState) (range : PageRangeState) (index : ℕ) (taken pieces : List Mapping) (spares : ℕ) (space : IsSpace s) (ready : IsReady inside s range index taken pieces spares) where
   -- the list after the change
   abbrev pub after : List Mapping
-  after = splice s.mappings place (place + length taken) pieces
+  after = splice s.mappings index (index + length taken) pieces
 
-  pub ended : AreEnded s.mappings range.first place
-  ended = met-ended s.mappings range place (length taken) ready.met
+  pub ended : AreEnded s.mappings range.first index
+  ended = met-ended s.mappings range index (length taken) ready.met
 
   pub after_is : after ≡ replaced s.mappings range inside
   after_is =
       rw (ready.pieces_are)
-      (rw (← ready.taken_is) at (sym (replaced_run_in_place s.mappings range inside place (length taken) space.laid_out ready.met)))
+      (rw (← ready.taken_is) at (sym (replaced_run_in_place s.mappings range inside index (length taken) space.laid_out ready.met)))
 
   pub after_laid_out : IsLaidOut after
   after_laid_out = rw after_is (laid_out-replaced s.mappings range inside space.laid_out ready.sorted ready.lie)
@@ -50,10 +50,10 @@ module _ (inside : List Mapping) (s : AddressSpace) (range : Span) (place : ℕ)
   spares_are_enough table tree = subst (λ (ms : List Mapping). gained_by ms table ≤ spares) (sym after_is) (ready.enough table tree)
 
   pub taken_placed : All (IsPlaced s.area s.buffers) taken
-  taken_placed = All-taken (IsPlaced s.area s.buffers) s.mappings taken place (length taken) ready.taken_is space.placed
+  taken_placed = All-taken (IsPlaced s.area s.buffers) s.mappings taken index (length taken) ready.taken_is space.placed
 
   pub taken_laid_out : IsLaidOut taken
-  taken_laid_out = subst IsLaidOut (sym ready.taken_is) (laid_out-take (drop place s.mappings) 0 (length taken) (laid_out-drop s.mappings 0 place space.laid_out))
+  taken_laid_out = subst IsLaidOut (sym ready.taken_is) (laid_out-take (drop index s.mappings) 0 (length taken) (laid_out-drop s.mappings 0 index space.laid_out))
 
   mappings_of : All IsMapping s.mappings
   mappings_of = all_mappings s.mappings 0 space.laid_out
@@ -62,7 +62,7 @@ module _ (inside : List Mapping) (s : AddressSpace) (range : Span) (place : ℕ)
   pieces_placed =
       subst (All (IsPlaced s.area s.buffers)) (sym ready.pieces_are)
       (All-replaced (IsPlaced s.area s.buffers) taken range inside (placed_pieces s.area s.buffers)
-      (All-taken IsMapping s.mappings taken place (length taken) ready.taken_is mappings_of) taken_placed ready.placed)
+      (All-taken IsMapping s.mappings taken index (length taken) ready.taken_is mappings_of) taken_placed ready.placed)
 
   after_placed : All (IsPlaced s.area s.buffers) after
   after_placed =
@@ -70,28 +70,28 @@ module _ (inside : List Mapping) (s : AddressSpace) (range : Span) (place : ℕ)
       (All-replaced (IsPlaced s.area s.buffers) s.mappings range inside (placed_pieces s.area s.buffers) mappings_of space.placed ready.placed)
 
   pub pieces_are_few : length pieces ≤ length after
-  pieces_are_few = omega (arith, length-splice s.mappings pieces place (length taken) ready.met.within, ready.met.within)
+  pieces_are_few = omega (arith, length-splice s.mappings pieces index (length taken) ready.met.within, ready.met.within)
 
   -- what the parts of the space are after the change
-  pub state_after : (list : Ranges) (buffers : Table) (count : ℕ) → list.mappings ≡ after → buffers ≡ by_count less_used taken (by_count more_used pieces (by_count more_kept taken s.buffers)) → count ≡ length taken →
+  pub state_after : (list : RangeListState) (buffers : BuffersState) (count : ℕ) → list.mappings ≡ after → buffers ≡ by_count less_used taken (by_count more_used pieces (by_count more_kept taken s.buffers)) → count ≡ length taken →
       record s { mappings = list.mappings; room = list.room; buffers = buffers; kept_count = s.kept_count + count } ≡ record (changed_to after taken s) { room = list.room }
   state_after list buffers count list_is buffers_is count_is =
       let tables : buffers ≡ by_count counted after (by_count more_kept taken s.buffers) =
-      buffers_is ∙ moved_counts s.mappings taken pieces place (length taken) s.buffers ready.taken_is space.used in
+      buffers_is ∙ moved_counts s.mappings taken pieces index (length taken) s.buffers ready.taken_is space.used in
       rw (list_is, tables, count_is) refl
 
-  pub space_after : (new : AddressSpace) (room : ℕ) → new ≡ record (changed_to after taken s) { room = room } → IsSpace new
+  pub space_after : (new : SpaceState) (room : ℕ) → new ≡ record (changed_to after taken s) { room = room } → IsSpace new
   space_after new room is =
       subst IsSpace (sym is)
       (IsSpace-room (changed_to after taken s) room
       (IsSpace-changed s after taken space after_laid_out (subst (λ (ms : List Mapping). length ms ≤ s.limits.mappings) (sym after_is) ready.few) after_placed taken_placed ready.few_kept))
 
   abbrev pub change_of : Undo
-  change_of = record { place = place; put_in = length pieces; taken = taken }
+  change_of = record { index = index; put_in = length pieces; taken = taken }
 
   pub undone_after : undone after change_of ≡ s.mappings
   undone_after =
-      rw (after_is, ready.pieces_are) (rw (← ready.taken_is) at (undone-replaced s.mappings range inside place (length taken) space.laid_out ready.met))
+      rw (after_is, ready.pieces_are) (rw (← ready.taken_is) at (undone-replaced s.mappings range inside index (length taken) space.laid_out ready.met))
 
   undo_after : (tables : ℕ) → ((table : PageTable) → IsTree after table → gained_by s.mappings table ≡ tables) →
       IsUndoOf s.mappings after (record { change = change_of; range = range; tables = tables })
@@ -107,13 +107,13 @@ module _ (inside : List Mapping) (s : AddressSpace) (range : Span) (place : ℕ)
     tables = owed;
   }
 
-  pub change_is : (new : AddressSpace) (tables : ℕ) → new ≡ record (changed_to after taken s) { room = new.room } → s.room ≤ new.room →
+  pub change_is : (new : SpaceState) (tables : ℕ) → new ≡ record (changed_to after taken s) { room = new.room } → s.room ≤ new.room →
       ((table : PageTable) → IsTree after table → gained_by s.mappings table ≡ tables) →
       IsChanged s new after (record { change = change_of; range = range; tables = tables })
   change_is new tables is room owed =
-      let u : UndoValue = record { change = change_of; range = range; tables = tables } in
-      let mappings_is : new.mappings ≡ after = ap (λ (t : AddressSpace). t.mappings) is in
-      let limits_is : new.limits.mappings ≡ s.limits.mappings = ap (λ (t : AddressSpace). t.limits.mappings) is in
+      let u : OpUndoState = record { change = change_of; range = range; tables = tables } in
+      let mappings_is : new.mappings ≡ after = ap (λ (t : SpaceState). t.mappings) is in
+      let limits_is : new.limits.mappings ≡ s.limits.mappings = ap (λ (t : SpaceState). t.limits.mappings) is in
       let back : undone new.mappings change_of ≡ s.mappings = rw mappings_is undone_after in
       let undo : IsUndoOf s.mappings new.mappings u = subst (λ (ms : List Mapping). IsUndoOf s.mappings ms u) (sym mappings_is) (undo_after tables owed) in
       let long : length (undone new.mappings change_of) ≡ length s.mappings = ap (λ (l : List Mapping). length l) back in

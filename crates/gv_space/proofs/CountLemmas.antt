@@ -47,23 +47,23 @@ count_of-front_lt id ms i m within is of =
     omega (arith, more, count_of-front id ms (i + 1))
 
 -- a run and what lies around it
-pub count_of-around : (id : BufferId) (ms : List Mapping) (place count : ℕ) →
-    count_of id (take place ms) + count_of id (run ms place count) + count_of id (drop (place + count) ms) ≡ count_of id ms
-count_of-around id ms place count =
-    let rest : count_of id (drop count (drop place ms)) ≡ count_of id (drop (place + count) ms) = ap (λ (xs : List Mapping). count_of id xs) (drop-drop count place ms) in
-    omega (arith, count_of-front id ms place, count_of-front id (drop place ms) count, rest)
+pub count_of-around : (id : BufferId) (ms : List Mapping) (index count : ℕ) →
+    count_of id (take index ms) + count_of id (run ms index count) + count_of id (drop (index + count) ms) ≡ count_of id ms
+count_of-around id ms index count =
+    let rest : count_of id (drop count (drop index ms)) ≡ count_of id (drop (index + count) ms) = ap (λ (xs : List Mapping). count_of id xs) (drop-drop count index ms) in
+    omega (arith, count_of-front id ms index, count_of-front id (drop index ms) count, rest)
 
 -- what a splice takes out and puts in
-pub count_of-splice : (id : BufferId) (ms pieces : List Mapping) (place count : ℕ) →
-    count_of id (splice ms place (place + count) pieces) + count_of id (run ms place count) ≡ count_of id ms + count_of id pieces
-count_of-splice id ms pieces place count =
-    let outer = count_of-append id (take place ms) (pieces ++ drop (place + count) ms) in
-    let inner = count_of-append id pieces (drop (place + count) ms) in
-    omega (arith, outer, inner, count_of-around id ms place count)
+pub count_of-splice : (id : BufferId) (ms pieces : List Mapping) (index count : ℕ) →
+    count_of id (splice ms index (index + count) pieces) + count_of id (run ms index count) ≡ count_of id ms + count_of id pieces
+count_of-splice id ms pieces index count =
+    let outer = count_of-append id (take index ms) (pieces ++ drop (index + count) ms) in
+    let inner = count_of-append id pieces (drop (index + count) ms) in
+    omega (arith, outer, inner, count_of-around id ms index count)
 
 -- a run has no more than the whole list
-pub count_of-run-le : (id : BufferId) (ms : List Mapping) (place count : ℕ) → count_of id (run ms place count) ≤ count_of id ms
-count_of-run-le id ms place count = omega (arith, count_of-around id ms place count)
+pub count_of-run-le : (id : BufferId) (ms : List Mapping) (index count : ℕ) → count_of id (run ms index count) ≤ count_of id ms
+count_of-run-le id ms index count = omega (arith, count_of-around id ms index count)
 
 -- two ids with the same numbers
 pub same_from_is_same_id : (a b : BufferId) → is_same_id a b ≡ true → a ≡ b

@@ -8,7 +8,7 @@ use Rattle.gv_types.specs.declared.mapping.Backing.{Backing}
 use Rattle.gv_types.specs.declared.mapping.Backing.TheVariants.{Buffer as BufferPages, Zero}
 use Rattle.gv_types.specs.declared.mapping.BufferId.{BufferId}
 use Rattle.gv_types.specs.declared.mapping.Mapping.{Mapping}
-use Rattle.gv_buffers.specs.Table.{Buffer, Table, buffer, changed, only, has_id}
+use Rattle.gv_buffers.specs.Buffers.{Buffer, BuffersState, buffer, changed, only, has_id}
 use Rattle.gv_space.specs.Counts.{count_of, by_count, more_used, less_used, more_kept, less_kept}
 use Rattle.gv_space.specs.Live.{IsLiveBacking}
 use Rattle.gv_space.proofs.CountLemmas.{is_same_id-symmetric, count_of-more, count_of-front_lt}
@@ -39,12 +39,12 @@ pub less_kept_counting : IsCounting less_kept
 less_kept_counting = record { none = λ b. with_kept b _ b.kept (omega arith); more = λ b n. with_kept b _ _ (omega arith); id = λ b n. refl }
 
 -- the table with one mapping counted
-abbrev pub with_one : (Buffer → ℕ → Buffer) → Backing → Table → Table
+abbrev pub with_one : (Buffer → ℕ → Buffer) → Backing → BuffersState → BuffersState
 with_one change (BufferPages id page) t = changed id (λ b. change b 1) t
 with_one change Zero t = t
 
 -- no mapping is counted
-pub by_count_none : (change : Buffer → ℕ → Buffer) (t : Table) → IsCounting change → by_count change [] t ≡ t
+pub by_count_none : (change : Buffer → ℕ → Buffer) (t : BuffersState) → IsCounting change → by_count change [] t ≡ t
 by_count_none change t counting = each-itself (λ b. Unit {0}) (λ b. change b 0) t (λ k d within. tt) (λ b _. counting.none b)
 
 -- one mapping more or none
@@ -73,7 +73,7 @@ none_of change ms i m b within is of =
     ap (change b) same
 
 -- one more mapping of the list is counted
-by_count_more : (change : Buffer → ℕ → Buffer) (t : Table) (ms : List Mapping) (i : ℕ) (m : Mapping) (backing : Backing) → IsCounting change → i < length ms →
+by_count_more : (change : Buffer → ℕ → Buffer) (t : BuffersState) (ms : List Mapping) (i : ℕ) (m : Mapping) (backing : Backing) → IsCounting change → i < length ms →
     get_or ms i m ≡ m → m.backing ≡ backing → with_one change backing (by_count change (take i ms) t) ≡ by_count change (take (i + 1) ms) t
 by_count_more change t ms i m (BufferPages id page) counting within is of =
     each-each (only id (λ x. change x 1)) (λ b. change b (count_of b.id (take i ms))) t
@@ -82,13 +82,13 @@ by_count_more change t ms i m Zero counting within is of =
     each-same (λ b. Unit {0}) _ _ t (λ k d within. tt) (λ b _. none_of change ms i m b within is of)
 
 -- a turn of a loop that counts
-pub count_turn : (change : Buffer → ℕ → Buffer) (t now new : Table) (ms : List Mapping) (i : ℕ) (m : Mapping) (backing : Backing) → IsCounting change → i < length ms →
+pub count_turn : (change : Buffer → ℕ → Buffer) (t now new : BuffersState) (ms : List Mapping) (i : ℕ) (m : Mapping) (backing : Backing) → IsCounting change → i < length ms →
     m ≡ get_or ms i m → m.backing ≡ backing → now ≡ by_count change (take i ms) t → new ≡ with_one change backing now → new ≡ by_count change (take (i + 1) ms) t
 count_turn change t now new ms i m backing counting within is of so_far turn =
     turn ∙ ap (with_one change backing) so_far ∙ by_count_more change t ms i m backing counting within (sym is) of
 
 -- its end
-pub count_end : (change : Buffer → ℕ → Buffer) (t now : Table) (ms : List Mapping) (i : ℕ) → length ms ≤ i → now ≡ by_count change (take i ms) t → now ≡ by_count change ms t
+pub count_end : (change : Buffer → ℕ → Buffer) (t now : BuffersState) (ms : List Mapping) (i : ℕ) → length ms ≤ i → now ≡ by_count change (take i ms) t → now ≡ by_count change ms t
 count_end change t now ms i past so_far = so_far ∙ ap (λ (xs : List Mapping). by_count change xs t) (take_all i ms past)
 
 holds_at : (field : Buffer → ℕ) (Q : ℕ → Type 0) (f : Buffer → Buffer) (b : Buffer) (o : Option Buffer) → o ≡ option_map f (Some b) → Q (field (f b)) →
@@ -98,7 +98,7 @@ holds_at field Q f b o is holds = subst (λ (x : Option Buffer). IsSomeAnd (opti
 -- what a call in a loop that counts requires: the buffer is alive, and so is room for one more of all the mappings
 pub can_count : (change : Buffer → ℕ → Buffer) (field : Buffer → ℕ) (CanRevert : Buffer → ℕ → Type 0) (Q : ℕ → Type 0) → IsCounting change →
     ((b : Buffer) (n k : ℕ) → n < k → CanRevert b k → Q (field (change b n))) →
-    (t now : Table) (ms : List Mapping) (i : ℕ) (m : Mapping) (id : BufferId) (page : ℕ) → i < length ms → m ≡ get_or ms i m → m.backing ≡ BufferPages id page →
+    (t now : BuffersState) (ms : List Mapping) (i : ℕ) (m : Mapping) (id : BufferId) (page : ℕ) → i < length ms → m ≡ get_or ms i m → m.backing ≡ BufferPages id page →
     All (λ x. IsLiveBacking t x.backing) ms → All (λ b. CanRevert b (count_of b.id ms)) t.live → now ≡ by_count change (take i ms) t →
     IsSomeAnd (option_map field (buffer now id)) Q
 can_count change field CanRevert Q counting enough t now ms i m id page within is of live room so_far =
@@ -108,6 +108,6 @@ can_count change field CanRevert Q counting enough t now ms i m id page within i
     let mine : is_of b.id m.backing ≡ true = ap (is_of b.id) of ∙ is_same_id-symmetric id b.id ∙ found.same_id in
     let fewer : count_of b.id (take i ms) < count_of b.id ms = count_of-front_lt b.id ms i m within is mine in
     let at : buffer now id ≡ option_map (λ x. change x (count_of x.id (take i ms))) (Some b) =
-    ap (λ (x : Table). buffer x id) so_far ∙ buffer-each (λ x. change x (count_of x.id (take i ms))) t id (λ x. counting.id x (count_of x.id (take i ms)))
+    ap (λ (x : BuffersState). buffer x id) so_far ∙ buffer-each (λ x. change x (count_of x.id (take i ms))) t id (λ x. counting.id x (count_of x.id (take i ms)))
     ∙ ap (option_map (λ x. change x (count_of x.id (take i ms)))) found.found in
     holds_at field Q (λ x. change x (count_of x.id (take i ms))) b (buffer now id) at (enough b (count_of b.id (take i ms)) (count_of b.id ms) fewer found.holds)

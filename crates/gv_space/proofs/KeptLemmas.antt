@@ -3,51 +3,51 @@ use Rattle.std.proofs.Common.{◌≡◌, ℕ, ◌+◌, ◌-◌, List, ◌++◌, 
 use Rattle.std.specs.List.{All, filter, splice}
 use Rattle.std.proofs.lemmas.List.Elements.{All-append, All-take, All-drop, All-same, All-weaker, filter-append}
 use Rattle.std.proofs.lemmas.List.{take_at, drop_at}
-use Rattle.gv_types.specs.Bounds.{Area}
+use Rattle.gv_types.specs.Bounds.{BoundsState}
 use Rattle.gv_types.specs.Mapping.{is_of}
 use Rattle.gv_types.specs.declared.mapping.BufferId.{BufferId}
 use Rattle.gv_types.specs.declared.mapping.Mapping.{Mapping}
 use Rattle.gv_ranges.specs.List.{run}
 use Rattle.gv_ranges.specs.Edit.{undone}
-use Rattle.gv_buffers.specs.Table.{Table, IsTable}
+use Rattle.gv_buffers.specs.Buffers.{BuffersState, IsTable}
 use Rattle.gv_space.specs.Counts.{count_of, by_count, counted, more_kept, less_kept}
-use Rattle.gv_space.specs.State.{AddressSpace, IsPlaced, AreKept}
-use Rattle.gv_space.specs.Undo.{UndoValue, released, reverted}
+use Rattle.gv_space.specs.State.{SpaceState, IsPlaced, AreKept}
+use Rattle.gv_space.specs.Undo.{OpUndoState, released, reverted}
 use Rattle.gv_space.specs.Change.{changed_to}
 use Rattle.gv_space.specs.Laws.{KeptInAnyOrder}
 use Rattle.gv_space.proofs.ByCountLemmas.{counted_of_counts, more_kept_of_counts, less_kept_of_counts, placed-by_count, IsTable-by_count}
 use Rattle.gv_space.proofs.Recounted.{UsesAre, there_and_back, kept-counted, kept-more_kept, kept-less_kept}
 
 -- the tables of `changed_to`, `reverted` and `released`
-abbrev pub changed_table : List Mapping → List Mapping → Table → Table
+abbrev pub changed_table : List Mapping → List Mapping → BuffersState → BuffersState
 changed_table ms taken t = by_count counted ms (by_count more_kept taken t)
 
-abbrev pub reverted_table : List Mapping → List Mapping → Table → Table
+abbrev pub reverted_table : List Mapping → List Mapping → BuffersState → BuffersState
 reverted_table before taken t = by_count counted before (by_count less_kept taken t)
 
-abbrev pub released_table : List Mapping → Table → Table
+abbrev pub released_table : List Mapping → BuffersState → BuffersState
 released_table taken t = by_count less_kept taken t
 
 -- each is a table
-pub changed_is_table : (ms taken : List Mapping) (t : Table) → IsTable t → IsTable (changed_table ms taken t)
+pub changed_is_table : (ms taken : List Mapping) (t : BuffersState) → IsTable t → IsTable (changed_table ms taken t)
 changed_is_table ms taken t table = IsTable-by_count counted ms _ counted_of_counts (IsTable-by_count more_kept taken t more_kept_of_counts table)
 
-pub reverted_is_table : (before taken : List Mapping) (t : Table) → IsTable t → IsTable (reverted_table before taken t)
+pub reverted_is_table : (before taken : List Mapping) (t : BuffersState) → IsTable t → IsTable (reverted_table before taken t)
 reverted_is_table before taken t table = IsTable-by_count counted before _ counted_of_counts (IsTable-by_count less_kept taken t less_kept_of_counts table)
 
-pub released_is_table : (taken : List Mapping) (t : Table) → IsTable t → IsTable (released_table taken t)
+pub released_is_table : (taken : List Mapping) (t : BuffersState) → IsTable t → IsTable (released_table taken t)
 released_is_table taken t table = IsTable-by_count less_kept taken t less_kept_of_counts table
 
 -- and placed mappings stay placed
-pub placed_changed : (ms taken : List Mapping) (a : Area) (t : Table) (xs : List Mapping) → All (IsPlaced a t) xs → All (IsPlaced a (changed_table ms taken t)) xs
+pub placed_changed : (ms taken : List Mapping) (a : BoundsState) (t : BuffersState) (xs : List Mapping) → All (IsPlaced a t) xs → All (IsPlaced a (changed_table ms taken t)) xs
 placed_changed ms taken a t xs placed =
     placed-by_count counted ms a (by_count more_kept taken t) xs counted_of_counts (placed-by_count more_kept taken a t xs more_kept_of_counts placed)
 
-pub placed_reverted : (before taken : List Mapping) (a : Area) (t : Table) (xs : List Mapping) → All (IsPlaced a t) xs → All (IsPlaced a (reverted_table before taken t)) xs
+pub placed_reverted : (before taken : List Mapping) (a : BoundsState) (t : BuffersState) (xs : List Mapping) → All (IsPlaced a t) xs → All (IsPlaced a (reverted_table before taken t)) xs
 placed_reverted before taken a t xs placed =
     placed-by_count counted before a (by_count less_kept taken t) xs counted_of_counts (placed-by_count less_kept taken a t xs less_kept_of_counts placed)
 
-pub placed_released : (taken : List Mapping) (a : Area) (t : Table) (xs : List Mapping) → All (IsPlaced a t) xs → All (IsPlaced a (released_table taken t)) xs
+pub placed_released : (taken : List Mapping) (a : BoundsState) (t : BuffersState) (xs : List Mapping) → All (IsPlaced a t) xs → All (IsPlaced a (released_table taken t)) xs
 placed_released taken a t xs placed = placed-by_count less_kept taken a t xs less_kept_of_counts placed
 
 -- how many of two lists are of a buffer
@@ -69,16 +69,16 @@ pub All-back : (P : Mapping → Type 0) (xs ys : List Mapping) → All P (xs ++ 
 All-back P xs ys all = subst (All P) (drop_at xs ys (length xs) refl) (All-drop P (length xs) (xs ++ ys) all)
 
 -- and of each of a run
-pub All-taken : (P : Mapping → Type 0) (ms taken : List Mapping) (place count : ℕ) → taken ≡ run ms place count → All P ms → All P taken
-All-taken P ms taken place count is all = All-same P taken (run ms place count) is (All-take P count (drop place ms) (All-drop P place ms all))
+pub All-taken : (P : Mapping → Type 0) (ms taken : List Mapping) (index count : ℕ) → taken ≡ run ms index count → All P ms → All P taken
+All-taken P ms taken index count is all = All-same P taken (run ms index count) is (All-take P count (drop index ms) (All-drop P index ms all))
 
 -- and of each once others take the place of a run
-pub All-splice : (P : Mapping → Type 0) (ms pieces : List Mapping) (place past : ℕ) → All P ms → All P pieces → All P (splice ms place past pieces)
-All-splice P ms pieces place past all new =
-    All-append P (take place ms) (pieces ++ drop past ms) (All-take P place ms all) (All-append P pieces (drop past ms) new (All-drop P past ms all))
+pub All-splice : (P : Mapping → Type 0) (ms pieces : List Mapping) (index past : ℕ) → All P ms → All P pieces → All P (splice ms index past pieces)
+All-splice P ms pieces index past all new =
+    All-append P (take index ms) (pieces ++ drop past ms) (All-take P index ms all) (All-append P pieces (drop past ms) new (All-drop P past ms all))
 
 -- what a change took out is held beside the rest
-pub AreKept-changed : (s : AddressSpace) (ms taken saved : List Mapping) → All (IsPlaced s.area s.buffers) taken → AreKept s saved →
+pub AreKept-changed : (s : SpaceState) (ms taken saved : List Mapping) → All (IsPlaced s.area s.buffers) taken → AreKept s saved →
     AreKept (changed_to ms taken s) (taken ++ saved)
 AreKept-changed s ms taken saved placed are_kept = record {
   placed = placed_changed ms taken s.area s.buffers (taken ++ saved) (All-append (IsPlaced s.area s.buffers) taken saved placed are_kept.placed);
@@ -98,7 +98,7 @@ kept_in_any_order s newer taken older are_kept =
     }
 
 -- once its mappings are given up, the others are held
-pub AreKept-released : (s : AddressSpace) (taken others : List Mapping) → AreKept s (taken ++ others) → AreKept (released s taken) others
+pub AreKept-released : (s : SpaceState) (taken others : List Mapping) → AreKept s (taken ++ others) → AreKept (released s taken) others
 AreKept-released s taken others are_kept = record {
   placed = placed_released taken s.area s.buffers others (All-back (IsPlaced s.area s.buffers) taken others are_kept.placed);
   kept = kept-less_kept taken others s.buffers are_kept.kept;
@@ -106,7 +106,7 @@ AreKept-released s taken others are_kept = record {
 }
 
 -- and once a change is undone
-pub AreKept-reverted : (s : AddressSpace) (u : UndoValue) (others : List Mapping) → AreKept s (u.change.taken ++ others) → AreKept (reverted s u) others
+pub AreKept-reverted : (s : SpaceState) (u : OpUndoState) (others : List Mapping) → AreKept s (u.change.taken ++ others) → AreKept (reverted s u) others
 AreKept-reverted s u others are_kept =
     let taken : List Mapping = u.change.taken in
     let before : List Mapping = undone s.mappings u.change in
@@ -117,21 +117,21 @@ AreKept-reverted s u others are_kept =
     }
 
 -- room says nothing of what is held
-pub AreKept-room : (s : AddressSpace) (room : ℕ) (saved : List Mapping) → AreKept s saved → AreKept (record s { room = room }) saved
+pub AreKept-room : (s : SpaceState) (room : ℕ) (saved : List Mapping) → AreKept s saved → AreKept (record s { room = room }) saved
 AreKept-room s room saved are_kept = record { placed = are_kept.placed; kept = are_kept.kept; kept_count = are_kept.kept_count }
 
-pub AreKept-room_alone : (old new : AddressSpace) (saved : List Mapping) → new ≡ record old { room = new.room } → AreKept old saved → AreKept new saved
-AreKept-room_alone old new saved is are_kept = subst (λ (s : AddressSpace). AreKept s saved) (sym is) (AreKept-room old new.room saved are_kept)
+pub AreKept-room_alone : (old new : SpaceState) (saved : List Mapping) → new ≡ record old { room = new.room } → AreKept old saved → AreKept new saved
+AreKept-room_alone old new saved is are_kept = subst (λ (s : SpaceState). AreKept s saved) (sym is) (AreKept-room old new.room saved are_kept)
 
 -- a change, with the room that it left
-pub AreKept-changed_room : (old new : AddressSpace) (ms taken saved : List Mapping) → new ≡ record (changed_to ms taken old) { room = new.room } →
+pub AreKept-changed_room : (old new : SpaceState) (ms taken saved : List Mapping) → new ≡ record (changed_to ms taken old) { room = new.room } →
     All (IsPlaced old.area old.buffers) taken → AreKept old saved → AreKept new (taken ++ saved)
 AreKept-changed_room old new ms taken saved state placed are_kept =
-    subst (λ (s : AddressSpace). AreKept s (taken ++ saved)) (sym state)
+    subst (λ (s : SpaceState). AreKept s (taken ++ saved)) (sym state)
     (AreKept-room (changed_to ms taken old) new.room (taken ++ saved) (AreKept-changed old ms taken saved placed are_kept))
 
 -- To undo a change gives the space before it.
-pub reverted-changed : (old : AddressSpace) (ms : List Mapping) (room : ℕ) (u : UndoValue) → UsesAre old.mappings old.buffers → undone ms u.change ≡ old.mappings →
+pub reverted-changed : (old : SpaceState) (ms : List Mapping) (room : ℕ) (u : OpUndoState) → UsesAre old.mappings old.buffers → undone ms u.change ≡ old.mappings →
     reverted (record (changed_to ms u.change.taken old) { room = room }) u ≡ record old { room = room }
 reverted-changed old ms room u used before =
     let taken : List Mapping = u.change.taken in
@@ -139,11 +139,11 @@ reverted-changed old ms room u used before =
     ap (λ (xs : List Mapping). reverted_table xs taken (changed_table ms taken old.buffers)) before ∙ there_and_back old.mappings ms taken old.buffers used in
     let held : old.kept_count + length taken - length taken ≡ old.kept_count = omega arith in
     ap (λ (xs : List Mapping). record (reverted (record (changed_to ms taken old) { room = room }) u) { mappings = xs }) before
-    ∙ ap (λ (t : Table). record old { room = room; buffers = t; kept_count = old.kept_count + length taken - length taken }) tables
+    ∙ ap (λ (t : BuffersState). record old { room = room; buffers = t; kept_count = old.kept_count + length taken - length taken }) tables
     ∙ ap (λ (n : ℕ). record old { room = room; kept_count = n }) held
 
 -- so does its undoing in a space that is known by an equation
-pub reverted-changed_room : (old new : AddressSpace) (ms : List Mapping) (u : UndoValue) → new ≡ record (changed_to ms u.change.taken old) { room = new.room } →
+pub reverted-changed_room : (old new : SpaceState) (ms : List Mapping) (u : OpUndoState) → new ≡ record (changed_to ms u.change.taken old) { room = new.room } →
     UsesAre old.mappings old.buffers → undone ms u.change ≡ old.mappings → reverted new u ≡ record old { room = new.room }
 reverted-changed_room old new ms u state used before =
-    ap (λ (s : AddressSpace). reverted s u) state ∙ reverted-changed old ms new.room u used before
+    ap (λ (s : SpaceState). reverted s u) state ∙ reverted-changed old ms new.room u used before

@@ -5,7 +5,7 @@ use Rattle.std.proofs.lemmas.List.{length-append, length-take-le, length-drop}
 use Rattle.std.specs.List.{splice}
 use Rattle.std.specs.Option.{option_to_list}
 use Rattle.gv_types.specs.Page.{PAGES}
-use Rattle.gv_types.specs.Span.{Span, end_of, meets, IsInSpace}
+use Rattle.gv_types.specs.PageRange.{PageRangeState, end_of, meets, IsInSpace}
 use Rattle.gv_types.specs.Mapping.{IsMapping}
 use Rattle.gv_types.specs.declared.mapping.Mapping.{Mapping}
 use Rattle.gv_ranges.specs.List.{IsLaidOut, IsLaidOutFrom, IsOverlappingRun, run}
@@ -17,7 +17,7 @@ use Rattle.gv_space.specs.Ready.{IsOverlap}
 use Rattle.gv_space.specs.declared.overlap.Overlap.{Overlap}
 
 -- a mapping has a piece in a range exactly where it meets it
-pub length-clipped : (range : Span) (low : ℕ) (ms : List Mapping) → IsInSpace range → IsLaidOutFrom low ms →
+pub length-clipped : (range : PageRangeState) (low : ℕ) (ms : List Mapping) → IsInSpace range → IsLaidOutFrom low ms →
     length (clipped range.first (end_of range) ms) ≡ count_met ms range
 length-clipped range low [] in_space laid = refl
 length-clipped range low (m ∷ ms) in_space laid =
@@ -38,44 +38,44 @@ length-clipped range low (m ∷ ms) in_space laid =
     rw (gone, apart) rest)
     (cases_lt (max range.first m.range.first) (min (end_of range) (end_of m.range)))
 
-pub length-run : (ms : List Mapping) (place count : ℕ) → place + count ≤ length ms → length (run ms place count) ≡ count
-length-run ms place count within = length-take-le count (drop place ms) (omega (arith, length-drop place ms))
+pub length-run : (ms : List Mapping) (index count : ℕ) → index + count ≤ length ms → length (run ms index count) ≡ count
+length-run ms index count within = length-take-le count (drop index ms) (omega (arith, length-drop index ms))
 
 -- how many mappings meet a range is how long their run is
-pub count_met-run : (ms : List Mapping) (range : Span) (place count : ℕ) → IsOverlappingRun ms range place count → count_met ms range ≡ count
-count_met-run ms range place count met =
-    ap (λ (l : List Mapping). length l) (filter_meets ms range place count met) ∙ length-run ms place count met.within
+pub count_met-run : (ms : List Mapping) (range : PageRangeState) (index count : ℕ) → IsOverlappingRun ms range index count → count_met ms range ≡ count
+count_met-run ms range index count met =
+    ap (λ (l : List Mapping). length l) (filter_meets ms range index count met) ∙ length-run ms index count met.within
 
 -- how long a list is whose run gave way to others
-pub length-splice : (ms pieces : List Mapping) (place count : ℕ) → place + count ≤ length ms →
-    length (splice ms place (place + count) pieces) + count ≡ length ms + length pieces
-length-splice ms pieces place count within =
-    let front : length (take place ms) ≡ place = length-take-le place ms (omega arith) in
-    let back : length (drop (place + count) ms) ≡ length ms - (place + count) = length-drop (place + count) ms in
-    rw (length-append (take place ms) (pieces ++ drop (place + count) ms), length-append pieces (drop (place + count) ms), front, back) (omega arith)
+pub length-splice : (ms pieces : List Mapping) (index count : ℕ) → index + count ≤ length ms →
+    length (splice ms index (index + count) pieces) + count ≡ length ms + length pieces
+length-splice ms pieces index count within =
+    let front : length (take index ms) ≡ index = length-take-le index ms (omega arith) in
+    let back : length (drop (index + count) ms) ≡ length ms - (index + count) = length-drop (index + count) ms in
+    rw (length-append (take index ms) (pieces ++ drop (index + count) ms), length-append pieces (drop (index + count) ms), front, back) (omega arith)
 
 -- the run gives way to its rests and what is put in
-pub length-restored : (ms saved : List Mapping) (range : Span) (overlap : Overlap) → IsLaidOut ms → IsLaidOut saved → IsInSpace range →
+pub length-restored : (ms saved : List Mapping) (range : PageRangeState) (overlap : Overlap) → IsLaidOut ms → IsLaidOut saved → IsInSpace range →
     IsOverlap ms range overlap →
     length (restored ms range saved) ≡
     length ms - overlap.count + (length (option_to_list overlap.prev) + length (option_to_list overlap.next)) + count_met saved range
 length-restored ms saved range overlap laid saved_laid in_space is =
-    let here : List Mapping = run ms overlap.place overlap.count in
+    let here : List Mapping = run ms overlap.index overlap.count in
     let inside : length (clipped range.first (end_of range) saved) ≡ count_met saved range = length-clipped range 0 saved in_space saved_laid in
     let pieces : length (restored here range saved) ≡ length (option_to_list overlap.prev) + count_met saved range + length (option_to_list overlap.next) =
     length-append (clipped 0 range.first here ++ clipped range.first (end_of range) saved) (clipped (end_of range) PAGES here) ∙
     rw (length-append (clipped 0 range.first here) (clipped range.first (end_of range) saved), inside, is.prev, is.next) refl in
     let spliced : length (restored ms range saved) + overlap.count ≡ length ms + length (restored here range saved) =
-    rw (restored_run_in_place ms saved range overlap.place overlap.count laid is.met) (length-splice ms (restored here range saved) overlap.place overlap.count is.met.within) in
+    rw (restored_run_in_place ms saved range overlap.index overlap.count laid is.met) (length-splice ms (restored here range saved) overlap.index overlap.count is.met.within) in
     omega (arith, spliced, pieces, is.met.within)
 
 -- the same by the pieces that come in
-pub length-changed : (ms saved pieces : List Mapping) (range : Span) (overlap : Overlap) → IsLaidOut ms → IsOverlap ms range overlap →
+pub length-changed : (ms saved pieces : List Mapping) (range : PageRangeState) (overlap : Overlap) → IsLaidOut ms → IsOverlap ms range overlap →
     pieces ≡ option_to_list overlap.prev ++ clipped range.first (end_of range) saved ++ option_to_list overlap.next →
     length (restored ms range saved) + overlap.count ≡ length ms + length pieces
 length-changed ms saved pieces range overlap laid is pieces_are =
-    let here : List Mapping = run ms overlap.place overlap.count in
+    let here : List Mapping = run ms overlap.index overlap.count in
     let same : pieces ≡ restored here range saved = pieces_are ∙ rw (is.prev, is.next) refl in
     let spliced : length (restored ms range saved) + overlap.count ≡ length ms + length (restored here range saved) =
-    rw (restored_run_in_place ms saved range overlap.place overlap.count laid is.met) (length-splice ms (restored here range saved) overlap.place overlap.count is.met.within) in
+    rw (restored_run_in_place ms saved range overlap.index overlap.count laid is.met) (length-splice ms (restored here range saved) overlap.index overlap.count is.met.within) in
     omega (arith, spliced, ap (λ (xs : List Mapping). length xs) same)

@@ -2,17 +2,17 @@
 use Rattle.std.proofs.Common.{◌≡◌, ◌+◌, ◌<◌, ◌≤◌, List, length, true, false, Bool, Some, None, refl}
 use Rattle.std.specs.Prelude.{◌||◌, nat_lt, if◌then◌else◌}
 use Rattle.std.proofs.lemmas.Bool.{lt-ltb, le-ltb}
-use Rattle.gv_types.specs.Span.{Span}
+use Rattle.gv_types.specs.PageRange.{PageRangeState}
 use Rattle.gv_types.specs.declared.fault.Fault.TheVariants.{TooManyMappings}
 use Rattle.gv_types.specs.declared.mapping.Mapping.{Mapping}
-use Rattle.gv_space.specs.State.{AddressSpace, most_kept}
+use Rattle.gv_space.specs.State.{SpaceState, most_kept}
 use Rattle.gv_space.specs.Refusal.{count_met, limit_fault}
 
 second_holds : (a : Bool) → (if a || true then Some TooManyMappings else None) ≡ Some TooManyMappings
 second_holds true = refl
 second_holds false = refl
 
-module _ (s : AddressSpace) (range : Span) (ms : List Mapping) where
+module _ (s : SpaceState) (range : PageRangeState) (ms : List Mapping) where
   pub too_long : s.limits.mappings < length ms → limit_fault s range ms ≡ Some TooManyMappings
   too_long more = rw (lt-ltb s.limits.mappings (length ms) more) refl
 

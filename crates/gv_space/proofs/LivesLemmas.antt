@@ -7,17 +7,17 @@ use Rattle.std.proofs.lemmas.Option.{none-some}
 use Rattle.std.proofs.lemmas.List.Elements.{All-append, All-cons, All-take, All-drop, All-filter}
 use Rattle.std.proofs.lemmas.List.Filters.{length-filter_both}
 use Rattle.gv_types.specs.Mapping.{is_same_id, is_of}
-use Rattle.gv_types.specs.Bounds.{Area}
+use Rattle.gv_types.specs.Bounds.{BoundsState}
 use Rattle.gv_types.specs.declared.fault.Fault.TheVariants.{Mapped, Kept, InUse}
 use Rattle.gv_types.specs.declared.mapping.Backing.{Backing}
 use Rattle.gv_types.specs.declared.mapping.Backing.TheVariants.{Buffer as BufferPages, Zero}
 use Rattle.gv_types.specs.declared.mapping.BufferId.{BufferId}
 use Rattle.gv_types.specs.declared.mapping.Mapping.{Mapping}
-use Rattle.gv_buffers.specs.Table.{Buffer, Table, buffer, has_id, fresh, without, count_below, use_fault, destroy_fault, destroy_fault_of, IsLive, IsBuffer, IsCreated, IsTable}
+use Rattle.gv_buffers.specs.Buffers.{Buffer, BuffersState, buffer, has_id, fresh, without, count_below, use_fault, destroy_fault, destroy_fault_of, IsLive, IsBuffer, IsCreated, IsTable}
 use Rattle.gv_buffers.proofs.FoundLemmas.{live_of_made, others_stay_made, others_stay_destroyed, is_same_id-itself, is_same_id-other}
 use Rattle.gv_buffers.proofs.FoundLemmas.{counted_lives}
 use Rattle.gv_space.specs.Counts.{count_of}
-use Rattle.gv_space.specs.State.{AddressSpace, LieInside, IsPlaced, AreKept}
+use Rattle.gv_space.specs.State.{SpaceState, LieInside, IsPlaced, AreKept}
 use Rattle.gv_space.proofs.CountLemmas.{same_from_is_same_id, count_of-none, none_from_count_of}
 use Rattle.gv_space.proofs.TableLemmas.{found_live, IsFound}
 use Rattle.gv_space.proofs.ByCountLemmas.{KeepsSize, IsPlaced-kept}
@@ -27,56 +27,56 @@ abbrev IsBelow : Buffer → Buffer → Type 0
 IsBelow a b = a.id.index < b.id.index
 
 -- the id of a new buffer is that of no live one
-fresh_is_apart : (old new : Table) (id other : BufferId) (size : ℕ) → IsCreated old new id size → IsLive old other → other ≢ id
+fresh_is_apart : (old new : BuffersState) (id other : BufferId) (size : ℕ) → IsCreated old new id size → IsLive old other → other ≢ id
 fresh_is_apart old new id other size made lives same =
     let found = found_live (λ b. b.id.index ≢ id.index) old other made.free lives in
     let index : found.b.id.index ≡ other.index = eqb-true _ _ (and_parts (eqb found.b.id.index other.index) (eqb found.b.id.generation other.generation) found.same_id).0 in
     found.holds (index ∙ ap (λ (i : BufferId). i.index) same)
 
-inside_is_live : (t : Table) (id : BufferId) (page count : ℕ) → LieInside t (BufferPages id page) count → IsLive t id
+inside_is_live : (t : BuffersState) (id : BufferId) (page count : ℕ) → LieInside t (BufferPages id page) count → IsLive t id
 inside_is_live t id page count inside = counted_lives t id (λ b. b.pages) (λ size. page + count ≤ size) inside
 
-KeepsSize-made : (old new : Table) (id : BufferId) (size : ℕ) (backing : Backing) (count : ℕ) → IsCreated old new id size → LieInside old backing count → KeepsSize old new backing
+KeepsSize-made : (old new : BuffersState) (id : BufferId) (size : ℕ) (backing : Backing) (count : ℕ) → IsCreated old new id size → LieInside old backing count → KeepsSize old new backing
 KeepsSize-made old new id size (BufferPages other page) count made inside =
     ap (option_map (λ (b : Buffer). b.pages)) (others_stay_made old new id other size made (fresh_is_apart old new id other size made (inside_is_live old other page count inside)))
 KeepsSize-made old new id size Zero count made inside = tt
 
-fresh_is_not_of : (old new : Table) (id : BufferId) (size : ℕ) (backing : Backing) (count : ℕ) → IsCreated old new id size → LieInside old backing count → is_of id backing ≡ false
+fresh_is_not_of : (old new : BuffersState) (id : BufferId) (size : ℕ) (backing : Backing) (count : ℕ) → IsCreated old new id size → LieInside old backing count → is_of id backing ≡ false
 fresh_is_not_of old new id size (BufferPages other page) count made inside =
     is_same_id-other other id (λ same. fresh_is_apart old new id other size made (inside_is_live old other page count inside) (sym same))
 fresh_is_not_of old new id size Zero count made inside = refl
 
 -- mappings stay placed where a buffer is made
-pub placed_made : (a : Area) (old new : Table) (id : BufferId) (size : ℕ) (ms : List Mapping) → IsCreated old new id size → All (IsPlaced a old) ms → All (IsPlaced a new) ms
+pub placed_made : (a : BoundsState) (old new : BuffersState) (id : BufferId) (size : ℕ) (ms : List Mapping) → IsCreated old new id size → All (IsPlaced a old) ms → All (IsPlaced a new) ms
 placed_made a old new id size ms made placed k d within =
     let m : Mapping = get_or ms k d in
     let was : IsPlaced a old m = placed k d within in
     IsPlaced-kept a old new m (KeepsSize-made old new id size m.backing m.range.count made was.inside) was
 
 -- none of them is of the new buffer
-pub count_of_made : (a : Area) (old new : Table) (id : BufferId) (size : ℕ) (ms : List Mapping) → IsCreated old new id size → All (IsPlaced a old) ms → count_of id ms ≡ 0
+pub count_of_made : (a : BoundsState) (old new : BuffersState) (id : BufferId) (size : ℕ) (ms : List Mapping) → IsCreated old new id size → All (IsPlaced a old) ms → count_of id ms ≡ 0
 count_of_made a old new id size ms made placed =
     count_of-none id ms (λ k d within. fresh_is_not_of old new id size (get_or ms k d).backing (get_or ms k d).range.count made (placed k d within).inside)
 
 -- what holds of each buffer and of the new one
-All-made : (P : Buffer → Type 0) (old new : Table) (id : BufferId) (size : ℕ) → IsCreated old new id size → All P old.live → P (fresh id size) → All P new.live
+All-made : (P : Buffer → Type 0) (old new : BuffersState) (id : BufferId) (size : ℕ) → IsCreated old new id size → All P old.live → P (fresh id size) → All P new.live
 All-made P old new id size made all here =
-    let place : ℕ = count_below id.index old.live in
+    let index : ℕ = count_below id.index old.live in
     subst (All P) (sym (live_of_made old new id size made))
-    (All-append P (take place old.live) (fresh id size ∷ drop place old.live) (All-take P place old.live all)
-    (All-cons P (fresh id size) (drop place old.live) here (All-drop P place old.live all)))
+    (All-append P (take index old.live) (fresh id size ∷ drop index old.live) (All-take P index old.live all)
+    (All-cons P (fresh id size) (drop index old.live) here (All-drop P index old.live all)))
 
 -- so the counts are right for the new buffer too
-pub uses_made : (a : Area) (old new : Table) (id : BufferId) (size : ℕ) (ms : List Mapping) → IsCreated old new id size → All (IsPlaced a old) ms → UsesAre ms old → UsesAre ms new
+pub uses_made : (a : BoundsState) (old new : BuffersState) (id : BufferId) (size : ℕ) (ms : List Mapping) → IsCreated old new id size → All (IsPlaced a old) ms → UsesAre ms old → UsesAre ms new
 uses_made a old new id size ms made placed used =
     All-made (λ b. b.uses ≡ count_of b.id ms) old new id size made used (sym (count_of_made a old new id size ms made placed))
 
-pub kept_made : (a : Area) (old new : Table) (id : BufferId) (size : ℕ) (saved : List Mapping) → IsCreated old new id size → All (IsPlaced a old) saved → KeptAre saved old → KeptAre saved new
+pub kept_made : (a : BoundsState) (old new : BuffersState) (id : BufferId) (size : ℕ) (saved : List Mapping) → IsCreated old new id size → All (IsPlaced a old) saved → KeptAre saved old → KeptAre saved new
 kept_made a old new id size saved made placed kept =
     All-made (λ b. b.kept ≡ count_of b.id saved) old new id size made kept (sym (count_of_made a old new id size saved made placed))
 
 -- undo values hold what they held
-pub AreKept-made : (s : AddressSpace) (new : Table) (id : BufferId) (size : ℕ) (saved : List Mapping) → IsCreated s.buffers new id size → AreKept s saved →
+pub AreKept-made : (s : SpaceState) (new : BuffersState) (id : BufferId) (size : ℕ) (saved : List Mapping) → IsCreated s.buffers new id size → AreKept s saved →
     AreKept (record s { buffers = new }) saved
 AreKept-made s new id size saved made are_kept = record {
   placed = placed_made s.area s.buffers new id size saved made are_kept.placed;
@@ -106,46 +106,46 @@ live_option None none = absurd (none-some _ (sym none))
 live_option (Some b) none = refl
 
 -- a buffer that can be destroyed is found, and nothing names it
-found_unused : (t : Table) (id : BufferId) (P : Buffer → Type 0) → All P t.live → destroy_fault t id ≡ None → IsFound t id (λ b. P b × IsUnused b)
+found_unused : (t : BuffersState) (id : BufferId) (P : Buffer → Type 0) → All P t.live → destroy_fault t id ≡ None → IsFound t id (λ b. P b × IsUnused b)
 found_unused t id P all none =
     let found = found_live P t id all (live_option (buffer t id) none) in
     let unused : IsUnused found.b = unused_from_fault found.b (ap destroy_fault_of (sym found.found) ∙ none) in
     record { b = found.b; found = found.found; same_id = found.same_id; holds = (found.holds, unused) }
 
 -- no mapping of the list is of a buffer that can be destroyed
-pub count_of_destroyed : (t : Table) (id : BufferId) (ms : List Mapping) → destroy_fault t id ≡ None → UsesAre ms t → count_of id ms ≡ 0
+pub count_of_destroyed : (t : BuffersState) (id : BufferId) (ms : List Mapping) → destroy_fault t id ≡ None → UsesAre ms t → count_of id ms ≡ 0
 count_of_destroyed t id ms none used =
     let found = found_unused t id (λ b. b.uses ≡ count_of b.id ms) used none in
     let same : found.b.id ≡ id = same_from_is_same_id found.b.id id found.same_id in
     ap (λ (i : BufferId). count_of i ms) (sym same) ∙ sym found.holds.0 ∙ found.holds.1.uses
 
 -- and none that an undo value holds
-pub kept_of_destroyed : (t : Table) (id : BufferId) (saved : List Mapping) → destroy_fault t id ≡ None → KeptAre saved t → count_of id saved ≡ 0
+pub kept_of_destroyed : (t : BuffersState) (id : BufferId) (saved : List Mapping) → destroy_fault t id ≡ None → KeptAre saved t → count_of id saved ≡ 0
 kept_of_destroyed t id saved none kept =
     let found = found_unused t id (λ b. b.kept ≡ count_of b.id saved) kept none in
     let same : found.b.id ≡ id = same_from_is_same_id found.b.id id found.same_id in
     ap (λ (i : BufferId). count_of i saved) (sym same) ∙ sym found.holds.0 ∙ found.holds.1.kept
 
-KeepsSize-destroyed : (t : Table) (id : BufferId) (backing : Backing) → is_of id backing ≡ false → KeepsSize t (without id t) backing
+KeepsSize-destroyed : (t : BuffersState) (id : BufferId) (backing : Backing) → is_of id backing ≡ false → KeepsSize t (without id t) backing
 KeepsSize-destroyed t id (BufferPages other page) apart =
     ap (option_map (λ (b : Buffer). b.pages)) (others_stay_destroyed t id other (λ same. absurd (false≢true (sym apart ∙ ap (λ (i : BufferId). is_same_id i id) same ∙ is_same_id-itself id))))
 KeepsSize-destroyed t id Zero apart = tt
 
 -- mappings that aren't of the buffer stay placed
-pub placed_destroyed : (a : Area) (t : Table) (id : BufferId) (ms : List Mapping) → count_of id ms ≡ 0 → All (IsPlaced a t) ms → All (IsPlaced a (without id t)) ms
+pub placed_destroyed : (a : BoundsState) (t : BuffersState) (id : BufferId) (ms : List Mapping) → count_of id ms ≡ 0 → All (IsPlaced a t) ms → All (IsPlaced a (without id t)) ms
 placed_destroyed a t id ms none placed k d within =
     let m : Mapping = get_or ms k d in
     IsPlaced-kept a t (without id t) m (KeepsSize-destroyed t id m.backing (none_from_count_of id ms none k d within)) (placed k d within)
 
 -- the counts of the others stay
-pub uses_destroyed : (t : Table) (id : BufferId) (ms : List Mapping) → UsesAre ms t → UsesAre ms (without id t)
+pub uses_destroyed : (t : BuffersState) (id : BufferId) (ms : List Mapping) → UsesAre ms t → UsesAre ms (without id t)
 uses_destroyed t id ms used = All-filter (λ b. not (has_id id b)) (λ b. b.uses ≡ count_of b.id ms) t.live used
 
-pub kept_destroyed : (t : Table) (id : BufferId) (saved : List Mapping) → KeptAre saved t → KeptAre saved (without id t)
+pub kept_destroyed : (t : BuffersState) (id : BufferId) (saved : List Mapping) → KeptAre saved t → KeptAre saved (without id t)
 kept_destroyed t id saved kept = All-filter (λ b. not (has_id id b)) (λ b. b.kept ≡ count_of b.id saved) t.live kept
 
 -- undo values hold what they held
-pub AreKept-destroyed : (s : AddressSpace) (id : BufferId) (saved : List Mapping) → destroy_fault s.buffers id ≡ None → AreKept s saved →
+pub AreKept-destroyed : (s : SpaceState) (id : BufferId) (saved : List Mapping) → destroy_fault s.buffers id ≡ None → AreKept s saved →
     AreKept (record s { buffers = without id s.buffers }) saved
 AreKept-destroyed s id saved none are_kept = record {
   placed = placed_destroyed s.area s.buffers id saved (kept_of_destroyed s.buffers id saved none are_kept.kept) are_kept.placed;
@@ -175,7 +175,7 @@ pairs-filter test (x ∷ xs) pairs =
     ]
 
 -- a table stays one without a buffer
-pub IsTable-without : (t : Table) (id : BufferId) → IsTable t → IsTable (without id t)
+pub IsTable-without : (t : BuffersState) (id : BufferId) → IsTable t → IsTable (without id t)
 IsTable-without t id table = record {
   limit = table.limit;
   few = omega (arith, table.few, length-filter_both (λ (b : Buffer). not (has_id id b)) (λ b. not (not (has_id id b))) (λ _. refl) t.live);

@@ -2,23 +2,23 @@
 use Rattle.std.proofs.Common.{◌≡◌, ℕ, ◌+◌, ◌-◌, ◌<◌, ◌≤◌, Option, Some, None, max, min, true, false, arith, refl, subst, sym, ⊎_elim}
 use Rattle.std.specs.Prelude.{IsSomeAnd}
 use Rattle.std.proofs.lemmas.Bool.{le-leb, leb-true, lt-ltb, le-ltb, and_from, and_parts, cases_lt, and_left, and_right}
-use Rattle.gv_types.specs.Span.{Span, span, end_of, meets, lies_in}
-use Rattle.gv_types.specs.Bounds.{Area, meets_region}
+use Rattle.gv_types.specs.PageRange.{PageRangeState, span, end_of, meets, lies_in}
+use Rattle.gv_types.specs.Bounds.{BoundsState, meets_region}
 use Rattle.gv_types.specs.Mapping.{piece, advanced}
 use Rattle.gv_types.specs.declared.mapping.Backing.{Backing}
 use Rattle.gv_types.specs.declared.mapping.Backing.TheVariants.{Buffer, Zero}
 use Rattle.gv_ranges.proofs.KeptLemmas.{HoldsOfPieces, clip_is_piece}
-use Rattle.gv_buffers.specs.Table.{Table, pages}
+use Rattle.gv_buffers.specs.Buffers.{BuffersState, pages}
 use Rattle.gv_space.specs.State.{IsPlaced, LieInside}
 
-lies_within : (part whole space : Span) → whole.first ≤ part.first → end_of part ≤ end_of whole → lies_in whole space ≡ true → lies_in part space ≡ true
+lies_within : (part whole space : PageRangeState) → whole.first ≤ part.first → end_of part ≤ end_of whole → lies_in whole space ≡ true → lies_in part space ≡ true
 lies_within part whole space low high lies =
     let h = and_parts _ _ lies in
     let first : space.first ≤ whole.first = leb-true _ _ h.0 in
     let end : end_of whole ≤ end_of space = leb-true _ _ h.1 in
     and_from _ _ (le-leb space.first part.first (omega arith)) (le-leb (end_of part) (end_of space) (omega arith))
 
-apart : (part whole region : Span) → whole.first ≤ part.first → end_of part ≤ end_of whole → meets whole region ≡ false → meets part region ≡ false
+apart : (part whole region : PageRangeState) → whole.first ≤ part.first → end_of part ≤ end_of whole → meets whole region ≡ false → meets part region ≡ false
 apart part whole region low high off =
     ⊎_elim
     (λ (below : whole.first < end_of region).
@@ -32,7 +32,7 @@ apart part whole region low high off =
     (λ (before : end_of region ≤ whole.first). and_left _ _ (le-ltb part.first (end_of region) (omega arith)))
     (cases_lt whole.first (end_of region))
 
-off_region : (part whole : Span) (region : Option Span) → whole.first ≤ part.first → end_of part ≤ end_of whole → meets_region region whole ≡ false → meets_region region part ≡ false
+off_region : (part whole : PageRangeState) (region : Option PageRangeState) → whole.first ≤ part.first → end_of part ≤ end_of whole → meets_region region whole ≡ false → meets_region region part ≡ false
 off_region part whole None low high off = refl
 off_region part whole (Some region) low high off = apart part whole region low high off
 
@@ -40,11 +40,11 @@ inside_still : (size : Option ℕ) (page from count less : ℕ) → from + less 
 inside_still None page from count less fits lies = lies
 inside_still (Some n) page from count less fits lies = omega (arith, lies)
 
-inside : (t : Table) (b : Backing) (from count less : ℕ) → from + less ≤ count → LieInside t b count → LieInside t (advanced b from) less
+inside : (t : BuffersState) (b : Backing) (from count less : ℕ) → from + less ≤ count → LieInside t b count → LieInside t (advanced b from) less
 inside t (Buffer id page) from count less fits lies = inside_still (pages t id) page from count less fits lies
 inside t Zero from count less fits lies = tt
 
-pub placed_pieces : (a : Area) (t : Table) → HoldsOfPieces (IsPlaced a t)
+pub placed_pieces : (a : BoundsState) (t : BuffersState) → HoldsOfPieces (IsPlaced a t)
 placed_pieces a t low high m n is placed clipped =
     let h = clip_is_piece low high m n clipped in
     let first : ℕ = max low m.range.first in

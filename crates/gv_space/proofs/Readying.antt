@@ -3,11 +3,11 @@ use Rattle.std.proofs.Common.{◌≡◌, ℕ, ◌+◌, ◌-◌, ◌*◌, ◌<◌
 use Rattle.std.specs.List.{All, splice}
 use Rattle.std.specs.Option.{option_to_list}
 use Rattle.std.proofs.lemmas.Bool.{cases_lt}
-use Rattle.gv_types.specs.Span.{Span, end_of}
+use Rattle.gv_types.specs.PageRange.{PageRangeState, end_of}
 use Rattle.gv_types.specs.Mapping.{IsMapping}
 use Rattle.gv_types.specs.declared.fault.Fault.TheVariants.{TooManyMappings}
 use Rattle.gv_types.specs.declared.mapping.Mapping.{Mapping}
-use Rattle.gv_ranges.specs.List.{IsLaidOut, IsOverlappingRun, Ranges, run}
+use Rattle.gv_ranges.specs.List.{IsLaidOut, IsOverlappingRun, RangeListState, run}
 use Rattle.gv_ranges.specs.Edit.{LieIn, clipped, replaced, restored}
 use Rattle.gv_ranges.proofs.KeptLemmas.{All-clipped}
 use Rattle.gv_ranges.proofs.OrderLemmas.{laid_out-clipped, laid_out-replaced, lie_in-clipped}
@@ -16,8 +16,8 @@ use Rattle.gv_table.specs.Reads.{AreAlikeOutside}
 use Rattle.gv_table.specs.Table.{IsTree, gained_by}
 use Rattle.gv_table.specs.declared.page_table.PageTable.{PageTable}
 use Rattle.gv_table.proofs.EditLemmas.{replaced-alike, replaced-pieces}
-use Rattle.gv_space.specs.State.{AddressSpace, IsSpace, IsPlaced, most_kept}
-use Rattle.gv_space.specs.Undo.{UndoValue, IsUndoOf}
+use Rattle.gv_space.specs.State.{SpaceState, IsSpace, IsPlaced, most_kept}
+use Rattle.gv_space.specs.Undo.{OpUndoState, IsUndoOf}
 use Rattle.gv_space.specs.Change.{IsChanged, GrowsJustFor}
 use Rattle.gv_space.specs.Ready.{IsOverlap, IsReady}
 use Rattle.gv_space.specs.Refusal.{count_met, limit_fault}
@@ -31,7 +31,7 @@ use Rattle.gv_space.proofs.Spaces.{IsSpace-room}
 use Rattle.gv_space.proofs.Placed.{placed_pieces}
 
 -- a change that meets no fault stays within the limits
-pub limits_kept : (s : AddressSpace) (range : Span) (ms : List Mapping) → limit_fault s range ms ≡ None →
+pub limits_kept : (s : SpaceState) (range : PageRangeState) (ms : List Mapping) → limit_fault s range ms ≡ None →
     (length ms ≤ s.limits.mappings) × (s.kept_count + count_met s.mappings range ≤ most_kept)
 limits_kept s range ms none = (
   ⊎_elim
@@ -44,7 +44,7 @@ limits_kept s range ms none = (
       (cases_lt most_kept (s.kept_count + count_met s.mappings range)),
 )
 
-module _ (s : AddressSpace) (range : Span) (saved : List Mapping) (space : IsSpace s) (saved_laid : IsLaidOut saved) where
+module _ (s : SpaceState) (range : PageRangeState) (saved : List Mapping) (space : IsSpace s) (saved_laid : IsLaidOut saved) where
   -- what the saved mappings have in the range
   abbrev pub inside : List Mapping
   inside = clipped range.first (end_of range) saved
@@ -58,24 +58,24 @@ module _ (s : AddressSpace) (range : Span) (saved : List Mapping) (space : IsSpa
       All-clipped (IsPlaced s.area s.buffers) range.first (end_of range) saved
       (λ k d below n is. placed_pieces s.area s.buffers range.first (end_of range) _ n (mappings k d below) (placed k d below) is)
 
-  pub ready_from : (list : Ranges) (overlap : Overlap) (taken pieces : List Mapping) (spares more : ℕ) → All (IsPlaced s.area s.buffers) saved →
-      IsOverlap s.mappings range overlap → taken ≡ run s.mappings overlap.place overlap.count →
+  pub ready_from : (list : RangeListState) (overlap : Overlap) (taken pieces : List Mapping) (spares more : ℕ) → All (IsPlaced s.area s.buffers) saved →
+      IsOverlap s.mappings range overlap → taken ≡ run s.mappings overlap.index overlap.count →
       pieces ≡ option_to_list overlap.prev ++ inside ++ option_to_list overlap.next →
       list.mappings ≡ s.mappings → length list.mappings + more ≤ list.room → length pieces ≤ length taken + more →
       limit_fault s range (restored s.mappings range saved) ≡ None →
       ((ms : List Mapping) (table : PageTable) → IsLaidOut ms → AreAlikeOutside range s.mappings ms → clipped range.first (end_of range) ms ≡ inside → IsTree s.mappings table → gained_by ms table ≤ spares) →
-      IsReady inside (record s { mappings = list.mappings; room = list.room }) range overlap.place taken pieces spares
+      IsReady inside (record s { mappings = list.mappings; room = list.room }) range overlap.index taken pieces spares
   ready_from list overlap taken pieces spares more placed is taken_is pieces_is same room fits none enough =
       let lie : LieIn range inside = lie_in-clipped range saved in
       let limits = limits_kept s range (restored s.mappings range saved) none in
-      let long : length taken ≡ overlap.count = ap (λ (l : List Mapping). length l) taken_is ∙ length-run s.mappings overlap.place overlap.count is.met.within in
-      let met : count_met s.mappings range ≡ overlap.count = count_met-run s.mappings range overlap.place overlap.count is.met in
-      let ready : IsReady inside (record s { room = list.room }) range overlap.place taken pieces spares = record {
+      let long : length taken ≡ overlap.count = ap (λ (l : List Mapping). length l) taken_is ∙ length-run s.mappings overlap.index overlap.count is.met.within in
+      let met : count_met s.mappings range ≡ overlap.count = count_met-run s.mappings range overlap.index overlap.count is.met in
+      let ready : IsReady inside (record s { room = list.room }) range overlap.index taken pieces spares = record {
         sorted = inside_sorted;
         lie = lie;
         placed = inside_placed placed;
-        met = subst (λ (n : ℕ). IsOverlappingRun s.mappings range overlap.place n) (sym long) is.met;
-        taken_is = subst (λ (n : ℕ). taken ≡ run s.mappings overlap.place n) (sym long) taken_is;
+        met = subst (λ (n : ℕ). IsOverlappingRun s.mappings range overlap.index n) (sym long) is.met;
+        taken_is = subst (λ (n : ℕ). taken ≡ run s.mappings overlap.index n) (sym long) taken_is;
         pieces_are = pieces_is ∙ rw (is.prev, is.next, taken_is) refl;
         room = omega (arith, ap (λ (l : List Mapping). length l) same, room, fits);
         old_room = omega (arith, ap (λ (l : List Mapping). length l) same, room);
@@ -84,19 +84,19 @@ module _ (s : AddressSpace) (range : Span) (saved : List Mapping) (space : IsSpa
         enough = λ table tree. enough (replaced s.mappings range inside) table (laid_out-replaced s.mappings range inside space.laid_out inside_sorted lie)
             (replaced-alike s.mappings inside range space.laid_out lie) (replaced-pieces s.mappings inside range space.laid_out inside_sorted lie) tree;
       } in
-      subst (λ (ms : List Mapping). IsReady inside (record s { mappings = ms; room = list.room }) range overlap.place taken pieces spares) (sym same) ready
+      subst (λ (ms : List Mapping). IsReady inside (record s { mappings = ms; room = list.room }) range overlap.index taken pieces spares) (sym same) ready
 
 -- What room was made before a change is the change's own.
-pub changed_before : (s : AddressSpace) (list : Ranges) (new : AddressSpace) (within : List Mapping) (range : Span) (place : ℕ) (taken pieces : List Mapping) (spares : ℕ) (u : UndoValue) →
+pub changed_before : (s : SpaceState) (list : RangeListState) (new : SpaceState) (within : List Mapping) (range : PageRangeState) (index : ℕ) (taken pieces : List Mapping) (spares : ℕ) (u : OpUndoState) →
     IsSpace s → list.mappings ≡ s.mappings → s.room ≤ list.room →
-    IsReady within (record s { mappings = list.mappings; room = list.room }) range place taken pieces spares →
-    IsChanged (record s { mappings = list.mappings; room = list.room }) new (splice list.mappings place (place + length taken) pieces) u →
+    IsReady within (record s { mappings = list.mappings; room = list.room }) range index taken pieces spares →
+    IsChanged (record s { mappings = list.mappings; room = list.room }) new (splice list.mappings index (index + length taken) pieces) u →
     IsChanged s new (replaced s.mappings range within) u
-changed_before s list new within range place taken pieces spares u space same room ready is =
-    let old : AddressSpace = record s { mappings = list.mappings; room = list.room } in
+changed_before s list new within range index taken pieces spares u space same room ready is =
+    let old : SpaceState = record s { mappings = list.mappings; room = list.room } in
     let old_space : IsSpace old = subst (λ (ms : List Mapping). IsSpace (record s { mappings = ms; room = list.room })) (sym same) (IsSpace-room s list.room space) in
-    let list_is : splice list.mappings place (place + length taken) pieces ≡ replaced s.mappings range within =
-    after_is within old range place taken pieces spares old_space ready ∙ ap (λ (ms : List Mapping). replaced ms range within) same in
+    let list_is : splice list.mappings index (index + length taken) pieces ≡ replaced s.mappings range within =
+    after_is within old range index taken pieces spares old_space ready ∙ ap (λ (ms : List Mapping). replaced ms range within) same in
     let is' : IsChanged old new (replaced s.mappings range within) u = subst (λ (ms : List Mapping). IsChanged old new ms u) list_is is in
     record {
       state = is'.state;
@@ -108,38 +108,38 @@ changed_before s list new within range place taken pieces spares u space same ro
     }
 
 -- the same from what each step of a change answers
-pub made_ready : (i : Inside) (now : AddressSpace) (range : Span) (saved : List Mapping) (space : IsSpace (space_of i)) (laid : IsLaidOut saved) (list reserved : Ranges) (overlap : Overlap)
+pub made_ready : (i : Inside) (now : SpaceState) (range : PageRangeState) (saved : List Mapping) (space : IsSpace (space_of i)) (laid : IsLaidOut saved) (list reserved : RangeListState) (overlap : Overlap)
     (shown taken pieces middle : List Mapping) (spares more : ℕ) → space_of i ≡ now → list ≡ i.mapped → IsOverlap list.mappings range overlap →
-    shown ≡ now.mappings → taken ≡ run shown overlap.place overlap.count →
+    shown ≡ now.mappings → taken ≡ run shown overlap.index overlap.count →
     pieces ≡ option_to_list overlap.prev ++ inside (space_of i) range saved space laid ++ option_to_list overlap.next →
     ((within : List Mapping) → pieces ≡ option_to_list overlap.prev ++ within ++ option_to_list overlap.next → middle ≡ within) →
     All (IsPlaced now.area now.buffers) saved → limit_fault now range (restored now.mappings range saved) ≡ None →
     reserved.mappings ≡ i.mapped.mappings → length reserved.mappings + more ≤ reserved.room → length pieces ≤ length taken + more →
     ((ms : List Mapping) (table : PageTable) → IsLaidOut ms → AreAlikeOutside range i.mapped.mappings ms → clipped range.first (end_of range) ms ≡ middle → IsTree i.mapped.mappings table → gained_by ms table ≤ spares) →
-    IsReady (inside (space_of i) range saved space laid) (record (space_of i) { mappings = reserved.mappings; room = reserved.room }) range overlap.place taken pieces spares
+    IsReady (inside (space_of i) range saved space laid) (record (space_of i) { mappings = reserved.mappings; room = reserved.room }) range overlap.index taken pieces spares
 made_ready i now range saved space laid list reserved overlap shown taken pieces middle spares more space_is list_is is shown_is taken_is pieces_is middle_is placed none same room fits enough =
-    let s : AddressSpace = space_of i in
-    let taken_now : taken ≡ run now.mappings overlap.place overlap.count = rw shown_is at taken_is in
+    let s : SpaceState = space_of i in
+    let taken_now : taken ≡ run now.mappings overlap.index overlap.count = rw shown_is at taken_is in
     let between : middle ≡ inside s range saved space laid = middle_is (inside s range saved space laid) pieces_is in
     ready_from s range saved space laid reserved overlap taken pieces spares more
-    (subst (λ (t : AddressSpace). All (IsPlaced t.area t.buffers) saved) (sym space_is) placed)
-    (subst (λ (l : Ranges). IsOverlap l.mappings range overlap) list_is is)
-    (subst (λ (t : AddressSpace). taken ≡ run t.mappings overlap.place overlap.count) (sym space_is) taken_now)
+    (subst (λ (t : SpaceState). All (IsPlaced t.area t.buffers) saved) (sym space_is) placed)
+    (subst (λ (l : RangeListState). IsOverlap l.mappings range overlap) list_is is)
+    (subst (λ (t : SpaceState). taken ≡ run t.mappings overlap.index overlap.count) (sym space_is) taken_now)
     pieces_is same room fits
-    (subst (λ (t : AddressSpace). limit_fault t range (restored t.mappings range saved) ≡ None) (sym space_is) none)
+    (subst (λ (t : SpaceState). limit_fault t range (restored t.mappings range saved) ≡ None) (sym space_is) none)
     (λ ms table laid_out alike has tree. enough ms table laid_out alike (has ∙ sym between) tree)
 
 -- where nothing was reserved the room is what it was
-pub room_kept : (ms : List Mapping) (s : AddressSpace) → GrowsJustFor ms s s
+pub room_kept : (ms : List Mapping) (s : SpaceState) → GrowsJustFor ms s s
 room_kept ms s = record { enough = λ _ _. refl; double_or_need = omega arith }
 
 -- what is reserved for a change is what its list needs
-grown_for : (s new : AddressSpace) (range : Span) (saved taken pieces : List Mapping) (overlap : Overlap) (more room : ℕ) → IsSpace s → IsOverlap s.mappings range overlap →
-    taken ≡ run s.mappings overlap.place overlap.count → pieces ≡ option_to_list overlap.prev ++ clipped range.first (end_of range) saved ++ option_to_list overlap.next →
+grown_for : (s new : SpaceState) (range : PageRangeState) (saved taken pieces : List Mapping) (overlap : Overlap) (more room : ℕ) → IsSpace s → IsOverlap s.mappings range overlap →
+    taken ≡ run s.mappings overlap.index overlap.count → pieces ≡ option_to_list overlap.prev ++ clipped range.first (end_of range) saved ++ option_to_list overlap.next →
     more ≡ length pieces - length taken → (length s.mappings + more ≤ s.room → room ≡ s.room) → room ≤ max (2 * s.room) (length s.mappings + more) → new.room ≡ room →
     GrowsJustFor (restored s.mappings range saved) s new
 grown_for s new range saved taken pieces overlap more room space is taken_is pieces_are more_is enough most room_is =
-    let count : length taken ≡ overlap.count = ap (λ (l : List Mapping). length l) taken_is ∙ length-run s.mappings overlap.place overlap.count is.met.within in
+    let count : length taken ≡ overlap.count = ap (λ (l : List Mapping). length l) taken_is ∙ length-run s.mappings overlap.index overlap.count is.met.within in
     let long : length (restored s.mappings range saved) + overlap.count ≡ length s.mappings + length pieces = length-changed s.mappings saved pieces range overlap space.laid_out is pieces_are in
     record {
       enough = λ (old_fits : length s.mappings ≤ s.room) (fits : length (restored s.mappings range saved) ≤ s.room). room_is ∙ enough (omega (arith, count, long, more_is, old_fits, fits));
@@ -147,16 +147,16 @@ grown_for s new range saved taken pieces overlap more room space is taken_is pie
     }
 
 -- the same from what each step of a change answers
-pub grown_just_for : (i : Inside) (now new : AddressSpace) (range : Span) (saved taken pieces shown : List Mapping) (list reserved : Ranges) (overlap : Overlap) (more : ℕ) → IsSpace (space_of i) →
-    space_of i ≡ now → list ≡ i.mapped → IsOverlap list.mappings range overlap → shown ≡ now.mappings → taken ≡ run shown overlap.place overlap.count →
+pub grown_just_for : (i : Inside) (now new : SpaceState) (range : PageRangeState) (saved taken pieces shown : List Mapping) (list reserved : RangeListState) (overlap : Overlap) (more : ℕ) → IsSpace (space_of i) →
+    space_of i ≡ now → list ≡ i.mapped → IsOverlap list.mappings range overlap → shown ≡ now.mappings → taken ≡ run shown overlap.index overlap.count →
     pieces ≡ option_to_list overlap.prev ++ clipped range.first (end_of range) saved ++ option_to_list overlap.next → more ≡ length pieces - length taken →
     (length i.mapped.mappings + more ≤ i.mapped.room → reserved.room ≡ i.mapped.room) → reserved.room ≤ max (2 * i.mapped.room) (length i.mapped.mappings + more) → new.room ≡ reserved.room →
     GrowsJustFor (restored now.mappings range saved) now new
 grown_just_for i now new range saved taken pieces shown list reserved overlap more space space_is list_is is shown_is taken_is pieces_are more_is enough most room_is =
-    let s : AddressSpace = space_of i in
-    let taken_now : taken ≡ run now.mappings overlap.place overlap.count = rw shown_is at taken_is in
-    subst (λ (t : AddressSpace). GrowsJustFor (restored t.mappings range saved) t new) space_is
+    let s : SpaceState = space_of i in
+    let taken_now : taken ≡ run now.mappings overlap.index overlap.count = rw shown_is at taken_is in
+    subst (λ (t : SpaceState). GrowsJustFor (restored t.mappings range saved) t new) space_is
     (grown_for s new range saved taken pieces overlap more reserved.room space
-    (subst (λ (l : Ranges). IsOverlap l.mappings range overlap) list_is is)
-    (subst (λ (t : AddressSpace). taken ≡ run t.mappings overlap.place overlap.count) (sym space_is) taken_now)
+    (subst (λ (l : RangeListState). IsOverlap l.mappings range overlap) list_is is)
+    (subst (λ (t : SpaceState). taken ≡ run t.mappings overlap.index overlap.count) (sym space_is) taken_now)
     pieces_are more_is enough most room_is)

@@ -3,43 +3,43 @@ use Rattle.std.proofs.Common.{◌≡◌, ℕ, ◌+◌, ◌-◌, List, ◌++◌, 
 use Rattle.std.specs.List.{All, splice}
 use Rattle.gv_types.specs.declared.mapping.Mapping.{Mapping}
 use Rattle.gv_ranges.specs.List.{run}
-use Rattle.gv_buffers.specs.Table.{Buffer, Table}
+use Rattle.gv_buffers.specs.Buffers.{Buffer, BuffersState}
 use Rattle.gv_space.specs.Counts.{count_of, by_count, counted, more_used, less_used, more_kept, less_kept}
 use Rattle.gv_space.proofs.CountLemmas.{count_of-append, count_of-splice}
 use Rattle.gv_space.proofs.TableLemmas.{each-each, each-same, each-itself}
 use Rattle.gv_space.proofs.ByCountLemmas.{All-by_count}
 
 -- `uses` counts a list
-abbrev pub UsesAre : List Mapping → Table → Type 0
+abbrev pub UsesAre : List Mapping → BuffersState → Type 0
 UsesAre ms t = All (λ b. b.uses ≡ count_of b.id ms) t.live
 
 -- `kept` counts a list
-abbrev pub KeptAre : List Mapping → Table → Type 0
+abbrev pub KeptAre : List Mapping → BuffersState → Type 0
 KeptAre ms t = All (λ b. b.kept ≡ count_of b.id ms) t.live
 
 -- the counts of the list don't change with those of undo values
-pub uses-more_kept : (ms taken : List Mapping) (t : Table) → UsesAre ms t → UsesAre ms (by_count more_kept taken t)
+pub uses-more_kept : (ms taken : List Mapping) (t : BuffersState) → UsesAre ms t → UsesAre ms (by_count more_kept taken t)
 uses-more_kept ms taken t used = All-by_count (λ b. b.uses ≡ count_of b.id ms) more_kept taken t used
 
-pub uses-less_kept : (ms taken : List Mapping) (t : Table) → UsesAre ms t → UsesAre ms (by_count less_kept taken t)
+pub uses-less_kept : (ms taken : List Mapping) (t : BuffersState) → UsesAre ms t → UsesAre ms (by_count less_kept taken t)
 uses-less_kept ms taken t used = All-by_count (λ b. b.uses ≡ count_of b.id ms) less_kept taken t used
 
 -- a list that is counted anew is counted
-pub uses-counted : (ms : List Mapping) (t : Table) → UsesAre ms (by_count counted ms t)
+pub uses-counted : (ms : List Mapping) (t : BuffersState) → UsesAre ms (by_count counted ms t)
 uses-counted ms t = All-by_count (λ b. b.uses ≡ count_of b.id ms) counted ms t (λ k d within. refl)
 
 -- nor do those of undo values with those of the list
-pub kept-counted : (saved ms : List Mapping) (t : Table) → KeptAre saved t → KeptAre saved (by_count counted ms t)
+pub kept-counted : (saved ms : List Mapping) (t : BuffersState) → KeptAre saved t → KeptAre saved (by_count counted ms t)
 kept-counted saved ms t kept = All-by_count (λ b. b.kept ≡ count_of b.id saved) counted ms t kept
 
 -- more mappings are kept
-pub kept-more_kept : (taken saved : List Mapping) (t : Table) → KeptAre saved t → KeptAre (taken ++ saved) (by_count more_kept taken t)
+pub kept-more_kept : (taken saved : List Mapping) (t : BuffersState) → KeptAre saved t → KeptAre (taken ++ saved) (by_count more_kept taken t)
 kept-more_kept taken saved t kept =
     All-by_count (λ b. b.kept ≡ count_of b.id (taken ++ saved)) more_kept taken t (λ k d within.
     omega (arith, kept k d within, count_of-append (slice_index_or t.live k d).id taken saved))
 
 -- fewer are
-pub kept-less_kept : (taken others : List Mapping) (t : Table) → KeptAre (taken ++ others) t → KeptAre others (by_count less_kept taken t)
+pub kept-less_kept : (taken others : List Mapping) (t : BuffersState) → KeptAre (taken ++ others) t → KeptAre others (by_count less_kept taken t)
 kept-less_kept taken others t kept =
     All-by_count (λ b. b.kept ≡ count_of b.id others) less_kept taken t (λ k d within.
     omega (arith, kept k d within, count_of-append (slice_index_or t.live k d).id taken others))
@@ -48,34 +48,34 @@ with_counts : (b : Buffer) (uses kept : ℕ) → uses ≡ b.uses → kept ≡ b.
 with_counts b uses kept same_uses same_kept = rw (same_uses, same_kept) refl
 
 -- A run of the list gave way to pieces, and the mappings were counted in and out: as if the new list were counted anew.
-pub recounted : (ms taken pieces : List Mapping) (place count : ℕ) (t : Table) → taken ≡ run ms place count → UsesAre ms t →
-    by_count less_used taken (by_count more_used pieces t) ≡ by_count counted (splice ms place (place + count) pieces) t
-recounted ms taken pieces place count t is used =
+pub recounted : (ms taken pieces : List Mapping) (index count : ℕ) (t : BuffersState) → taken ≡ run ms index count → UsesAre ms t →
+    by_count less_used taken (by_count more_used pieces t) ≡ by_count counted (splice ms index (index + count) pieces) t
+recounted ms taken pieces index count t is used =
     each-each _ (λ b. more_used b (count_of b.id pieces)) t
-    ∙ each-same (λ b. b.uses ≡ count_of b.id ms) _ (λ b. counted b (count_of b.id (splice ms place (place + count) pieces))) t used (λ b uses.
-    let moved = count_of-splice b.id ms pieces place count in
-    let same : count_of b.id taken ≡ count_of b.id (run ms place count) = ap (λ (xs : List Mapping). count_of b.id xs) is in
-    let total : b.uses + count_of b.id pieces - count_of b.id taken ≡ count_of b.id (splice ms place (place + count) pieces) = omega arith in
+    ∙ each-same (λ b. b.uses ≡ count_of b.id ms) _ (λ b. counted b (count_of b.id (splice ms index (index + count) pieces))) t used (λ b uses.
+    let moved = count_of-splice b.id ms pieces index count in
+    let same : count_of b.id taken ≡ count_of b.id (run ms index count) = ap (λ (xs : List Mapping). count_of b.id xs) is in
+    let total : b.uses + count_of b.id pieces - count_of b.id taken ≡ count_of b.id (splice ms index (index + count) pieces) = omega arith in
     ap (λ (n : ℕ). record b { uses = n }) total)
 
 -- the same where the run is kept in an undo value
-pub moved_counts : (ms taken pieces : List Mapping) (place count : ℕ) (t : Table) → taken ≡ run ms place count → UsesAre ms t →
-    by_count less_used taken (by_count more_used pieces (by_count more_kept taken t)) ≡ by_count counted (splice ms place (place + count) pieces) (by_count more_kept taken t)
-moved_counts ms taken pieces place count t is used = recounted ms taken pieces place count (by_count more_kept taken t) is (uses-more_kept ms taken t used)
+pub moved_counts : (ms taken pieces : List Mapping) (index count : ℕ) (t : BuffersState) → taken ≡ run ms index count → UsesAre ms t →
+    by_count less_used taken (by_count more_used pieces (by_count more_kept taken t)) ≡ by_count counted (splice ms index (index + count) pieces) (by_count more_kept taken t)
+moved_counts ms taken pieces index count t is used = recounted ms taken pieces index count (by_count more_kept taken t) is (uses-more_kept ms taken t used)
 
 -- and where a run comes back out of one
-pub moved_back : (ms pieces taken : List Mapping) (place put_in : ℕ) (t : Table) → pieces ≡ run ms place put_in → UsesAre ms t →
-    by_count less_used pieces (by_count more_used taken (by_count less_kept taken t)) ≡ by_count counted (splice ms place (place + put_in) taken) (by_count less_kept taken t)
-moved_back ms pieces taken place put_in t is used = recounted ms pieces taken place put_in (by_count less_kept taken t) is (uses-less_kept ms taken t used)
+pub moved_back : (ms pieces taken : List Mapping) (index put_in : ℕ) (t : BuffersState) → pieces ≡ run ms index put_in → UsesAre ms t →
+    by_count less_used pieces (by_count more_used taken (by_count less_kept taken t)) ≡ by_count counted (splice ms index (index + put_in) taken) (by_count less_kept taken t)
+moved_back ms pieces taken index put_in t is used = recounted ms pieces taken index put_in (by_count less_kept taken t) is (uses-less_kept ms taken t used)
 
 -- there and back again
-pub there_and_back : (old new taken : List Mapping) (t : Table) → UsesAre old t →
+pub there_and_back : (old new taken : List Mapping) (t : BuffersState) → UsesAre old t →
     by_count counted old (by_count less_kept taken (by_count counted new (by_count more_kept taken t))) ≡ t
 there_and_back old new taken t used =
     let keep : Buffer → Buffer = λ b. more_kept b (count_of b.id taken) in
     let there : Buffer → Buffer = λ b. counted (keep b) (count_of b.id new) in
     let unkeep : Buffer → Buffer = λ b. less_kept (there b) (count_of b.id taken) in
-    ap (λ (x : Table). by_count counted old (by_count less_kept taken x)) (each-each (λ b. counted b (count_of b.id new)) keep t)
+    ap (λ (x : BuffersState). by_count counted old (by_count less_kept taken x)) (each-each (λ b. counted b (count_of b.id new)) keep t)
     ∙ ap (by_count counted old) (each-each (λ b. less_kept b (count_of b.id taken)) there t)
     ∙ each-each (λ b. counted b (count_of b.id old)) unkeep t
     ∙ each-itself (λ b. b.uses ≡ count_of b.id old) (λ b. counted (unkeep b) (count_of b.id old)) t used

@@ -2,17 +2,17 @@
 use Rattle.std.proofs.Common.{◌≡◌, ℕ, ◌+◌, ◌≤◌, List, [], ◌++◌, length, arith, refl, None}
 use Rattle.std.specs.List.{All}
 use Rattle.std.proofs.lemmas.List.Elements.{All-nil}
-use Rattle.gv_types.specs.Bounds.{Area}
-use Rattle.gv_types.specs.Limits.{Caps, greatest, IsFromOneTo, IsWithin}
+use Rattle.gv_types.specs.Bounds.{BoundsState}
+use Rattle.gv_types.specs.Limits.{LimitsState, greatest, IsFromOneTo, IsWithin}
 use Rattle.gv_types.specs.declared.mapping.BufferId.{BufferId}
 use Rattle.gv_types.specs.declared.mapping.Mapping.{Mapping}
 use Rattle.gv_ranges.specs.List.{IsLaidOut}
 use Rattle.gv_ranges.specs.Edit.{undone}
 use Rattle.gv_buffers.specs.declared.usage.Usage.{Usage}
-use Rattle.gv_buffers.specs.Table.{Table, changed, joined_by, left_by, left_everywhere, only, without, destroy_fault, no_buffers, IsBuffer, IsCreated, IsTable}
+use Rattle.gv_buffers.specs.Buffers.{BuffersState, changed, joined_by, left_by, left_everywhere, only, without, destroy_fault, no_buffers, IsBuffer, IsCreated, IsTable}
 use Rattle.gv_space.specs.Counts.{count_of, by_count, more_kept, less_kept}
-use Rattle.gv_space.specs.State.{AddressSpace, IsPlaced, IsSpace, AreKept, most_kept, new_space}
-use Rattle.gv_space.specs.Undo.{UndoValue, released, reverted}
+use Rattle.gv_space.specs.State.{SpaceState, IsPlaced, IsSpace, AreKept, most_kept, new_space}
+use Rattle.gv_space.specs.Undo.{OpUndoState, released, reverted}
 use Rattle.gv_space.specs.Change.{changed_to}
 use Rattle.gv_space.proofs.Recounted.{UsesAre, uses-counted, uses-less_kept}
 use Rattle.gv_space.proofs.KeptLemmas.{AreKept-changed, AreKept-released, AreKept-reverted, changed_is_table, reverted_is_table, released_is_table, placed_changed, placed_reverted, placed_released}
@@ -25,7 +25,7 @@ IsTable-no_buffers limit within =
     record { limit = within; few = omega arith; buffers = All-nil (IsBuffer 0); apart = λ i j d up past. absurd (omega arith) }
 
 -- a new space
-pub IsSpace-new : (area : Area) (limits : Caps) → IsWithin limits → IsSpace (new_space area limits)
+pub IsSpace-new : (area : BoundsState) (limits : LimitsState) → IsWithin limits → IsSpace (new_space area limits)
 IsSpace-new area limits within = record {
   limits = within;
   laid_out = tt;
@@ -39,7 +39,7 @@ IsSpace-new area limits within = record {
 }
 
 -- room says nothing of what always holds
-pub IsSpace-room : (s : AddressSpace) (room : ℕ) → IsSpace s → IsSpace (record s { room = room })
+pub IsSpace-room : (s : SpaceState) (room : ℕ) → IsSpace s → IsSpace (record s { room = room })
 IsSpace-room s room space = record {
   limits = space.limits;
   laid_out = space.laid_out;
@@ -53,7 +53,7 @@ IsSpace-room s room space = record {
 }
 
 -- a space with another list, whose mappings are counted and kept
-pub IsSpace-changed : (s : AddressSpace) (ms taken : List Mapping) → IsSpace s → IsLaidOut ms → length ms ≤ s.limits.mappings →
+pub IsSpace-changed : (s : SpaceState) (ms taken : List Mapping) → IsSpace s → IsLaidOut ms → length ms ≤ s.limits.mappings →
     All (IsPlaced s.area s.buffers) ms → All (IsPlaced s.area s.buffers) taken → s.kept_count + length taken ≤ most_kept → IsSpace (changed_to ms taken s)
 IsSpace-changed s ms taken space laid_out few placed taken_placed few_kept = record {
   limits = space.limits;
@@ -68,7 +68,7 @@ IsSpace-changed s ms taken space laid_out few placed taken_placed few_kept = rec
 }
 
 -- a change undone
-pub IsSpace-reverted : (s : AddressSpace) (u : UndoValue) (others : List Mapping) → IsSpace s → IsLaidOut (undone s.mappings u.change) →
+pub IsSpace-reverted : (s : SpaceState) (u : OpUndoState) (others : List Mapping) → IsSpace s → IsLaidOut (undone s.mappings u.change) →
     length (undone s.mappings u.change) ≤ s.limits.mappings → All (IsPlaced s.area s.buffers) (undone s.mappings u.change) → AreKept s (u.change.taken ++ others) →
     IsSpace (reverted s u)
 IsSpace-reverted s u others space laid_out few placed are_kept = record {
@@ -84,7 +84,7 @@ IsSpace-reverted s u others space laid_out few placed are_kept = record {
 }
 
 -- an undo value's mappings given up
-pub IsSpace-released : (s : AddressSpace) (taken others : List Mapping) → IsSpace s → AreKept s (taken ++ others) → IsSpace (released s taken)
+pub IsSpace-released : (s : SpaceState) (taken others : List Mapping) → IsSpace s → AreKept s (taken ++ others) → IsSpace (released s taken)
 IsSpace-released s taken others space are_kept = record {
   limits = space.limits;
   laid_out = space.laid_out;
@@ -98,7 +98,7 @@ IsSpace-released s taken others space are_kept = record {
 }
 
 -- other buffers
-IsSpace-with_buffers : (s : AddressSpace) (new : Table) → IsSpace s → IsTable new → All (IsPlaced s.area new) s.mappings → UsesAre s.mappings new →
+IsSpace-with_buffers : (s : SpaceState) (new : BuffersState) → IsSpace s → IsTable new → All (IsPlaced s.area new) s.mappings → UsesAre s.mappings new →
     ((saved : List Mapping) → AreKept s saved → AreKept (record s { buffers = new }) saved) → IsSpace (record s { buffers = new })
 IsSpace-with_buffers s new space table placed used saves = record {
   limits = space.limits;
@@ -113,13 +113,13 @@ IsSpace-with_buffers s new space table placed used saves = record {
 }
 
 -- a buffer made
-pub IsSpace-made : (s : AddressSpace) (new : Table) (id : BufferId) (size : ℕ) → IsCreated s.buffers new id size → IsTable new → IsSpace s → IsSpace (record s { buffers = new })
+pub IsSpace-made : (s : SpaceState) (new : BuffersState) (id : BufferId) (size : ℕ) → IsCreated s.buffers new id size → IsTable new → IsSpace s → IsSpace (record s { buffers = new })
 IsSpace-made s new id size made table space =
     IsSpace-with_buffers s new space table (placed_made s.area s.buffers new id size s.mappings made space.placed)
     (uses_made s.area s.buffers new id size s.mappings made space.placed space.used) (λ saved are_kept. AreKept-made s new id size saved made are_kept)
 
 -- a buffer destroyed
-pub IsSpace-destroyed : (s : AddressSpace) (id : BufferId) → destroy_fault s.buffers id ≡ None → IsSpace s → IsSpace (record s { buffers = without id s.buffers })
+pub IsSpace-destroyed : (s : SpaceState) (id : BufferId) → destroy_fault s.buffers id ≡ None → IsSpace s → IsSpace (record s { buffers = without id s.buffers })
 IsSpace-destroyed s id none space =
     let unnamed : count_of id s.mappings ≡ 0 = count_of_destroyed s.buffers id s.mappings none space.used in
     IsSpace-with_buffers s (without id s.buffers) space (IsTable-without s.buffers id space.buffers)
@@ -127,7 +127,7 @@ IsSpace-destroyed s id none space =
     (λ saved are_kept. AreKept-destroyed s id saved none are_kept)
 
 -- a job that joined a buffer
-pub IsSpace-joined : (s : AddressSpace) (id : BufferId) (job : ℕ) (usage : Usage) → IsTable (changed id (joined_by job usage) s.buffers) → IsSpace s →
+pub IsSpace-joined : (s : SpaceState) (id : BufferId) (job : ℕ) (usage : Usage) → IsTable (changed id (joined_by job usage) s.buffers) → IsSpace s →
     IsSpace (record s { buffers = changed id (joined_by job usage) s.buffers })
 IsSpace-joined s id job usage table space =
     IsSpace-with_buffers s (changed id (joined_by job usage) s.buffers) space table
@@ -136,7 +136,7 @@ IsSpace-joined s id job usage table space =
     (λ saved are_kept. AreKept-joined s id job usage saved are_kept)
 
 -- a job that left every buffer
-pub IsSpace-left : (s : AddressSpace) (job : ℕ) → IsTable (left_everywhere job s.buffers) → IsSpace s → IsSpace (record s { buffers = left_everywhere job s.buffers })
+pub IsSpace-left : (s : SpaceState) (job : ℕ) → IsTable (left_everywhere job s.buffers) → IsSpace s → IsSpace (record s { buffers = left_everywhere job s.buffers })
 IsSpace-left s job table space =
     IsSpace-with_buffers s (left_everywhere job s.buffers) space table (placed_used (left_by job) s.area s.buffers s.mappings (left_of_users job) space.placed)
     (uses_used (left_by job) s.buffers s.mappings (left_of_users job) space.used) (λ saved are_kept. AreKept-left s job saved are_kept)

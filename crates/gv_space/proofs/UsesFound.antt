@@ -3,7 +3,7 @@ use Rattle.std.proofs.Common.{◌≡◌, ℕ, List, Some, Option, refl, sym, ◌
 use Rattle.std.specs.Option.{option_map, IsSomeAnd}
 use Rattle.gv_types.specs.declared.mapping.BufferId.{BufferId}
 use Rattle.gv_types.specs.declared.mapping.Mapping.{Mapping}
-use Rattle.gv_buffers.specs.Table.{Buffer, Table, uses, IsLive}
+use Rattle.gv_buffers.specs.Buffers.{Buffer, BuffersState, uses, IsLive}
 use Rattle.gv_buffers.proofs.FoundLemmas.{counted_lives}
 use Rattle.gv_space.specs.Counts.{count_of}
 use Rattle.gv_space.proofs.CountLemmas.{same_from_is_same_id}
@@ -11,7 +11,7 @@ use Rattle.gv_space.proofs.TableLemmas.{found_live}
 use Rattle.gv_space.proofs.Recounted.{UsesAre}
 
 -- it is how many mappings of the list are of the buffer
-pub uses_found : (t : Table) (id : BufferId) (ms : List Mapping) (n : ℕ) → UsesAre ms t → uses t id ≡ Some n → n ≡ count_of id ms
+pub uses_found : (t : BuffersState) (id : BufferId) (ms : List Mapping) (n : ℕ) → UsesAre ms t → uses t id ≡ Some n → n ≡ count_of id ms
 uses_found t id ms n used told =
     let some : IsSomeAnd (uses t id) (λ m. m ≡ n) = subst (λ (o : Option ℕ). IsSomeAnd o (λ m. m ≡ n)) (sym told) refl in
     let lives : IsLive t id = counted_lives t id (λ b. b.uses) (λ m. m ≡ n) some in

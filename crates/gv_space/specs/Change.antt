@@ -2,11 +2,11 @@
 use Rattle.std.specs.Prelude.{◌≡◌, ◌+◌, ◌*◌, ◌≤◌, ◌++◌, List, length, max}
 use Rattle.gv_types.specs.declared.mapping.Mapping.{Mapping}
 use Rattle.gv_space.specs.Counts.{by_count, counted, more_kept}
-use Rattle.gv_space.specs.State.{AddressSpace, AreKept}
-use Rattle.gv_space.specs.Undo.{UndoValue, IsUndoOf, CanRevert, reverted}
+use Rattle.gv_space.specs.State.{SpaceState, AreKept}
+use Rattle.gv_space.specs.Undo.{OpUndoState, IsUndoOf, CanRevert, reverted}
 
 -- the space with another list, counted anew, and the mappings that were taken out kept in an undo value
-abbrev pub changed_to : List Mapping → List Mapping → AddressSpace → AddressSpace
+abbrev pub changed_to : List Mapping → List Mapping → SpaceState → SpaceState
 changed_to ms taken s =
     record s {
       mappings = ms;
@@ -16,7 +16,7 @@ changed_to ms taken s =
 
 -- The list became this one, no room was given up, and the undo value fits: it holds what the change took out, and undoing
 -- it gives the space before.
-pub record IsChanged (old new : AddressSpace) (ms : List Mapping) (u : UndoValue) : Type 0 where
+pub record IsChanged (old new : SpaceState) (ms : List Mapping) (u : OpUndoState) : Type 0 where
   pub state : new ≡ record (changed_to ms u.change.taken old) { room = new.room }
   pub room : old.room ≤ new.room
   pub undo : IsUndoOf old.mappings new.mappings u
@@ -26,6 +26,6 @@ pub record IsChanged (old new : AddressSpace) (ms : List Mapping) (u : UndoValue
 
 -- Room for a change to this list comes only where it or the list before has none, and then the room is at most the double, or
 -- what the longer of both needs.
-pub record GrowsJustFor (ms : List Mapping) (old new : AddressSpace) : Type 0 where
+pub record GrowsJustFor (ms : List Mapping) (old new : SpaceState) : Type 0 where
   pub enough : length old.mappings ≤ old.room → length ms ≤ old.room → new.room ≡ old.room
   pub double_or_need : new.room ≤ max (2 * old.room) (max (length old.mappings) (length ms))

@@ -1,13 +1,13 @@
 -- How many mappings name each buffer, and how the counts of buffers move with them.
 use Rattle.std.specs.Prelude.{ℕ, ◌+◌, ◌-◌, List, map, filter, length}
 use Rattle.gv_types.specs.Mapping.{is_of}
-use Rattle.gv_types.specs.Span.{Span}
+use Rattle.gv_types.specs.PageRange.{PageRangeState}
 use Rattle.gv_types.specs.declared.mapping.BufferId.{BufferId}
 use Rattle.gv_types.specs.declared.mapping.Mapping.{Mapping}
-use Rattle.gv_buffers.specs.Table.{Table, Buffer}
+use Rattle.gv_buffers.specs.Buffers.{BuffersState, Buffer}
 
 -- the ranges of a buffer's mappings, in the order of the list
-abbrev pub ranges_of : BufferId → List Mapping → List Span
+abbrev pub ranges_of : BufferId → List Mapping → List PageRangeState
 ranges_of id ms = map (λ m. m.range) (filter (λ m. is_of id m.backing) ms)
 
 -- how many of the mappings are of a buffer
@@ -15,7 +15,7 @@ abbrev pub count_of : BufferId → List Mapping → ℕ
 count_of id ms = length (filter (λ m. is_of id m.backing) ms)
 
 -- the table with each buffer changed by how many of the mappings are of it
-abbrev pub by_count : (Buffer → ℕ → Buffer) → List Mapping → Table → Table
+abbrev pub by_count : (Buffer → ℕ → Buffer) → List Mapping → BuffersState → BuffersState
 by_count change ms t = record t { live = map (λ b. change b (count_of b.id ms)) t.live }
 
 -- so many mappings in the list

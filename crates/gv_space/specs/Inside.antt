@@ -1,8 +1,8 @@
 -- What an address space keeps of its parts. No public clause cites this module.
-use Rattle.gv_space.specs.State.{AddressSpace, IsSpace}
+use Rattle.gv_space.specs.State.{SpaceState, IsSpace}
 use Rattle.gv_space.specs.declared.space.Space.TheInside.{Inside}
 
-abbrev pub space_of : Inside → AddressSpace
+abbrev pub space_of : Inside → SpaceState
 space_of s =
     record {
       area = s.bounds;
@@ -13,5 +13,5 @@ space_of s =
       kept_count = s.kept_count;
     }
 
-abbrev pub IsSound : Inside → Type 0
-IsSound s = IsSpace (space_of s)
+abbrev pub IsSoundSpace : Inside → Type 0
+IsSoundSpace s = IsSpace (space_of s)

@@ -3,29 +3,29 @@ use Rattle.std.specs.Prelude.{◌≡◌, ℕ, ◌+◌, ◌≤◌, List, length}
 use Rattle.std.specs.List.{All}
 use Rattle.std.specs.Option.{option_to_list}
 use Rattle.gv_types.specs.Page.{PAGES}
-use Rattle.gv_types.specs.Span.{Span, end_of}
+use Rattle.gv_types.specs.PageRange.{PageRangeState, end_of}
 use Rattle.gv_types.specs.declared.mapping.Mapping.{Mapping}
 use Rattle.gv_ranges.specs.List.{IsLaidOut, IsOverlappingRun, run}
 use Rattle.gv_ranges.specs.Edit.{LieIn, clipped, replaced}
 use Rattle.gv_table.specs.declared.page_table.PageTable.{PageTable}
 use Rattle.gv_table.specs.Table.{IsTree, gained_by}
-use Rattle.gv_space.specs.State.{AddressSpace, IsPlaced, most_kept}
+use Rattle.gv_space.specs.State.{SpaceState, IsPlaced, most_kept}
 use Rattle.gv_space.specs.declared.overlap.Overlap.{Overlap}
 
 -- the run of a list that meets a range, and the rests of it on both sides
-pub record IsOverlap (ms : List Mapping) (range : Span) (overlap : Overlap) : Type 0 where
-  pub met : IsOverlappingRun ms range overlap.place overlap.count
-  pub prev : option_to_list overlap.prev ≡ clipped 0 range.first (run ms overlap.place overlap.count)
-  pub next : option_to_list overlap.next ≡ clipped (end_of range) PAGES (run ms overlap.place overlap.count)
+pub record IsOverlap (ms : List Mapping) (range : PageRangeState) (overlap : Overlap) : Type 0 where
+  pub met : IsOverlappingRun ms range overlap.index overlap.count
+  pub prev : option_to_list overlap.prev ≡ clipped 0 range.first (run ms overlap.index overlap.count)
+  pub next : option_to_list overlap.next ≡ clipped (end_of range) PAGES (run ms overlap.index overlap.count)
 
 -- The run that meets a range is to give way to the pieces inside it and the rests on both sides. There is room for them,
 -- no limit is passed, and the spare tables are enough.
-pub record IsReady (inside : List Mapping) (s : AddressSpace) (range : Span) (place : ℕ) (taken pieces : List Mapping) (spares : ℕ) : Type 0 where
+pub record IsReady (inside : List Mapping) (s : SpaceState) (range : PageRangeState) (index : ℕ) (taken pieces : List Mapping) (spares : ℕ) : Type 0 where
   pub sorted : IsLaidOut inside
   pub lie : LieIn range inside
   pub placed : All (IsPlaced s.area s.buffers) inside
-  pub met : IsOverlappingRun s.mappings range place (length taken)
-  pub taken_is : taken ≡ run s.mappings place (length taken)
+  pub met : IsOverlappingRun s.mappings range index (length taken)
+  pub taken_is : taken ≡ run s.mappings index (length taken)
   pub pieces_are : pieces ≡ replaced taken range inside
   pub room : length s.mappings + length pieces ≤ s.room + length taken
   pub old_room : length s.mappings ≤ s.room

@@ -2,7 +2,7 @@
 //! here takes memory.
 ghost use Rattle.std.specs.Prelude.{◌≡◌, ◌+◌, ◌≤◌};
 ghost use Rattle.std.specs.List.{All};
-ghost use Rattle.gv_buffers.specs.Table.{most_counted};
+ghost use Rattle.gv_buffers.specs.Buffers.{most_counted};
 ghost use Rattle.gv_space.specs.Counts.{by_count, count_of};
 ghost use Rattle.gv_space.specs.Counts.{more_used, less_used, more_kept, less_kept};
 ghost use Rattle.gv_space.specs.Live.{IsLiveBacking};

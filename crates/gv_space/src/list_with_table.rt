@@ -1,9 +1,9 @@
 //! The list of mappings with its page table.
 ghost use Rattle.std.specs.Prelude.{◌≡◌, ◌+◌, ◌*◌, ◌<◌, ◌≤◌, [], length, List, max, IfOk, IsOkUnless, OnOk, OnErr};
 ghost use Rattle.std.specs.List.{splice};
-ghost use Rattle.gv_types.specs.Span.{end_of};
+ghost use Rattle.gv_types.specs.PageRange.{end_of};
 ghost use Rattle.gv_types.specs.declared.mapping.Mapping.{Mapping};
-ghost use Rattle.gv_ranges.specs.List.{at, AreEnded, IsLaidOut, IsUnchanged};
+ghost use Rattle.gv_ranges.specs.List.{at, AreEnded, IsLaidOut, IsUnchangedList};
 ghost use Rattle.gv_ranges.specs.Edit.{clipped};
 ghost use Rattle.gv_table.specs.Reads.{AreAlikeOutside};
 ghost use Rattle.gv_table.specs.Table.{IsTree, IsHeldAt, gained_by, tables_of};
@@ -23,10 +23,10 @@ pub struct ListWithTable {
 }
 
 impl Model for ListWithTable {
-    ghost use Rattle.gv_ranges.specs.List.{Ranges};
+    ghost use Rattle.gv_ranges.specs.List.{RangeListState};
     ghost use Rattle.gv_table.specs.Table.{IsTree};
 
-    ghost Value = { Ranges };
+    ghost Value = { RangeListState };
 
     ghost view = { λ p. p.list };
 
@@ -78,7 +78,7 @@ impl ListWithTable {
 
     /// Makes room for `more` mappings beside those in the list, only where it is missing, and at most the double or the need.
     pub fn reserve(&mut self, more: usize) -> Result<(), OutOfMemory>
-        ensures unchanged { IsUnchanged self.old self.new }
+        ensures unchanged { IsUnchangedList self.old self.new }
         ensures ok { OnOk result (length self.new.mappings + more ≤ self.new.room) }
         ensures needed { OnErr result (self.old.room < length self.old.mappings + more) }
         ensures enough { length self.old.mappings + more ≤ self.old.room
@@ -108,28 +108,28 @@ impl ListWithTable {
         self.table.spare(alloc, range, pieces)
     }
 
-    /// Replaces `out_count` mappings from `place` on by `pieces`, and paints the range. The mappings before the place have
+    /// Replaces `out_count` mappings from `index` on by `pieces`, and paints the range. The mappings before the index have
     /// to end before the range, and the list to stay as it is outside the range: nothing is searched. It answers the tables
     /// that left the tree: just those that the old list needs to be painted back. It takes no memory.
     pub fn replace(
         &mut self,
         range: PageRange,
-        place: usize,
+        index: usize,
         out_count: usize,
         pieces: &[Mapping],
         spares: Spares,
     ) -> Spares
-        requires within { place + out_count ≤ length self.old.mappings }
-        requires ended { AreEnded self.old.mappings range.first place }
+        requires within { index + out_count ≤ length self.old.mappings }
+        requires ended { AreEnded self.old.mappings range.first index }
         requires room { length self.old.mappings + length pieces.now ≤ self.old.room + out_count }
         requires laid_out { IsLaidOut
-            (splice self.old.mappings place (place + out_count) pieces.now) }
+            (splice self.old.mappings index (index + out_count) pieces.now) }
         requires alike { AreAlikeOutside range self.old.mappings
-            (splice self.old.mappings place (place + out_count) pieces.now) }
+            (splice self.old.mappings index (index + out_count) pieces.now) }
         requires enough { (table : PageTable) → IsTree self.old.mappings table
-            → gained_by (splice self.old.mappings place (place + out_count) pieces.now) table ≤ spares }
+            → gained_by (splice self.old.mappings index (index + out_count) pieces.now) table ≤ spares }
         ensures mappings { self.new.mappings
-            ≡ splice self.old.mappings place (place + out_count) pieces.now }
+            ≡ splice self.old.mappings index (index + out_count) pieces.now }
         ensures room { self.new.room ≡ self.old.room }
         ensures tables { (table : PageTable) → IsTree self.new.mappings table
             → gained_by self.old.mappings table ≡ result }
@@ -137,8 +137,8 @@ impl ListWithTable {
         let mut spares = spares;
         // Tells that the list is laid out.
         let _len = self.list.len();
-        self.list.splice(place, out_count, pieces);
-        let lost = self.table.paint(&self.list, range, place, &mut spares);
+        self.list.splice(index, out_count, pieces);
+        let lost = self.table.paint(&self.list, range, index, &mut spares);
         spares.split(lost)
     }
 }

@@ -9,7 +9,7 @@ use gv_types::{Mapping, PageRange};
 /// The run of mappings that meet a range, and what of it lies on both sides of the range.
 #[derive(Clone, Copy)]
 pub struct Overlap {
-    pub place: usize,
+    pub index: usize,
     pub count: usize,
     pub prev: Option<Mapping>,
     pub next: Option<Mapping>,
@@ -20,12 +20,12 @@ impl Overlap {
     pub fn of(list: &RangeList, range: PageRange) -> Overlap
         ensures { IsOverlap list.now.mappings range result }
     {
-        let (place, count) = list.overlapping(range);
+        let (index, count) = list.overlapping(range);
         Overlap {
-            place,
+            index,
             count,
-            prev: prev_rest(list, place, count, range.first()),
-            next: next_rest(list, place, count, range.end()),
+            prev: prev_rest(list, index, count, range.first()),
+            next: next_rest(list, index, count, range.end()),
         }
     }
 

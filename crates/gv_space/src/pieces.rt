@@ -1,7 +1,7 @@
 //! What comes to stand where a range meets a list.
 ghost use Rattle.std.specs.Prelude.{◌≡◌, ◌≤◌, ◌++◌, length, List, IfOk, OnOk};
 ghost use Rattle.std.specs.Option.{option_to_list};
-ghost use Rattle.gv_types.specs.Span.{end_of, IsInSpace};
+ghost use Rattle.gv_types.specs.PageRange.{end_of, IsInSpace};
 ghost use Rattle.gv_types.specs.declared.mapping.Mapping.{Mapping};
 ghost use Rattle.gv_ranges.specs.List.{IsLaidOut};
 ghost use Rattle.gv_ranges.specs.Edit.{clipped};

@@ -3,7 +3,7 @@ ghost use Rattle.std.specs.Prelude.{◌≡◌, ◌+◌, ◌<◌, ◌++◌, if◌
 ghost use Rattle.std.specs.Prelude.{IfOk, IsOk, IsOkUnless, OnOk, OnErr, MatchOption};
 ghost use Rattle.std.specs.List.{All, splice};
 ghost use Rattle.gv_types.specs.Page.{IsPage};
-ghost use Rattle.gv_types.specs.Span.{covers};
+ghost use Rattle.gv_types.specs.PageRange.{covers};
 ghost use Rattle.gv_types.specs.Operation.{has_range, in_pages, own_mapping, range_of, after, IsPageOp};
 ghost use Rattle.gv_types.specs.declared.mapping.Mapping.{Mapping};
 
@@ -35,14 +35,14 @@ pub struct Space {
 }
 
 impl Model for Space {
-    ghost use Rattle.gv_space.specs.State.{AddressSpace};
-    ghost use Rattle.gv_space.specs.Inside.{space_of, IsSound};
+    ghost use Rattle.gv_space.specs.State.{SpaceState};
+    ghost use Rattle.gv_space.specs.Inside.{space_of, IsSoundSpace};
 
-    ghost Value = { AddressSpace };
+    ghost Value = { SpaceState };
 
     ghost view = { space_of };
 
-    ghost invariant = { IsSound };
+    ghost invariant = { IsSoundSpace };
 }
 
 impl Space {
@@ -51,8 +51,8 @@ impl Space {
     ghost use Rattle.gv_ranges.specs.Edit.{edited, restored, undone};
     ghost use Rattle.gv_split.specs.Steps.{steps};
     ghost use Rattle.gv_split.specs.CarriedOut.{carried_out, ArePresent, list_after};
-    ghost use Rattle.gv_buffers.specs.Table.{uses, kept, pages, create_fault, destroy_fault, join_fault};
-    ghost use Rattle.gv_buffers.specs.Table.{without, changed, joined_by, left_everywhere, IsCreated};
+    ghost use Rattle.gv_buffers.specs.Buffers.{uses, kept, pages, create_fault, destroy_fault, join_fault};
+    ghost use Rattle.gv_buffers.specs.Buffers.{without, changed, joined_by, left_everywhere, IsCreated};
     ghost use Rattle.gv_table.specs.Table.{tables_of, IsTree, IsHeldAt};
     ghost use Rattle.gv_table.specs.declared.page_table.PageTable.{PageTable};
     ghost use Rattle.gv_space.specs.Counts.{count_of, ranges_of};
@@ -239,18 +239,18 @@ impl Space {
             → AreKept self.old (undo.change.taken ++ others) → AreKept self.new others }
     {
         let OpUndo {
-            place,
+            index,
             put_in,
             range,
             taken,
             tables,
         } = undo;
-        let pieces = self.mapped.list().run(place, put_in);
+        let pieces = self.mapped.list().run(index, put_in);
         counts::move_counts_back(&mut self.buffers, pieces, taken.as_slice());
         // The tables that the change put in the tree are dropped.
         let _lost = self
             .mapped
-            .replace(range, place, put_in, taken.as_slice(), tables);
+            .replace(range, index, put_in, taken.as_slice(), tables);
         self.kept_count -= taken.len() as u64;
     }
 
@@ -262,7 +262,7 @@ impl Space {
             → AreKept self.old (undo.change.taken ++ others) → AreKept self.new others }
     {
         let OpUndo {
-            place: _,
+            index: _,
             put_in: _,
             range: _,
             taken,

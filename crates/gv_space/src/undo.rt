@@ -6,12 +6,12 @@ use gv_table::Spares;
 use gv_types::PageRange;
 use std::marker::Model;
 
-/// How one change of an address space is taken back. It owns the mappings that the change took out, with their place and
+/// How one change of an address space is taken back. It owns the mappings that the change took out, with their index and
 /// how many mappings stand for them now, the range that was changed, and the tables that left the page table, so taking the
 /// change back takes no memory. It has to be spent, by `Space::revert` or `Space::release`: it is not `Drop`, so a program
 /// that lets one go is refused.
 pub struct OpUndo {
-    pub(crate) place: usize,
+    pub(crate) index: usize,
     pub(crate) put_in: usize,
     pub(crate) range: PageRange,
     pub(crate) taken: Pieces,
@@ -20,12 +20,12 @@ pub struct OpUndo {
 
 impl Model for OpUndo {
     ghost use Rattle.gv_ranges.specs.List.{IsLaidOut};
-    ghost use Rattle.gv_space.specs.Undo.{UndoValue};
+    ghost use Rattle.gv_space.specs.Undo.{OpUndoState};
 
-    ghost Value = { UndoValue };
+    ghost Value = { OpUndoState };
 
     ghost view = { λ u. record {
-      change = record { place = u.place; put_in = u.put_in; taken = u.taken.items };
+      change = record { index = u.index; put_in = u.put_in; taken = u.taken.items };
       range = u.range;
       tables = u.tables;
     } };

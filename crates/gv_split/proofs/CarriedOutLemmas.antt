@@ -8,7 +8,7 @@ use Rattle.std.proofs.lemmas.List.{append_assoc, append-nil}
 use Rattle.std.proofs.lemmas.List.Elements.{All-nil, All-cons, All-head, All-tail, All-append, filter-append, Contains-append_right}
 use Rattle.std.proofs.lemmas.Grind.{flat_map-append}
 use Rattle.gv_types.specs.Page.{PAGES}
-use Rattle.gv_types.specs.Span.{Span, end_of, meets, lies_in}
+use Rattle.gv_types.specs.PageRange.{PageRangeState, end_of, meets, lies_in}
 use Rattle.gv_types.specs.Mapping.{clip, is_of, IsMapping}
 use Rattle.gv_types.specs.Operation.{range_of, IsChecked}
 use Rattle.gv_types.specs.declared.mapping.BufferId.{BufferId}
@@ -26,7 +26,7 @@ use Rattle.gv_ranges.proofs.ReplacedLemmas.{clipped_none, lies_in_bounds}
 use Rattle.gv_split.specs.declared.step.Step.{Step}
 use Rattle.gv_split.specs.declared.step.Step.TheVariants.{Map}
 use Rattle.gv_split.specs.Steps.{gives_way, step_in, step_of, steps}
-use Rattle.gv_split.specs.CarriedOut.{given_place, begins_before, put_in, carried_out_one, carried_out, CanBeCarriedOut, ArePresent, without_buffer, list_after}
+use Rattle.gv_split.specs.CarriedOut.{given_index, begins_before, put_in, carried_out_one, carried_out, CanBeCarriedOut, ArePresent, without_buffer, list_after}
 use Rattle.gv_split.specs.Laws.{StepsMakeTheList, StepsArePresent}
 
 -- the steps can be carried out on the one list, and make the other
@@ -51,32 +51,32 @@ some_then (step ∷ first) later old between new here there =
     some_then first later (carried_out_one step old) between new (here.0, here.1.1) there in
     (rest.0, (here.1.0, rest.1))
 
--- mappings that begin at other pages keep their places
-given_place-others : (old : Mapping) (new ms : List Mapping) → All (λ m. (m.range.first == old.range.first) ≡ false) ms → given_place old new ms ≡ ms
-given_place-others old new [] all = refl
-given_place-others old new (m ∷ ms) all =
+-- mappings that begin at other pages keep their indices
+given_index-others : (old : Mapping) (new ms : List Mapping) → All (λ m. (m.range.first == old.range.first) ≡ false) ms → given_index old new ms ≡ ms
+given_index-others old new [] all = refl
+given_index-others old new (m ∷ ms) all =
     let here : (m.range.first == old.range.first) ≡ false = All-head (λ (n : Mapping). (n.range.first == old.range.first) ≡ false) m ms all in
-    let rest : given_place old new ms ≡ ms = given_place-others old new ms (All-tail (λ (n : Mapping). (n.range.first == old.range.first) ≡ false) m ms all) in
+    let rest : given_index old new ms ≡ ms = given_index-others old new ms (All-tail (λ (n : Mapping). (n.range.first == old.range.first) ≡ false) m ms all) in
     rw (here, rest) refl
 
 abbrev BeginBelow : ℕ → List Mapping → Type 0
 BeginBelow page = All (λ (m : Mapping). m.range.first < page)
 
 -- in a list in order a mapping gives its place between the others
-given_place-between : (old : Mapping) (new before later : List Mapping) → BeginBelow old.range.first before → IsMapping old →
-    IsLaidOutFrom (end_of old.range) later → given_place old new (before ++ old ∷ later) ≡ before ++ (new ++ later)
-given_place-between old new before later below is laid =
-    let front : given_place old new before ≡ before =
-    given_place-others old new before (λ k d within. let h : (get_or before k d).range.first < old.range.first = below k d within in ne_eqb _ _ (λ same. omega arith)) in
-    let back : given_place old new later ≡ later =
-    given_place-others old new later (λ k d within. let h : end_of old.range ≤ (get_or later k d).range.first = first_above later (end_of old.range) k d laid within in
+given_index-between : (old : Mapping) (new before later : List Mapping) → BeginBelow old.range.first before → IsMapping old →
+    IsLaidOutFrom (end_of old.range) later → given_index old new (before ++ old ∷ later) ≡ before ++ (new ++ later)
+given_index-between old new before later below is laid =
+    let front : given_index old new before ≡ before =
+    given_index-others old new before (λ k d within. let h : (get_or before k d).range.first < old.range.first = below k d within in ne_eqb _ _ (λ same. omega arith)) in
+    let back : given_index old new later ≡ later =
+    given_index-others old new later (λ k d within. let h : end_of old.range ≤ (get_or later k d).range.first = first_above later (end_of old.range) k d laid within in
     let some : 0 < old.range.count = is.0.0 in ne_eqb _ _ (λ same. omega arith)) in
     let here : (old.range.first == old.range.first) ≡ true = eq-eqb _ _ refl in
     flat_map-append (λ (m : Mapping). cond (m.range.first == old.range.first) new (m ∷ [])) before (old ∷ later)
     ∙ rw (front, here, back) refl
 
 -- the rests of a mapping beside a range
-abbrev rests_beside : Span → Mapping → List Mapping
+abbrev rests_beside : PageRangeState → Mapping → List Mapping
 rests_beside range m = option_to_list (clip 0 range.first m) ++ option_to_list (clip (end_of range) PAGES m)
 
 -- what an operation leaves of a mapping that gives way
@@ -86,7 +86,7 @@ rests_of (UnmapOp range) m = rests_beside range m
 rests_of (UnmapBuffer buffer) m = []
 
 carried_out-step_in : (op : PageOp) (m : Mapping) (ms : List Mapping) →
-    carried_out_one (step_in op m) ms ≡ given_place m (rests_beside (range_of op) m) ms
+    carried_out_one (step_in op m) ms ≡ given_index m (rests_beside (range_of op) m) ms
 carried_out-step_in op m ms =
     ⊎_elim
     (λ (inside : lies_in m.range (range_of op) ≡ true).
@@ -96,7 +96,7 @@ carried_out-step_in op m ms =
     (cases_Bool (lies_in m.range (range_of op)))
 
 -- a step for a mapping that gives way puts its rests in its place
-carried_out-step_of : (op : PageOp) (m : Mapping) (ms : List Mapping) → carried_out_one (step_of op m) ms ≡ given_place m (rests_of op m) ms
+carried_out-step_of : (op : PageOp) (m : Mapping) (ms : List Mapping) → carried_out_one (step_of op m) ms ≡ given_index m (rests_of op m) ms
 carried_out-step_of (MapOp range backing flags) m ms = carried_out-step_in (MapOp range backing flags) m ms
 carried_out-step_of (UnmapOp range) m ms = carried_out-step_in (UnmapOp range) m ms
 carried_out-step_of (UnmapBuffer buffer) m ms = refl
@@ -152,7 +152,7 @@ run_carried_out op low before (m ∷ ms) below laid =
     ⊎_elim
     (λ (gives : gives_way op m ≡ true).
     let turn : carried_out_one (step_of op m) (before ++ m ∷ ms) ≡ (before ++ rests_of op m) ++ ms =
-    carried_out-step_of op m (before ++ m ∷ ms) ∙ given_place-between m (rests_of op m) before ms here laid.1 laid.2 ∙ sym (append_assoc before (rests_of op m) ms) in
+    carried_out-step_of op m (before ++ m ∷ ms) ∙ given_index-between m (rests_of op m) before ms here laid.1 laid.2 ∙ sym (append_assoc before (rests_of op m) ms) in
     let later : AreCarriedOutTo (map (step_of op) (filter (gives_way op) ms)) ((before ++ rests_of op m) ++ ms) ((before ++ rests_of op m) ++ left_by op ms) =
     run_carried_out op (end_of m.range) (before ++ rests_of op m) ms
     (begin_below_later before (rests_of op m) low (end_of m.range) below (omega arith) (rests_begin_below op m)) laid.2 in
@@ -180,7 +180,7 @@ options_then (Some m) None ms = refl
 options_then (Some m) (Some n) ms = refl
 
 -- the list with a range's mappings given way to their rests is the list without the range
-left_beside : (range : Span) (low : ℕ) (ms : List Mapping) → IsLaidOutFrom low ms →
+left_beside : (range : PageRangeState) (low : ℕ) (ms : List Mapping) → IsLaidOutFrom low ms →
     flat_map (λ m. cond (meets m.range range) (rests_beside range m) (m ∷ [])) ms ≡ clipped 0 range.first ms ++ clipped (end_of range) PAGES ms
 left_beside range low [] laid = refl
 left_beside range low (m ∷ ms) laid =

@@ -2,7 +2,7 @@
 use Rattle.std.specs.Prelude.{◌≡◌, Bool, false, not, ◌==◌, nat_lt, if◌then◌else◌, List, [], ◌∷◌, ◌++◌, filter, flat_map}
 use Rattle.std.specs.List.{All, Contains}
 use Rattle.std.specs.Option.{option_to_list}
-use Rattle.gv_types.specs.Span.{meets}
+use Rattle.gv_types.specs.PageRange.{meets}
 use Rattle.gv_types.specs.Mapping.{is_of}
 use Rattle.gv_types.specs.declared.mapping.BufferId.{BufferId}
 use Rattle.gv_types.specs.declared.mapping.Mapping.{Mapping}
@@ -13,21 +13,21 @@ use Rattle.gv_split.specs.declared.step.Step.{Step}
 use Rattle.gv_split.specs.declared.step.Step.TheVariants.{Unmap, Remap, Map}
 
 -- the mapping that begins where this one does gives its place to these; no two of a list begin at one page
-abbrev pub given_place : Mapping → List Mapping → List Mapping → List Mapping
-given_place old new = flat_map (λ m. if m.range.first == old.range.first then new else m ∷ [])
+abbrev pub given_index : Mapping → List Mapping → List Mapping → List Mapping
+given_index old new = flat_map (λ m. if m.range.first == old.range.first then new else m ∷ [])
 
 abbrev pub begins_before : Mapping → Mapping → Bool
 begins_before new m = nat_lt m.range.first new.range.first
 
--- a mapping put in at its place by address
+-- a mapping put in at its index by address
 abbrev pub put_in : Mapping → List Mapping → List Mapping
 put_in new ms = filter (begins_before new) ms ++ new ∷ filter (λ m. not (begins_before new m)) ms
 
 -- what a driver does for one step: an unmap takes its mapping out, a remap puts its rests in the mapping's place, and a
 -- map puts its mapping in
 abbrev pub carried_out_one : Step → List Mapping → List Mapping
-carried_out_one (Unmap old keep) = given_place old []
-carried_out_one (Remap old prev next keep) = given_place old (option_to_list prev ++ option_to_list next)
+carried_out_one (Unmap old keep) = given_index old []
+carried_out_one (Remap old prev next keep) = given_index old (option_to_list prev ++ option_to_list next)
 carried_out_one (Map new) = put_in new
 
 -- the list after the steps, one after another from the first to the last

@@ -3,20 +3,20 @@ use Rattle.std.specs.Prelude.{◌≡◌, true, false, Some, None, [], ◌∷◌}
 use Rattle.gv_types.specs.Mapping.{buffer_id}
 use Rattle.gv_types.specs.declared.mapping.Backing.TheVariants.{Zero}
 use Rattle.gv_ranges.specs.Examples.{a, b, of, fixed, map_at, unmap_at}
-use Rattle.gv_types.specs.Span.{span}
+use Rattle.gv_types.specs.PageRange.{span}
 use Rattle.gv_types.specs.declared.operation.PageOp.TheVariants.{Map as MapOp, UnmapBuffer}
 use Rattle.gv_split.specs.declared.step.Step.TheVariants.{Unmap, Remap, Map}
 use Rattle.gv_split.specs.Steps.{steps}
 use Rattle.gv_split.specs.CarriedOut.{carried_out, ArePresent}
 
 -- a hole in a mapping leaves both rests, the second further on in the buffer
-abbrev pub HoleLeavesBothRests : Type 0
-HoleLeavesBothRests =
+abbrev pub HoleKeepsBothRests : Type 0
+HoleKeepsBothRests =
     steps (of 0 4 (b 0) ∷ []) (unmap_at 1 1) ≡ Remap (of 0 4 (b 0)) (Some (of 0 1 (b 0))) (Some (of 2 2 (b 2))) false ∷ []
 
 -- a map over three mappings: the outer two keep a rest, and the middle one goes
-abbrev pub MapOverThree : Type 0
-MapOverThree =
+abbrev pub MapUnmapsTheMiddle : Type 0
+MapUnmapsTheMiddle =
     steps (of 0 2 (a 0) ∷ of 2 2 (a 2) ∷ of 4 2 (a 4) ∷ []) (map_at 1 4 (b 0))
     ≡ Remap (of 0 2 (a 0)) (Some (of 0 1 (a 0))) None false
     ∷ Unmap (of 2 2 (a 2)) false

@@ -2,7 +2,7 @@
 use Rattle.std.specs.Prelude.{ℕ, ◌+◌, Bool, false, ◌&&◌, ◌==◌, if◌then◌else◌, List, ◌++◌, map, filter}
 use Rattle.std.specs.Bool.{beq}
 use Rattle.gv_types.specs.Page.{PAGES}
-use Rattle.gv_types.specs.Span.{end_of, meets, lies_in}
+use Rattle.gv_types.specs.PageRange.{end_of, meets, lies_in}
 use Rattle.gv_types.specs.Mapping.{clip, is_of, is_same_id}
 use Rattle.gv_types.specs.Operation.{range_of, own_mapping}
 use Rattle.gv_types.specs.declared.mapping.Backing.{Backing}

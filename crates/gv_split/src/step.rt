@@ -38,7 +38,7 @@ pub enum Step {
 
 ghost use Rattle.gv_types.specs.Mapping.{is_of, IsMapping};
 ghost use Rattle.gv_types.specs.Operation.{own_mapping, range_of, IsPageOp, IsChecked};
-ghost use Rattle.gv_types.specs.Span.{meets};
+ghost use Rattle.gv_types.specs.PageRange.{meets};
 ghost use Rattle.gv_split.specs.Steps.{continues_mapping, step_in, steps};
 ghost use Rattle.gv_split.specs.CarriedOut.{carried_out, ArePresent, list_after};
 
@@ -174,8 +174,8 @@ fn plan_range(alloc: Global, list: &RangeList, op: &PageOp) -> Result<Vec<Step>,
     ensures some { OnErr result (0 < length (filter (λ m. meets m.range (range_of op.now)) list.now.mappings)
         + length (own_mapping op.now)) }
 {
-    let (place, count) = list.overlapping(op.range());
+    let (index, count) = list.overlapping(op.range());
     // Tells that the list is laid out.
     let _len = list.len();
-    steps_of_run(alloc, list.run(place, count), op)
+    steps_of_run(alloc, list.run(index, count), op)
 }

@@ -13,7 +13,7 @@ use Rattle.gv_types.specs.declared.request.Point.{Point}
 use Rattle.gv_sync.specs.declared.marks.Mark.{Mark}
 use Rattle.gv_sync.specs.declared.marks.Known.{Known}
 use Rattle.gv_sync.specs.Marks.{mark, fresh_mark, mark_at, marks_after_load, marks_after_raise, marks_split_off, known, first_known, known_after_split, known_split_off}
-use Rattle.gv_sync.specs.Rule.{IsWithin, IsRaised, SeatsAgree, Loaded, Raised}
+use Rattle.gv_sync.specs.Rule.{RaisedWhatItSaw, IsRaised, SeatsAgree, Loaded, Raised}
 use Rattle.gv_sync.proofs.Shares.{at_set_here, opened, stepped_on, halved, own_raise}
 
 -- a number of a list after one was set, by the two cases
@@ -26,7 +26,7 @@ set_cases P xs i x d j lt here else =
 
 -- one step of a seat on a timeline whose number goes from n to m. The seat's mark there becomes one that raised r and saw m
 module _ (words : List ℕ) (seats : List Known) (seat timeline : ℕ) (old_known : Known) (points : List Point) (m r taken : ℕ)
-    (within : (j : ℕ) (u : Known) → get_elem? seats j ≡ some u → IsWithin words u.marks)
+    (within : (j : ℕ) (u : Known) → get_elem? seats j ≡ some u → RaisedWhatItSaw words u.marks)
     (raised : (t : ℕ) → IsRaised words seats t)
     (here : get_elem? seats seat ≡ some old_known)
     (named : timeline < length words)
@@ -55,7 +55,7 @@ module _ (words : List ℕ) (seats : List Known) (seat timeline : ℕ) (old_know
   words_rise : (t : ℕ) → slice_index words t ≤ slice_index new_words t
   words_rise t = set_cases (λ (k : ℕ). slice_index words t ≤ k) words timeline m 0 t named (λ e. subst (λ (k : ℕ). slice_index words k ≤ m) (sym e) up) (λ ne. le_refl _)
 
-  mine : IsWithin new_words new_marks
+  mine : RaisedWhatItSaw new_words new_marks
   mine = let old = within seat old_known here in record {
     counted = simp length-set old.counted;
     raised = (λ t. set_cases (λ (k : Mark). k.raised ≤ k.seen) marks timeline (mark m r taken) fresh_mark t marked (λ e. below) (λ ne. old.raised t));
@@ -64,11 +64,11 @@ module _ (words : List ℕ) (seats : List Known) (seat timeline : ℕ) (old_know
         (λ ne. le_trans (old.seen t) (words_rise t)));
   }
 
-  others : (u : List Mark) → IsWithin words u → IsWithin new_words u
+  others : (u : List Mark) → RaisedWhatItSaw words u → RaisedWhatItSaw new_words u
   others u old = record { counted = simp length-set old.counted; raised = old.raised; seen = λ t. le_trans (old.seen t) (words_rise t) }
 
-  pub within_after : (j : ℕ) (u : Known) → get_elem? new_seats j ≡ some u → IsWithin new_words u.marks
-  within_after j u at = ⊎_elim (λ (e : (j ≡ seat) × (new_known ≡ u)). subst (λ (k : Known). IsWithin new_words k.marks) e.1 mine)
+  pub within_after : (j : ℕ) (u : Known) → get_elem? new_seats j ≡ some u → RaisedWhatItSaw new_words u.marks
+  within_after j u at = ⊎_elim (λ (e : (j ≡ seat) × (new_known ≡ u)). subst (λ (k : Known). RaisedWhatItSaw new_words k.marks) e.1 mine)
       (λ (e : (j ≢ seat) × (get_elem? seats j ≡ some u)). others u.marks (within j u e.1)) (at_set seats seat j new_known u at)
 
   at_mine : get_elem? new_seats seat ≡ some new_known
@@ -165,7 +165,7 @@ raises count slots seat timeline value before out named s kept deep here fits =
       record { marks = refl; raises = refl; halvings = refl; no_less = record { seen = old.seen timeline; raised = reaches }; alone = own_raise count seat timeline before s kept here },
     )
 
-split_within : (words : List ℕ) (marks : List Mark) → IsWithin words marks → IsWithin words (marks_split_off marks)
+split_within : (words : List ℕ) (marks : List Mark) → RaisedWhatItSaw words marks → RaisedWhatItSaw words (marks_split_off marks)
 split_within words marks old =
     let cut : Mark → Mark = λ (m : Mark). mark m.seen 0 0 in record {
       counted = simp length-map old.counted;
@@ -181,13 +181,13 @@ module _ (count seat : ℕ) (before : Known) (s : State ℕ Known) (kept : Seats
   abbrev all_seats : List Known
   all_seats = left_seats ++ known_split_off before ∷ []
 
-  within_left : (j : ℕ) (u : Known) → get_elem? left_seats j ≡ some u → IsWithin s.words u.marks
-  within_left j u at = ⊎_elim (λ (e : (j ≡ seat) × (known_after_split before ≡ u)). subst (λ (k : Known). IsWithin s.words k.marks) e.1 (kept.within seat before here))
+  within_left : (j : ℕ) (u : Known) → get_elem? left_seats j ≡ some u → RaisedWhatItSaw s.words u.marks
+  within_left j u at = ⊎_elim (λ (e : (j ≡ seat) × (known_after_split before ≡ u)). subst (λ (k : Known). RaisedWhatItSaw s.words k.marks) e.1 (kept.within seat before here))
       (λ (e : (j ≢ seat) × (get_elem? s.views j ≡ some u)). kept.within j u e.1) (at_set s.views seat j (known_after_split before) u at)
 
-  pub split_keeps_within : (j : ℕ) (u : Known) → get_elem? all_seats j ≡ some u → IsWithin s.words u.marks
+  pub split_keeps_within : (j : ℕ) (u : Known) → get_elem? all_seats j ≡ some u → RaisedWhatItSaw s.words u.marks
   split_keeps_within j u at = ⊎_elim (λ was. within_left j u was)
-      (λ (e : known_split_off before ≡ u). subst (λ (k : Known). IsWithin s.words k.marks) e (split_within s.words before.marks (kept.within seat before here)))
+      (λ (e : known_split_off before ≡ u). subst (λ (k : Known). RaisedWhatItSaw s.words k.marks) e (split_within s.words before.marks (kept.within seat before here)))
       (at_snoc left_seats (known_split_off before) u j at)
 
   -- who raised a timeline to what it is did so still
@@ -223,7 +223,7 @@ replicated zero t = refl
 replicated (suc count) zero = refl
 replicated (suc count) (suc t) = replicated count t
 
-begins_within : (words : List ℕ) → IsWithin words (replicate (length words) fresh_mark)
+begins_within : (words : List ℕ) → RaisedWhatItSaw words (replicate (length words) fresh_mark)
 begins_within words = record {
   counted = length-replicate (length words) fresh_mark;
   raised = λ t. subst (λ (k : Mark). k.raised ≤ k.seen) (sym (replicated (length words) t)) zero-le;
@@ -238,6 +238,6 @@ begins words all = record {
   shared = opened (length words);
 }
   where
-    only : (j : ℕ) (u : Known) → get_elem? (first_known (length words) ∷ []) j ≡ some u → IsWithin words u.marks
-    only zero u at = subst (λ (k : Known). IsWithin words k.marks) (some-injective (first_known (length words)) u at) (begins_within words)
+    only : (j : ℕ) (u : Known) → get_elem? (first_known (length words) ∷ []) j ≡ some u → RaisedWhatItSaw words u.marks
+    only zero u at = subst (λ (k : Known). RaisedWhatItSaw words k.marks) (some-injective (first_known (length words)) u at) (begins_within words)
     only (suc j) u at = absurd (some-ne-none u (sym at))

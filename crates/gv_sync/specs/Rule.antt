@@ -12,7 +12,7 @@ abbrev pub Knows : List Known → ℕ → Known → Type 0
 Knows seats seat known = get_elem? seats seat ≡ some known
 
 -- a seat raised a timeline no higher than it saw it, and saw it no higher than it is
-pub record IsWithin (words : List ℕ) (marks : List Mark) : Type 0 where
+pub record RaisedWhatItSaw (words : List ℕ) (marks : List Mark) : Type 0 where
   pub counted : length marks ≡ length words
   pub raised : (timeline : ℕ) → (mark_at marks timeline).raised ≤ (mark_at marks timeline).seen
   pub seen : (timeline : ℕ) → (mark_at marks timeline).seen ≤ slice_index words timeline
@@ -41,7 +41,7 @@ AreOneWhole seats =
 -- the words and what all seats know, dropped ones too, agree
 pub record SeatsAgree (count : ℕ) (s : State ℕ Known) : Type 0 where
   pub counted : length s.words ≡ count
-  pub within : (seat : ℕ) (known : Known) → Knows s.views seat known → IsWithin s.words known.marks
+  pub within : (seat : ℕ) (known : Known) → Knows s.views seat known → RaisedWhatItSaw s.words known.marks
   pub raised : (timeline : ℕ) → IsRaised s.words s.views timeline
   pub shared : AreOneWhole s.views
 

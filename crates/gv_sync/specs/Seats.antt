@@ -10,8 +10,8 @@ abbrev pub most_timelines : ℕ
 most_timelines = 64
 
 -- how many timelines these are
-abbrev pub count_of : TableId → ℕ
-count_of timelines = timelines.words
+abbrev pub timeline_count : TableId → ℕ
+timeline_count timelines = timelines.words
 
 -- a seat at one set of timelines, with one mark for each, and the points that it raised to, in order. The first seat has the
 -- whole of them; each split halves a share
@@ -28,14 +28,14 @@ IsSeatOf timelines seat = seat.of ≡ timelines
 -- the first seat of timelines that were just made
 abbrev pub first_seat : TableId → SeatState
 first_seat timelines =
-    record { of = timelines; marks = replicate (count_of timelines) fresh_mark; raises = []; halvings = 0 }
+    record { of = timelines; marks = replicate (timeline_count timelines) fresh_mark; raises = []; halvings = 0 }
 
 abbrev pub mark_of : SeatState → ℕ → Mark
 mark_of seat timeline = mark_at seat.marks timeline
 
 -- the seat has the whole, so it is the only one
-abbrev pub IsOnly : SeatState → Type 0
-IsOnly seat = seat.halvings ≡ 0
+abbrev pub IsOnlySeat : SeatState → Type 0
+IsOnlySeat seat = seat.halvings ≡ 0
 
 -- the seat after one load of this timeline, which found the number. It raised nothing, and its share is as before: none was
 -- split off

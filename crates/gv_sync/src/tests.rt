@@ -1,5 +1,5 @@
 ghost use Rattle.std.specs.Prelude.{◌≡◌, ◌≤◌, ◌<◌};
-ghost use Rattle.gv_sync.specs.Seats.{IsSeatOf, count_of, first_seat};
+ghost use Rattle.gv_sync.specs.Seats.{IsSeatOf, timeline_count, first_seat};
 
 use crate::{Clock, Lacking, Reached, Seat, Timelines, laws};
 use gv_types::Point;
@@ -53,7 +53,7 @@ fn one_thread_on_timelines(rt: HostRuntime) -> Result<(), Fail> {
 #[tactic(auto, using(crate::proofs::Rises::replicated))]
 fn value_at_first(timelines: &Timelines, seat: &mut Seat, timeline: u64) -> u64
     requires first { seat.old ≡ first_seat timelines.now }
-    requires named { timeline < count_of timelines.now }
+    requires named { timeline < timeline_count timelines.now }
     ensures zero { result ≡ 0 }
     ensures own { IsSeatOf timelines.now seat.new }
 {
@@ -97,7 +97,7 @@ fn one_thread_on_a_clock(rt: HostRuntime) -> Result<(), Fail> {
 /// Raises timeline 0 to each second number from the first on. Whether no answer fell.
 fn climb(timelines: &Timelines, mut seat: Seat, first: u64) -> bool
     requires own { IsSeatOf timelines.now seat }
-    requires some { 0 < count_of timelines.now }
+    requires some { 0 < timeline_count timelines.now }
     requires first { first ≤ 2 }
 {
     let mut last = 0;
@@ -119,7 +119,7 @@ fn climb_both<R: Threads + Sync>(
 ) -> (bool, bool)
     requires odd { IsSeatOf timelines.now odd }
     requires even { IsSeatOf timelines.now even }
-    requires some { 0 < count_of timelines.now }
+    requires some { 0 < timeline_count timelines.now }
 {
     thread::join(
         rt,

@@ -2,8 +2,8 @@
 ghost use Rattle.std.specs.Prelude.{◌≡◌, ◌<◌, ◌≤◌, ◌↔◌, All, IfOk, IsOk, length, max};
 ghost use Rattle.gv_types.specs.Limits.{IsFromOneTo};
 ghost use Rattle.gv_sync.specs.Marks.{IsNoLess, StepsOnceOn};
-ghost use Rattle.gv_sync.specs.Seats.{IsOnly, IsSeatOf, after_load, after_raise, after_split};
-ghost use Rattle.gv_sync.specs.Seats.{count_of, first_seat, mark_of, most_timelines, split_from};
+ghost use Rattle.gv_sync.specs.Seats.{IsOnlySeat, IsSeatOf, after_load, after_raise, after_split};
+ghost use Rattle.gv_sync.specs.Seats.{timeline_count, first_seat, mark_of, most_timelines, split_from};
 ghost use Rattle.gv_sync.specs.Sights.{number_seen, sight_of};
 
 use crate::marks::Known;
@@ -114,7 +114,7 @@ impl Model for Seat {
 impl Seat {
     /// A law for callers: there is a mark for each timeline. It does nothing.
     pub fn has_each_mark(&self)
-        ensures { length self.now.marks ≡ count_of self.now.of }
+        ensures { length self.now.marks ≡ timeline_count self.now.of }
     {
         // For the prover: what the pass tells.
         let _pass = &self.pass;
@@ -125,7 +125,7 @@ impl Timelines {
     /// So many timelines, from 1 to 64, all at 0, with the first seat.
     pub fn new(alloc: Global, count: u64) -> Result<(Timelines, Seat), SyncFault>
         requires { IsFromOneTo most_timelines count }
-        ensures count { IfOk result (λ r. count_of r.0 ≡ count) }
+        ensures count { IfOk result (λ r. timeline_count r.0 ≡ count) }
         ensures seat { IfOk result (λ r. r.1 ≡ first_seat r.0) }
         ensures own { IfOk result (λ r. IsSeatOf r.0 r.1) }
     {
@@ -137,7 +137,7 @@ impl Timelines {
     fn over(alloc: Global, words: &[u64]) -> Result<(Timelines, Seat), SyncFault>
         requires count { IsFromOneTo most_timelines (length words.now) }
         requires zero { All (λ n. n ≡ 0) words.now }
-        ensures count { IfOk result (λ r. count_of r.0 ≡ length words.now) }
+        ensures count { IfOk result (λ r. timeline_count r.0 ≡ length words.now) }
         ensures seat { IfOk result (λ r. r.1 ≡ first_seat r.0) }
     {
         let (table, pass) = Table::of_words(alloc, words, &words.len())?;
@@ -146,7 +146,7 @@ impl Timelines {
 
     /// How many timelines there are.
     pub fn count(&self) -> u64
-        ensures count { result ≡ count_of self.now }
+        ensures count { result ≡ timeline_count self.now }
         ensures limit { IsFromOneTo most_timelines result }
     {
         self.table.word_count() as u64
@@ -155,13 +155,13 @@ impl Timelines {
     /// The number of a timeline, by one load.
     pub fn value(&self, seat: &mut Seat, timeline: u64) -> u64
         requires own { IsSeatOf self.now seat.old }
-        requires named { timeline < count_of self.now }
+        requires named { timeline < timeline_count self.now }
         ensures own { IsSeatOf self.now seat.new }
         ensures step { seat.new ≡ after_load seat.old timeline result }
         ensures one_step { StepsOnceOn timeline seat.old.marks seat.new.marks }
         ensures seen { (mark_of seat.new timeline).seen ≡ result }
         ensures no_less { IsNoLess (mark_of seat.old timeline) result }
-        ensures only { IsOnly seat.old → result ≡ (mark_of seat.old timeline).raised }
+        ensures only { IsOnlySeat seat.old → result ≡ (mark_of seat.old timeline).raised }
     {
         self.load(seat, timeline)
     }
@@ -170,7 +170,7 @@ impl Timelines {
     /// number after it.
     pub fn raise(&self, seat: &mut Seat, point: Point) -> u64
         requires own { IsSeatOf self.now seat.old }
-        requires named { point.timeline < count_of self.now }
+        requires named { point.timeline < timeline_count self.now }
         ensures own { IsSeatOf self.now seat.new }
         ensures step { seat.new ≡ after_raise seat.old point result }
         ensures one_step { StepsOnceOn point.timeline seat.old.marks seat.new.marks }
@@ -179,7 +179,7 @@ impl Timelines {
         ensures reached { point.value ≤ result }
         ensures raised { (mark_of seat.new point.timeline).raised
             ≡ max (mark_of seat.old point.timeline).raised point.value }
-        ensures only { IsOnly seat.old → result ≡ (mark_of seat.new point.timeline).raised }
+        ensures only { IsOnlySeat seat.old → result ≡ (mark_of seat.new point.timeline).raised }
     {
         let found = self.fetch_max(seat, point);
         found.max(point.value)
@@ -188,13 +188,13 @@ impl Timelines {
     /// Whether a point is reached, by one load.
     pub fn look(&self, seat: &mut Seat, point: &Point) -> Result<Reached, Lacking>
         requires own { IsSeatOf self.now seat.old }
-        requires named { point.now.timeline < count_of self.now }
+        requires named { point.now.timeline < timeline_count self.now }
         ensures own { IsSeatOf self.now seat.new }
         ensures step { seat.new ≡ after_load seat.old point.now.timeline (number_seen result) }
         ensures one_step { StepsOnceOn point.now.timeline seat.old.marks seat.new.marks }
         ensures seen { (mark_of seat.new point.now.timeline).seen ≡ number_seen result }
         ensures no_less { IsNoLess (mark_of seat.old point.now.timeline) (number_seen result) }
-        ensures only { IsOnly seat.old
+        ensures only { IsOnlySeat seat.old
             → number_seen result ≡ (mark_of seat.old point.now.timeline).raised }
         ensures point { (sight_of result).point ≡ point.now }
         ensures reached { IsOk result ↔ (point.now.value ≤ number_seen result) }
@@ -218,13 +218,13 @@ impl Timelines {
 
     fn load(&self, seat: &mut Seat, timeline: u64) -> u64
         requires own { IsSeatOf self.now seat.old }
-        requires named { timeline < count_of self.now }
+        requires named { timeline < timeline_count self.now }
         ensures own { IsSeatOf self.now seat.new }
         ensures step { seat.new ≡ after_load seat.old timeline result }
         ensures one_step { StepsOnceOn timeline seat.old.marks seat.new.marks }
         ensures seen { (mark_of seat.new timeline).seen ≡ result }
         ensures no_less { IsNoLess (mark_of seat.old timeline) result }
-        ensures only { IsOnly seat.old → result ≡ (mark_of seat.old timeline).raised }
+        ensures only { IsOnlySeat seat.old → result ≡ (mark_of seat.old timeline).raised }
     {
         self.table
             .shared
@@ -234,7 +234,7 @@ impl Timelines {
     /// Answers the number before the step.
     fn fetch_max(&self, seat: &mut Seat, point: Point) -> u64
         requires own { IsSeatOf self.now seat.old }
-        requires named { point.timeline < count_of self.now }
+        requires named { point.timeline < timeline_count self.now }
         ensures own { IsSeatOf self.now seat.new }
         ensures step { seat.new ≡ after_raise seat.old point (max result point.value) }
         ensures one_step { StepsOnceOn point.timeline seat.old.marks seat.new.marks }
@@ -242,7 +242,7 @@ impl Timelines {
         ensures no_less { IsNoLess (mark_of seat.old point.timeline) result }
         ensures raised { (mark_of seat.new point.timeline).raised
             ≡ max (mark_of seat.old point.timeline).raised point.value }
-        ensures only { IsOnly seat.old → result ≡ (mark_of seat.old point.timeline).raised }
+        ensures only { IsOnlySeat seat.old → result ≡ (mark_of seat.old point.timeline).raised }
     {
         let timeline = point.timeline as usize;
         self.table

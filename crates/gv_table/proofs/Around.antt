@@ -1,7 +1,7 @@
 -- What a slot needs where the whole range lies in one of its parts.
 use Rattle.std.proofs.Common.{◌≡◌, ℕ, ◌+◌, ◌-◌, ◌*◌, ◌<◌, inl, inr, true, false, List, arith, refl}
 use Rattle.std.proofs.lemmas.Bool.{cases_lt}
-use Rattle.gv_types.specs.Span.{Span, meets, lies_in}
+use Rattle.gv_types.specs.PageRange.{PageRangeState, meets, lies_in}
 use Rattle.gv_types.specs.declared.mapping.Mapping.{Mapping}
 use Rattle.gv_table.specs.declared.slot.Slot.{Slot}
 use Rattle.gv_table.specs.Levels.{pages_of, slot_pages, IsInPart}
@@ -12,7 +12,7 @@ use Rattle.gv_table.proofs.PagesOf.{pages_of-some, pages_of-below, rows-rise}
 use Rattle.gv_table.proofs.Spans.{meets-from, meets-after, meets-before, lies-not-low, lies-not-high}
 use Rattle.gv_table.proofs.Sums.{sum_below-zeros, sum_below-more, sum_below-rest}
 
-module _ (range : Span) (level first index : ℕ) (some : 0 < range.count) (is : IsInPart range level first index) where
+module _ (range : PageRangeState) (level first index : ℕ) (some : 0 < range.count) (is : IsInPart range level first index) where
   -- the slot goes on before the range or behind it
   larger : lies_in (slot_pages level first) range ≡ false
   larger =

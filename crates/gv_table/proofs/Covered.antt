@@ -1,6 +1,6 @@
 -- What a list in order says of a range of pages.
 use Rattle.std.proofs.Common.{◌≡◌, ℕ, zero, suc, ◌+◌, ◌-◌, ◌<◌, ◌≤◌, ◌⊎◌, inl, inr, Bool, true, false, ◌||◌, List, [], ◌∷◌, length, get_or, Some, None, refl, arith, sym, ap, ◌∙◌, subst}
-use Rattle.gv_types.specs.Span.{Span, span, end_of, meets, lies_in}
+use Rattle.gv_types.specs.PageRange.{PageRangeState, span, end_of, meets, lies_in}
 use Rattle.gv_types.specs.Mapping.{part, advanced, HasSmallPages}
 use Rattle.gv_types.specs.declared.mapping.Backing.{Backing}
 use Rattle.gv_types.specs.declared.mapping.Backing.TheVariants.{Buffer, Zero}
@@ -26,7 +26,7 @@ or-true true = refl
 or-true false = refl
 
 -- no mapping meets a part of a range that none meets
-pub any_meets-part : (ms : List Mapping) (s t : Span) → any_meets ms s ≡ false → s.first ≤ t.first → end_of t ≤ end_of s → any_meets ms t ≡ false
+pub any_meets-part : (ms : List Mapping) (s t : PageRangeState) → any_meets ms s ≡ false → s.first ≤ t.first → end_of t ≤ end_of s → any_meets ms t ≡ false
 any_meets-part [] s t none low high = refl
 any_meets-part (m ∷ ms) s t none low high =
     let parts = or-parts (meets m.range s) (any_meets ms s) none in
@@ -37,13 +37,13 @@ any_meets-part (m ∷ ms) s t none low high =
     rw here (any_meets-part ms s t parts.1 low high)
 
 -- nothing lies below the first page of a list
-pub covering-below : (ms : List Mapping) (low : ℕ) (s : Span) → IsLaidOutFrom low ms → s.first < low → covering ms s ≡ None
+pub covering-below : (ms : List Mapping) (low : ℕ) (s : PageRangeState) → IsLaidOutFrom low ms → s.first < low → covering ms s ≡ None
 covering-below [] low s laid below = refl
 covering-below (m ∷ ms) low s laid below =
     let here : lies_in s m.range ≡ false = lies-not-low s m.range (omega arith) in
     rw here (covering-below ms (end_of m.range) s laid.2 (omega arith))
 
-pub covering-above : (ms : List Mapping) (low : ℕ) (s : Span) (entry : Entry) → IsLaidOutFrom low ms → covering ms s ≡ Some entry → low ≤ s.first
+pub covering-above : (ms : List Mapping) (low : ℕ) (s : PageRangeState) (entry : Entry) → IsLaidOutFrom low ms → covering ms s ≡ Some entry → low ≤ s.first
 covering-above [] low s entry laid found = cc
 covering-above (m ∷ ms) low s entry laid found =
     elim (true-or-false (lies_in s m.range)) [
@@ -53,7 +53,7 @@ covering-above (m ∷ ms) low s entry laid found =
     ]
 
 -- a part of a range that one mapping covers is covered too, and holds what lies so far on
-pub covering-part : (ms : List Mapping) (low : ℕ) (s t : Span) (entry : Entry) → IsLaidOutFrom low ms → covering ms s ≡ Some entry →
+pub covering-part : (ms : List Mapping) (low : ℕ) (s t : PageRangeState) (entry : Entry) → IsLaidOutFrom low ms → covering ms s ≡ Some entry →
     s.first ≤ t.first → 0 < t.count → end_of t ≤ end_of s → covering ms t ≡ Some (entry_advanced entry (t.first - s.first))
 covering-part [] low s t entry laid found up some down = cc
 covering-part (m ∷ ms) low s t entry laid found up some down =
@@ -81,7 +81,7 @@ small-less (Buffer id page) n count small within = omega arith
 small-less Zero n count small within = tt
 
 -- what covers a range has small page numbers
-pub covering-small : (ms : List Mapping) (low : ℕ) (s : Span) (entry : Entry) → IsLaidOutFrom low ms → covering ms s ≡ Some entry →
+pub covering-small : (ms : List Mapping) (low : ℕ) (s : PageRangeState) (entry : Entry) → IsLaidOutFrom low ms → covering ms s ≡ Some entry →
     HasSmallPages entry.backing s.count
 covering-small [] low s entry laid found = cc
 covering-small (m ∷ ms) low s entry laid found =
@@ -99,7 +99,7 @@ pub at-covering : (ms : List Mapping) (page : ℕ) → at ms page ≡ covering m
 at-covering [] page = refl
 at-covering (m ∷ ms) page = let rest = at-covering ms page in rw (covers-lies m.range page, rest) refl
 
-pub covering-none : (ms : List Mapping) (s : Span) → 0 < s.count → any_meets ms s ≡ false → covering ms s ≡ None
+pub covering-none : (ms : List Mapping) (s : PageRangeState) → 0 < s.count → any_meets ms s ≡ false → covering ms s ≡ None
 covering-none [] s some none = refl
 covering-none (m ∷ ms) s some none =
     let parts = or-parts (meets m.range s) (any_meets ms s) none in
@@ -110,7 +110,7 @@ covering-none (m ∷ ms) s some none =
     rw here (covering-none ms s some parts.1)
 
 -- what one mapping covers, it meets
-pub covering-meets : (ms : List Mapping) (s : Span) (entry : Entry) → 0 < s.count → covering ms s ≡ Some entry → any_meets ms s ≡ true
+pub covering-meets : (ms : List Mapping) (s : PageRangeState) (entry : Entry) → 0 < s.count → covering ms s ≡ Some entry → any_meets ms s ≡ true
 covering-meets ms s entry some found =
     elim (true-or-false (any_meets ms s)) [
       | inl met ↦ met
@@ -135,7 +135,7 @@ page-covered (m ∷ ms) page met none =
     ]
 
 -- a mapping that meets a range decides what the list says of it
-pub met-at : (ms : List Mapping) (low j : ℕ) (d : Mapping) (t : Span) → IsLaidOutFrom low ms → j < length ms → 0 < t.count →
+pub met-at : (ms : List Mapping) (low j : ℕ) (d : Mapping) (t : PageRangeState) → IsLaidOutFrom low ms → j < length ms → 0 < t.count →
     meets (get_or ms j d).range t ≡ true → IsReadBy ms t (Some (get_or ms j d))
 met-at [] low j d t laid within some met = absurd (omega arith)
 met-at (m ∷ ms) low zero d t laid within some met =
@@ -149,7 +149,7 @@ met-at (m ∷ ms) low (suc j) d t laid within some met =
     let here : lies_in t m.range ≡ false = lies-not-high t m.range (omega (arith, h, above)) in
     (rw rest.0 (or-true (meets m.range t)), rw here rest.1, rest.2)
 
-pub met-none : (ms : List Mapping) (t : Span) → ((j : ℕ) (d : Mapping) → j < length ms → meets (get_or ms j d).range t ≡ false) →
+pub met-none : (ms : List Mapping) (t : PageRangeState) → ((j : ℕ) (d : Mapping) → j < length ms → meets (get_or ms j d).range t ≡ false) →
     any_meets ms t ≡ false
 met-none [] t none = refl
 met-none (m ∷ ms) t none =

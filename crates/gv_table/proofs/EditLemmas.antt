@@ -4,7 +4,7 @@ use Rattle.std.specs.List.{All}
 use Rattle.std.proofs.lemmas.List.{append-nil}
 use Rattle.std.proofs.lemmas.List.Elements.{All-nil, All-cons, All-head, All-tail, filter_map-append}
 use Rattle.gv_types.specs.Page.{PAGES}
-use Rattle.gv_types.specs.Span.{Span, span, end_of, IsInSpace, lies_in}
+use Rattle.gv_types.specs.PageRange.{PageRangeState, span, end_of, IsInSpace, lies_in}
 use Rattle.gv_types.specs.Mapping.{clip, piece, IsMapping}
 use Rattle.gv_types.specs.declared.mapping.Mapping.{Mapping}
 use Rattle.gv_ranges.specs.List.{IsLaidOut, IsLaidOutFrom}
@@ -43,7 +43,7 @@ clipped-between low high (m ∷ ms) all =
     let rest : clipped low high ms ≡ ms = clipped-between low high ms (All-tail (IsBetween low high) m ms all) in
     rw (clip_whole low high m here.0 here.1 here.2, rest) refl
 
-module _ (ms pieces : List Mapping) (range : Span) (laid : IsLaidOut ms) (lie : LieIn range pieces) where
+module _ (ms pieces : List Mapping) (range : PageRangeState) (laid : IsLaidOut ms) (lie : LieIn range pieces) where
   low : All (IsBetween 0 range.first) (clipped 0 range.first ms)
   low = between-clipped 0 range.first 0 ms laid
 

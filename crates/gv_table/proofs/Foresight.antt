@@ -1,7 +1,7 @@
 -- The tables that a paint gains are at most those that the pieces foresee.
 use Rattle.std.proofs.Common.{◌≡◌, ℕ, zero, suc, ◌+◌, ◌*◌, ◌<◌, ◌≤◌, inl, inr, Bool, true, false, not, ◌&&◌, ◌||◌, List, refl, arith, sym, ap, ◌∙◌, if◌then◌else◌}
 use Rattle.gv_types.specs.Page.{PAGES}
-use Rattle.gv_types.specs.Span.{Span, end_of, meets, lies_in}
+use Rattle.gv_types.specs.PageRange.{PageRangeState, end_of, meets, lies_in}
 use Rattle.gv_types.specs.declared.mapping.Mapping.{Mapping}
 use Rattle.gv_ranges.specs.List.{IsLaidOut}
 use Rattle.gv_ranges.specs.Edit.{clipped}
@@ -30,7 +30,7 @@ may-by true true false e f = let bad : false ≡ true = f refl in cc
 may-by true false divided e f = refl
 may-by false inside divided e f = cc
 
-gained-met : (range : Span) (ms pieces : List Mapping) (level first : ℕ) (slot : Slot) → IsLaidOut ms → clipped range.first (end_of range) ms ≡ pieces →
+gained-met : (range : PageRangeState) (ms pieces : List Mapping) (level first : ℕ) (slot : Slot) → IsLaidOut ms → clipped range.first (end_of range) ms ≡ pieces →
     meets (slot_pages (suc level) first) range ≡ true →
     ((k : ℕ) → k < 512 → gained ms level (first + k * pages_of level) (child slot k) ≤ needed pieces range level (first + k * pages_of level) (child slot k)) →
     gained ms (suc level) first slot ≤ needed pieces range (suc level) first slot
@@ -45,11 +45,11 @@ gained-met range ms pieces level first slot laid is met parts =
     ap is_divided (sym same) ∙ divided))
     (sum_below-le 512 (λ k. gained ms level (first + k * pages_of level) (child slot k)) (λ k. needed pieces range level (first + k * pages_of level) (child slot k)) parts)
 
-gained-zero : (range : Span) (ms pieces : List Mapping) (first : ℕ) (slot : Slot) → gained ms 0 first slot ≤ needed pieces range 0 first slot
+gained-zero : (range : PageRangeState) (ms pieces : List Mapping) (first : ℕ) (slot : Slot) → gained ms 0 first slot ≤ needed pieces range 0 first slot
 unfolding gained needed
 gained-zero range ms pieces first slot = omega arith
 
-gained-by : (range : Span) (earlier ms pieces : List Mapping) (level first : ℕ) (slot : Slot) → AreAlikeOutside range earlier ms → IsLaidOut earlier → IsLaidOut ms →
+gained-by : (range : PageRangeState) (earlier ms pieces : List Mapping) (level first : ℕ) (slot : Slot) → AreAlikeOutside range earlier ms → IsLaidOut earlier → IsLaidOut ms →
     clipped range.first (end_of range) ms ≡ pieces → end_of (slot_pages level first) ≤ PAGES → TablesMatch earlier level first slot →
     gained ms level first slot ≤ needed pieces range level first slot
 unfolding TablesMatch
@@ -65,7 +65,7 @@ gained-by range earlier ms pieces (suc level) first slot alike laid laid' is wit
           omega (arith, z))
     ]
 
-pub gained-needed : (range : Span) (ms pieces : List Mapping) (level first : ℕ) (slot : Slot) → IsTreeOutside ms range level first slot → IsLaidOut ms →
+pub gained-needed : (range : PageRangeState) (ms pieces : List Mapping) (level first : ℕ) (slot : Slot) → IsTreeOutside ms range level first slot → IsLaidOut ms →
     clipped range.first (end_of range) ms ≡ pieces → end_of (slot_pages level first) ≤ PAGES →
     gained ms level first slot ≤ needed pieces range level first slot
 gained-needed range ms pieces level first slot outside laid is within =

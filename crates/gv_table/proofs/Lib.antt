@@ -5,7 +5,7 @@ pub mod Slots
 pub mod Counts
 pub mod Covered
 pub mod Clips
-pub mod Places
+pub mod Positions
 pub mod Wants
 pub mod Trees
 pub mod Rows

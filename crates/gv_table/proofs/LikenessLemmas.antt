@@ -1,4 +1,4 @@
--- Two trees of one list have their tables at the same places.
+-- Two trees of one list have their tables at the same positions.
 use Rattle.std.proofs.Common.{◌≡◌, ℕ, zero, suc, ◌+◌, ◌-◌, ◌*◌, ◌<◌, inl, inr, true, false, List, refl, arith, sym, ◌∙◌}
 use Rattle.gv_types.specs.declared.mapping.Mapping.{Mapping}
 use Rattle.gv_table.specs.declared.slot.Slot.{Slot}

@@ -1,7 +1,7 @@
 -- A slot that has its tables where the list wants them gains none and loses none.
 use Rattle.std.proofs.Common.{◌≡◌, ℕ, zero, suc, ◌+◌, ◌-◌, ◌*◌, ◌<◌, ◌≤◌, inl, inr, Bool, true, false, List, refl, arith, sym, ap, ◌∙◌, subst, if◌then◌else◌}
 use Rattle.gv_types.specs.Page.{PAGES}
-use Rattle.gv_types.specs.Span.{Span, end_of, meets}
+use Rattle.gv_types.specs.PageRange.{PageRangeState, end_of, meets}
 use Rattle.gv_types.specs.declared.mapping.Mapping.{Mapping}
 use Rattle.gv_ranges.specs.List.{IsLaidOut}
 use Rattle.gv_table.specs.declared.wanted.Wanted.{Wanted}
@@ -34,7 +34,7 @@ pub whole-match : (ms : List Mapping) (level first : ℕ) (slot : Slot) →
 unfolding TablesMatch
 whole-match ms level first slot match = match
 
--- below a place where no table is wanted, none is
+-- below a position where no table is wanted, none is
 match-empty : (ms : List Mapping) (level first : ℕ) → IsLaidOut ms → is_divided (wanted ms level first) ≡ false → TablesMatch ms level first Empty
 unfolding TablesMatch
 match-empty ms zero first laid whole = tt
@@ -65,7 +65,7 @@ tree-match ms (suc level) first slot laid tree =
     )
 
 -- the tables of a slot apart from a range match each list that is alike outside it
-pub match-alike : (range : Span) (one other : List Mapping) (level first : ℕ) (slot : Slot) → AreAlikeOutside range one other → IsLaidOut one → IsLaidOut other →
+pub match-alike : (range : PageRangeState) (one other : List Mapping) (level first : ℕ) (slot : Slot) → AreAlikeOutside range one other → IsLaidOut one → IsLaidOut other →
     end_of (slot_pages level first) ≤ PAGES → meets (slot_pages level first) range ≡ false → TablesMatch one level first slot → TablesMatch other level first slot
 unfolding TablesMatch
 match-alike range one other zero first slot alike laid laid' within apart match = tt

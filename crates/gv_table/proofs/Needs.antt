@@ -1,6 +1,6 @@
--- How many places of a slot may need a table, part by part.
+-- How many positions of a slot may need a table, part by part.
 use Rattle.std.proofs.Common.{◌≡◌, ℕ, zero, suc, ◌+◌, ◌-◌, ◌*◌, ◌<◌, ◌≤◌, Bool, true, false, not, ◌&&◌, ◌||◌, List, refl, arith, sym, ap, ◌∙◌}
-use Rattle.gv_types.specs.Span.{Span, meets, lies_in}
+use Rattle.gv_types.specs.PageRange.{PageRangeState, meets, lies_in}
 use Rattle.gv_types.specs.declared.mapping.Mapping.{Mapping}
 use Rattle.gv_table.specs.declared.slot.Slot.{Slot}
 use Rattle.gv_table.specs.Levels.{pages_of, slot_pages}
@@ -10,11 +10,11 @@ use Rattle.gv_table.specs.Tree.{is_table, child}
 use Rattle.gv_table.specs.Counts.{needed, may_divide, one_if_not}
 use Rattle.std.proofs.Math.Nat.{add-mul}
 
-pub needed-zero : (pieces : List Mapping) (range : Span) (first : ℕ) (slot : Slot) → needed pieces range 0 first slot ≡ 0
+pub needed-zero : (pieces : List Mapping) (range : PageRangeState) (first : ℕ) (slot : Slot) → needed pieces range 0 first slot ≡ 0
 unfolding needed
 needed-zero pieces range first slot = refl
 
-pub needed-none : (pieces : List Mapping) (range : Span) (level first : ℕ) (slot : Slot) → may_divide pieces range level first ≡ false →
+pub needed-none : (pieces : List Mapping) (range : PageRangeState) (level first : ℕ) (slot : Slot) → may_divide pieces range level first ≡ false →
     needed pieces range level first slot ≡ 0
 unfolding needed
 needed-none pieces range zero first slot whole = refl
@@ -29,17 +29,17 @@ left-true true b e = refl
 left-true false b e = e
 
 -- a slot apart from the range needs nothing
-pub needed-apart : (pieces : List Mapping) (range : Span) (level first : ℕ) (slot : Slot) → meets (slot_pages level first) range ≡ false →
+pub needed-apart : (pieces : List Mapping) (range : PageRangeState) (level first : ℕ) (slot : Slot) → meets (slot_pages level first) range ≡ false →
     needed pieces range level first slot ≡ 0
 needed-apart pieces range level first slot apart =
     needed-none pieces range level first slot
     (left-false (meets (slot_pages level first) range) (not (lies_in (slot_pages level first) range) || is_divided (wanted pieces level first)) apart)
 
-pub may-met : (pieces : List Mapping) (range : Span) (level first : ℕ) → may_divide pieces range level first ≡ true → meets (slot_pages level first) range ≡ true
+pub may-met : (pieces : List Mapping) (range : PageRangeState) (level first : ℕ) → may_divide pieces range level first ≡ true → meets (slot_pages level first) range ≡ true
 may-met pieces range level first may =
     left-true (meets (slot_pages level first) range) (not (lies_in (slot_pages level first) range) || is_divided (wanted pieces level first)) may
 
-pub needed-parts : (pieces : List Mapping) (range : Span) (level first : ℕ) (slot : Slot) → 0 < level → may_divide pieces range level first ≡ true →
+pub needed-parts : (pieces : List Mapping) (range : PageRangeState) (level first : ℕ) (slot : Slot) → 0 < level → may_divide pieces range level first ≡ true →
     needed pieces range level first slot ≡
     one_if_not (is_table slot) + sum_below 512 (λ k. needed pieces range (level - 1) (first + k * pages_of (level - 1)) (child slot k))
 unfolding needed

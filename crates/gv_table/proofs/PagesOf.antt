@@ -51,7 +51,7 @@ index-within distance pages some =
 pub index-below : (distance pages : ℕ) → 0 < pages → distance < 512 * pages → distance / pages < 512
 index-below distance pages some below = grind arith
 
--- the places of a row rise by the pages of a slot
+-- the positions of a row rise by the pages of a slot
 pub rows-rise : (k i p : ℕ) → k < i → k * p + p ≤ i * p
 rows-rise k i p below = grind arith
 

@@ -2,7 +2,7 @@
 use Rattle.std.proofs.Common.{◌≡◌, ◌≢◌, ℕ, ◌+◌, ◌*◌, ◌<◌, ◌≤◌, List, slice_index_or, Box, Global, arith, sym, ap, ◌∙◌, subst, ◌⊎◌, inl, inr, refl}
 use Rattle.std.proofs.lemmas.Bool.{cases_lt}
 use Rattle.gv_types.specs.Page.{PAGES}
-use Rattle.gv_types.specs.Span.{Span, end_of}
+use Rattle.gv_types.specs.PageRange.{PageRangeState, end_of}
 use Rattle.gv_types.specs.declared.mapping.Mapping.{Mapping}
 use Rattle.gv_ranges.specs.List.{IsLaidOut}
 use Rattle.gv_table.specs.declared.slot.Slot.{Slot}
@@ -70,7 +70,7 @@ row_lost-zero ms level first row laid tree =
     (λ k below. lost-match ms level (first + k * pages_of level) (slice_index_or row k Empty) (tree-match ms level (first + k * pages_of level) (slice_index_or row k Empty) laid (tree k below)))
 
 -- the slots of a row are right where some are painted and the rest are apart from the range
-pub row-tree : (ms : List Mapping) (range : Span) (level first i : ℕ) (before row : List Slot) → IsLaidOut ms → first + 512 * pages_of level ≤ PAGES →
+pub row-tree : (ms : List Mapping) (range : PageRangeState) (level first i : ℕ) (before row : List Slot) → IsLaidOut ms → first + 512 * pages_of level ≤ PAGES →
     ((k : ℕ) → k < i → IsTreeOf ms level (first + k * pages_of level) (slice_index_or row k Empty)) →
     ((k : ℕ) → i ≤ k → slice_index_or row k Empty ≡ slice_index_or before k Empty) →
     ((k : ℕ) → k < 512 → IsTreeOutside ms range level (first + k * pages_of level) (slice_index_or before k Empty)) →

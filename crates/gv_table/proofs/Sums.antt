@@ -53,7 +53,7 @@ sum_below-le (suc n) f g less =
 pub sum_below-at : (n : ℕ) (f : ℕ → ℕ) (i : ℕ) → i < n → f i ≤ sum_below n f
 sum_below-at n f i below = let h = sum_below-part n f i below in omega (arith, h)
 
--- two sums that differ at one place
+-- two sums that differ at one position
 pub sum_below-change :
     (n : ℕ) (f g : ℕ → ℕ) (i : ℕ) → i < n → ((k : ℕ) → k ≢ i → g k ≡ f k) → sum_below n g + f i ≡ sum_below n f + g i
 unfolding sum_below

@@ -1,7 +1,7 @@
 -- Laws of the tree of a list, level by level.
 use Rattle.std.proofs.Common.{◌≡◌, ℕ, MatchOption, IfSome, zero, suc, ◌+◌, ◌-◌, ◌*◌, ◌<◌, ◌≤◌, inl, inr, true, false, List, slice_index_or, Option, Some, None, Box, Global, refl, arith, sym, ap, ◌∙◌, subst}
 use Rattle.gv_types.specs.Page.{PAGES}
-use Rattle.gv_types.specs.Span.{Span, span, end_of, meets}
+use Rattle.gv_types.specs.PageRange.{PageRangeState, span, end_of, meets}
 use Rattle.gv_types.specs.Mapping.{HasSmallPages}
 use Rattle.gv_types.specs.declared.mapping.Entry.{Entry}
 use Rattle.gv_types.specs.declared.mapping.Mapping.{Mapping}
@@ -194,7 +194,7 @@ holds-alike (variant.Entry entry) slot A B f h = h
 holds-alike variant.Table slot A B f h = (h.0, f h.1)
 
 -- a part of what is apart from a range is apart from it
-pub apart-part : (range : Span) (first n k p : ℕ) → meets (span first n) range ≡ false → k < 512 → n ≡ 512 * p → meets (span (first + k * p) p) range ≡ false
+pub apart-part : (range : PageRangeState) (first n k p : ℕ) → meets (span first n) range ≡ false → k < 512 → n ≡ 512 * p → meets (span (first + k * p) p) range ≡ false
 apart-part range first n k p apart below e =
     let w = part-within k n p below e in
     elim (apart-cases (span first n) range apart) [
@@ -203,7 +203,7 @@ apart-part range first n k p apart below e =
     ]
 
 -- a slot apart from a range is the tree of each list that is alike outside the range
-pub tree-alike : (range : Span) (one other : List Mapping) (level first : ℕ) (slot : Slot) → AreAlikeOutside range one other → IsLaidOut one → IsLaidOut other →
+pub tree-alike : (range : PageRangeState) (one other : List Mapping) (level first : ℕ) (slot : Slot) → AreAlikeOutside range one other → IsLaidOut one → IsLaidOut other →
     end_of (slot_pages level first) ≤ PAGES → meets (slot_pages level first) range ≡ false → IsTreeOf one level first slot → IsTreeOf other level first slot
 unfolding IsTreeOf
 tree-alike range one other zero first slot alike laid laid' within apart tree =
@@ -223,7 +223,7 @@ tree-alike range one other (suc level) first slot alike laid laid' within apart 
     tree)
 
 -- what is right outside the range is right where it is apart from it
-pub outside-apart : (ms : List Mapping) (range : Span) (level first : ℕ) (slot : Slot) → IsLaidOut ms → IsTreeOutside ms range level first slot →
+pub outside-apart : (ms : List Mapping) (range : PageRangeState) (level first : ℕ) (slot : Slot) → IsLaidOut ms → IsTreeOutside ms range level first slot →
     end_of (slot_pages level first) ≤ PAGES → meets (slot_pages level first) range ≡ false → IsTreeOf ms level first slot
 outside-apart ms range level first slot laid outside within apart =
     tree-alike range outside.earlier ms level first slot outside.alike outside.laid_out laid within apart outside.tree

@@ -1,7 +1,7 @@
 -- What is wanted of a slot, by what the list says of its pages.
 use Rattle.std.proofs.Common.{◌≡◌, ℕ, zero, suc, ◌+◌, ◌-◌, ◌*◌, ◌<◌, ◌≤◌, Bool, true, false, List, Option, Some, None, nat_le, refl, arith, ap, if◌then◌else◌}
 use Rattle.std.proofs.lemmas.Bool.{lt-leb, le-leb}
-use Rattle.gv_types.specs.Span.{span, lies_in}
+use Rattle.gv_types.specs.PageRange.{span, lies_in}
 use Rattle.gv_types.specs.Mapping.{part}
 use Rattle.gv_types.specs.declared.mapping.Entry.{Entry}
 use Rattle.gv_types.specs.declared.mapping.Mapping.{Mapping}

@@ -1,6 +1,6 @@
 -- How many tables a slot holds, gains and loses.
 use Rattle.std.specs.Prelude.{◌≡◌, ◌⊎◌, ℕ, zero, suc, ◌+◌, ◌-◌, ◌*◌, ◌<◌, ◌≤◌, Bool, true, false, not, ◌&&◌, ◌||◌, nat_eq, List, slice_index_or, if◌then◌else◌}
-use Rattle.gv_types.specs.Span.{Span, meets, lies_in}
+use Rattle.gv_types.specs.PageRange.{PageRangeState, meets, lies_in}
 use Rattle.gv_types.specs.declared.mapping.Mapping.{Mapping}
 use Rattle.gv_types.specs.Page.{PAGES}
 use Rattle.gv_ranges.specs.List.{IsLaidOut}
@@ -65,7 +65,7 @@ tables_wanted ms target (suc level) first =
     then one_if (nat_eq target level) + sum_below slots_per_table (λ k. tables_wanted ms target level (first + k * pages_of level))
     else 0
 
--- how many places have a table in the tree of the mappings, and none in the slot
+-- how many positions have a table in the tree of the mappings, and none in the slot
 unfoldable pub gained : List Mapping → ℕ → ℕ → Slot → ℕ
 gained ms zero first slot = 0
 gained ms (suc level) first slot =
@@ -74,7 +74,7 @@ gained ms (suc level) first slot =
     sum_below slots_per_table (λ k. gained ms level (first + k * pages_of level) (child slot k))
     else 0
 
--- how many places have a table in the slot, and none in the tree of the mappings
+-- how many positions have a table in the slot, and none in the tree of the mappings
 unfoldable pub lost : List Mapping → ℕ → ℕ → Slot → ℕ
 lost ms zero first slot = 0
 lost ms (suc level) first slot =
@@ -83,7 +83,7 @@ lost ms (suc level) first slot =
     sum_below slots_per_table (λ k. lost ms level (first + k * pages_of level) (child slot k))
     else 0
 
--- how many places of a row of slots, which begins at a page, have a table in the tree of the mappings and none in the row
+-- how many positions of a row of slots, which begins at a page, have a table in the tree of the mappings and none in the row
 abbrev pub row_gained : List Mapping → ℕ → ℕ → List Slot → ℕ
 row_gained ms level first row =
     sum_below slots_per_table (λ k. gained ms level (first + k * pages_of level) (slice_index_or row k Empty))
@@ -95,13 +95,13 @@ row_lost ms level first row =
 
 -- whether a slot may have to be a table, where a list will have the pieces in the range: what it has outside is not
 -- known, so a slot that the range covers in part may be one
-abbrev pub may_divide : List Mapping → Span → ℕ → ℕ → Bool
+abbrev pub may_divide : List Mapping → PageRangeState → ℕ → ℕ → Bool
 may_divide pieces range level first =
     meets (slot_pages level first) range &&
     (not (lies_in (slot_pages level first) range) || is_divided (wanted pieces level first))
 
--- how many places may need a table where the slot has none
-unfoldable pub needed : List Mapping → Span → ℕ → ℕ → Slot → ℕ
+-- how many positions may need a table where the slot has none
+unfoldable pub needed : List Mapping → PageRangeState → ℕ → ℕ → Slot → ℕ
 needed pieces range zero first slot = 0
 needed pieces range (suc level) first slot =
     if may_divide pieces range (suc level) first

@@ -1,6 +1,6 @@
 -- The shape of the tables: how many slots, which levels, how many pages a slot covers.
 use Rattle.std.specs.Prelude.{ℕ, ◌+◌, ◌-◌, ◌*◌, ◌<◌, ◌≤◌, ◌^◌, max}
-use Rattle.gv_types.specs.Span.{Span, span, end_of}
+use Rattle.gv_types.specs.PageRange.{PageRangeState, span, end_of}
 
 -- how many slots a table has
 abbrev pub slots_per_table : ℕ
@@ -23,20 +23,20 @@ unfoldable pub pages_of : ℕ → ℕ
 pages_of level = slots_per_table ^ level
 
 -- the pages of a slot at a level that begins at a page
-abbrev pub slot_pages : ℕ → ℕ → Span
+abbrev pub slot_pages : ℕ → ℕ → PageRangeState
 slot_pages level first = span first (pages_of level)
 
 -- a slot's first page that is not before the range
-abbrev pub entered : Span → ℕ → ℕ
-entered range first = max first range.first
+abbrev pub first_within : PageRangeState → ℕ → ℕ
+first_within range first = max first range.first
 
 -- a range lies in a slot at a level that begins at a page
-pub record IsWithin (range : Span) (level first : ℕ) : Type 0 where
+pub record LiesInSlot (range : PageRangeState) (level first : ℕ) : Type 0 where
   pub from : first ≤ range.first
   pub upto : end_of range ≤ first + pages_of level
 
 -- a range lies in one part of the slot, which is no slot of one page
-pub record IsInPart (range : Span) (level first index : ℕ) : Type 0 where
+pub record IsInPart (range : PageRangeState) (level first index : ℕ) : Type 0 where
   pub some : 1 < level
   pub known : index < slots_per_table
-  pub part : IsWithin range (level - 1) (first + index * pages_of (level - 1))
+  pub part : LiesInSlot range (level - 1) (first + index * pages_of (level - 1))

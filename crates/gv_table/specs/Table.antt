@@ -1,6 +1,6 @@
 -- The page table as a whole.
 use Rattle.std.specs.Prelude.{◌≡◌, ℕ, List, [], ◌∷◌, Option}
-use Rattle.gv_types.specs.Span.{Span}
+use Rattle.gv_types.specs.PageRange.{PageRangeState}
 use Rattle.gv_types.specs.declared.mapping.Entry.{Entry}
 use Rattle.gv_types.specs.declared.mapping.Mapping.{Mapping}
 use Rattle.gv_ranges.specs.List.{at, IsLaidOut}
@@ -18,19 +18,19 @@ abbrev pub IsHeldAt : PageTable → ℕ → Option Entry → Type 0
 IsHeldAt table page entry = (ms : List Mapping) → IsLaidOut ms → IsTree ms table → entry ≡ at ms page
 
 -- the tree fits the mappings outside the range
-abbrev pub FitsOutside : List Mapping → Span → PageTable → Type 0
+abbrev pub FitsOutside : List Mapping → PageRangeState → PageTable → Type 0
 FitsOutside ms range table = IsTreeOutside ms range top_level 0 table.root
 
--- how many places (a level and a first page) have a table in the tree of the mappings and none in this one
+-- how many positions (a level and a first page) have a table in the tree of the mappings and none in this one
 abbrev pub gained_by : List Mapping → PageTable → ℕ
 gained_by ms table = gained ms top_level 0 table.root
 
--- how many places have a table in this tree and none in that of the mappings
+-- how many positions have a table in this tree and none in that of the mappings
 abbrev pub lost_by : List Mapping → PageTable → ℕ
 lost_by ms table = lost ms top_level 0 table.root
 
--- how many places of this tree may come to need a table, where a list is given the pieces in the range
-abbrev pub needed_for : List Mapping → Span → PageTable → ℕ
+-- how many positions of this tree may come to need a table, where a list is given the pieces in the range
+abbrev pub needed_for : List Mapping → PageRangeState → PageTable → ℕ
 needed_for pieces range table = needed pieces range top_level 0 table.root
 
 -- how many tables stand at the levels 4, 3, 2, 1 and 0

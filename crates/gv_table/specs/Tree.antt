@@ -1,6 +1,6 @@
 -- The tree of a list of mappings.
 use Rattle.std.specs.Prelude.{◌≡◌, ◌⊎◌, ℕ, zero, suc, ◌+◌, ◌*◌, ◌<◌, Bool, true, false, List, slice_index_or, Option, Some, None}
-use Rattle.gv_types.specs.Span.{Span}
+use Rattle.gv_types.specs.PageRange.{PageRangeState}
 use Rattle.gv_types.specs.declared.mapping.Backing.{Backing}
 use Rattle.gv_types.specs.declared.mapping.Backing.TheVariants as backing
 use Rattle.gv_types.specs.declared.mapping.Entry.{Entry}
@@ -70,7 +70,7 @@ IsTreeOf ms (suc level) first slot =
     ((k : ℕ) → k < slots_per_table → IsTreeOf ms level (first + k * pages_of level) (child slot k))
 
 -- the slot is that of the tree of a list in order which is like the mappings outside the range
-pub record IsTreeOutside (ms : List Mapping) (range : Span) (level first : ℕ) (slot : Slot) : Type 0 where
+pub record IsTreeOutside (ms : List Mapping) (range : PageRangeState) (level first : ℕ) (slot : Slot) : Type 0 where
   pub earlier : List Mapping
   pub laid_out : IsLaidOut earlier
   pub alike : AreAlikeOutside range earlier ms

@@ -1,7 +1,7 @@
 //! The shape of the tables.
 ghost use Rattle.std.specs.Prelude.{◌≡◌, ◌+◌, ◌*◌, ◌-◌, ◌/◌, ◌<◌, ◌≤◌, ℕ, IsTrue};
 ghost use Rattle.gv_types.specs.Page.{PAGES};
-ghost use Rattle.gv_types.specs.Span.{span, end_of, meets};
+ghost use Rattle.gv_types.specs.PageRange.{span, end_of, meets};
 ghost use Rattle.gv_table.specs.Levels.{top_level, root_level, slots_per_table};
 ghost use Rattle.gv_table.specs.Levels.{pages_of, slot_pages};
 

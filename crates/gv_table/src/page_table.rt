@@ -2,7 +2,7 @@
 ghost use Rattle.std.specs.Prelude.{◌≡◌, ◌≤◌, ◌<◌, ◌+◌, ℕ, List, [], IfOk, IfErr, OnErr};
 ghost use Rattle.gv_types.specs.declared.fault.Fault.TheVariants.{OutOfMemory};
 ghost use Rattle.gv_types.specs.declared.mapping.Mapping.{Mapping};
-ghost use Rattle.gv_types.specs.Span.{end_of};
+ghost use Rattle.gv_types.specs.PageRange.{end_of};
 ghost use Rattle.gv_ranges.specs.List.{at, IsLaidOut, AreEnded};
 ghost use Rattle.gv_ranges.specs.Edit.{clipped};
 ghost use Rattle.gv_table.specs.Levels.{top_level};
@@ -10,7 +10,7 @@ ghost use Rattle.gv_table.specs.Counts.{tables_at, count_at};
 
 use crate::levels::TOP_LEVEL;
 use crate::paint::paint_slot;
-use crate::place::advance;
+use crate::position::advance;
 use crate::slot::Slot;
 use crate::spare::needed_in_tree;
 use crate::spares::Spares;
@@ -89,17 +89,17 @@ impl PageTable {
 
     /// Makes the tree that of the list, where it fits the list outside the range. It takes from the
     /// spares just the tables that the tree gains, puts in just those that it loses, and takes no
-    /// memory. The mappings before the place end before the range: it looks at those from there on
+    /// memory. The mappings before the position end before the range: it looks at those from there on
     /// that meet the range, and at one neighbour. It answers how many tables the tree lost: so many are needed, and are in the spares,
     /// to paint the list back that the tree was of.
     pub fn paint(
         &mut self,
         list: &RangeList,
         range: PageRange,
-        place: usize,
+        position: usize,
         spares: &mut Spares,
     ) -> u64
-        requires ended { AreEnded list.now.mappings range.first place }
+        requires ended { AreEnded list.now.mappings range.first position }
         requires fitted { FitsOutside list.now.mappings range self.old }
         requires enough { gained_by list.now.mappings self.old ≤ spares.old }
         ensures lost { result ≡ lost_by list.now.mappings self.old }
@@ -111,15 +111,15 @@ impl PageTable {
         ensures owed { (ms : List Mapping) → IsLaidOut ms → IsTree ms self.old
             → gained_by ms self.new ≡ result }
     {
-        let mappings = Reader::of_list(list, place);
-        let place = advance(&mappings, place, range.first());
+        let mappings = Reader::of_list(list, position);
+        let position = advance(&mappings, position, range.first());
         paint_slot(
             &mut self.root,
             TOP_LEVEL,
             0,
             &mappings,
             range,
-            place,
+            position,
             spares,
             &mut self.counts,
         )

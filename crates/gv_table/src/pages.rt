@@ -1,34 +1,34 @@
 //! The slots of single pages made those of a list's tree, inside a range.
 ghost use Rattle.std.specs.Prelude.{◌≡◌, ◌+◌, ◌*◌, ◌<◌, ◌≤◌, ℕ, IsTrue, slice_index_or};
 ghost use Rattle.gv_types.specs.Page.{PAGES};
-ghost use Rattle.gv_types.specs.Span.{span, meets, end_of};
-ghost use Rattle.gv_ranges.specs.List.{IsLaidOut, IsPlaceOf, AreEnded};
+ghost use Rattle.gv_types.specs.PageRange.{span, meets, end_of};
+ghost use Rattle.gv_ranges.specs.List.{IsLaidOut, IsIndexOfPage, AreEnded};
 ghost use Rattle.gv_table.specs.declared.slot.Slot.TheVariants.{Empty};
-ghost use Rattle.gv_table.specs.Levels.{slots_per_table, pages_of, slot_pages, entered};
+ghost use Rattle.gv_table.specs.Levels.{slots_per_table, pages_of, slot_pages, first_within};
 ghost use Rattle.gv_table.specs.Tree.{IsTreeOf, IsTreeOutside};
 
 use crate::fill::{empty, fill};
 use crate::levels::{SLOTS, slots_met};
-use crate::place::advance;
+use crate::position::advance;
 use crate::slot::Slot;
 use gv_ranges::Reader;
 use gv_types::PageRange;
 
 /// Makes the slots from `low` on those of the list's tree, as far as one mapping or one gap goes, and at most up to `high`:
-/// where it ends. The place is that of the first mapping which ends past the first slot's page.
+/// where it ends. The position is that of the first mapping which ends past the first slot's page.
 fn paint_run(
     slots: &mut [Slot; SLOTS],
     first: u64,
     low: usize,
     high: usize,
     mappings: &Reader<'_>,
-    place: usize,
+    position: usize,
 ) -> usize
     requires in_space { first + slots_per_table ≤ PAGES }
     requires some { low < high }
     requires within { high ≤ slots_per_table }
     requires laid_out { IsLaidOut mappings.now }
-    requires place { IsPlaceOf mappings.now (first + low) place }
+    requires position { IsIndexOfPage mappings.now (first + low) position }
     ensures further { low < result }
     ensures within { result ≤ high }
     ensures painted { (k : ℕ) → low ≤ k → k < result
@@ -38,11 +38,11 @@ fn paint_run(
     ensures behind { (k : ℕ) → result ≤ k
         → slice_index_or slots.new k Empty ≡ slice_index_or slots.old k Empty }
 {
-    if place == mappings.len() {
+    if position == mappings.len() {
         empty(slots, low, high);
         return high;
     }
-    let m = mappings.get(place);
+    let m = mappings.get(position);
     let page = first + low as u64;
     if page < m.range.first() {
         let end = (m.range.first() - first).min(high as u64) as usize;
@@ -61,11 +61,11 @@ pub fn paint_pages(
     first: u64,
     mappings: &Reader<'_>,
     range: PageRange,
-    place: usize,
+    position: usize,
 )
     requires in_space { first + slots_per_table * pages_of 0 ≤ PAGES }
     requires laid_out { IsLaidOut mappings.now }
-    requires place { AreEnded mappings.now (entered range first) place }
+    requires position { AreEnded mappings.now (first_within range first) position }
     requires met { IsTrue (meets (span first (slots_per_table * pages_of 0)) range) }
     requires outside { (k : ℕ) → k < slots_per_table
         → IsTreeOutside mappings.now range 0 (first + k * pages_of 0) (slice_index_or slots.old k Empty) }
@@ -73,10 +73,10 @@ pub fn paint_pages(
         (first + k * pages_of 0) (slice_index_or slots.new k Empty) }
 {
     let (low, high) = slots_met(0, first, range);
-    let mut place = place;
+    let mut position = position;
     let mut index = low;
     while index < high {
-        place = advance(mappings, place, first + index as u64);
-        index = paint_run(slots, first, index, high, mappings, place);
+        position = advance(mappings, position, first + index as u64);
+        index = paint_run(slots, first, index, high, mappings, position);
     }
 }

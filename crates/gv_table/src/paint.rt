@@ -3,12 +3,12 @@ ghost use Rattle.std.specs.Prelude.{◌≡◌, ◌+◌, ◌-◌, ◌*◌, ◌<�
 ghost use Rattle.std.specs.Prelude.{List, None, IfSome, slice_index_or};
 ghost use Rattle.gv_table.specs.Chain.{AreEmpty};
 ghost use Rattle.gv_types.specs.Page.{PAGES};
-ghost use Rattle.gv_types.specs.Span.{span, meets, end_of};
+ghost use Rattle.gv_types.specs.PageRange.{span, meets, end_of};
 ghost use Rattle.gv_types.specs.declared.mapping.Mapping.{Mapping};
-ghost use Rattle.gv_ranges.specs.List.{IsLaidOut, IsPlaceOf, AreEnded};
+ghost use Rattle.gv_ranges.specs.List.{IsLaidOut, IsIndexOfPage, AreEnded};
 ghost use Rattle.gv_table.specs.declared.slot.Slot.TheVariants.{Empty};
 ghost use Rattle.gv_table.specs.Levels.{top_level, root_level, slots_per_table, pages_of};
-ghost use Rattle.gv_table.specs.Levels.{slot_pages, entered};
+ghost use Rattle.gv_table.specs.Levels.{slot_pages, first_within};
 ghost use Rattle.gv_table.specs.Tree.{IsTreeOf, IsTreeOutside, is_table, leaf};
 ghost use Rattle.gv_table.specs.Counts.{gained, lost, row_gained, row_lost};
 ghost use Rattle.gv_table.specs.Counts.{one_if_not, one_if_new, IsDivided};
@@ -18,7 +18,7 @@ ghost use Rattle.gv_types.specs.Mapping.{entry_advanced, HasSmallPages};
 
 use crate::levels::{SLOTS, pages_of, slots_met};
 use crate::pages::paint_pages;
-use crate::place::advance;
+use crate::position::advance;
 use crate::release::clear;
 use crate::slot::{Slot, overwrite};
 use crate::spares::Spares;
@@ -107,14 +107,14 @@ pub fn paint_slot(
     first: u64,
     mappings: &Reader<'_>,
     range: PageRange,
-    place: usize,
+    position: usize,
     spares: &mut Spares,
     counts: &mut TableCounts,
 ) -> u64
     requires known { level ≤ top_level }
     requires in_space { end_of (slot_pages level first) ≤ PAGES }
     requires laid_out { IsLaidOut mappings.now }
-    requires place { IsPlaceOf mappings.now (entered range first) place }
+    requires position { IsIndexOfPage mappings.now (first_within range first) position }
     requires met { IsTrue (meets (slot_pages level first) range) }
     requires outside { IsTreeOutside mappings.now range level first slot.old }
     requires enough { gained mappings.now level first slot.old ≤ spares.old }
@@ -126,7 +126,7 @@ pub fn paint_slot(
     ensures counted { (target : ℕ) → count_at counts.new target + tables_at target level slot.old
         ≡ count_at counts.old target + tables_at target level slot.new }
 {
-    match slot_wanted(mappings, range, place, level, first) {
+    match slot_wanted(mappings, range, position, level, first) {
         Wanted::Nothing => clear(slot, level, spares, counts),
         Wanted::Entry(entry) => {
             let lost = clear(slot, level, spares, counts);
@@ -140,9 +140,9 @@ pub fn paint_slot(
                     slots,
                     level - 1,
                     first,
-                    &mappings.near(place),
+                    &mappings.near(position),
                     range,
-                    place,
+                    position,
                     spares,
                     counts,
                 ),
@@ -160,14 +160,14 @@ fn paint_row(
     first: u64,
     mappings: &Reader<'_>,
     range: PageRange,
-    place: usize,
+    position: usize,
     spares: &mut Spares,
     counts: &mut TableCounts,
 ) -> u64
     requires known { level ≤ root_level }
     requires in_space { first + slots_per_table * pages_of level ≤ PAGES }
     requires laid_out { IsLaidOut mappings.now }
-    requires place { AreEnded mappings.now (entered range first) place }
+    requires position { AreEnded mappings.now (first_within range first) position }
     requires met { IsTrue (meets (span first (slots_per_table * pages_of level)) range) }
     requires outside { (k : ℕ) → k < slots_per_table
         → IsTreeOutside mappings.now range level (first + k * pages_of level)
@@ -183,23 +183,23 @@ fn paint_row(
         ≡ count_at counts.old target + row_tables_at target level slots.new }
 {
     if level == 0 {
-        paint_pages(slots, first, mappings, range, place);
+        paint_pages(slots, first, mappings, range, position);
         return 0;
     }
     let pages = pages_of(level);
     let (low, high) = slots_met(level, first, range);
-    let mut place = place;
+    let mut position = position;
     let mut lost = 0;
     for index in low..high {
         let start = first + index as u64 * pages;
-        place = advance(mappings, place, start.max(range.first()));
+        position = advance(mappings, position, start.max(range.first()));
         lost += paint_slot(
             &mut slots[index],
             level,
             start,
             mappings,
             range,
-            place,
+            position,
             spares,
             counts,
         );

@@ -1,4 +1,4 @@
-//! A place in a table.
+//! A slot of a table.
 ghost use Rattle.std.specs.Prelude.{◌≡◌};
 
 use crate::levels::SLOTS;

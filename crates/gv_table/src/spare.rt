@@ -1,17 +1,17 @@
 //! How many tables a paint may need.
 ghost use Rattle.std.specs.Prelude.{◌≡◌, ◌+◌, ◌*◌, ◌≤◌, ◌<◌, IsTrue, IfSome};
 ghost use Rattle.gv_types.specs.Page.{PAGES};
-ghost use Rattle.gv_types.specs.Span.{span, meets, end_of};
-ghost use Rattle.gv_ranges.specs.List.{IsLaidOut, IsPlaceOf, AreEnded};
+ghost use Rattle.gv_types.specs.PageRange.{span, meets, end_of};
+ghost use Rattle.gv_ranges.specs.List.{IsLaidOut, IsIndexOfPage, AreEnded};
 ghost use Rattle.gv_table.specs.declared.slot.Slot.TheVariants.{Empty};
-ghost use Rattle.gv_table.specs.Levels.{top_level, root_level, slots_per_table, pages_of, slot_pages, entered};
-ghost use Rattle.gv_table.specs.Levels.{IsWithin, IsInPart};
+ghost use Rattle.gv_table.specs.Levels.{top_level, root_level, slots_per_table, pages_of, slot_pages, first_within};
+ghost use Rattle.gv_table.specs.Levels.{LiesInSlot, IsInPart};
 ghost use Rattle.gv_table.specs.Sums.{sum_below};
 ghost use Rattle.gv_table.specs.Tree.{is_table, child};
 ghost use Rattle.gv_table.specs.Counts.{needed, may_divide, one_if_not};
 
 use crate::levels::{TOP_LEVEL, pages_of, slots_in, slots_met};
-use crate::place::advance;
+use crate::position::advance;
 use crate::slot::Slot;
 use crate::wanted::{Wanted, slot_wanted};
 use gv_ranges::Reader;
@@ -43,14 +43,14 @@ fn one_if_not_table(slot: &Slot) -> u64
 fn may_be_table(
     pieces: &Reader<'_>,
     range: PageRange,
-    place: usize,
+    position: usize,
     level: usize,
     first: u64,
 ) -> bool
     requires known { level ≤ top_level }
     requires in_space { end_of (slot_pages level first) ≤ PAGES }
     requires laid_out { IsLaidOut pieces.now }
-    requires place { IsPlaceOf pieces.now (entered range first) place }
+    requires position { IsIndexOfPage pieces.now (first_within range first) position }
     ensures { result ≡ may_divide pieces.now range level first }
 {
     let Some(pages) = PageRange::new(first, pages_of(level)) else {
@@ -62,13 +62,13 @@ fn may_be_table(
     if !pages.lies_in(range) {
         return true;
     }
-    match slot_wanted(pieces, range, place, level, first) {
+    match slot_wanted(pieces, range, position, level, first) {
         Wanted::Table => true,
         Wanted::Nothing | Wanted::Entry(_) => false,
     }
 }
 
-/// How many places of a slot may need a table where it has none.
+/// How many positions of a slot may need a table where it has none.
 #[cycle(spare)]
 #[inline(always)]
 fn needed_in(
@@ -77,23 +77,23 @@ fn needed_in(
     first: u64,
     pieces: &Reader<'_>,
     range: PageRange,
-    place: usize,
+    position: usize,
 ) -> u64
     requires known { level ≤ top_level }
     requires in_space { end_of (slot_pages level first) ≤ PAGES }
     requires laid_out { IsLaidOut pieces.now }
-    requires place { IsPlaceOf pieces.now (entered range first) place }
+    requires position { IsIndexOfPage pieces.now (first_within range first) position }
     ensures count { result ≡ needed pieces.now range level first slot.now }
     ensures bound { result + 1 ≤ pages_of level }
 {
-    if level == 0 || !may_be_table(pieces, range, place, level, first) {
+    if level == 0 || !may_be_table(pieces, range, position, level, first) {
         return 0;
     }
     let one = one_if_not_table(slot);
     if level == 1 {
         return one;
     }
-    one + needed_below(slot, level - 1, first, pieces, range, place)
+    one + needed_below(slot, level - 1, first, pieces, range, position)
 }
 
 /// The same for the slots of its table, which are at the level.
@@ -104,12 +104,12 @@ fn needed_below(
     first: u64,
     pieces: &Reader<'_>,
     range: PageRange,
-    place: usize,
+    position: usize,
 ) -> u64
     requires known { level ≤ root_level }
     requires in_space { first + slots_per_table * pages_of level ≤ PAGES }
     requires laid_out { IsLaidOut pieces.now }
-    requires place { AreEnded pieces.now (entered range first) place }
+    requires position { AreEnded pieces.now (first_within range first) position }
     requires met { IsTrue (meets (span first (slots_per_table * pages_of level)) range) }
     ensures count { result ≡ sum_below slots_per_table
         (λ k. needed pieces.now range level (first + k * pages_of level) (child slot.now k)) }
@@ -117,14 +117,14 @@ fn needed_below(
 {
     let pages = pages_of(level);
     let empty = Slot::Empty;
-    let mut place = place;
+    let mut position = position;
     let mut total = 0;
     let (low, high) = slots_met(level, first, range);
     for index in low..high {
         let part = child_of(slot, index, &empty);
         let start = first + index as u64 * pages;
-        place = advance(pieces, place, start.max(range.first()));
-        total += needed_in(part, level, start, pieces, range, place);
+        position = advance(pieces, position, start.max(range.first()));
+        total += needed_in(part, level, start, pieces, range, position);
     }
     total
 }
@@ -134,7 +134,7 @@ fn needed_below(
 fn part_around(level: usize, first: u64, range: PageRange) -> Option<usize>
     requires known { level ≤ top_level }
     requires in_space { end_of (slot_pages level first) ≤ PAGES }
-    requires within { IsWithin range level first }
+    requires within { LiesInSlot range level first }
     ensures { IfSome result (λ index. IsInPart range level first index) }
 {
     if level <= 1 {
@@ -148,14 +148,14 @@ fn part_around(level: usize, first: u64, range: PageRange) -> Option<usize>
     Some(index as usize)
 }
 
-/// How many places of the tree may need a table where it has none. As long as the range lies in one part of a slot, only that
+/// How many positions of the tree may need a table where it has none. As long as the range lies in one part of a slot, only that
 /// part is looked at: the slot has to be a table whatever the pieces are.
 pub fn needed_in_tree(root: &Slot, pieces: &Reader<'_>, range: PageRange) -> u64
     requires { IsLaidOut pieces.now }
     ensures { result ≡ needed pieces.now range top_level 0 root.now }
 {
     let empty = Slot::Empty;
-    let place = advance(pieces, 0, range.first());
+    let position = advance(pieces, 0, range.first());
     let mut slot = root;
     let mut level = TOP_LEVEL;
     let mut first = 0;
@@ -166,5 +166,5 @@ pub fn needed_in_tree(root: &Slot, pieces: &Reader<'_>, range: PageRange) -> u64
         level -= 1;
         first += index as u64 * pages_of(level);
     }
-    count + needed_in(slot, level, first, pieces, range, place)
+    count + needed_in(slot, level, first, pieces, range, position)
 }

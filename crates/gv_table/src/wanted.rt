@@ -1,13 +1,13 @@
 //! What a slot is to hold.
 ghost use Rattle.std.specs.Prelude.{◌≡◌, ◌≤◌, IsTrue};
 ghost use Rattle.gv_types.specs.Page.{PAGES};
-ghost use Rattle.gv_types.specs.Span.{meets, end_of};
-ghost use Rattle.gv_ranges.specs.List.{IsLaidOut, IsPlaceOf};
-ghost use Rattle.gv_table.specs.Levels.{top_level, slot_pages, entered};
+ghost use Rattle.gv_types.specs.PageRange.{meets, end_of};
+ghost use Rattle.gv_ranges.specs.List.{IsLaidOut, IsIndexOfPage};
+ghost use Rattle.gv_table.specs.Levels.{top_level, slot_pages, first_within};
 ghost use Rattle.gv_table.specs.Wanted.{wanted};
 
 use crate::levels::{GREATEST_LEAF_LEVEL, pages_of};
-use crate::place::met_by;
+use crate::position::met_by;
 use gv_ranges::Reader;
 use gv_types::{Entry, PageRange};
 
@@ -18,24 +18,24 @@ pub enum Wanted {
     Table,
 }
 
-/// What the list wants of a slot that meets the range. The place is that of the first mapping which ends past the slot's
+/// What the list wants of a slot that meets the range. The position is that of the first mapping which ends past the slot's
 /// first page in the range.
 #[inline(always)]
 pub fn slot_wanted(
     mappings: &Reader<'_>,
     range: PageRange,
-    place: usize,
+    position: usize,
     level: usize,
     first: u64,
 ) -> Wanted
     requires known { level ≤ top_level }
     requires in_space { end_of (slot_pages level first) ≤ PAGES }
     requires laid_out { IsLaidOut mappings.now }
-    requires place { IsPlaceOf mappings.now (entered range first) place }
+    requires position { IsIndexOfPage mappings.now (first_within range first) position }
     requires met { IsTrue (meets (slot_pages level first) range) }
     ensures { result ≡ wanted mappings.now level first }
 {
-    let Some(m) = met_by(mappings, range, place, level, first) else {
+    let Some(m) = met_by(mappings, range, position, level, first) else {
         return Wanted::Nothing;
     };
     let end = first + pages_of(level);

@@ -1,15 +1,15 @@
 -- Where no reply is want of memory, two runs of a script come to the same.
 use Rattle.std.proofs.Common.{◌≡◌, ℕ, ◌+◌, Bool, true, false, List, [], ◌∷◌, ◌++◌, length, Option, Some, None, refl, sym, ap, ◌∙◌, subst, arith}
 use Rattle.gv_lines.specs.Words.{parts}
-use Rattle.gv_text.specs.State.{State, start}
+use Rattle.gv_text.specs.State.{SessionState, start}
 use Rattle.gv_text.specs.Line.{Written, RunsText, IsGoodText}
-use Rattle.gv_text.specs.Script.{one_if, Replies, IsBadBefore, RunsWhole, StopsBefore, ComesTo, IsOnly}
+use Rattle.gv_text.specs.Script.{refusals_of, Replies, IsBadBefore, RunsWhole, StopsBefore, ComesTo, IsOnly}
 use Rattle.gv_text.proofs.AlikeStates.{AreAlikeStates, AreAlikeStates-sym, WriteAlike, start_alike}
 use Rattle.gv_text.proofs.AlikeGood.{text_good, text_alike}
 
 -- How lines end that ran: nothing is left behind the last line end, or the next line is bad. It has this number, where so many
 -- lines ran.
-abbrev EndsSo : Option ℕ → State → List (List ℕ) → ℕ → Type 0
+abbrev EndsSo : Option ℕ → SessionState → List (List ℕ) → ℕ → Type 0
 EndsSo None now rest count = rest ≡ [] ∷ []
 EndsSo (Some number) now rest count =
     (line : List ℕ) × (more : List (List ℕ)) × (rest ≡ line ∷ more) × IsBadBefore now line more × (number ≡ count + 1)
@@ -25,33 +25,33 @@ head_same x y xs ys same = cc
 tail_same : (x y : List ℕ) (xs ys : List (List ℕ)) → x ∷ xs ≡ y ∷ ys → xs ≡ ys
 tail_same x y xs ys same = cc
 
-no_refusal : (lacks : Bool) (more : ℕ) → 0 ≡ one_if lacks + more → (lacks ≡ false) × (0 ≡ more)
+no_refusal : (lacks : Bool) (more : ℕ) → 0 ≡ refusals_of lacks + more → (lacks ≡ false) × (0 ≡ more)
 no_refusal true more is = absurd (omega (arith, is))
 no_refusal false more is = (refl, omega (arith, is))
 
 -- a line stands behind the rest
-some_rest : (stop : Option ℕ) (now : State) (rest : List (List ℕ)) (count : ℕ) → EndsSo stop now rest count → (line : List ℕ) × (more : List (List ℕ)) × (rest ≡ line ∷ more)
+some_rest : (stop : Option ℕ) (now : SessionState) (rest : List (List ℕ)) (count : ℕ) → EndsSo stop now rest count → (line : List ℕ) × (more : List (List ℕ)) × (rest ≡ line ∷ more)
 some_rest None now rest count ends = ([], [], ends)
 some_rest (Some number) now rest count ends = (ends.0, ends.1, ends.2)
 
 -- a bad line stands before no others but those that a run has not reached
-bad_alone : (line : List ℕ) (more : List (List ℕ)) (now : State) → IsBadBefore now line more → line ∷ more ≡ [] ∷ [] → ⊥
+bad_alone : (line : List ℕ) (more : List (List ℕ)) (now : SessionState) → IsBadBefore now line more → line ∷ more ≡ [] ∷ [] → ⊥
 bad_alone line [] now bad same = bad (head_same line [] [] [] same)
 bad_alone line (next ∷ more) now bad same = absurd cc
 
-not_bad : (line : List ℕ) (more : List (List ℕ)) (now : State) → IsGoodText line now → (next : List ℕ) (later : List (List ℕ)) → more ≡ next ∷ later → IsBadBefore now line more → ⊥
+not_bad : (line : List ℕ) (more : List (List ℕ)) (now : SessionState) → IsGoodText line now → (next : List ℕ) (later : List (List ℕ)) → more ≡ next ∷ later → IsBadBefore now line more → ⊥
 not_bad line [] now good next later is bad = absurd cc
 not_bad line (first ∷ more) now good next later is bad = bad good
 
 -- neither run goes on
-both_end : (stop stop' : Option ℕ) (now now' : State) (rest : List (List ℕ)) (count : ℕ) → EndsSo stop now rest count → EndsSo stop' now' rest count → stop ≡ stop'
+both_end : (stop stop' : Option ℕ) (now now' : SessionState) (rest : List (List ℕ)) (count : ℕ) → EndsSo stop now rest count → EndsSo stop' now' rest count → stop ≡ stop'
 both_end None None now now' rest count ends ends' = refl
 both_end None (Some number) now now' rest count ends ends' = absurd (bad_alone ends'.0 ends'.1 now' ends'.3 (sym ends'.2 ∙ ends))
 both_end (Some number) None now now' rest count ends ends' = absurd (bad_alone ends.0 ends.1 now ends.3 (sym ends.2 ∙ ends'))
 both_end (Some number) (Some number') now now' rest count ends ends' = ap (λ (n : ℕ). Some n) (ends.4 ∙ sym ends'.4)
 
 -- one run ends where the other runs a line
-one_ends : (stop : Option ℕ) (now now' next : State) (rest : List (List ℕ)) (count : ℕ) (line : List ℕ) (here : Written) (first : List ℕ) (more : List (List ℕ)) →
+one_ends : (stop : Option ℕ) (now now' next : SessionState) (rest : List (List ℕ)) (count : ℕ) (line : List ℕ) (here : Written) (first : List ℕ) (more : List (List ℕ)) →
     AreAlikeStates now' now → EndsSo stop now rest count → RunsText line now' here next → rest ≡ line ∷ (first ∷ more) → ⊥
 one_ends None now now' next rest count line here first more alike ends ran is = let same : [] ∷ [] ≡ line ∷ (first ∷ more) = sym ends ∙ is in absurd cc
 one_ends (Some number) now now' next rest count line here first more alike ends ran is =
@@ -66,7 +66,7 @@ more_behind [] rest line more is = (line, more, is)
 more_behind (l ∷ lines) rest line more is = (l, lines ++ rest, refl)
 
 -- two runs of the same lines
-same_run : (lines lines' rest rest' : List (List ℕ)) (s s' now now' : State) (text text' : List ℕ) (stop stop' : Option ℕ) (before : ℕ) → AreAlikeStates s s' →
+same_run : (lines lines' rest rest' : List (List ℕ)) (s s' now now' : SessionState) (text text' : List ℕ) (stop stop' : Option ℕ) (before : ℕ) → AreAlikeStates s s' →
     lines ++ rest ≡ lines' ++ rest' → Replies s lines text now 0 → Replies s' lines' text' now' 0 →
     EndsSo stop now rest (before + length lines) → EndsSo stop' now' rest' (before + length lines') → EndsAlike stop stop' text text'
 same_run [] [] rest rest' s s' now now' text text' stop stop' before alike same run run' ends ends' = record {
@@ -77,12 +77,12 @@ same_run [] (l' ∷ ls') rest rest' s s' now now' text text' stop stop' before a
     let after = some_rest stop' now' rest' (before + length (l' ∷ ls')) ends' in
     let behind = more_behind ls' rest' after.0 after.1 after.2 in
     absurd (one_ends stop now s' run'.1 rest (before + 0) l' run'.0 behind.0 behind.1
-    (subst (λ (x : State). AreAlikeStates s' x) (sym run.1) (AreAlikeStates-sym s s' alike)) ends run'.4 (same ∙ ap (λ (ls : List (List ℕ)). l' ∷ ls) behind.2))
+    (subst (λ (x : SessionState). AreAlikeStates s' x) (sym run.1) (AreAlikeStates-sym s s' alike)) ends run'.4 (same ∙ ap (λ (ls : List (List ℕ)). l' ∷ ls) behind.2))
 same_run (l ∷ ls) [] rest rest' s s' now now' text text' stop stop' before alike same run run' ends ends' =
     let after = some_rest stop now rest (before + length (l ∷ ls)) ends in
     let behind = more_behind ls rest after.0 after.1 after.2 in
     absurd (one_ends stop' now' s run.1 rest' (before + 0) l run.0 behind.0 behind.1
-    (subst (λ (x : State). AreAlikeStates s x) (sym run'.1) alike) ends' run.4 (sym same ∙ ap (λ (more : List (List ℕ)). l ∷ more) behind.2))
+    (subst (λ (x : SessionState). AreAlikeStates s x) (sym run'.1) alike) ends' run.4 (sym same ∙ ap (λ (more : List (List ℕ)). l ∷ more) behind.2))
 same_run (l ∷ ls) (l' ∷ ls') rest rest' s s' now now' text text' stop stop' before alike same run run' ends ends' =
     let line : l ≡ l' = head_same l l' (ls ++ rest) (ls' ++ rest') same in
     let lacks = no_refusal run.0.lacking run.3 run.7 in
@@ -104,7 +104,7 @@ same_run (l ∷ ls) (l' ∷ ls') rest rest' s s' now now' text text' stop stop' 
 record CameTo (script text : List ℕ) (stop : Option ℕ) : Type 0 where
   lines : List (List ℕ)
   rest : List (List ℕ)
-  now : State
+  now : SessionState
   cut : parts 10 script ≡ lines ++ rest
   run : Replies start lines text now 0
   ends : EndsSo stop now rest (length lines)

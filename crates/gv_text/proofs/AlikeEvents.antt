@@ -8,7 +8,7 @@ use Rattle.gv_vm.specs.Alike.{IsAmple, IsAmpleReply}
 use Rattle.gv_vm.specs.Headline.{IsSoundStep}
 use Rattle.gv_vm.specs.Run.{RunsWith}
 use Rattle.gv_vm.specs.Step.{step}
-use Rattle.gv_vm.specs.World.{World}
+use Rattle.gv_vm.specs.World.{WorldState}
 use Rattle.gv_vm.specs.declared.event.Event.{Event}
 use Rattle.gv_vm.specs.declared.event.Event.TheVariants.{Create}
 use Rattle.gv_vm.specs.declared.event.Reply.{Reply}
@@ -43,24 +43,24 @@ are_ample (r ∷ rs) ample =
     (ample_reply r each.0, are_ample rs each.1)
 
 -- making a buffer is not told as an outcome
-pub ample_made : (w x : World) (pages : ℕ) (r : Reply) → step w (Create pages) r x → IsAmpleReply r
+pub ample_made : (w x : WorldState) (pages : ℕ) (r : Reply) → step w (Create pages) r x → IsAmpleReply r
 ample_made w x pages (Told number outcome) is = absurd is
 ample_made w x pages r is = tt
 
 -- the first event of a plan of one
-pub first_step : (e : Event) (events : List Event) (r : Reply) (rs : List Reply) (w x : World) → AreAsked (once e) events (r ∷ rs) → RunsWith IsSoundStep w events (r ∷ rs) x →
-    (mid : World) × step w e r mid
+pub first_step : (e : Event) (events : List Event) (r : Reply) (rs : List Reply) (w x : WorldState) → AreAsked (once e) events (r ∷ rs) → RunsWith IsSoundStep w events (r ∷ rs) x →
+    (mid : WorldState) × step w e r mid
 first_step e [] r rs w x asked ran = absurd asked
 first_step e (f ∷ fs) r rs w x asked ran = (ran.0, subst (λ (k : Event). step w k r ran.0) (sym (same_Some e f asked.0)) ran.1)
 
 -- it is the only one
-pub once_only : (e : Event) (events : List Event) (rs : List Reply) (w x : World) → AreAsked (once e) events rs → RunsWith IsSoundStep w events rs x → once e rs ≡ None →
+pub once_only : (e : Event) (events : List Event) (rs : List Reply) (w x : WorldState) → AreAsked (once e) events rs → RunsWith IsSoundStep w events rs x → once e rs ≡ None →
     (r : Reply) × (rs ≡ r ∷ []) × step w e r x
 once_only e [] [] w x asked ran done = absurd cc
 once_only e [] (r ∷ rs) w x asked ran done = absurd asked
 once_only e (f ∷ fs) [] w x asked ran done = absurd asked
 once_only e (f ∷ []) (r ∷ []) w x asked ran done =
-    (r, refl, subst (λ (y : World). step w e r y) (sym ran.3) (subst (λ (k : Event). step w k r ran.0) (sym (same_Some e f asked.0)) ran.1))
+    (r, refl, subst (λ (y : WorldState). step w e r y) (sym ran.3) (subst (λ (k : Event). step w k r ran.0) (sym (same_Some e f asked.0)) ran.1))
 once_only e (f ∷ []) (r ∷ (q ∷ qs)) w x asked ran done = absurd asked.1
 once_only e (f ∷ (g ∷ gs)) (r ∷ []) w x asked ran done = absurd asked.1
 once_only e (f ∷ (g ∷ gs)) (r ∷ (q ∷ qs)) w x asked ran done = absurd (none-some g asked.1.0)

@@ -1,7 +1,7 @@
 -- Whether a line is bad is the same in states that are the same, bare of memory, and no bad line is run.
 use Rattle.std.proofs.Common.{◌≡◌, ◌<◌, ℕ, List, length, Option, Some, None, IsSome, false, refl, sym, ◌∙◌, subst}
 use Rattle.std.specs.Prelude.{IsSomeAnd}
-use Rattle.gv_types.specs.Bounds.{Area, byte_area}
+use Rattle.gv_types.specs.Bounds.{BoundsState, byte_area}
 use Rattle.gv_sync.specs.Seats.{most_timelines}
 use Rattle.gv_lines.specs.Chain.{all_read}
 use Rattle.gv_lines.specs.Clause.{operations_of, waits_of, signals_of}
@@ -10,7 +10,7 @@ use Rattle.gv_lines.specs.declared.line.Line.{Line}
 use Rattle.gv_lines.specs.declared.line.Line.TheVariants as line
 use Rattle.gv_text.specs.Asking.{op_named, point_named}
 use Rattle.gv_text.specs.Line.{Written, Of, MaySetLimits, MaySetBounds, SetsBounds, Runs, IsGood, RunsText, IsGoodText}
-use Rattle.gv_text.specs.State.{State, Buffers, buffer_named, timeline_named}
+use Rattle.gv_text.specs.State.{SessionState, Buffers, buffer_named, timeline_named}
 use Rattle.gv_text.proofs.AlikeStates.{AreAlikeStates, WriteAlike}
 use Rattle.gv_text.proofs.AlikeLines.{line_alike}
 
@@ -21,12 +21,12 @@ there_of : {X : Type 0} (o : Option X) (P : X → Type 0) → Of o P → IsSome 
 there_of None P it = absurd it
 there_of (Some x) P it = refl
 
-bounds_there : (asked : Option Area) (s : State) (w : Written) (t : State) → SetsBounds asked s w t → MaySetBounds asked s
+bounds_there : (asked : Option BoundsState) (s : SessionState) (w : Written) (t : SessionState) → SetsBounds asked s w t → MaySetBounds asked s
 bounds_there None s w t here = absurd here.1
 bounds_there (Some area) s w t here = (here.0, refl)
 
 -- a line that is run is not bad
-good_if_run : (l : Line) (s t : State) (w : Written) → Runs l s w t → IsGood l s
+good_if_run : (l : Line) (s t : SessionState) (w : Written) → Runs l s w t → IsGood l s
 good_if_run line.Silent s t w here = tt
 good_if_run (line.Space start len reserved_start reserved_len) s t w here = bounds_there (byte_area start len reserved_start reserved_len) s w t here
 good_if_run (line.Limits buffers mappings items) s t w here = (here.0, here.1)
@@ -53,7 +53,7 @@ good_if_run (line.Told queue) s t w here = here.0
 good_if_run (line.Job accesses) s t w here = tt
 good_if_run (line.End job) s t w here = tt
 
-module _ (s s' : State) (alike : AreAlikeStates s s') where
+module _ (s s' : SessionState) (alike : AreAlikeStates s s') where
   -- what a buffer's name is asked for
   by_buffers : (P : Buffers → Type 0) → P s.buffers → P s'.buffers
   by_buffers P it = subst P alike.buffers it
@@ -91,20 +91,20 @@ module _ (s s' : State) (alike : AreAlikeStates s s') where
 
 -- Lines as they stand in a script.
 
-read_good : (o : Option Line) (s s' t : State) (w : Written) → AreAlikeStates s s' → IsSomeAnd o (λ l. Runs l s w t) → IsSomeAnd o (λ l. IsGood l s')
+read_good : (o : Option Line) (s s' t : SessionState) (w : Written) → AreAlikeStates s s' → IsSomeAnd o (λ l. Runs l s w t) → IsSomeAnd o (λ l. IsGood l s')
 read_good None s s' t w alike here = absurd here
 read_good (Some l) s s' t w alike here = good_alike s s' alike l (good_if_run l s t w here)
 
 -- a line that one of them runs is not bad in the other
-pub text_good : (text : List ℕ) (s s' t : State) (w : Written) → AreAlikeStates s s' → RunsText text s w t → IsGoodText text s'
+pub text_good : (text : List ℕ) (s s' t : SessionState) (w : Written) → AreAlikeStates s s' → RunsText text s w t → IsGoodText text s'
 text_good text s s' t w alike here = read_good (parsed text) s s' t w alike here
 
-read_alike : (o : Option Line) (s s' t t' : State) (w w' : Written) → AreAlikeStates s s' → IsSomeAnd o (λ l. Runs l s w t) → IsSomeAnd o (λ l. Runs l s' w' t') →
+read_alike : (o : Option Line) (s s' t t' : SessionState) (w w' : Written) → AreAlikeStates s s' → IsSomeAnd o (λ l. Runs l s w t) → IsSomeAnd o (λ l. Runs l s' w' t') →
     w.lacking ≡ false → w'.lacking ≡ false → WriteAlike w w' t t'
 read_alike None s s' t t' w w' alike here here' ample ample' = absurd here
 read_alike (Some l) s s' t t' w w' alike here here' ample ample' = line_alike s s' t t' w w' alike l here here' ample ample'
 
 -- a line that both run
-pub text_alike : (text : List ℕ) (s s' t t' : State) (w w' : Written) → AreAlikeStates s s' → RunsText text s w t → RunsText text s' w' t' →
+pub text_alike : (text : List ℕ) (s s' t t' : SessionState) (w w' : Written) → AreAlikeStates s s' → RunsText text s w t → RunsText text s' w' t' →
     w.lacking ≡ false → w'.lacking ≡ false → WriteAlike w w' t t'
 text_alike text s s' t t' w w' alike here here' ample ample' = read_alike (parsed text) s s' t t' w w' alike here here' ample ample'

@@ -2,22 +2,22 @@
 use Rattle.std.proofs.Common.{◌≡◌, ℕ, false, List, [], ◌∷◌, ◌++◌, map, Option, Some, None, slice_index, inl, inr, ◌⊎◌, refl, sym, ap, ◌∙◌}
 use Rattle.std.specs.List.{flat_map}
 use Rattle.std.proofs.lemmas.Option.{same_Some}
-use Rattle.gv_types.specs.Bounds.{Area, byte_area}
+use Rattle.gv_types.specs.Bounds.{BoundsState, byte_area}
 use Rattle.gv_types.specs.declared.fault.Fault.TheVariants.{TooManyAccesses}
 use Rattle.gv_types.specs.declared.mapping.BufferId.{BufferId}
 use Rattle.gv_types.specs.declared.mapping.Mapping.{Mapping}
 use Rattle.gv_table.specs.Table.{tables_of}
-use Rattle.gv_buffers.specs.Table.{Table}
-use Rattle.gv_space.specs.State.{AddressSpace}
+use Rattle.gv_buffers.specs.Buffers.{BuffersState}
+use Rattle.gv_space.specs.State.{SpaceState}
 use Rattle.gv_vm.specs.Alike.{AreAlikeEvents}
 use Rattle.gv_vm.specs.Outcomes.{told_to}
 use Rattle.gv_vm.specs.Places.{place_at}
-use Rattle.gv_vm.specs.World.{World}
+use Rattle.gv_vm.specs.World.{WorldState}
 use Rattle.gv_vm.specs.declared.event.Event.{Event}
 use Rattle.gv_vm.specs.declared.event.Event.TheVariants.{Raise, Create, Destroy, Rewind, Withdraw, Settle, JobBegin, JobEnd}
 use Rattle.gv_vm.specs.declared.event.Reply.{Reply}
 use Rattle.gv_vm.specs.declared.jobs.Access.{Access}
-use Rattle.gv_vm.proofs.AlikeMachineLemmas.{list_alike, table_alike}
+use Rattle.gv_vm.proofs.AlikeVmLemmas.{list_alike, table_alike}
 use Rattle.gv_lines.specs.Clause.{queue_asked}
 use Rattle.gv_lines.specs.declared.clause.Clause.{Clause}
 use Rattle.gv_lines.specs.declared.line.Line.{Line}
@@ -25,12 +25,12 @@ use Rattle.gv_lines.specs.declared.line.Line.TheVariants as line
 use Rattle.gv_lines.specs.declared.operation.Operation.{Operation}
 use Rattle.gv_lines.specs.declared.point.NamedPoint.{NamedPoint}
 use Rattle.gv_text.specs.AlikePlans.{AreAllAlike, AreAmple, StayAlike}
-use Rattle.gv_text.specs.Asking.{op_named, point_named, access_of}
+use Rattle.gv_text.specs.Asking.{op_named, point_named, access_named}
 use Rattle.gv_text.specs.Events.{once, serving, IsCarriedOut}
 use Rattle.gv_text.specs.Line.{Written, DoesOnce, Withdraws, Answers, Of, SetsBounds, Makes, declared, BeginsJob, HasTooMany, Serves, caps_of, Runs}
 use Rattle.gv_text.specs.Reply.{refused_reply, lines_reply, mapping_text, place_reply, tables_reply, number_reply, journal_reply, told_reply}
 use Rattle.gv_text.specs.Said.{said, said_of_withdrawal, told, uses_said, plan_said}
-use Rattle.gv_text.specs.State.{State, Buffers, texts, buffer_named, timeline_named, begun, empty_world}
+use Rattle.gv_text.specs.State.{SessionState, Buffers, names_alone, buffer_named, timeline_named, begun, empty_world}
 use Rattle.gv_text.specs.declared.stage.Stage.TheVariants.{Bounded, Begun}
 use Rattle.gv_text.proofs.AlikeAnswers.{journal_alike}
 use Rattle.gv_text.proofs.AlikeEvents.{first_step, ample_made}
@@ -44,20 +44,20 @@ of_there : {X : Type 0} (o : Option X) (P : X → Type 0) → Of o P → (x : X)
 of_there None P it = absurd it
 of_there (Some x) P it = (x, refl, it)
 
-module _ (s s' t t' : State) (w w' : Written) (alike : AreAlikeStates s s') where
-  names_same : texts s.buffers ≡ texts s'.buffers
-  names_same = ap (λ (buffers : Buffers). texts buffers) alike.buffers
+module _ (s s' t t' : SessionState) (w w' : Written) (alike : AreAlikeStates s s') where
+  names_same : names_alone s.buffers ≡ names_alone s'.buffers
+  names_same = ap (λ (buffers : Buffers). names_alone buffers) alike.buffers
 
-  list_same : s.world.machine.space.mappings ≡ s'.world.machine.space.mappings
-  list_same = list_alike s.world.machine s'.world.machine alike.worlds.machine
+  list_same : s.world.vm.space.mappings ≡ s'.world.vm.space.mappings
+  list_same = list_alike s.world.vm s'.world.vm alike.worlds.vm
 
   -- what is said of the same replies
   all_said_same : (rs rs' : List Reply) → AreAllAlike rs rs' →
-      flat_map (said (texts s.buffers) s.timelines) rs ≡ flat_map (said (texts s'.buffers) s'.timelines) rs'
+      flat_map (said (names_alone s.buffers) s.timelines) rs ≡ flat_map (said (names_alone s'.buffers) s'.timelines) rs'
   all_said_same rs rs' all =
-      all_said_alike (said (texts s.buffers) s.timelines) (said_alike (texts s.buffers) s.timelines) rs rs' all
+      all_said_alike (said (names_alone s.buffers) s.timelines) (said_alike (names_alone s.buffers) s.timelines) rs rs' all
       ∙ ap (λ (names : List (List ℕ)). flat_map (said names s.timelines) rs') names_same
-      ∙ ap (λ (timelines : List (List ℕ)). flat_map (said (texts s'.buffers) timelines) rs') alike.timelines
+      ∙ ap (λ (timelines : List (List ℕ)). flat_map (said (names_alone s'.buffers) timelines) rs') alike.timelines
 
   all_told_same : (rs rs' : List Reply) → AreAllAlike rs rs' → flat_map (told s.timelines) rs ≡ flat_map (told s'.timelines) rs'
   all_told_same rs rs' all =
@@ -67,7 +67,7 @@ module _ (s s' t t' : State) (w w' : Written) (alike : AreAlikeStates s s') wher
   -- a line that asks for one event
   once_same : (e e' : Event) → AreAlikeEvents e e' → DoesOnce e s w t → DoesOnce e' s' w' t' → w.lacking ≡ false → w'.lacking ≡ false → WriteAlike w w' t t'
   once_same e e' same does does' ample ample' =
-      does_alike s s' alike w w' t t' (once e) (once e') (flat_map (said (texts s.buffers) s.timelines)) (flat_map (said (texts s'.buffers) s'.timelines))
+      does_alike s s' alike w w' t t' (once e) (once e') (flat_map (said (names_alone s.buffers) s.timelines)) (flat_map (said (names_alone s'.buffers) s'.timelines))
       (once_alike e e' same) all_said_same does does' ample ample'
 
   withdrawal_same : (entry : ℕ) → Withdraws entry s w t → Withdraws entry s' w' t' → w.lacking ≡ false → w'.lacking ≡ false → WriteAlike w w' t t'
@@ -85,11 +85,11 @@ module _ (s s' t t' : State) (w w' : Written) (alike : AreAlikeStates s s') wher
 
   -- settings
 
-  bounds_same : (asked : Option Area) → SetsBounds asked s w t → SetsBounds asked s' w' t' → WriteAlike w w' t t'
+  bounds_same : (asked : Option BoundsState) → SetsBounds asked s w t → SetsBounds asked s' w' t' → WriteAlike w w' t t'
   bounds_same None here here' = absurd here.1
   bounds_same (Some area) here here' =
-      let limits = s.world.machine.space.limits in
-      let limits' = s'.world.machine.space.limits in
+      let limits = s.world.vm.space.limits in
+      let limits' = s'.world.vm.space.limits in
       record {
         text = ap (λ (x : Written). x.text) here.1.0 ∙ sym (ap (λ (x : Written). x.text) here'.1.0);
         states = moved_states (record s { stage = Bounded; world = empty_world area limits }) (record s' { stage = Bounded; world = empty_world area limits' }) t t' here.1.1 here'.1.1
@@ -101,8 +101,8 @@ module _ (s s' t t' : State) (w w' : Written) (alike : AreAlikeStates s s') wher
       let limits = caps_of buffers mappings items in
       record {
         text = ap (λ (x : Written). x.text) here.2 ∙ sym (ap (λ (x : Written). x.text) here'.2);
-        states = moved_states (record (begun s) { world = empty_world s.world.machine.space.area limits }) (record (begun s') { world = empty_world s'.world.machine.space.area limits }) t t' here.3 here'.3
-            (set_alike s s' alike Begun s.world.machine.space.area s'.world.machine.space.area limits limits (area_same s s' alike) refl);
+        states = moved_states (record (begun s) { world = empty_world s.world.vm.space.area limits }) (record (begun s') { world = empty_world s'.world.vm.space.area limits }) t t' here.3 here'.3
+            (set_alike s s' alike Begun s.world.vm.space.area s'.world.vm.space.area limits limits (area_same s s' alike) refl);
       }
 
   -- declarations
@@ -119,7 +119,7 @@ module _ (s s' t t' : State) (w w' : Written) (alike : AreAlikeStates s s') wher
         });
   }
 
-  made_ample : (pages : ℕ) (r : Reply) (v x : World) → IsCarriedOut (once (Create pages)) v (r ∷ []) x → AreAmple (r ∷ [])
+  made_ample : (pages : ℕ) (r : Reply) (v x : WorldState) → IsCarriedOut (once (Create pages)) v (r ∷ []) x → AreAmple (r ∷ [])
   made_ample pages r v x out =
       let first = first_step (Create pages) out.under_way.events r [] v x out.under_way.asked out.under_way.ran in
       (ample_made v first.0 pages r first.1, tt)
@@ -141,9 +141,9 @@ module _ (s s' t t' : State) (w w' : Written) (alike : AreAlikeStates s s') wher
       moved_states (record (begun s) { world = t.world; buffers = declared name here.reply s.buffers }) (record (begun s') { world = t'.world; buffers = declared name here'.reply s'.buffers })
       t t' here.state here'.state new in
       record {
-        text = ap (λ (x : Written). x.text) here.written ∙ said_alike (texts t.buffers) t.timelines here.reply here'.reply stay.replies_are.0
-            ∙ ap (λ (buffers : Buffers). said (texts buffers) t.timelines here'.reply) states.buffers
-            ∙ ap (λ (timelines : List (List ℕ)). said (texts t'.buffers) timelines here'.reply) states.timelines
+        text = ap (λ (x : Written). x.text) here.written ∙ said_alike (names_alone t.buffers) t.timelines here.reply here'.reply stay.replies_are.0
+            ∙ ap (λ (buffers : Buffers). said (names_alone buffers) t.timelines here'.reply) states.buffers
+            ∙ ap (λ (timelines : List (List ℕ)). said (names_alone t'.buffers) timelines here'.reply) states.timelines
             ∙ sym (ap (λ (x : Written). x.text) here'.written);
         states = states;
       }
@@ -162,11 +162,11 @@ module _ (s s' t t' : State) (w w' : Written) (alike : AreAlikeStates s s') wher
 
   uses_line_same : (name : List ℕ) → Runs (line.Uses name) s w t → Runs (line.Uses name) s' w' t' → WriteAlike w w' t t'
   uses_line_same name here here' =
-      let x = of_there (buffer_named s.buffers name) (λ id. Answers (uses_said s.world.machine.space.buffers id) s w t) here in
-      let x' = of_there (buffer_named s'.buffers name) (λ id. Answers (uses_said s'.world.machine.space.buffers id) s' w' t') here' in
-      answers_alike s s' alike w w' t t' (uses_said s.world.machine.space.buffers x.0) (uses_said s'.world.machine.space.buffers x'.0)
-      (ap (λ (table : Table). uses_said table x.0) (table_alike s.world.machine s'.world.machine alike.worlds.machine)
-      ∙ ap (uses_said s'.world.machine.space.buffers) (id_same name x.0 x'.0 x.1 x'.1)) x.2 x'.2
+      let x = of_there (buffer_named s.buffers name) (λ id. Answers (uses_said s.world.vm.space.buffers id) s w t) here in
+      let x' = of_there (buffer_named s'.buffers name) (λ id. Answers (uses_said s'.world.vm.space.buffers id) s' w' t') here' in
+      answers_alike s s' alike w w' t t' (uses_said s.world.vm.space.buffers x.0) (uses_said s'.world.vm.space.buffers x'.0)
+      (ap (λ (table : BuffersState). uses_said table x.0) (table_alike s.world.vm s'.world.vm alike.worlds.vm)
+      ∙ ap (uses_said s'.world.vm.space.buffers) (id_same name x.0 x'.0 x.1 x'.1)) x.2 x'.2
 
   raise_line_same : (point : NamedPoint) → Runs (line.Raise point) s w t → Runs (line.Raise point) s' w' t' → w.lacking ≡ false → w'.lacking ≡ false → WriteAlike w w' t t'
   raise_line_same point here here' ample ample' =
@@ -187,13 +187,13 @@ module _ (s s' t t' : State) (w w' : Written) (alike : AreAlikeStates s s') wher
 
   plan_line_same : (operation : Operation) → Runs (line.Plan operation) s w t → Runs (line.Plan operation) s' w' t' → WriteAlike w w' t t'
   plan_line_same operation here here' =
-      let x = of_there (op_named s.buffers operation) (λ op. Answers (plan_said (texts s.buffers) s.world.machine.space op) s w t) here in
-      let x' = of_there (op_named s'.buffers operation) (λ op. Answers (plan_said (texts s'.buffers) s'.world.machine.space op) s' w' t') here' in
+      let x = of_there (op_named s.buffers operation) (λ op. Answers (plan_said (names_alone s.buffers) s.world.vm.space op) s w t) here in
+      let x' = of_there (op_named s'.buffers operation) (λ op. Answers (plan_said (names_alone s'.buffers) s'.world.vm.space op) s' w' t') here' in
       let same : x.0 ≡ x'.0 = same_Some x.0 x'.0 (sym x.1 ∙ ap (λ (buffers : Buffers). op_named buffers operation) alike.buffers ∙ x'.1) in
-      answers_alike s s' alike w w' t t' (plan_said (texts s.buffers) s.world.machine.space x.0) (plan_said (texts s'.buffers) s'.world.machine.space x'.0)
-      (ap (λ (space : AddressSpace). plan_said (texts s.buffers) space x.0) alike.worlds.machine.space
-      ∙ ap (λ (names : List (List ℕ)). plan_said names s'.world.machine.space x.0) names_same
-      ∙ ap (plan_said (texts s'.buffers) s'.world.machine.space) same) x.2 x'.2
+      answers_alike s s' alike w w' t t' (plan_said (names_alone s.buffers) s.world.vm.space x.0) (plan_said (names_alone s'.buffers) s'.world.vm.space x'.0)
+      (ap (λ (space : SpaceState). plan_said (names_alone s.buffers) space x.0) alike.worlds.vm.space
+      ∙ ap (λ (names : List (List ℕ)). plan_said names s'.world.vm.space x.0) names_same
+      ∙ ap (plan_said (names_alone s'.buffers) s'.world.vm.space) same) x.2 x'.2
 
   -- a job
 
@@ -225,25 +225,25 @@ module _ (s s' t t' : State) (w w' : Written) (alike : AreAlikeStates s s') wher
   line_alike (line.Bind clauses) here here' ample ample' = served_same clauses here here' ample ample'
   line_alike (line.Plan operation) here here' ample ample' = plan_line_same operation here here'
   line_alike line.Map here here' ample ample' =
-      answers_alike s s' alike w w' t t' (lines_reply (mapping_text (texts s.buffers)) s.world.machine.space.mappings) (lines_reply (mapping_text (texts s'.buffers)) s'.world.machine.space.mappings)
-      (ap (λ (ms : List Mapping). lines_reply (mapping_text (texts s.buffers)) ms) list_same
-      ∙ ap (λ (names : List (List ℕ)). lines_reply (mapping_text names) s'.world.machine.space.mappings) names_same) here here'
+      answers_alike s s' alike w w' t t' (lines_reply (mapping_text (names_alone s.buffers)) s.world.vm.space.mappings) (lines_reply (mapping_text (names_alone s'.buffers)) s'.world.vm.space.mappings)
+      (ap (λ (ms : List Mapping). lines_reply (mapping_text (names_alone s.buffers)) ms) list_same
+      ∙ ap (λ (names : List (List ℕ)). lines_reply (mapping_text names) s'.world.vm.space.mappings) names_same) here here'
   line_alike (line.At addr) here here' ample ample' =
-      answers_alike s s' alike w w' t t' (place_reply (texts s.buffers) (place_at s.world.machine.space.mappings addr)) (place_reply (texts s'.buffers) (place_at s'.world.machine.space.mappings addr))
-      (ap (λ (ms : List Mapping). place_reply (texts s.buffers) (place_at ms addr)) list_same
-      ∙ ap (λ (names : List (List ℕ)). place_reply names (place_at s'.world.machine.space.mappings addr)) names_same) here here'
+      answers_alike s s' alike w w' t t' (place_reply (names_alone s.buffers) (place_at s.world.vm.space.mappings addr)) (place_reply (names_alone s'.buffers) (place_at s'.world.vm.space.mappings addr))
+      (ap (λ (ms : List Mapping). place_reply (names_alone s.buffers) (place_at ms addr)) list_same
+      ∙ ap (λ (names : List (List ℕ)). place_reply names (place_at s'.world.vm.space.mappings addr)) names_same) here here'
   line_alike line.Tables here here' ample ample' =
-      answers_alike s s' alike w w' t t' (tables_reply (tables_of s.world.machine.space.mappings)) (tables_reply (tables_of s'.world.machine.space.mappings))
+      answers_alike s s' alike w w' t t' (tables_reply (tables_of s.world.vm.space.mappings)) (tables_reply (tables_of s'.world.vm.space.mappings))
       (ap (λ (ms : List Mapping). tables_reply (tables_of ms)) list_same) here here'
   line_alike line.Rewind here here' ample ample' = once_same Rewind Rewind refl here here' ample ample'
   line_alike line.Journal here here' ample ample' =
-      answers_alike s s' alike w w' t t' (journal_reply s.world.machine.journal) (journal_reply s'.world.machine.journal)
-      (journal_alike s.world.machine.journal s'.world.machine.journal alike.worlds.machine.journal) here here'
+      answers_alike s s' alike w w' t t' (journal_reply s.world.vm.journal) (journal_reply s'.world.vm.journal)
+      (journal_alike s.world.vm.journal s'.world.vm.journal alike.worlds.vm.journal) here here'
   line_alike (line.Withdraw entry) here here' ample ample' = withdrawal_same entry here here' ample ample'
   line_alike (line.Settle to) here here' ample ample' = once_same (Settle to) (Settle to) refl here here' ample ample'
   line_alike (line.Told queue) here here' ample ample' =
-      answers_alike s s' alike w w' t t' (told_reply s.timelines (told_to s.world.machine.told queue)) (told_reply s'.timelines (told_to s'.world.machine.told queue))
-      (ap (λ told. told_reply s.timelines (told_to told queue)) alike.worlds.machine.told
-      ∙ ap (λ (timelines : List (List ℕ)). told_reply timelines (told_to s'.world.machine.told queue)) alike.timelines) here.1 here'.1
-  line_alike (line.Job accesses) here here' ample ample' = job_line_same (map access_of accesses) here here' ample ample'
+      answers_alike s s' alike w w' t t' (told_reply s.timelines (told_to s.world.vm.told queue)) (told_reply s'.timelines (told_to s'.world.vm.told queue))
+      (ap (λ told. told_reply s.timelines (told_to told queue)) alike.worlds.vm.told
+      ∙ ap (λ (timelines : List (List ℕ)). told_reply timelines (told_to s'.world.vm.told queue)) alike.timelines) here.1 here'.1
+  line_alike (line.Job accesses) here here' ample ample' = job_line_same (map access_named accesses) here here' ample ample'
   line_alike (line.End job) here here' ample ample' = once_same (JobEnd job) (JobEnd job) refl here here' ample ample'

@@ -12,13 +12,13 @@ use Rattle.gv_lines.specs.Clause.{operations_of, waits_of, signals_of}
 use Rattle.gv_lines.specs.declared.clause.Clause.{Clause}
 use Rattle.gv_text.specs.Asking.{op_named, point_named, IsRequest}
 use Rattle.gv_text.specs.Line.{declared}
-use Rattle.gv_text.specs.State.{State, Buffers}
+use Rattle.gv_text.specs.State.{SessionState, Buffers}
 use Rattle.gv_text.proofs.AlikeReplies.{ReadsAlike, same_said}
 
 abbrev bare_of : List Op → List Point → List Point → BareRequest
 bare_of ops waits signals = record { ops = ops; waits = waits; signals = signals }
 
-pub requests_alike : (s s' : State) (clauses : List Clause) (request request' : Request) → s.buffers ≡ s'.buffers → s.timelines ≡ s'.timelines →
+pub requests_alike : (s s' : SessionState) (clauses : List Clause) (request request' : Request) → s.buffers ≡ s'.buffers → s.timelines ≡ s'.timelines →
     IsRequest s clauses request → IsRequest s' clauses request' → bare_request request ≡ bare_request request'
 requests_alike s s' clauses request request' names timelines is is' =
     let ops : request.ops.items ≡ request'.ops.items =

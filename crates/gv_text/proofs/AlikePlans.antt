@@ -6,7 +6,7 @@ use Rattle.gv_journal.specs.Bare.{BareRequest, bare_request}
 use Rattle.gv_vm.specs.Alike.{AreAlikeWorlds, AreAlikeEvents, AreAlikeReplies}
 use Rattle.gv_vm.specs.Headline.{IsSoundStep}
 use Rattle.gv_vm.specs.Run.{RunsWith}
-use Rattle.gv_vm.specs.World.{World}
+use Rattle.gv_vm.specs.World.{WorldState}
 use Rattle.gv_vm.specs.declared.event.Event.{Event}
 use Rattle.gv_vm.specs.declared.event.Event.TheVariants.{GiveUp}
 use Rattle.gv_vm.specs.declared.event.Reply.{Reply}
@@ -153,7 +153,7 @@ serving_alike queue request request' seen (r ∷ rs) [] all = absurd all
 
 -- Plans carried out to their end.
 
-runs_alike : (plan plan' : Plan) (events events' : List Event) (rs rs' : List Reply) (w w' x x' : World) →
+runs_alike : (plan plan' : Plan) (events events' : List Event) (rs rs' : List Reply) (w w' x x' : WorldState) →
     AreAlikeWorlds w w' → AskAlike plan plan' →
     AreAsked plan events rs → AreAsked plan' events' rs' → RunsWith IsSoundStep w events rs x → RunsWith IsSoundStep w' events' rs' x' →
     plan rs ≡ None → plan' rs' ≡ None → AreAmple rs → AreAmple rs' → StayAlike rs rs' x x'
@@ -182,7 +182,7 @@ runs_alike plan plan' events [] rs (r' ∷ rs') w w' x x' alike ask asked asked'
 runs_alike plan plan' events (e' ∷ es') rs [] w w' x x' alike ask asked asked' ran ran' done done' ample ample' = absurd asked'
 
 -- where no reply is want of memory, plans that ask the same are told the same
-pub carried_alike : (plan plan' : Plan) (rs rs' : List Reply) (w w' x x' : World) →
+pub carried_alike : (plan plan' : Plan) (rs rs' : List Reply) (w w' x x' : WorldState) →
     AreAlikeWorlds w w' → AskAlike plan plan' →
     IsCarriedOut plan w rs x → IsCarriedOut plan' w' rs' x' → AreAmple rs → AreAmple rs' → StayAlike rs rs' x x'
 carried_alike plan plan' rs rs' w w' x x' alike ask out out' ample ample' =

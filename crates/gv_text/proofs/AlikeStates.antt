@@ -1,36 +1,36 @@
 -- States of a script that are the same, bare of memory, and lines that keep them so.
 use Rattle.std.proofs.Common.{◌≡◌, ℕ, false, List, refl, sym, ap, ◌∙◌, subst}
-use Rattle.gv_types.specs.Bounds.{Area}
-use Rattle.gv_types.specs.Limits.{Caps}
+use Rattle.gv_types.specs.Bounds.{BoundsState}
+use Rattle.gv_types.specs.Limits.{LimitsState}
 use Rattle.gv_vm.specs.Alike.{AreAlikeWorlds}
-use Rattle.gv_vm.specs.World.{World}
+use Rattle.gv_vm.specs.World.{WorldState}
 use Rattle.gv_vm.specs.declared.event.Reply.{Reply}
 use Rattle.gv_vm.proofs.AlikeEnabledLemmas.{AreAlikeWorlds-sym}
 use Rattle.gv_vm.proofs.AlikeStepLemmas.{AreAlikeWorlds-itself}
 use Rattle.gv_text.specs.AlikePlans.{AreAllAlike, AskAlike, StayAlike}
 use Rattle.gv_text.specs.Events.{Plan}
 use Rattle.gv_text.specs.Line.{Written, Does, Answers}
-use Rattle.gv_text.specs.State.{State, begun, start, empty_world}
+use Rattle.gv_text.specs.State.{SessionState, begun, start, empty_world}
 use Rattle.gv_text.specs.declared.stage.Stage.{Stage}
 use Rattle.gv_text.proofs.AlikeEvents.{are_ample}
 use Rattle.gv_text.proofs.AlikePlans.{carried_alike}
 
-pub record AreAlikeStates (s s' : State) : Type 0 where
+pub record AreAlikeStates (s s' : SessionState) : Type 0 where
   pub stage : s.stage ≡ s'.stage
   pub buffers : s.buffers ≡ s'.buffers
   pub timelines : s.timelines ≡ s'.timelines
   pub worlds : AreAlikeWorlds s.world s'.world
 
-pub AreAlikeStates-sym : (s s' : State) → AreAlikeStates s s' → AreAlikeStates s' s
+pub AreAlikeStates-sym : (s s' : SessionState) → AreAlikeStates s s' → AreAlikeStates s' s
 AreAlikeStates-sym s s' alike =
     record { stage = sym alike.stage; buffers = sym alike.buffers; timelines = sym alike.timelines; worlds = AreAlikeWorlds-sym s.world s'.world alike.worlds }
 
 -- in the place of two states stand others that are the same
-pub moved_states : (s s' t t' : State) → t ≡ s → t' ≡ s' → AreAlikeStates s s' → AreAlikeStates t t'
-moved_states s s' t t' is is' alike = subst (λ (x : State). AreAlikeStates x t') (sym is) (subst (λ (x : State). AreAlikeStates s x) (sym is') alike)
+pub moved_states : (s s' t t' : SessionState) → t ≡ s → t' ≡ s' → AreAlikeStates s s' → AreAlikeStates t t'
+moved_states s s' t t' is is' alike = subst (λ (x : SessionState). AreAlikeStates x t') (sym is) (subst (λ (x : SessionState). AreAlikeStates s x) (sym is') alike)
 
 -- two lines wrote the same, and led to states that are the same
-pub record WriteAlike (w w' : Written) (t t' : State) : Type 0 where
+pub record WriteAlike (w w' : Written) (t t' : SessionState) : Type 0 where
   pub text : w.text ≡ w'.text
   pub states : AreAlikeStates t t'
 
@@ -38,30 +38,30 @@ pub record WriteAlike (w w' : Written) (t t' : State) : Type 0 where
 pub start_alike : AreAlikeStates start start
 start_alike = record { stage = refl; buffers = refl; timelines = refl; worlds = AreAlikeWorlds-itself start.world }
 
-new_alike : (area area' : Area) (limits limits' : Caps) → area ≡ area' → limits ≡ limits' → AreAlikeWorlds (empty_world area limits) (empty_world area' limits')
+new_alike : (area area' : BoundsState) (limits limits' : LimitsState) → area ≡ area' → limits ≡ limits' → AreAlikeWorlds (empty_world area limits) (empty_world area' limits')
 new_alike area area' limits limits' areas caps =
-    subst (λ (a : Area). AreAlikeWorlds (empty_world area limits) (empty_world a limits')) areas
-    (subst (λ (l : Caps). AreAlikeWorlds (empty_world area limits) (empty_world area l)) caps (AreAlikeWorlds-itself (empty_world area limits)))
+    subst (λ (a : BoundsState). AreAlikeWorlds (empty_world area limits) (empty_world a limits')) areas
+    (subst (λ (l : LimitsState). AreAlikeWorlds (empty_world area limits) (empty_world area l)) caps (AreAlikeWorlds-itself (empty_world area limits)))
 
-module _ (s s' : State) (alike : AreAlikeStates s s') where
+module _ (s s' : SessionState) (alike : AreAlikeStates s s') where
   -- the world goes on, and no buffer is declared
-  pub goes_on : (x x' : World) → AreAlikeWorlds x x' → AreAlikeStates (record (begun s) { world = x }) (record (begun s') { world = x' })
+  pub goes_on : (x x' : WorldState) → AreAlikeWorlds x x' → AreAlikeStates (record (begun s) { world = x }) (record (begun s') { world = x' })
   goes_on x x' worlds = record { stage = refl; buffers = alike.buffers; timelines = alike.timelines; worlds = worlds }
 
   -- settings: the world is new
-  pub set_alike : (stage : Stage) (area area' : Area) (limits limits' : Caps) → area ≡ area' → limits ≡ limits' →
+  pub set_alike : (stage : Stage) (area area' : BoundsState) (limits limits' : LimitsState) → area ≡ area' → limits ≡ limits' →
       AreAlikeStates (record s { stage = stage; world = empty_world area limits }) (record s' { stage = stage; world = empty_world area' limits' })
   set_alike stage area area' limits limits' areas caps =
       record { stage = refl; buffers = alike.buffers; timelines = alike.timelines; worlds = new_alike area area' limits limits' areas caps }
 
   -- the worlds' bounds and limits
-  pub area_same : s.world.machine.space.area ≡ s'.world.machine.space.area
-  area_same = ap (λ space. space.area) alike.worlds.machine.space
+  pub area_same : s.world.vm.space.area ≡ s'.world.vm.space.area
+  area_same = ap (λ space. space.area) alike.worlds.vm.space
 
-  pub limits_same : s.world.machine.space.limits ≡ s'.world.machine.space.limits
-  limits_same = ap (λ space. space.limits) alike.worlds.machine.space
+  pub limits_same : s.world.vm.space.limits ≡ s'.world.vm.space.limits
+  limits_same = ap (λ space. space.limits) alike.worlds.vm.space
 
-  module _ (w w' : Written) (t t' : State) where
+  module _ (w w' : Written) (t t' : SessionState) where
     -- a question with the same answer
     pub answers_alike : (text text' : List ℕ) → text ≡ text' → Answers text s w t → Answers text' s' w' t' → WriteAlike w w' t t'
     answers_alike text text' same here here' = record {

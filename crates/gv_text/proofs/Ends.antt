@@ -4,31 +4,31 @@ use Rattle.std.proofs.lemmas.Bool.Decides.{nat_tests}
 use Rattle.std.specs.Io.KnownBytes.{Appends}
 use Rattle.std.proofs.KnownBytes.{Appends-trans}
 use Rattle.gv_text.specs.Reading.{script_limit, TellsWrites}
-use Rattle.gv_text.specs.State.{State}
+use Rattle.gv_text.specs.State.{SessionState}
 use Rattle.gv_text.specs.Line.{IsGoodText}
 use Rattle.gv_text.specs.Script.{IsFront, IsBadBefore, WantsBefore, MayWant, StopsBefore, StopsAt, Ends, LineEnds}
 use Rattle.gv_text.specs.declared.fault.ScriptFault.{ScriptFault}
 use Rattle.gv_text.specs.declared.fault.ScriptFault.TheVariants.{BadLine, ScriptTooLong, ReadFault, WriteFault, OutOfMemory}
 use Rattle.gv_text.proofs.Alike.{only_stop}
 
-bad_before : (now : State) (line : List ℕ) (more : List (List ℕ)) → (more ≡ [] → ⊥) → ¬ IsGoodText line now → IsBadBefore now line more
+bad_before : (now : SessionState) (line : List ℕ) (more : List (List ℕ)) → (more ≡ [] → ⊥) → ¬ IsGoodText line now → IsBadBefore now line more
 bad_before now line [] some bad = absurd (some refl)
 bad_before now line (next ∷ more) some bad = bad
 
-good_before : (now : State) (line : List ℕ) (more : List (List ℕ)) → (more ≡ [] → ⊥) → MayWant line now → WantsBefore now line more
+good_before : (now : SessionState) (line : List ℕ) (more : List (List ℕ)) → (more ≡ [] → ⊥) → MayWant line now → WantsBefore now line more
 good_before now line [] some good = absurd (some refl)
 good_before now line (next ∷ more) some good = good
 
 Appends-end : (a b c : Option (List ℕ)) (text : List ℕ) → Appends a b text → Appends b c [] → Appends a c text
 Appends-end a b c text first second = rw append-nil at (Appends-trans a b c text [] first second)
 
-pub stops_at : (script text line : List ℕ) (more : List (List ℕ)) (count refusals number : ℕ) (now : State) → length script ≤ script_limit →
+pub stops_at : (script text line : List ℕ) (more : List (List ℕ)) (count refusals number : ℕ) (now : SessionState) → length script ≤ script_limit →
     IsFront script text (line ∷ more) count refusals now → IsBadBefore now line more → number ≡ count + 1 → StopsAt script text number
 stops_at script text line more count refusals number now short front bad is =
     let stops : StopsBefore script text refusals number = record { line = line; more = more; count = count; now = now; front = front; bad = bad; counted = is } in
     record { short = short; refusals = refusals; stops = stops; ample = only_stop script text refusals number stops }
 
-pub line_ends : (T U : Type 0) (script text line : List ℕ) (more : List (List ℕ)) (count refusals : ℕ) (now new : State)
+pub line_ends : (T U : Type 0) (script text line : List ℕ) (more : List (List ℕ)) (count refusals : ℕ) (now new : SessionState)
     (held mid holds : Option (List ℕ)) (fault : ScriptFault) → length script ≤ script_limit →
     IsFront script text (line ∷ more) count refusals now → (more ≡ [] → ⊥) → Appends held mid text →
     LineEnds {T = T} now line (count + 1) new mid holds (Err fault) → Ends {T = U} script held holds (Err fault)

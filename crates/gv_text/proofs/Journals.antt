@@ -3,7 +3,7 @@ use Rattle.std.proofs.Common.{◌≡◌, ℕ, ◌+◌, ◌<◌, ◌||◌, List, 
 use Rattle.std.specs.List.{list_any, flat_map}
 use Rattle.std.proofs.lemmas.List.{take_more, length-take-le, length-reverse, reverse-append}
 use Rattle.std.proofs.lemmas.List.Folds.{list_any-append}
-use Rattle.gv_journal.specs.Items.{Journaled, Numbered, numbered, entries, names, is_withdrawn}
+use Rattle.gv_journal.specs.Items.{JournalState, NumberedItem, numbered, entries, names, is_withdrawn}
 use Rattle.gv_journal.specs.declared.item.Item.{Item}
 use Rattle.gv_text.specs.Reply.{reply, kind_text, item_text, lines_reply, journal_reply}
 
@@ -48,7 +48,7 @@ or_swap false true = refl
 or_swap false false = refl
 
 -- in whatever order they stand
-any_numbered : (n first : ℕ) (js : List Item) → list_any (λ (x : Numbered). names x.item.kind n) (numbered first js) ≡ list_any (λ (i : Item). names i.kind n) js
+any_numbered : (n first : ℕ) (js : List Item) → list_any (λ (x : NumberedItem). names x.item.kind n) (numbered first js) ≡ list_any (λ (i : Item). names i.kind n) js
 any_numbered n first [] = refl
 any_numbered n first (j ∷ js) = ap (λ (b : Bool). names j.kind n || b) (any_numbered n first js)
 
@@ -59,38 +59,38 @@ any_reversed p (x ∷ xs) =
     ∙ list_any-append p (reverse xs) (x ∷ []) ∙ ap (λ (b : Bool). b || list_any p (x ∷ [])) (any_reversed p xs)
     ∙ or_swap (list_any p xs) (p x)
 
-pub gone_is : (j : Journaled) (items : List Item) (n : ℕ) → items ≡ reverse j.items → list_any (λ (i : Item). names i.kind n) items ≡ is_withdrawn (entries j) n
+pub gone_is : (j : JournalState) (items : List Item) (n : ℕ) → items ≡ reverse j.items → list_any (λ (i : Item). names i.kind n) items ≡ is_withdrawn (entries j) n
 gone_is j items n is = ap (list_any (λ (i : Item). names i.kind n)) is ∙ any_reversed (λ i. names i.kind n) j.items ∙ sym (any_numbered n j.first j.items)
 
 -- the items with their numbers, the oldest one first
-abbrev from_oldest : ℕ → List Item → List Numbered
+abbrev from_oldest : ℕ → List Item → List NumberedItem
 from_oldest n [] = []
 from_oldest n (item ∷ later) = record { number = n; item = item } ∷ from_oldest (n + 1) later
 
 from_oldest-append : (n : ℕ) (xs ys : List Item) → from_oldest n (xs ++ ys) ≡ from_oldest n xs ++ from_oldest (n + length xs) ys
 from_oldest-append n [] ys = ap (λ (k : ℕ). from_oldest k ys) (sym (add-zero n))
 from_oldest-append n (x ∷ xs) ys =
-    let here : Numbered = record { number = n; item = x } in
+    let here : NumberedItem = record { number = n; item = x } in
     let count : n + 1 + length xs ≡ n + length (x ∷ xs) = omega arith in
-    ap (λ (rest : List Numbered). here ∷ rest) (from_oldest-append (n + 1) xs ys)
+    ap (λ (rest : List NumberedItem). here ∷ rest) (from_oldest-append (n + 1) xs ys)
     ∙ ap (λ (k : ℕ). here ∷ (from_oldest (n + 1) xs ++ from_oldest k ys)) count
 
 numbered_reversed : (first : ℕ) (js : List Item) → reverse (numbered first js) ≡ from_oldest first (reverse js)
 numbered_reversed first [] = refl
 numbered_reversed first (j ∷ js) =
-    let x : Numbered = record { number = first + length js; item = j } in
+    let x : NumberedItem = record { number = first + length js; item = j } in
     reverse-append (x ∷ []) (numbered first js)
-    ∙ ap (λ (rest : List Numbered). rest ++ x ∷ []) (numbered_reversed first js)
-    ∙ ap (λ (k : ℕ). let y : Numbered = record { number = first + k; item = j } in from_oldest first (reverse js) ++ y ∷ []) (sym (length-reverse js))
+    ∙ ap (λ (rest : List NumberedItem). rest ++ x ∷ []) (numbered_reversed first js)
+    ∙ ap (λ (k : ℕ). let y : NumberedItem = record { number = first + k; item = j } in from_oldest first (reverse js) ++ y ∷ []) (sym (length-reverse js))
     ∙ sym (from_oldest-append first (reverse js) (j ∷ []))
     ∙ ap (from_oldest first) (sym (reverse-append (j ∷ []) js))
 
 lines_of : (gone : ℕ → Bool) (n : ℕ) (items : List Item) →
-    flat_map (λ (x : Numbered). reply (item_text gone x ∷ [])) (from_oldest n items) ≡ item_lines gone n items
+    flat_map (λ (x : NumberedItem). reply (item_text gone x ∷ [])) (from_oldest n items) ≡ item_lines gone n items
 lines_of gone n [] = refl
 lines_of gone n (item ∷ later) = ap (λ (bytes : List ℕ). reply (kind_text n item.kind (gone n) ∷ []) ++ bytes) (lines_of gone (n + 1) later)
 
-some_lines : (f : Numbered → List ℕ) (xs : List Numbered) → 0 < length xs → lines_reply f xs ≡ flat_map (λ (x : Numbered). reply (f x ∷ [])) xs
+some_lines : (f : NumberedItem → List ℕ) (xs : List NumberedItem) → 0 < length xs → lines_reply f xs ≡ flat_map (λ (x : NumberedItem). reply (f x ∷ [])) xs
 some_lines f [] some = absurd (omega arith)
 some_lines f (x ∷ xs) some = refl
 
@@ -105,7 +105,7 @@ length-numbered first [] = refl
 length-numbered first (j ∷ js) = ap (λ (k : ℕ). suc k) (length-numbered first js)
 
 -- the text of a journal that is not empty
-pub journal_lines : (j : Journaled) (items : List Item) (first : ℕ) → items ≡ reverse j.items → first ≡ j.first → 0 < length items →
+pub journal_lines : (j : JournalState) (items : List Item) (first : ℕ) → items ≡ reverse j.items → first ≡ j.first → 0 < length items →
     item_lines (λ n. list_any (λ (i : Item). names i.kind n) items) first items ≡ journal_reply j
 journal_lines j items first is from some =
     let gone : ℕ → Bool = is_withdrawn (entries j) in
@@ -114,7 +114,7 @@ journal_lines j items first is from some =
     same_lines (λ n. list_any (λ (i : Item). names i.kind n) items) gone first items (λ k. gone_is j items k is)
     ∙ ap (λ (xs : List Item). item_lines gone first xs) is ∙ ap (λ (n : ℕ). item_lines gone n (reverse j.items)) from
     ∙ sym (lines_of gone j.first (reverse j.items))
-    ∙ ap (flat_map (λ (x : Numbered). reply (item_text gone x ∷ []))) (sym (numbered_reversed j.first j.items))
+    ∙ ap (flat_map (λ (x : NumberedItem). reply (item_text gone x ∷ []))) (sym (numbered_reversed j.first j.items))
     ∙ sym (some_lines (item_text gone) (reverse (entries j)) (omega arith))
 
 -- nothing is marked at first

@@ -1,4 +1,4 @@
--- Numbered lines, one more at their end.
+-- NumberedItem lines, one more at their end.
 use Rattle.std.proofs.Common.{◌≡◌, ◌∙◌, ◌∷◌, [], List, ℕ, ◌++◌, ◌+◌, ◌<◌, ap, sym, append_assoc, append-nil, add-zero, length, take, get_or, arith}
 use Rattle.std.proofs.lemmas.List.{take_more, length-take-le}
 use Rattle.gv_text.specs.Reply.{numbered_lines}

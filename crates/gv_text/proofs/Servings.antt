@@ -5,14 +5,14 @@ use Rattle.std.specs.declared.alloc.Global.{Global}
 use Rattle.gv_types.specs.declared.request.Point.{Point}
 use Rattle.gv_types.specs.declared.request.Request.{Request}
 use Rattle.gv_vm.specs.Headline.{IsSoundStep}
-use Rattle.gv_vm.specs.World.{World}
+use Rattle.gv_vm.specs.World.{WorldState}
 use Rattle.gv_vm.specs.Run.{RunsWith}
 use Rattle.gv_vm.specs.declared.event.Event.{Event}
 use Rattle.gv_vm.specs.declared.event.Event.TheVariants.{Put, Take, Look, Bind, GiveUp, Pay}
 use Rattle.gv_vm.specs.declared.event.Reply.{Reply}
 use Rattle.gv_vm.specs.declared.event.Reply.TheVariants.{Put as IsPut, Taken, Reached, Lacking, Told, Raised}
 use Rattle.gv_vm.specs.declared.outcome.Outcome.TheVariants.{Accepted, Refused, NotReady}
-use Rattle.gv_text.specs.State.{State, begun}
+use Rattle.gv_text.specs.State.{SessionState, begun}
 use Rattle.gv_text.specs.Events.{Plan, once, serving, taking, looks, carrying_out, payments, AreAsked, IsCarriedOut, Steps}
 use Rattle.gv_text.specs.Said.{told}
 use Rattle.gv_text.specs.Serving.{nothing, GoesOn, Goes, Tells, is_put, is_taken, is_accepted, is_raised, looked_of, after_looks}
@@ -20,14 +20,14 @@ use Rattle.gv_text.specs.declared.serve.Looked.{Looked}
 use Rattle.gv_text.specs.declared.serve.Looked.TheVariants.{AllReached}
 
 -- nothing was asked yet
-pub goes_nil : (plan : Plan) (w : World) → Goes plan w [] w plan
+pub goes_nil : (plan : Plan) (w : WorldState) → Goes plan w [] w plan
 goes_nil plan w = record {
   under_way = record { events = []; asked = tt; ran = refl };
   goes_on = λ later. refl;
 }
 
 -- one event was asked
-pub goes_first : (plan next : Plan) (event : Event) (reply : Reply) (w v : World) → plan [] ≡ Some event → Steps w event reply v →
+pub goes_first : (plan next : Plan) (event : Event) (reply : Reply) (w v : WorldState) → plan [] ≡ Some event → Steps w event reply v →
     ((later : List Reply) → plan (reply ∷ later) ≡ next later) → Goes plan w (reply ∷ []) v next
 goes_first plan next event reply w v is here on = record {
   under_way = record { events = event ∷ []; asked = (is, tt); ran = (v, here.0, here.1, refl) };
@@ -49,15 +49,15 @@ asked-append p q (event ∷ events) (reply ∷ replies) more later asked on rest
 asked-append p q [] (reply ∷ replies) more later asked on rest = absurd asked
 asked-append p q (event ∷ events) [] more later asked on rest = absurd asked
 
-run-append : (w v u : World) (events : List Event) (replies : List Reply) (more : List Event) (later : List Reply) →
+run-append : (w v u : WorldState) (events : List Event) (replies : List Reply) (more : List Event) (later : List Reply) →
     RunsWith IsSoundStep w events replies v → RunsWith IsSoundStep v more later u → RunsWith IsSoundStep w (events ++ more) (replies ++ later) u
-run-append w v u [] [] more later first rest = subst (λ (x : World). RunsWith IsSoundStep x more later u) first rest
+run-append w v u [] [] more later first rest = subst (λ (x : WorldState). RunsWith IsSoundStep x more later u) first rest
 run-append w v u (event ∷ events) (reply ∷ replies) more later first rest =
     (first.0, first.1, first.2, run-append first.0 v u events replies more later first.3 rest)
 run-append w v u [] (reply ∷ replies) more later first rest = absurd first
 run-append w v u (event ∷ events) [] more later first rest = absurd first
 
-pub goes_trans : (p q r : Plan) (w v u : World) (replies later : List Reply) → Goes p w replies v q → Goes q v later u r → Goes p w (replies ++ later) u r
+pub goes_trans : (p q r : Plan) (w v u : WorldState) (replies later : List Reply) → Goes p w replies v q → Goes q v later u r → Goes p w (replies ++ later) u r
 goes_trans p q r w v u replies later first rest = record {
   under_way = record {
     events = first.under_way.events ++ rest.under_way.events;
@@ -68,10 +68,10 @@ goes_trans p q r w v u replies later first rest = record {
 }
 
 -- the same, where the plan goes on as one that says the same
-pub goes_as : (p q r : Plan) (w v : World) (replies : List Reply) → ((later : List Reply) → q later ≡ r later) → Goes p w replies v q → Goes p w replies v r
+pub goes_as : (p q r : Plan) (w v : WorldState) (replies : List Reply) → ((later : List Reply) → q later ≡ r later) → Goes p w replies v q → Goes p w replies v r
 goes_as p q r w v replies same goes = record { under_way = goes.under_way; goes_on = λ later. goes.goes_on later ∙ same later }
 
-pub carried_out : (p q : Plan) (w v : World) (replies : List Reply) → q [] ≡ None → Goes p w replies v q → IsCarriedOut p w replies v
+pub carried_out : (p q : Plan) (w v : WorldState) (replies : List Reply) → q [] ≡ None → Goes p w replies v q → IsCarriedOut p w replies v
 carried_out p q w v replies none goes = record {
   under_way = goes.under_way;
   done = ap p (sym (append-nil replies)) ∙ goes.goes_on [] ∙ none;
@@ -83,19 +83,19 @@ flat_map-append : {X Y : Type 0} (f : X → List Y) (xs ys : List X) → flat_ma
 flat_map-append f [] ys = refl
 flat_map-append f (x ∷ xs) ys = ap (λ (l : List _). f x ++ l) (flat_map-append f xs ys) ∙ sym (append_assoc (f x) (flat_map f xs) (flat_map f ys))
 
-pub tells_nil : (s t : State) (out : String Global) → t ≡ begun s → Tells s t [] out out
+pub tells_nil : (s t : SessionState) (out : String Global) → t ≡ begun s → Tells s t [] out out
 tells_nil s t out is = record {
   state = rw is refl;
   wrote = sym (append-nil (string_bytes out));
 }
 
-pub tells_trans : (s t u : State) (replies later : List Reply) (old mid out : String Global) →
+pub tells_trans : (s t u : SessionState) (replies later : List Reply) (old mid out : String Global) →
     Tells s t replies old mid → Tells t u later mid out → Tells s u (replies ++ later) old out
 tells_trans s t u replies later old mid out first rest =
-    let names : t.timelines ≡ s.timelines = ap (λ (x : State). x.timelines) first.state in
+    let names : t.timelines ≡ s.timelines = ap (λ (x : SessionState). x.timelines) first.state in
     let more : flat_map (told t.timelines) later ≡ flat_map (told s.timelines) later = ap (λ (ns : List (List ℕ)). flat_map (told ns) later) names in
     record {
-      state = rest.state ∙ ap (λ (x : State). let y : State = record (begun x) { world = u.world } in y) first.state;
+      state = rest.state ∙ ap (λ (x : SessionState). let y : SessionState = record (begun x) { world = u.world } in y) first.state;
       wrote = rest.wrote ∙ ap (λ (bytes : List ℕ). bytes ++ flat_map (told t.timelines) later) first.wrote
           ∙ append_assoc (string_bytes old) (flat_map (told s.timelines) replies) (flat_map (told t.timelines) later)
           ∙ ap (λ (bytes : List ℕ). string_bytes old ++ (flat_map (told s.timelines) replies ++ bytes)) more
@@ -166,39 +166,39 @@ next_point (suc k) (p ∷ points) below =
     let e : suc (k + 1) ≡ suc k + 1 = omega arith in
     (q.0, q.1 ∙ ap (λ (n : ℕ). q.0 ∷ drop n (p ∷ points)) e)
 
-pub put_goes_on : (queue : ℕ) (request : Request) (reply : Reply) (w v : World) → Steps w (Put queue request) reply v → is_put reply ≡ true →
+pub put_goes_on : (queue : ℕ) (request : Request) (reply : Reply) (w v : WorldState) → Steps w (Put queue request) reply v → is_put reply ≡ true →
     Goes (serving queue request) w (reply ∷ []) v (taking queue request)
 put_goes_on queue request reply w v here is = goes_first (serving queue request) (taking queue request) (Put queue request) reply w v refl here (put_goes queue request reply is)
 
-pub put_stops : (queue : ℕ) (request : Request) (reply : Reply) (w v : World) → Steps w (Put queue request) reply v → is_put reply ≡ false →
+pub put_stops : (queue : ℕ) (request : Request) (reply : Reply) (w v : WorldState) → Steps w (Put queue request) reply v → is_put reply ≡ false →
     IsCarriedOut (serving queue request) w (reply ∷ []) v
 put_stops queue request reply w v here is =
     carried_out (serving queue request) nothing w v (reply ∷ []) refl (goes_first (serving queue request) nothing (Put queue request) reply w v refl here (not_put queue request reply is))
 
-pub taken_goes_on : (queue : ℕ) (request : Request) (reply : Reply) (w v : World) → Steps w (Take queue) reply v → is_taken reply ≡ true →
+pub taken_goes_on : (queue : ℕ) (request : Request) (reply : Reply) (w v : WorldState) → Steps w (Take queue) reply v → is_taken reply ≡ true →
     Goes (taking queue request) w (reply ∷ []) v (looks queue request.waits.items request.signals.items)
 taken_goes_on queue request reply w v here is =
     goes_first (taking queue request) (looks queue request.waits.items request.signals.items) (Take queue) reply w v refl here (taken_goes queue request reply is)
 
-pub taken_stops : (queue : ℕ) (request : Request) (reply : Reply) (w v : World) → Steps w (Take queue) reply v → is_taken reply ≡ false →
+pub taken_stops : (queue : ℕ) (request : Request) (reply : Reply) (w v : WorldState) → Steps w (Take queue) reply v → is_taken reply ≡ false →
     Goes (taking queue request) w (reply ∷ []) v nothing
 taken_stops queue request reply w v here is = goes_first (taking queue request) nothing (Take queue) reply w v refl here (not_taken queue request reply is)
 
-pub gives_up : (queue : ℕ) (reply : Reply) (w v : World) → Steps w (GiveUp queue) reply v → Goes (once (GiveUp queue)) w (reply ∷ []) v nothing
+pub gives_up : (queue : ℕ) (reply : Reply) (w v : WorldState) → Steps w (GiveUp queue) reply v → Goes (once (GiveUp queue)) w (reply ∷ []) v nothing
 gives_up queue reply w v here = goes_first (once (GiveUp queue)) nothing (GiveUp queue) reply w v refl here (λ later. refl)
 
-pub bound_goes_on : (queue : ℕ) (signals : List Point) (reply : Reply) (w v : World) → Steps w (Bind queue) reply v → is_accepted reply ≡ true →
+pub bound_goes_on : (queue : ℕ) (signals : List Point) (reply : Reply) (w v : WorldState) → Steps w (Bind queue) reply v → is_accepted reply ≡ true →
     Goes (carrying_out queue signals) w (reply ∷ []) v (payments queue signals)
 bound_goes_on queue signals reply w v here is =
     goes_first (carrying_out queue signals) (payments queue signals) (Bind queue) reply w v refl here (accepted_goes queue signals reply is)
 
-pub bound_stops : (queue : ℕ) (signals : List Point) (reply : Reply) (w v : World) → Steps w (Bind queue) reply v → is_accepted reply ≡ false →
+pub bound_stops : (queue : ℕ) (signals : List Point) (reply : Reply) (w v : WorldState) → Steps w (Bind queue) reply v → is_accepted reply ≡ false →
     Goes (carrying_out queue signals) w (reply ∷ []) v nothing
 bound_stops queue signals reply w v here is = goes_first (carrying_out queue signals) nothing (Bind queue) reply w v refl here (not_accepted queue signals reply is)
 
 -- Looks and payments, so many of which are done.
 
-pub look_goes_on : (queue k : ℕ) (points signals : List Point) (reply : Reply) (w v : World) → k < length points → Steps w (Look queue) reply v → looked_of reply ≡ AllReached →
+pub look_goes_on : (queue k : ℕ) (points signals : List Point) (reply : Reply) (w v : WorldState) → k < length points → Steps w (Look queue) reply v → looked_of reply ≡ AllReached →
     Goes (looks queue (drop k points) signals) w (reply ∷ []) v (looks queue (drop (k + 1) points) signals)
 look_goes_on queue k points signals reply w v below here is =
     let p = next_point k points below in
@@ -206,7 +206,7 @@ look_goes_on queue k points signals reply w v below here is =
     (goes_first (looks queue (p.0 ∷ drop (k + 1) points) signals) (looks queue (drop (k + 1) points) signals) (Look queue) reply w v refl here
     (reached_goes queue p.0 (drop (k + 1) points) signals reply is))
 
-pub look_stops : (queue k : ℕ) (points signals : List Point) (reply : Reply) (came : Looked) (w v : World) → k < length points → Steps w (Look queue) reply v →
+pub look_stops : (queue k : ℕ) (points signals : List Point) (reply : Reply) (came : Looked) (w v : WorldState) → k < length points → Steps w (Look queue) reply v →
     looked_of reply ≡ came → came ≢ AllReached → Goes (looks queue (drop k points) signals) w (reply ∷ []) v (after_looks queue signals came)
 look_stops queue k points signals reply came w v below here is ends =
     let p = next_point k points below in
@@ -214,7 +214,7 @@ look_stops queue k points signals reply came w v below here is ends =
     (goes_first (looks queue (p.0 ∷ drop (k + 1) points) signals) (after_looks queue signals (looked_of reply)) (Look queue) reply w v refl here
     (look_ends queue p.0 (drop (k + 1) points) signals reply (λ e. ends (sym is ∙ e))))
 
-pub pay_goes_on : (queue k : ℕ) (points : List Point) (reply : Reply) (w v : World) → k < length points → Steps w (Pay queue) reply v → is_raised reply ≡ true →
+pub pay_goes_on : (queue k : ℕ) (points : List Point) (reply : Reply) (w v : WorldState) → k < length points → Steps w (Pay queue) reply v → is_raised reply ≡ true →
     Goes (payments queue (drop k points)) w (reply ∷ []) v (payments queue (drop (k + 1) points))
 pay_goes_on queue k points reply w v below here is =
     let p = next_point k points below in
@@ -222,7 +222,7 @@ pay_goes_on queue k points reply w v below here is =
     (goes_first (payments queue (p.0 ∷ drop (k + 1) points)) (payments queue (drop (k + 1) points)) (Pay queue) reply w v refl here
     (raised_goes queue p.0 (drop (k + 1) points) reply is))
 
-pub pay_stops : (queue k : ℕ) (points : List Point) (reply : Reply) (w v : World) → k < length points → Steps w (Pay queue) reply v → is_raised reply ≡ false →
+pub pay_stops : (queue k : ℕ) (points : List Point) (reply : Reply) (w v : WorldState) → k < length points → Steps w (Pay queue) reply v → is_raised reply ≡ false →
     Goes (payments queue (drop k points)) w (reply ∷ []) v nothing
 pay_stops queue k points reply w v below here is =
     let p = next_point k points below in
@@ -240,7 +240,7 @@ pub payments_done : (queue k : ℕ) (points : List Point) (later : List Reply) �
 payments_done queue k points later is = rw (← is, all_dropped points) refl
 
 -- a request was put and taken, and its waits were looked at
-pub looked_goes : (queue : ℕ) (request : Request) (put took : Reply) (replies : List Reply) (came : Looked) (w v u x : World) →
+pub looked_goes : (queue : ℕ) (request : Request) (put took : Reply) (replies : List Reply) (came : Looked) (w v u x : WorldState) →
     Steps w (Put queue request) put v → is_put put ≡ true → Steps v (Take queue) took u → is_taken took ≡ true →
     Goes (looks queue request.waits.items request.signals.items) u replies x (after_looks queue request.signals.items came) →
     Goes (serving queue request) w (put ∷ (took ∷ replies)) x (after_looks queue request.signals.items came)

@@ -1,7 +1,7 @@
 -- Two plans that ask the same of two worlds, but for the memory of what they bring.
 use Rattle.std.specs.Prelude.{List, [], ◌∷◌, Option, Some, None}
 use Rattle.gv_vm.specs.Alike.{AreAlikeWorlds, AreAlikeEvents, AreAlikeReplies, IsAmpleReply}
-use Rattle.gv_vm.specs.World.{World}
+use Rattle.gv_vm.specs.World.{WorldState}
 use Rattle.gv_vm.specs.declared.event.Event.{Event}
 use Rattle.gv_vm.specs.declared.event.Reply.{Reply}
 use Rattle.gv_text.specs.Events.{Plan}
@@ -30,6 +30,6 @@ AreAmple [] = Unit {0}
 AreAmple (reply ∷ replies) = IsAmpleReply reply × AreAmple replies
 
 -- Two worlds gave the same replies, and came to worlds that are the same.
-pub record StayAlike (replies replies' : List Reply) (w w' : World) : Type 0 where
+pub record StayAlike (replies replies' : List Reply) (w w' : WorldState) : Type 0 where
   pub replies_are : AreAllAlike replies replies'
   pub worlds : AreAlikeWorlds w w'

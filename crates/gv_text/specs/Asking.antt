@@ -16,7 +16,7 @@ use Rattle.gv_lines.specs.declared.job.Access.TheVariants.{Read, Write}
 use Rattle.gv_lines.specs.declared.operation.Operation.{Operation}
 use Rattle.gv_lines.specs.declared.operation.Operation.TheVariants.{Map as MapWords, Zero as ZeroWords, Unmap as UnmapWords, UnmapAll as UnmapAllWords}
 use Rattle.gv_lines.specs.declared.point.NamedPoint.{NamedPoint}
-use Rattle.gv_text.specs.State.{State, Buffers, buffer_named, timeline_named}
+use Rattle.gv_text.specs.State.{SessionState, Buffers, buffer_named, timeline_named}
 
 abbrev pub flags_of : Bool → Flags
 flags_of read_only = record { read_only = read_only }
@@ -39,12 +39,12 @@ point_named timelines point = option_map (point_on point.value) (timeline_named 
 
 -- A request of these clauses: their operations, waits and signals, each in the order of the line, where every name in them
 -- is declared.
-pub record IsRequest (s : State) (clauses : List Clause) (request : Request) : Type 0 where
+pub record IsRequest (s : SessionState) (clauses : List Clause) (request : Request) : Type 0 where
   pub ops : all_read (op_named s.buffers) (operations_of clauses) ≡ Some request.ops.items
   pub waits : all_read (point_named s.timelines) (waits_of clauses) ≡ Some request.waits.items
   pub signals : all_read (point_named s.timelines) (signals_of clauses) ≡ Some request.signals.items
 
 -- an access of a job
-abbrev pub access_of : NamedAccess → Access
-access_of (Read addr) = record { addr = addr; usage = ReadUsage }
-access_of (Write addr) = record { addr = addr; usage = WriteUsage }
+abbrev pub access_named : NamedAccess → Access
+access_named (Read addr) = record { addr = addr; usage = ReadUsage }
+access_named (Write addr) = record { addr = addr; usage = WriteUsage }

@@ -5,7 +5,7 @@ use Rattle.gv_types.specs.declared.request.Request.{Request}
 use Rattle.gv_vm.specs.Run.{RunsWith}
 use Rattle.gv_vm.specs.Headline.{IsSoundStep}
 use Rattle.gv_vm.specs.Step.{step}
-use Rattle.gv_vm.specs.World.{World}
+use Rattle.gv_vm.specs.World.{WorldState}
 use Rattle.gv_vm.specs.declared.event.Event.{Event}
 use Rattle.gv_vm.specs.declared.event.Event.TheVariants.{Put, Take, Look, Bind, GiveUp, Pay}
 use Rattle.gv_vm.specs.declared.event.Reply.{Reply}
@@ -63,16 +63,16 @@ AreAsked plan [] (reply ∷ replies) = ⊥
 AreAsked plan (event ∷ events) [] = ⊥
 
 -- a step that leads to a machine as it has to be, of which the headline says what it says of every step
-abbrev pub Steps : World → Event → Reply → World → Type 0
+abbrev pub Steps : WorldState → Event → Reply → WorldState → Type 0
 Steps old event reply new = step old event reply new × IsSoundStep old event reply new
 
 -- so far a plan was carried out: the world gave these replies, and so came from the one to the other
-pub record IsUnderWay (plan : Plan) (old : World) (replies : List Reply) (new : World) : Type 0 where
+pub record IsUnderWay (plan : Plan) (old : WorldState) (replies : List Reply) (new : WorldState) : Type 0 where
   pub events : List Event
   pub asked : AreAsked plan events replies
   pub ran : RunsWith IsSoundStep old events replies new
 
 -- a plan was carried out to its end
-pub record IsCarriedOut (plan : Plan) (old : World) (replies : List Reply) (new : World) : Type 0 where
+pub record IsCarriedOut (plan : Plan) (old : WorldState) (replies : List Reply) (new : WorldState) : Type 0 where
   pub under_way : IsUnderWay plan old replies new
   pub done : plan replies ≡ None

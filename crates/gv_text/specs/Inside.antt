@@ -1,16 +1,16 @@
--- How a `Session` is seen as a `State`, and what it keeps of its parts. No public clause cites this module.
+-- How a `Session` is seen as a `SessionState`, and what it keeps of its parts. No public clause cites this module.
 use Rattle.std.specs.Prelude.{◌≡◌, ◌≤◌, length}
 use Rattle.gv_sync.specs.Seats.{most_timelines}
-use Rattle.gv_text.specs.State.{State}
+use Rattle.gv_text.specs.State.{SessionState}
 use Rattle.gv_text.specs.declared.session.Session.TheInside.{Inside}
 
-abbrev pub state_of : Inside → State
+abbrev pub state_of : Inside → SessionState
 state_of d = record { stage = d.stage; world = d.world; buffers = d.buffers.entries; timelines = d.timelines.names }
 
 -- the world has all timelines, so each declared one is there
-pub record HasTimelines (s : State) : Type 0 where
+pub record HasTimelines (s : SessionState) : Type 0 where
   pub all : length s.world.numbers ≡ most_timelines
   pub declared : length s.timelines ≤ most_timelines
 
-abbrev pub IsSound : Inside → Type 0
-IsSound d = HasTimelines (state_of d)
+abbrev pub IsSoundSession : Inside → Type 0
+IsSoundSession d = HasTimelines (state_of d)

@@ -1,9 +1,9 @@
 -- What a question is answered, whatever stands beside the names and the address space.
 use Rattle.std.specs.Prelude.{ℕ, List}
-use Rattle.gv_vm.specs.State.{Machine}
+use Rattle.gv_vm.specs.State.{VmState}
 use Rattle.gv_lines.specs.declared.line.Line.{Line}
 use Rattle.gv_lines.specs.declared.line.Line.TheVariants as line
-use Rattle.gv_text.specs.State.{State, Buffers, begun}
+use Rattle.gv_text.specs.State.{SessionState, Buffers, begun}
 use Rattle.gv_text.specs.Line.{plain, Runs}
 
 -- a line asks of the address space, and changes nothing
@@ -18,10 +18,10 @@ IsQuestion (line.Told queue) = Unit {0}
 IsQuestion other = ⊥
 
 -- a state, but for its names and its address space
-abbrev pub with_machine : Buffers → List (List ℕ) → Machine → State → State
-with_machine buffers timelines m s = record s { world = record s.world { machine = m }; buffers = buffers; timelines = timelines }
+abbrev pub with_vm : Buffers → List (List ℕ) → VmState → SessionState → SessionState
+with_vm buffers timelines m s = record s { world = record s.world { vm = m }; buffers = buffers; timelines = timelines }
 
 -- on every state with these names and this address space the line writes this text
-abbrev pub IsAnswer : Line → Buffers → List (List ℕ) → Machine → List ℕ → Type 0
+abbrev pub IsAnswer : Line → Buffers → List (List ℕ) → VmState → List ℕ → Type 0
 IsAnswer question buffers timelines m text =
-    (s : State) → Runs question (with_machine buffers timelines m s) (plain text) (begun (with_machine buffers timelines m s))
+    (s : SessionState) → Runs question (with_vm buffers timelines m s) (plain text) (begun (with_vm buffers timelines m s))

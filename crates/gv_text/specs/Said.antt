@@ -5,10 +5,10 @@ use Rattle.gv_types.specs.Operation.{in_pages}
 use Rattle.gv_types.specs.declared.fault.Fault.{Fault}
 use Rattle.gv_types.specs.declared.fault.Fault.TheVariants.{NoBuffer, OutOfMemory}
 use Rattle.gv_types.specs.declared.operation.Op.{Op}
-use Rattle.gv_buffers.specs.Table.{Table, uses, kept}
+use Rattle.gv_buffers.specs.Buffers.{BuffersState, uses, kept}
 use Rattle.gv_types.specs.declared.mapping.BufferId.{BufferId}
 use Rattle.gv_split.specs.Steps.{steps}
-use Rattle.gv_space.specs.State.{AddressSpace}
+use Rattle.gv_space.specs.State.{SpaceState}
 use Rattle.gv_space.specs.Refusal.{operation_fault}
 use Rattle.gv_vm.specs.declared.event.Reply.{Reply}
 use Rattle.gv_vm.specs.declared.event.Reply.TheVariants.{NotPut, Told, Raised, Created, Destroyed, Rewound, Withdrawn, Settled, Begun, Ended, Refused}
@@ -59,13 +59,13 @@ counts_reply None = refused_reply NoBuffer
 counts_reply (Some counts) = uses_reply counts.0 counts.1
 
 -- how many mappings of a buffer there are, unless it is destroyed
-abbrev pub uses_said : Table → BufferId → List ℕ
+abbrev pub uses_said : BuffersState → BufferId → List ℕ
 uses_said t id = counts_reply (option_zip (uses t id) (kept t id))
 
-abbrev pub plan_reply : List (List ℕ) → AddressSpace → Op → Option Fault → List ℕ
+abbrev pub plan_reply : List (List ℕ) → SpaceState → Op → Option Fault → List ℕ
 plan_reply names s op (Some fault) = refused_reply fault
 plan_reply names s op None = lines_reply (step_text names) (steps s.mappings (in_pages op))
 
 -- the split steps of an operation, or why it would be refused
-abbrev pub plan_said : List (List ℕ) → AddressSpace → Op → List ℕ
+abbrev pub plan_said : List (List ℕ) → SpaceState → Op → List ℕ
 plan_said names s op = plan_reply names s op (operation_fault s op)

@@ -5,46 +5,46 @@ use Rattle.gv_lines.specs.Grammar.{parsed}
 use Rattle.gv_lines.specs.Words.{parts}
 use Rattle.gv_lines.specs.declared.line.Line.TheVariants.{Silent}
 use Rattle.gv_text.specs.Reading.{script_limit}
-use Rattle.gv_text.specs.State.{State, start}
+use Rattle.gv_text.specs.State.{SessionState, start}
 use Rattle.gv_text.specs.Line.{Written, RunsText, IsGoodText}
 use Rattle.gv_text.specs.declared.fault.LineFault.{LineFault}
 use Rattle.gv_text.specs.declared.fault.LineFault.TheVariants.{Bad, OutOfMemory as NoMemory}
 use Rattle.gv_text.specs.declared.fault.ScriptFault.{ScriptFault}
 use Rattle.gv_text.specs.declared.fault.ScriptFault.TheVariants.{BadLine, ScriptTooLong, ReadFault, WriteFault, OutOfMemory}
 
-abbrev pub one_if : Bool → ℕ
-one_if true = 1
-one_if false = 0
+abbrev pub refusals_of : Bool → ℕ
+refusals_of true = 1
+refusals_of false = 0
 
 -- These lines, run one after another, give this text and lead from the old state to the new; to as many of them
 -- as `refusals` counts memory was refused, and they replied so.
-abbrev pub Replies : State → List (List ℕ) → List ℕ → State → ℕ → Type 0
+abbrev pub Replies : SessionState → List (List ℕ) → List ℕ → SessionState → ℕ → Type 0
 Replies old [] text new refusals = (text ≡ []) × (new ≡ old) × (refusals ≡ 0)
 Replies old (line ∷ lines) text new refusals =
-    (here : Written) × (mid : State) × (after : List ℕ) × (more : ℕ)
+    (here : Written) × (mid : SessionState) × (after : List ℕ) × (more : ℕ)
     × RunsText line old here mid × Replies mid lines after new more
-    × (text ≡ here.text ++ after) × (refusals ≡ one_if here.lacking + more)
+    × (text ≡ here.text ++ after) × (refusals ≡ refusals_of here.lacking + more)
 
 -- The text is the replies of a front of the script's lines, `count` of them, and the rest of the script follows:
 -- lines, and at last what stands behind the last line end.
-pub record IsFront (script text : List ℕ) (rest : List (List ℕ)) (count refusals : ℕ) (now : State) : Type 0 where
+pub record IsFront (script text : List ℕ) (rest : List (List ℕ)) (count refusals : ℕ) (now : SessionState) : Type 0 where
   pub lines : List (List ℕ)
   pub cut : parts 10 script ≡ lines ++ rest
   pub run : Replies start lines text now refusals
   pub counted : length lines ≡ count
 
 -- a line is bad: with nothing behind it, it has no line end, and is bad unless it is nothing
-abbrev pub IsBadBefore : State → List ℕ → List (List ℕ) → Type 0
+abbrev pub IsBadBefore : SessionState → List ℕ → List (List ℕ) → Type 0
 IsBadBefore now line [] = line ≢ []
 IsBadBefore now line (next ∷ more) = ¬ IsGoodText line now
 
 -- A line that may want memory: it is not bad, and neither empty nor a comment.
-pub record MayWant (text : List ℕ) (s : State) : Type 0 where
+pub record MayWant (text : List ℕ) (s : SessionState) : Type 0 where
   pub good : IsGoodText text s
   pub says : parsed text ≢ Some Silent
 
 -- a line has its line end, and may want memory
-abbrev pub WantsBefore : State → List ℕ → List (List ℕ) → Type 0
+abbrev pub WantsBefore : SessionState → List ℕ → List (List ℕ) → Type 0
 WantsBefore now line [] = ⊥
 WantsBefore now line (next ∷ more) = MayWant line now
 
@@ -52,7 +52,7 @@ WantsBefore now line (next ∷ more) = MayWant line now
 -- refused.
 pub record RunsWhole (script text : List ℕ) (refusals : ℕ) : Type 0 where
   pub count : ℕ
-  pub now : State
+  pub now : SessionState
   pub front : IsFront script text ([] ∷ []) count refusals now
 
 -- The text is the replies of the lines before the line of this number, counted from 1, which is the first bad one.
@@ -60,7 +60,7 @@ pub record StopsBefore (script text : List ℕ) (refusals number : ℕ) : Type 0
   pub line : List ℕ
   pub more : List (List ℕ)
   pub count : ℕ
-  pub now : State
+  pub now : SessionState
   pub front : IsFront script text (line ∷ more) count refusals now
   pub bad : IsBadBefore now line more
   pub counted : number ≡ count + 1
@@ -97,7 +97,7 @@ pub record IsStart (script text : List ℕ) : Type 0 where
   pub more : List (List ℕ)
   pub count : ℕ
   pub refusals : ℕ
-  pub now : State
+  pub now : SessionState
   pub front : IsFront script text (next ∷ more) count refusals now
   pub good : (count ≡ 0) ⊎ WantsBefore now next more
 
@@ -116,7 +116,7 @@ Ends script held holds (Err ReadFault) = ⊥
 Ends script held holds (Err ScriptTooLong) = ⊥
 
 -- The same for the line of this number, run on a state.
-abbrev pub LineEnds : {T : Type 0} → State → List ℕ → ℕ → State → Option (List ℕ) → Option (List ℕ) → Result T ScriptFault → Type 0
+abbrev pub LineEnds : {T : Type 0} → SessionState → List ℕ → ℕ → SessionState → Option (List ℕ) → Option (List ℕ) → Result T ScriptFault → Type 0
 LineEnds old line number new held holds (Ok done) =
     (here : Written) × RunsText line old here new × Appends held holds here.text
 LineEnds old line number new held holds (Err (BadLine bad)) =

@@ -4,12 +4,12 @@ use Rattle.std.specs.List.{flat_map}
 use Rattle.std.specs.declared.alloc.Global.{Global}
 use Rattle.gv_types.specs.declared.operation.Op.{Op}
 use Rattle.gv_types.specs.declared.request.Point.{Point}
-use Rattle.gv_vm.specs.World.{World}
+use Rattle.gv_vm.specs.World.{WorldState}
 use Rattle.gv_vm.specs.declared.event.Event.TheVariants.{GiveUp}
 use Rattle.gv_vm.specs.declared.event.Reply.{Reply}
 use Rattle.gv_vm.specs.declared.event.Reply.TheVariants.{Put, Taken, Reached, Lacking, Told, Raised}
 use Rattle.gv_vm.specs.declared.outcome.Outcome.TheVariants.{Accepted}
-use Rattle.gv_text.specs.State.{State, Buffers, begun}
+use Rattle.gv_text.specs.State.{SessionState, Buffers, begun}
 use Rattle.gv_text.specs.Events.{Plan, once, carrying_out, IsUnderWay}
 use Rattle.gv_text.specs.Said.{told}
 use Rattle.gv_text.specs.Line.{Written}
@@ -31,7 +31,7 @@ abbrev pub GoesOn : Plan → List Reply → Plan → Type 0
 GoesOn plan replies next = (later : List Reply) → plan (replies ++ later) ≡ next later
 
 -- the world has come from the one to the other by a plan, which goes on as another
-pub record Goes (plan : Plan) (old : World) (replies : List Reply) (new : World) (next : Plan) : Type 0 where
+pub record Goes (plan : Plan) (old : WorldState) (replies : List Reply) (new : WorldState) (next : Plan) : Type 0 where
   pub under_way : IsUnderWay plan old replies new
   pub goes_on : GoesOn plan replies next
 
@@ -64,12 +64,12 @@ after_looks queue signals Lacked = once (GiveUp queue)
 after_looks queue signals Other = nothing
 
 -- A state came from another by replies of the world, and what a request is told was written.
-pub record Tells (s t : State) (replies : List Reply) (old out : String Global) : Type 0 where
+pub record Tells (s t : SessionState) (replies : List Reply) (old out : String Global) : Type 0 where
   pub state : t ≡ record (begun s) { world = t.world }
   pub wrote : string_bytes out ≡ string_bytes old ++ flat_map (told s.timelines) replies
 
 -- what a line did was written behind what stood there
-pub record Wrote (Run : State → Written → State → Type 0) (s : State) (old out : String Global) (t : State) : Type 0 where
+pub record Wrote (Run : SessionState → Written → SessionState → Type 0) (s : SessionState) (old out : String Global) (t : SessionState) : Type 0 where
   pub written : Written
   pub text : string_bytes out ≡ string_bytes old ++ written.text
   pub runs : Run s written t

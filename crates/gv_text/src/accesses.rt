@@ -1,7 +1,7 @@
 //! What the words of a job's line ask for.
 ghost use Rattle.std.specs.Prelude.{◌≡◌, ◌↔◌, IsTrue, IfOk, map, length, ◌<◌};
 ghost use Rattle.gv_vm.specs.Jobs.{most_accesses};
-ghost use Rattle.gv_text.specs.Asking.{access_of};
+ghost use Rattle.gv_text.specs.Asking.{access_named};
 
 use gv_buffers::Usage;
 use gv_lines::{Access as NamedAccess, AccessList};
@@ -10,8 +10,8 @@ use gv_vm::{Access, MAX_ACCESSES};
 use std::alloc::Global;
 
 /// An access of a job.
-fn access_of(access: NamedAccess) -> Access
-    ensures { result ≡ access_of access }
+fn access_named(access: NamedAccess) -> Access
+    ensures { result ≡ access_named access }
 {
     match access {
         NamedAccess::Read { addr } => Access {
@@ -27,13 +27,13 @@ fn access_of(access: NamedAccess) -> Access
 
 /// The accesses of a job.
 pub fn accesses_of(alloc: Global, accesses: AccessList<'_>) -> Result<Vec<Access>, OutOfMemory>
-    ensures { IfOk result (λ list. list.items ≡ map access_of accesses.entry) }
+    ensures { IfOk result (λ list. list.items ≡ map access_named accesses.entry) }
 {
     let mut list = Vec::new(alloc);
     let mut left = accesses;
     while let Some(access) = left.take() {
         list.reserve(1)?;
-        list.push_reserved(access_of(access));
+        list.push_reserved(access_named(access));
     }
     Ok(list)
 }

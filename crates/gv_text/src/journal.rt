@@ -1,7 +1,7 @@
 //! The text of the journal.
 ghost use Rattle.std.specs.Prelude.{◌≡◌, ◌+◌, ◌^◌, ◌<◌, ◌++◌, ◌||◌, ◌∷◌, [], ℕ, false, length, reverse, IfOk, OnOk, string_bytes, slice_index_or};
 ghost use Rattle.std.specs.List.{list_any};
-ghost use Rattle.gv_journal.specs.Items.{Journaled, names};
+ghost use Rattle.gv_journal.specs.Items.{JournalState, names};
 ghost use Rattle.gv_text.specs.Reply.{reply, kind_text, liveness_text, journal_reply};
 
 use gv_journal::{Item, ItemKind};
@@ -72,7 +72,7 @@ pub fn write_journal(
     items: &[Item],
 ) -> Result<(), OutOfMemory>
     requires { first + length items.now < 2 ^ 64 }
-    ensures { OnOk result ((j : Journaled) → items.now ≡ reverse j.items → first ≡ j.first
+    ensures { OnOk result ((j : JournalState) → items.now ≡ reverse j.items → first ≡ j.first
         → string_bytes out.new ≡ string_bytes out.old ++ journal_reply j) }
 {
     if items.is_empty() {

@@ -2,7 +2,7 @@
 ghost use Rattle.std.specs.Prelude.{◌≡◌, ◌<◌, ◌∷◌, ◌++◌, [], None, OnOk, slice_get, option_map, option_and_then};
 ghost use Rattle.std.specs.Prelude.{position, bytes_eq, is_some};
 ghost use Rattle.std.specs.Map.{lookup};
-ghost use Rattle.gv_text.specs.State.{texts};
+ghost use Rattle.gv_text.specs.State.{names_alone};
 
 use gv_lines::Name;
 use gv_types::{BufferId, OutOfMemory};
@@ -19,9 +19,9 @@ pub struct Names {
 
 impl Model for Names {
     ghost use Rattle.indexmap.specs.IndexMap.{spare};
-    ghost use Rattle.gv_text.specs.State.{Register};
+    ghost use Rattle.gv_text.specs.State.{NamesState};
 
-    ghost Value = { Register };
+    ghost Value = { NamesState };
 
     ghost view = { λ n. record { entries = n.ids.entries; room = spare n.ids } };
 }
@@ -38,7 +38,7 @@ impl Names {
     /// The buffer of a name, if it is declared.
     pub fn id_of(&self, name: &Name) -> Option<BufferId>
         ensures id { result ≡ option_and_then (λ place. option_map (λ entry. entry.1) (slice_get self.now.entries place))
-            (position (bytes_eq name.now) (texts self.now.entries)) }
+            (position (bytes_eq name.now) (names_alone self.now.entries)) }
         ensures found { is_some result ≡ is_some (lookup (bytes_eq name.now) self.now.entries) }
     {
         let place = self.ids.get_index_of(name)?;
@@ -48,7 +48,7 @@ impl Names {
 
     /// The name of a declared buffer.
     pub fn name_of(&self, id: BufferId) -> Option<&Name>
-        ensures { option_map (λ name. name.now) result ≡ slice_get (texts self.now.entries) id.generation }
+        ensures { option_map (λ name. name.now) result ≡ slice_get (names_alone self.now.entries) id.generation }
     {
         let place = id.generation.get() as usize;
         let (name, _) = self.ids.get_index(place)?;

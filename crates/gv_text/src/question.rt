@@ -2,9 +2,9 @@
 ghost use Rattle.std.specs.Prelude.{◌≡◌, ◌≢◌, ◌++◌, ℕ, List, Err, OnOk, string_bytes};
 ghost use Rattle.gv_text.specs.Reply.{journal_reply};
 ghost use Rattle.gv_text.specs.Said.{uses_said, plan_said};
-ghost use Rattle.gv_text.specs.State.{State, texts};
+ghost use Rattle.gv_text.specs.State.{SessionState, names_alone};
 ghost use Rattle.gv_text.specs.Line.{IsGood};
-ghost use Rattle.gv_text.specs.Question.{IsQuestion, IsAnswer, with_machine};
+ghost use Rattle.gv_text.specs.Question.{IsQuestion, IsAnswer, with_vm};
 
 use crate::fault::LineFault;
 use crate::journal::write_journal;
@@ -33,9 +33,9 @@ pub fn answer(
         × IsAnswer question.now names.now.entries timelines.now.names vm.now text
         × (string_bytes out.new ≡ string_bytes out.old ++ text)) }
     ensures bad { result ≡ Err LineFault.Bad
-        → (s : State) → ¬ IsGood question.now (with_machine names.now.entries timelines.now.names vm.now s) }
+        → (s : SessionState) → ¬ IsGood question.now (with_vm names.now.entries timelines.now.names vm.now s) }
     ensures memory { IsQuestion question.now → result ≢ Err LineFault.Bad
-        → (s : State) → IsGood question.now (with_machine names.now.entries timelines.now.names vm.now s) }
+        → (s : SessionState) → IsGood question.now (with_vm names.now.entries timelines.now.names vm.now s) }
 {
     match question {
         Line::Uses { name } => {
@@ -80,7 +80,7 @@ fn write_plan(
     op: &Op,
 ) -> Result<(), OutOfMemory>
     ensures { OnOk result (string_bytes out.new
-        ≡ string_bytes out.old ++ plan_said (texts names.now.entries) vm.now.space op.now) }
+        ≡ string_bytes out.old ++ plan_said (names_alone names.now.entries) vm.now.space op.now) }
 {
     match vm.space().plan(alloc, op) {
         Ok(steps) => Ok(write_steps(out, names, &steps)?),

@@ -2,8 +2,8 @@
 ghost use Rattle.std.specs.Prelude.{◌≡◌, ◌+◌, ◌*◌, ◌≤◌, ◌<◌, ◌++◌, ◌∷◌, [], OnOk, codes, decimal, string_bytes};
 ghost use Rattle.std.specs.List.{All};
 ghost use Rattle.gv_vm.specs.Places.{target_of};
-ghost use Rattle.gv_text.specs.State.{texts, LieInside, IsHeld};
-ghost use Rattle.gv_text.specs.Reply.{target_text, mapping_text, rest_text, step_text, flags_text, keep_text, name_of};
+ghost use Rattle.gv_text.specs.State.{names_alone, HavePagesThatFit, HasBytesThatFit};
+ghost use Rattle.gv_text.specs.Reply.{target_text, mapping_text, rest_text, step_text, flags_text, keep_text, buffer_name};
 ghost use Rattle.gv_text.specs.Reply.{lines_reply, place_text, place_reply, tables_reply, IsHeldRest, IsHeldStep};
 
 use crate::names::Names;
@@ -29,7 +29,7 @@ fn keep_word(keep: bool) -> &'static str
 
 /// Writes the name of a buffer.
 fn write_name(out: &mut String, names: &Names, id: BufferId) -> Result<(), AllocError>
-    ensures { OnOk result (string_bytes out.new ≡ string_bytes out.old ++ name_of (texts names.now.entries) id) }
+    ensures { OnOk result (string_bytes out.new ≡ string_bytes out.old ++ buffer_name (names_alone names.now.entries) id) }
 {
     match names.name_of(id) {
         Some(name) => out.push_str(name.as_str()),
@@ -40,7 +40,7 @@ fn write_name(out: &mut String, names: &Names, id: BufferId) -> Result<(), Alloc
 /// Writes a buffer and a byte of it.
 fn write_byte(out: &mut String, names: &Names, id: BufferId, byte: u64) -> Result<(), AllocError>
     ensures { OnOk result (string_bytes out.new
-        ≡ string_bytes out.old ++ target_text (texts names.now.entries) (Target.Buffer id byte)) }
+        ≡ string_bytes out.old ++ target_text (names_alone names.now.entries) (Target.Buffer id byte)) }
 {
     write_name(out, names, id)?;
     out.push_str(" ")?;
@@ -49,7 +49,7 @@ fn write_byte(out: &mut String, names: &Names, id: BufferId, byte: u64) -> Resul
 
 /// Writes what stands behind an address.
 fn write_target(out: &mut String, names: &Names, target: Target) -> Result<(), AllocError>
-    ensures { OnOk result (string_bytes out.new ≡ string_bytes out.old ++ target_text (texts names.now.entries) target) }
+    ensures { OnOk result (string_bytes out.new ≡ string_bytes out.old ++ target_text (names_alone names.now.entries) target) }
 {
     match target {
         Target::Buffer { id, byte } => write_byte(out, names, id, byte),
@@ -59,9 +59,9 @@ fn write_target(out: &mut String, names: &Names, target: Target) -> Result<(), A
 
 /// Writes what stands behind the first byte of some pages.
 fn write_backing(out: &mut String, names: &Names, backing: Backing) -> Result<(), AllocError>
-    requires { LieInside backing 1 }
+    requires { HavePagesThatFit backing 1 }
     ensures { OnOk result (string_bytes out.new
-        ≡ string_bytes out.old ++ target_text (texts names.now.entries) (target_of backing 0)) }
+        ≡ string_bytes out.old ++ target_text (names_alone names.now.entries) (target_of backing 0)) }
 {
     match backing {
         Backing::Buffer { id, page } => write_byte(out, names, id, page * PAGE_BYTES),
@@ -71,8 +71,8 @@ fn write_backing(out: &mut String, names: &Names, backing: Backing) -> Result<()
 
 /// Writes a mapping: its first byte, the byte past its end, what stands behind it, and its flags.
 fn write_mapping(out: &mut String, names: &Names, mapping: &Mapping) -> Result<(), AllocError>
-    requires { IsHeld mapping.now }
-    ensures { OnOk result (string_bytes out.new ≡ string_bytes out.old ++ mapping_text (texts names.now.entries) mapping.now) }
+    requires { HasBytesThatFit mapping.now }
+    ensures { OnOk result (string_bytes out.new ≡ string_bytes out.old ++ mapping_text (names_alone names.now.entries) mapping.now) }
 {
     write_hex(out, mapping.range.first() * PAGE_BYTES)?;
     out.push_str(" ")?;
@@ -86,7 +86,7 @@ fn write_mapping(out: &mut String, names: &Names, mapping: &Mapping) -> Result<(
 /// Writes what is left of a mapping, or that nothing is.
 fn write_rest(out: &mut String, names: &Names, rest: &Option<Mapping>) -> Result<(), AllocError>
     requires { IsHeldRest rest.now }
-    ensures { OnOk result (string_bytes out.new ≡ string_bytes out.old ++ rest_text (texts names.now.entries) rest.now) }
+    ensures { OnOk result (string_bytes out.new ≡ string_bytes out.old ++ rest_text (names_alone names.now.entries) rest.now) }
 {
     match rest {
         Some(mapping) => write_mapping(out, names, mapping),
@@ -97,7 +97,7 @@ fn write_rest(out: &mut String, names: &Names, rest: &Option<Mapping>) -> Result
 /// Writes a split step.
 fn write_step(out: &mut String, names: &Names, step: &Step) -> Result<(), AllocError>
     requires { IsHeldStep step.now }
-    ensures { OnOk result (string_bytes out.new ≡ string_bytes out.old ++ step_text (texts names.now.entries) step.now) }
+    ensures { OnOk result (string_bytes out.new ≡ string_bytes out.old ++ step_text (names_alone names.now.entries) step.now) }
 {
     match step {
         Step::Unmap { mapping, keep } => {
@@ -128,9 +128,9 @@ fn write_step(out: &mut String, names: &Names, step: &Step) -> Result<(), AllocE
 
 /// Writes each mapping on a line of its own.
 pub fn write_mappings(out: &mut String, names: &Names, list: &RangeList) -> Result<(), AllocError>
-    requires { All IsHeld list.now.mappings }
+    requires { All HasBytesThatFit list.now.mappings }
     ensures { OnOk result (string_bytes out.new ≡
-        string_bytes out.old ++ lines_reply (mapping_text (texts names.now.entries)) list.now.mappings) }
+        string_bytes out.old ++ lines_reply (mapping_text (names_alone names.now.entries)) list.now.mappings) }
 {
     if list.len() == 0 {
         return out.push_str("empty\n");
@@ -146,7 +146,7 @@ pub fn write_mappings(out: &mut String, names: &Names, list: &RangeList) -> Resu
 pub fn write_steps(out: &mut String, names: &Names, steps: &[Step]) -> Result<(), AllocError>
     requires { All IsHeldStep steps.now }
     ensures { OnOk result (string_bytes out.new ≡
-        string_bytes out.old ++ lines_reply (step_text (texts names.now.entries)) steps.now) }
+        string_bytes out.old ++ lines_reply (step_text (names_alone names.now.entries)) steps.now) }
 {
     if steps.is_empty() {
         return out.push_str("empty\n");
@@ -160,7 +160,7 @@ pub fn write_steps(out: &mut String, names: &Names, steps: &[Step]) -> Result<()
 
 /// Writes where an address leads, and how that may be accessed.
 pub fn write_place_text(out: &mut String, names: &Names, place: &Place) -> Result<(), AllocError>
-    ensures { OnOk result (string_bytes out.new ≡ string_bytes out.old ++ place_text (texts names.now.entries) place.now) }
+    ensures { OnOk result (string_bytes out.new ≡ string_bytes out.old ++ place_text (names_alone names.now.entries) place.now) }
 {
     write_target(out, names, place.target)?;
     out.push_str(" ")?;
@@ -169,7 +169,7 @@ pub fn write_place_text(out: &mut String, names: &Names, place: &Place) -> Resul
 
 /// Writes where an address leads, if it leads anywhere.
 pub fn write_place(out: &mut String, names: &Names, place: &Option<Place>) -> Result<(), AllocError>
-    ensures { OnOk result (string_bytes out.new ≡ string_bytes out.old ++ place_reply (texts names.now.entries) place.now) }
+    ensures { OnOk result (string_bytes out.new ≡ string_bytes out.old ++ place_reply (names_alone names.now.entries) place.now) }
 {
     match place {
         Some(place) => {

@@ -2,7 +2,7 @@
 ghost use Rattle.std.specs.Prelude.{◌≡◌, ◌+◌, ◌++◌, ◌∷◌, [], OnOk, codes, decimal, string_bytes};
 ghost use Rattle.std.specs.List.{flat_map};
 ghost use Rattle.gv_types.specs.Fault.{fault_text};
-ghost use Rattle.gv_text.specs.State.{texts};
+ghost use Rattle.gv_text.specs.State.{names_alone};
 ghost use Rattle.gv_text.specs.Reply.{reply, place_text, begun_reply, refused_reply, outcome_text, outcome_line, told_reply};
 ghost use Rattle.gv_text.specs.Reply.{timeline_text, number_reply, counted_reply, withdrawn_reply};
 ghost use Rattle.gv_text.specs.Said.{said, said_of_withdrawal, told};
@@ -157,7 +157,7 @@ pub fn write_told(
 /// Writes each place on a line of its own.
 fn write_places(out: &mut String, names: &Names, places: &[Place]) -> Result<(), AllocError>
     ensures { OnOk result (string_bytes out.new ≡ string_bytes out.old
-        ++ flat_map (λ place. reply (place_text (texts names.now.entries) place ∷ [])) places.now) }
+        ++ flat_map (λ place. reply (place_text (names_alone names.now.entries) place ∷ [])) places.now) }
 {
     for place in places {
         write_place_text(out, names, place)?;
@@ -174,7 +174,7 @@ fn write_begun(
     places: &[Place],
 ) -> Result<(), AllocError>
     ensures { OnOk result (string_bytes out.new
-        ≡ string_bytes out.old ++ begun_reply (texts names.now.entries) job places.now) }
+        ≡ string_bytes out.old ++ begun_reply (names_alone names.now.entries) job places.now) }
 {
     writeln!(out, "job {job}")?;
     write_places(out, names, places)
@@ -188,7 +188,7 @@ pub fn write_said(
     reply: &Reply,
 ) -> Result<(), AllocError>
     ensures { OnOk result (string_bytes out.new
-        ≡ string_bytes out.old ++ said (texts names.now.entries) timelines.now.names reply.now) }
+        ≡ string_bytes out.old ++ said (names_alone names.now.entries) timelines.now.names reply.now) }
 {
     match reply {
         Reply::Raised { point, now } => write_number(out, timelines, point.timeline, *now),

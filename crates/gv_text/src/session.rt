@@ -31,14 +31,14 @@ pub struct Session {
 }
 
 impl Model for Session {
-    ghost use Rattle.gv_text.specs.State.{State};
-    ghost use Rattle.gv_text.specs.Inside.{state_of, IsSound};
+    ghost use Rattle.gv_text.specs.State.{SessionState};
+    ghost use Rattle.gv_text.specs.Inside.{state_of, IsSoundSession};
 
-    ghost Value = { State };
+    ghost Value = { SessionState };
 
     ghost view = { state_of };
 
-    ghost invariant = { IsSound };
+    ghost invariant = { IsSoundSession };
 }
 
 impl Session {
@@ -72,7 +72,7 @@ impl Session {
     pub fn set_bounds(&mut self, alloc: Global, bounds: Bounds) -> Result<(), OutOfMemory>
         ensures { OnOk result (self.new ≡ record self.old {
           stage = Stage.Bounded;
-          world = empty_world bounds self.old.world.machine.space.limits;
+          world = empty_world bounds self.old.world.vm.space.limits;
         }) }
     {
         let limits = self.world.vm().limits();
@@ -84,7 +84,7 @@ impl Session {
     /// Sets the limits: the world is a new one in the same bounds.
     pub fn set_limits(&mut self, alloc: Global, limits: Limits) -> Result<(), OutOfMemory>
         ensures { OnOk result (self.new ≡ record (begun self.old) {
-          world = empty_world self.old.world.machine.space.area limits;
+          world = empty_world self.old.world.vm.space.area limits;
         }) }
     {
         let bounds = self.world.vm().space().bounds();

@@ -21,9 +21,9 @@ pub struct TimelineNames {
 
 impl Model for TimelineNames {
     ghost use Rattle.indexmap.specs.IndexSet.{spare};
-    ghost use Rattle.gv_text.specs.State.{Roll};
+    ghost use Rattle.gv_text.specs.State.{TimelineNamesState};
 
-    ghost Value = { Roll };
+    ghost Value = { TimelineNamesState };
 
     ghost view = { λ n. record { names = n.names.keys; room = spare n.names } };
 }

@@ -9,9 +9,9 @@ use Rattle.gv_lines.specs.Grammar.{parsed}
 use Rattle.gv_lines.specs.declared.line.Line.{Line}
 use Rattle.gv_lines.specs.declared.line.Line.TheVariants as line
 use Rattle.gv_threads.specs.Parts.{IsAsked, Keeps, areas_in, last_of, limits_in, questions_in, questions_of, requests_in, settings_in, timelines_in, unnumbered}
-use Rattle.gv_threads.specs.Places.{MayStand, MayStandAll, MayStandBehind, Place, parts_in, place_behind, place_of, stages_in}
+use Rattle.gv_threads.specs.Standing.{MayStand, MayStandAll, MayStandBehind, Standing, parts_in, standing_behind, standing_of, stages_in}
 use Rattle.gv_threads.specs.Reading.{Adds}
-use Rattle.gv_threads.specs.Script.{ThreadsState}
+use Rattle.gv_threads.specs.Script.{ThreadsScriptState}
 use Rattle.gv_text.specs.declared.stage.Stage.{Stage}
 use Rattle.gv_text.specs.declared.stage.Stage.TheVariants.{Fresh}
 use Rattle.gv_threads.specs.declared.script.Part.{Part}
@@ -32,7 +32,7 @@ part_more : {X : Type 0} (of : Line → List X) (before after : List X) (lines :
     before ≡ flat_map of lines → after ≡ before ++ of l → after ≡ flat_map of (lines ++ l ∷ [])
 part_more of before after lines l was is = is ∙ ap (λ (xs : List _). xs ++ of l) was ∙ flat_map_more of [] lines l
 
-pub keeps_more : (text : List ℕ) (lines : List Line) (old new : ThreadsState) (adds : Adds text old new) → (old.whole ≡ true → Keeps lines old) →
+pub keeps_more : (text : List ℕ) (lines : List Line) (old new : ThreadsScriptState) (adds : Adds text old new) → (old.whole ≡ true → Keeps lines old) →
     new.whole ≡ true → Keeps (lines ++ adds.line ∷ []) new
 keeps_more text lines old new adds kept whole =
     let was : Keeps lines old = kept (adds.whole whole) in record {
@@ -67,31 +67,31 @@ asked_all [] = All-nil IsAsked
 asked_all (l ∷ lines) = All-append IsAsked (questions_in l) (questions_of lines) (asked_in l) (asked_all lines)
 
 -- one line more may stand
-stand_more : (queues : ℕ) (before lines : List Line) (l : Line) → MayStandBehind queues before lines → MayStand queues (place_behind (before ++ lines)) l →
+stand_more : (queues : ℕ) (before lines : List Line) (l : Line) → MayStandBehind queues before lines → MayStand queues (standing_behind (before ++ lines)) l →
     MayStandBehind queues before (lines ++ l ∷ [])
-stand_more queues before [] l were may = (subst (λ (ls : List Line). MayStand queues (place_behind ls) l) (append-nil before) may, tt)
+stand_more queues before [] l were may = (subst (λ (ls : List Line). MayStand queues (standing_behind ls) l) (append-nil before) may, tt)
 stand_more queues before (first ∷ lines) l were may = (
   were.0,
   stand_more queues (before ++ first ∷ []) lines l were.1
-      (subst (λ (ls : List Line). MayStand queues (place_behind ls) l) (sym (append_assoc before (first ∷ []) lines)) may),
+      (subst (λ (ls : List Line). MayStand queues (standing_behind ls) l) (sym (append_assoc before (first ∷ []) lines)) may),
 )
 
-pub stand_all_more : (queues : ℕ) (lines : List Line) (old : ThreadsState) (l : Line) → place_of old ≡ place_behind lines → old.queues ≡ queues →
-    MayStandAll queues lines → MayStand old.queues (place_of old) l → MayStandAll queues (lines ++ l ∷ [])
-stand_all_more queues lines old l place count were may =
+pub stand_all_more : (queues : ℕ) (lines : List Line) (old : ThreadsScriptState) (l : Line) → standing_of old ≡ standing_behind lines → old.queues ≡ queues →
+    MayStandAll queues lines → MayStand old.queues (standing_of old) l → MayStandAll queues (lines ++ l ∷ [])
+stand_all_more queues lines old l standing count were may =
     stand_more queues [] lines l were
-    (subst (λ (p : Place). MayStand queues p l) place (subst (λ (n : ℕ). MayStand n (place_of old) l) count may))
+    (subst (λ (p : Standing). MayStand queues p l) standing (subst (λ (n : ℕ). MayStand n (standing_of old) l) count may))
 
 -- where the next line stands
-pub place_more : (text : List ℕ) (lines : List Line) (old new : ThreadsState) (adds : Adds text old new) → place_of old ≡ place_behind lines →
-    place_of new ≡ place_behind (lines ++ adds.line ∷ [])
-place_more text lines old new adds was =
+pub standing_more : (text : List ℕ) (lines : List Line) (old new : ThreadsScriptState) (adds : Adds text old new) → standing_of old ≡ standing_behind lines →
+    standing_of new ≡ standing_behind (lines ++ adds.line ∷ [])
+standing_more text lines old new adds was =
     let l : Line = adds.line in
     let longer : List Line = lines ++ l ∷ [] in
-    let part : new.part ≡ (place_behind longer).part = last_more parts_in Settings old.part new.part lines l (ap (λ (p : Place). p.part) was) adds.part in
-    let stage : new.stage ≡ (place_behind longer).stage = last_more stages_in Fresh old.stage new.stage lines l (ap (λ (p : Place). p.stage) was) adds.stage in
-    let timelines : new.timelines ≡ (place_behind longer).timelines =
-    part_more timelines_in old.timelines new.timelines lines l (ap (λ (p : Place). p.timelines) was) adds.timelines in
-    ap (λ (x : Part). let p : Place = record { part = x; stage = new.stage; timelines = new.timelines } in p) part
-    ∙ ap (λ (x : Stage). let p : Place = record { part = (place_behind longer).part; stage = x; timelines = new.timelines } in p) stage
-    ∙ ap (λ (x : List (List ℕ)). let p : Place = record { part = (place_behind longer).part; stage = (place_behind longer).stage; timelines = x } in p) timelines
+    let part : new.part ≡ (standing_behind longer).part = last_more parts_in Settings old.part new.part lines l (ap (λ (p : Standing). p.part) was) adds.part in
+    let stage : new.stage ≡ (standing_behind longer).stage = last_more stages_in Fresh old.stage new.stage lines l (ap (λ (p : Standing). p.stage) was) adds.stage in
+    let timelines : new.timelines ≡ (standing_behind longer).timelines =
+    part_more timelines_in old.timelines new.timelines lines l (ap (λ (p : Standing). p.timelines) was) adds.timelines in
+    ap (λ (x : Part). let p : Standing = record { part = x; stage = new.stage; timelines = new.timelines } in p) part
+    ∙ ap (λ (x : Stage). let p : Standing = record { part = (standing_behind longer).part; stage = x; timelines = new.timelines } in p) stage
+    ∙ ap (λ (x : List (List ℕ)). let p : Standing = record { part = (standing_behind longer).part; stage = (standing_behind longer).stage; timelines = x } in p) timelines

@@ -5,12 +5,12 @@ use Rattle.std.proofs.lemmas.List.Elements.{All-nil, All-cons, All-append}
 use Rattle.gv_types.specs.declared.mapping.BufferId.{BufferId}
 use Rattle.gv_lines.specs.declared.line.Line.{Line}
 use Rattle.gv_lines.specs.declared.line.Line.TheVariants as line
-use Rattle.gv_vm.specs.State.{Machine}
+use Rattle.gv_vm.specs.State.{VmState}
 use Rattle.gv_text.specs.Asking.{op_named}
 use Rattle.gv_text.specs.Line.{IsGood, Of}
-use Rattle.gv_text.specs.Question.{with_machine}
+use Rattle.gv_text.specs.Question.{with_vm}
 use Rattle.gv_text.specs.Script.{fault_at}
-use Rattle.gv_text.specs.State.{Buffers, State, buffer_named, start, timeline_named}
+use Rattle.gv_text.specs.State.{Buffers, SessionState, buffer_named, start, timeline_named}
 use Rattle.gv_text.specs.declared.fault.LineFault.{LineFault}
 use Rattle.gv_text.specs.declared.fault.LineFault.TheVariants.{Bad, OutOfMemory}
 use Rattle.gv_text.specs.declared.fault.ScriptFault.{ScriptFault}
@@ -67,7 +67,7 @@ of_some None P h = absurd h
 of_some (Some x) P h = refl
 
 -- a question that was answered has its names
-pub answered_has : (q : Line) (buffers : Buffers) (timelines : List (List ℕ)) (m : Machine) (text : List ℕ) → IsAnswered buffers timelines m q text →
+pub answered_has : (q : Line) (buffers : Buffers) (timelines : List (List ℕ)) (m : VmState) (text : List ℕ) → IsAnswered buffers timelines m q text →
     HasNames buffers timelines q
 answered_has (line.Value name) buffers timelines m text answer = of_some (timeline_named timelines name) _ answer
 answered_has (line.Uses name) buffers timelines m text answer = of_some (buffer_named buffers name) _ (answer start)
@@ -76,8 +76,8 @@ answered_has (line.Told queue) buffers timelines m text answer = (answer start).
 answered_has q buffers timelines m text answer = tt
 
 -- a question that has its names isn't bad
-pub has_good : (q : Line) (buffers : Buffers) (timelines : List (List ℕ)) (m : Machine) (s : State) → IsAsked q → ((name : List ℕ) → q ≡ line.Value name → ⊥) →
-    HasNames buffers timelines q → IsGood q (with_machine buffers timelines m s)
+pub has_good : (q : Line) (buffers : Buffers) (timelines : List (List ℕ)) (m : VmState) (s : SessionState) → IsAsked q → ((name : List ℕ) → q ≡ line.Value name → ⊥) →
+    HasNames buffers timelines q → IsGood q (with_vm buffers timelines m s)
 has_good (line.Value name) buffers timelines m s asked other has = absurd (other name refl)
 has_good (line.Uses name) buffers timelines m s asked other has = has
 has_good (line.Plan operation) buffers timelines m s asked other has = has

@@ -2,7 +2,7 @@
 use Rattle.std.proofs.Common.{◌≡◌, ℕ, ◌+◌, ◌<◌, List, [], ◌∷◌, ◌++◌, length, take, get_or, refl, sym, ap, ◌∙◌, subst, append_assoc, append-nil}
 use Rattle.std.proofs.lemmas.List.{take_more, map-append}
 use Rattle.gv_types.specs.declared.request.Request.{Request}
-use Rattle.gv_vm.specs.State.{Machine}
+use Rattle.gv_vm.specs.State.{VmState}
 use Rattle.gv_lines.specs.declared.clause.Clause.{Clause}
 use Rattle.gv_lines.specs.declared.line.Line.{Line}
 use Rattle.gv_text.specs.State.{Buffers}
@@ -32,7 +32,7 @@ set_up_more timelines (first ∷ settings) setting old mid new text here before 
 )
 
 -- one line more was answered
-pub answered_more : (buffers : Buffers) (timelines : List (List ℕ)) (m : Machine) (questions : List Line) (question : Line) (text here : List ℕ) →
+pub answered_more : (buffers : Buffers) (timelines : List (List ℕ)) (m : VmState) (questions : List Line) (question : Line) (text here : List ℕ) →
     AreAnswered buffers timelines m questions text → IsAnswered buffers timelines m question here →
     AreAnswered buffers timelines m (questions ++ question ∷ []) (text ++ here)
 answered_more buffers timelines m [] question text here before answer =

@@ -8,14 +8,14 @@ use Rattle.gv_threads.specs.declared.fault.ThreadsFault.TheVariants.{Script, Que
 use Rattle.gv_text.specs.Reply.{numbered_lines}
 
 -- the line of what a queue came to: how many requests were put, how many outcomes were told, how many requests are left
-abbrev pub end_line : ℕ → QueueEnd → List ℕ
-end_line queue end =
+abbrev pub line_of_end : ℕ → QueueEnd → List ℕ
+line_of_end queue end =
     codes "queue " ++ (decimal queue ++ (codes " put " ++ (decimal end.put ++ (codes " told " ++ (decimal end.told
     ++ (codes " left " ++ (decimal (length end.left.items) ++ codes "\n")))))))
 
 -- a line for each queue, in order
 abbrev pub end_lines : List QueueEnd → List ℕ
-end_lines = numbered_lines end_line 0
+end_lines = numbered_lines line_of_end 0
 
 -- A script of so many queues ends so: a device's fault is the answer exactly where the device's flag goes up, of which the reader's
 -- and the writer's are given before and after, and a queue that is named is one of them.

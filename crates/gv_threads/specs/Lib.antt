@@ -1,7 +1,7 @@
 pub mod Ending
 pub mod Script
 pub mod Parts
-pub mod Places
+pub mod Standing
 pub mod Naming
 pub mod Reading
 pub mod Running

@@ -10,7 +10,7 @@ use Rattle.gv_text.specs.Asking.{op_named}
 use Rattle.gv_text.specs.Line.{AreDeclared}
 use Rattle.gv_text.specs.State.{Buffers, buffer_named, timeline_named}
 use Rattle.gv_threads.specs.Parts.{unnumbered}
-use Rattle.gv_threads.specs.Script.{ThreadsState}
+use Rattle.gv_threads.specs.Script.{ThreadsScriptState}
 
 -- the queue of some clauses is one of so many, and their names are declared
 abbrev pub MayBePut : ℕ → Buffers → List (List ℕ) → List Clause → Type 0
@@ -38,7 +38,7 @@ pub record IsFirstBad {X : Type 0} (holds : X → Type 0) (entries : List (ℕ �
   pub bad : ¬ holds entry
 
 -- the line of this number is the first of the requests, and then of the last part, that names a buffer which isn't declared
-abbrev pub NamesNone : Buffers → ThreadsState → ℕ → Type 0
+abbrev pub NamesNone : Buffers → ThreadsScriptState → ℕ → Type 0
 NamesNone buffers s number =
     IsFirstBad (MayBePut s.queues buffers s.timelines) s.requests number
     ⊎ (All (MayBePut s.queues buffers s.timelines) (unnumbered s.requests) × IsFirstBad (HasBuffer buffers) s.questions number)

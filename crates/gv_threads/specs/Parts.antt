@@ -1,8 +1,8 @@
 -- What the lines of a threads script are to its parts, and what reading them keeps.
 use Rattle.std.specs.Prelude.{◌≡◌, ℕ, List, [], ◌∷◌, ◌++◌, map, Option, Some, None}
 use Rattle.std.specs.List.{flat_map}
-use Rattle.gv_types.specs.Bounds.{Area, byte_area, whole_area}
-use Rattle.gv_types.specs.Limits.{Caps, greatest}
+use Rattle.gv_types.specs.Bounds.{BoundsState, byte_area, whole_area}
+use Rattle.gv_types.specs.Limits.{LimitsState, greatest}
 use Rattle.gv_lines.specs.Grammar.{parsed}
 use Rattle.gv_lines.specs.Words.{parts}
 use Rattle.gv_lines.specs.declared.clause.Clause.{Clause}
@@ -10,7 +10,7 @@ use Rattle.gv_lines.specs.declared.line.Line.{Line}
 use Rattle.gv_lines.specs.declared.line.Line.TheVariants as line
 use Rattle.gv_text.specs.Line.{caps_of}
 use Rattle.gv_text.specs.Question.{IsQuestion}
-use Rattle.gv_threads.specs.Script.{ThreadsState}
+use Rattle.gv_threads.specs.Script.{ThreadsScriptState}
 use Rattle.gv_threads.specs.declared.setting.Setting.{Setting}
 use Rattle.gv_threads.specs.declared.setting.Setting.TheVariants.{Stands, Buffer, Raise}
 
@@ -29,16 +29,16 @@ timelines_in (line.Timeline name) = name ∷ []
 timelines_in other = []
 
 -- the area that a line sets
-abbrev pub areas_of : Option Area → List Area
+abbrev pub areas_of : Option BoundsState → List BoundsState
 areas_of None = []
 areas_of (Some area) = area ∷ []
 
-abbrev pub areas_in : Line → List Area
+abbrev pub areas_in : Line → List BoundsState
 areas_in (line.Space start len reserved_start reserved_len) = areas_of (byte_area start len reserved_start reserved_len)
 areas_in other = []
 
 -- the limits that a line sets
-abbrev pub limits_in : Line → List Caps
+abbrev pub limits_in : Line → List LimitsState
 limits_in (line.Limits buffers mappings items) = caps_of buffers mappings items ∷ []
 limits_in other = []
 
@@ -69,10 +69,10 @@ last_of before [] = before
 last_of before (x ∷ xs) = last_of x xs
 
 -- what the lines of a script set, declare, do and ask for
-abbrev pub area_of : List Line → Area
+abbrev pub area_of : List Line → BoundsState
 area_of lines = last_of whole_area (flat_map areas_in lines)
 
-abbrev pub limits_of : List Line → Caps
+abbrev pub limits_of : List Line → LimitsState
 limits_of lines = last_of greatest (flat_map limits_in lines)
 
 abbrev pub timelines_of : List Line → List (List ℕ)
@@ -92,7 +92,7 @@ abbrev pub unnumbered : {X : Type 0} → List (ℕ × X) → List X
 unnumbered entries = map (λ entry. entry.1) entries
 
 -- A script keeps what these lines are to its parts.
-pub record Keeps (lines : List Line) (s : ThreadsState) : Type 0 where
+pub record Keeps (lines : List Line) (s : ThreadsScriptState) : Type 0 where
   pub bounds : s.bounds ≡ area_of lines
   pub limits : s.limits ≡ limits_of lines
   pub timelines : s.timelines ≡ timelines_of lines

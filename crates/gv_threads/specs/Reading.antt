@@ -3,13 +3,13 @@ use Rattle.std.specs.Prelude.{◌≡◌, ℕ, Bool, true, List, ◌++◌, Some}
 use Rattle.gv_lines.specs.Grammar.{parsed}
 use Rattle.gv_lines.specs.declared.line.Line.{Line}
 use Rattle.gv_threads.specs.Parts.{areas_in, last_of, limits_in, questions_in, requests_in, settings_in, timelines_in, unnumbered}
-use Rattle.gv_threads.specs.Places.{MayStand, parts_in, place_of, stages_in}
-use Rattle.gv_threads.specs.Script.{ThreadsState}
+use Rattle.gv_threads.specs.Standing.{MayStand, parts_in, standing_of, stages_in}
+use Rattle.gv_threads.specs.Script.{ThreadsScriptState}
 
 -- A line may stand here, and what it is to each part stands behind what was kept before, if there was memory for it. Nothing else
 -- changes.
-pub record IsKept (l : Line) (old new : ThreadsState) (kept : Bool) : Type 0 where
-  pub may : MayStand old.queues (place_of old) l
+pub record IsKept (l : Line) (old new : ThreadsScriptState) (kept : Bool) : Type 0 where
+  pub may : MayStand old.queues (standing_of old) l
   pub part : new.part ≡ last_of old.part (parts_in l)
   pub stage : new.stage ≡ last_of old.stage (stages_in l)
   pub bounds : new.bounds ≡ last_of old.bounds (areas_in l)
@@ -22,10 +22,10 @@ pub record IsKept (l : Line) (old new : ThreadsState) (kept : Bool) : Type 0 whe
 
 -- A line was read: what it is to each part stands behind what was read before, unless memory was refused. Whether it was is
 -- kept.
-pub record Adds (text : List ℕ) (old new : ThreadsState) : Type 0 where
+pub record Adds (text : List ℕ) (old new : ThreadsScriptState) : Type 0 where
   pub line : Line
   pub read : parsed text ≡ Some line
-  pub may : MayStand old.queues (place_of old) line
+  pub may : MayStand old.queues (standing_of old) line
   pub part : new.part ≡ last_of old.part (parts_in line)
   pub stage : new.stage ≡ last_of old.stage (stages_in line)
   pub bounds : new.bounds ≡ last_of old.bounds (areas_in line)

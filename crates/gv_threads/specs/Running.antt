@@ -7,9 +7,9 @@ use Rattle.gv_sync.specs.Raises.{raised, values_on}
 use Rattle.gv_sync.specs.Seats.{SeatState, first_seat}
 use Rattle.gv_sync.specs.Turns.{HasRaised}
 use Rattle.gv_vm.specs.Outcomes.{told_to}
-use Rattle.gv_vm.specs.State.{Machine, IsMachine, new_machine}
+use Rattle.gv_vm.specs.State.{VmState, IsVm, new_vm}
 use Rattle.gv_vm.specs.Step.{step}
-use Rattle.gv_vm.specs.World.{World}
+use Rattle.gv_vm.specs.World.{WorldState}
 use Rattle.gv_vm.specs.declared.event.Event.TheVariants.{Create}
 use Rattle.gv_vm.specs.declared.event.Reply.{Reply}
 use Rattle.gv_lines.specs.Clause.{queue_asked}
@@ -22,40 +22,40 @@ use Rattle.gv_text.specs.Question.{IsAnswer}
 use Rattle.gv_text.specs.Reading.{script_limit}
 use Rattle.gv_text.specs.Reply.{ok_reply, number_reply}
 use Rattle.gv_text.specs.Said.{said}
-use Rattle.gv_text.specs.State.{Buffers, buffer_named, start, texts, timeline_named}
+use Rattle.gv_text.specs.State.{Buffers, buffer_named, start, names_alone, timeline_named}
 use Rattle.gv_queues.specs.Driving.{AreSomeOf, requests_on}
 use Rattle.gv_queues.specs.declared.finishing.QueueEnd.{QueueEnd}
 use Rattle.gv_threads.specs.Ending.{end_lines}
 use Rattle.gv_threads.specs.Parts.{AreLinesOf, area_of, limits_of, questions_of, requests_of, settings_of, timelines_of}
-use Rattle.gv_threads.specs.Places.{MayStandAll}
-use Rattle.gv_threads.specs.declared.ground.Ground.{Ground}
+use Rattle.gv_threads.specs.Standing.{MayStandAll}
+use Rattle.gv_threads.specs.declared.harness.Harness.{Harness}
 use Rattle.gv_threads.specs.declared.setting.Setting.{Setting}
 use Rattle.gv_threads.specs.declared.setting.Setting.TheVariants.{Stands, Buffer, Raise}
 
 -- what lines act on before the workers: the address space, the declared buffers, and the points raised to so far, in order
 pub record Ready : Type 0 where
-  pub machine : Machine
+  pub vm : VmState
   pub buffers : Buffers
   pub raises : List Point
 
-abbrev pub ready_of : Ground → Ready
-ready_of g = record { machine = g.vm; buffers = g.buffers.entries; raises = g.seat.raises }
+abbrev pub ready_of : Harness → Ready
+ready_of g = record { vm = g.vm; buffers = g.buffers.entries; raises = g.seat.raises }
 
 -- The seat is the first of its timelines: none was split off it, and each timeline is what it was raised to.
 abbrev pub IsFirst : SeatState → Type 0
 IsFirst seat = HasRaised seat.raises (first_seat seat.of) seat
 
 -- on every world with the one address space a buffer is made with this reply, which leaves the other
-abbrev pub Creates : Machine → ℕ → Reply → Machine → Type 0
-Creates old pages reply new = (w : World) → step (record w { machine = old }) (Create pages) reply (record w { machine = new })
+abbrev pub Creates : VmState → ℕ → Reply → VmState → Type 0
+Creates old pages reply new = (w : WorldState) → step (record w { vm = old }) (Create pages) reply (record w { vm = new })
 
 -- A buffer is made, or is refused and its name stays undeclared.
-pub record Makes (timelines : List (List ℕ)) (name : List ℕ) (pages : ℕ) (old : Ready) (text : List ℕ) (new : Ready) : Type 0 where
+pub record MakesBuffer (timelines : List (List ℕ)) (name : List ℕ) (pages : ℕ) (old : Ready) (text : List ℕ) (new : Ready) : Type 0 where
   pub undeclared : buffer_named old.buffers name ≡ None
   pub reply : Reply
-  pub creates : Creates old.machine pages reply new.machine
-  pub state : new ≡ record old { machine = new.machine; buffers = declared name reply old.buffers }
-  pub text_is : text ≡ said (texts new.buffers) timelines reply
+  pub creates : Creates old.vm pages reply new.vm
+  pub state : new ≡ record old { vm = new.vm; buffers = declared name reply old.buffers }
+  pub text_is : text ≡ said (names_alone new.buffers) timelines reply
 
 -- A timeline is raised to a point, and its number is written: the greatest to which it was raised so far.
 pub record Raises (timelines : List (List ℕ)) (p : Point) (old : Ready) (text : List ℕ) (new : Ready) : Type 0 where
@@ -65,7 +65,7 @@ pub record Raises (timelines : List (List ℕ)) (p : Point) (old : Ready) (text 
 -- a line of the first part is carried out so, and writes this text
 abbrev pub SetsUp : List (List ℕ) → Setting → Ready → List ℕ → Ready → Type 0
 SetsUp timelines Stands old text new = (text ≡ ok_reply) × (new ≡ old)
-SetsUp timelines (Buffer name pages) old text new = Makes timelines name pages old text new
+SetsUp timelines (Buffer name pages) old text new = MakesBuffer timelines name pages old text new
 SetsUp timelines (Raise point) old text new = Of (point_named timelines point) (λ p. Raises timelines p old text new)
 
 -- these lines, one after another
@@ -88,13 +88,13 @@ AreNamed buffers timelines [] (entry ∷ entries) = ⊥
 AreNamed buffers timelines (clauses ∷ more) [] = ⊥
 
 -- What a line of the last part is answered: the number that a timeline has when it is looked at, or what the address space holds.
-abbrev pub IsAnswered : Buffers → List (List ℕ) → Machine → Line → List ℕ → Type 0
+abbrev pub IsAnswered : Buffers → List (List ℕ) → VmState → Line → List ℕ → Type 0
 IsAnswered buffers timelines m (line.Value name) text =
     Of (timeline_named timelines name) (λ place. (number : ℕ) × (text ≡ number_reply timelines place number))
 IsAnswered buffers timelines m question text = IsAnswer question buffers timelines m text
 
 -- these lines, one after another
-abbrev pub AreAnswered : Buffers → List (List ℕ) → Machine → List Line → List ℕ → Type 0
+abbrev pub AreAnswered : Buffers → List (List ℕ) → VmState → List Line → List ℕ → Type 0
 AreAnswered buffers timelines m [] text = text ≡ []
 AreAnswered buffers timelines m (question ∷ questions) text =
     (here after : List ℕ)
@@ -102,25 +102,25 @@ AreAnswered buffers timelines m (question ∷ questions) text =
 
 -- Of each queue, as many requests were put as are told and left, and so many outcomes does the address space tell. What was put are
 -- some of the requests for this queue, in order: where they are as many, all.
-pub record IsEndOn (m : Machine) (requests : List (ℕ × Request)) (queue : ℕ) (end : QueueEnd) : Type 0 where
+pub record IsEndOn (m : VmState) (requests : List (ℕ × Request)) (queue : ℕ) (end : QueueEnd) : Type 0 where
   pub each : end.put ≡ end.told + length end.left.items
   pub told : end.told ≡ length (told_to m.told queue)
   pub put : List Request
   pub some : AreSomeOf (requests_on queue requests) put
   pub many : end.put ≡ length put
 
-abbrev pub AreEndsOn : Machine → List (ℕ × Request) → List QueueEnd → Type 0
+abbrev pub AreEndsOn : VmState → List (ℕ × Request) → List QueueEnd → Type 0
 AreEndsOn m requests ends = (queue : ℕ) (d : QueueEnd) → queue < length ends → IsEndOn m requests queue (slice_index_or ends queue d)
 
 -- the address space and the names before the first line
 abbrev pub begun_by : List Line → Ready
-begun_by lines = record { machine = new_machine (area_of lines) (limits_of lines); buffers = []; raises = [] }
+begun_by lines = record { vm = new_vm (area_of lines) (limits_of lines); buffers = []; raises = [] }
 
 -- What is written behind the first part, where these requests were to be put: a line for each of so many queues, and the answers of
 -- the last part on the address space that comes back.
 pub record IsServed (buffers : Buffers) (timelines : List (List ℕ)) (requests : List (ℕ × Request)) (questions : List Line) (count : ℕ) (text : List ℕ) : Type 0 where
-  pub back : Machine
-  pub sound : IsMachine back
+  pub back : VmState
+  pub sound : IsVm back
   pub ends : List QueueEnd
   pub each : length ends ≡ count
   pub counted : AreEndsOn back requests ends

@@ -1,7 +1,7 @@
--- What contracts see of a `ThreadsScript` (`ThreadsState`), and what its lines give to the queues.
+-- What contracts see of a `ThreadsScript` (`ThreadsScriptState`), and what its lines give to the queues.
 use Rattle.std.specs.Prelude.{ℕ, ◌<◌, Bool, List, Result, Ok, Err}
-use Rattle.gv_types.specs.Bounds.{Area}
-use Rattle.gv_types.specs.Limits.{Caps}
+use Rattle.gv_types.specs.Bounds.{BoundsState}
+use Rattle.gv_types.specs.Limits.{LimitsState}
 use Rattle.gv_types.specs.Request.{Fits}
 use Rattle.gv_types.specs.declared.request.Request.{Request}
 use Rattle.gv_lines.specs.declared.clause.Clause.{Clause}
@@ -14,11 +14,11 @@ use Rattle.gv_threads.specs.declared.setting.Setting.{Setting}
 
 -- the part of its last line, which settings may still come, the bounds and the limits that it sets, for how many queues it was read, and how many requests wait on one at most; the timelines
 -- that it declares, the lines of its parts, each with its number, and whether there was memory for each of these
-pub record ThreadsState : Type 0 where
+pub record ThreadsScriptState : Type 0 where
   pub part : Part
   pub stage : Stage
-  pub bounds : Area
-  pub limits : Caps
+  pub bounds : BoundsState
+  pub limits : LimitsState
   pub queues : ℕ
   pub depth : ℕ
   pub timelines : List (List ℕ)
@@ -28,8 +28,8 @@ pub record ThreadsState : Type 0 where
   pub whole : Bool
 
 -- how many requests may wait on a queue of threads
-abbrev pub most_places : ℕ
-most_places = 65536
+abbrev pub most_waiting : ℕ
+most_waiting = 65536
 
 -- a request for one of so many queues: each timeline that it names is below this count
 pub record IsFor (queues timelines : ℕ) (entry : ℕ × Request) : Type 0 where

@@ -3,7 +3,7 @@ ghost use Rattle.std.specs.Prelude.{◌≡◌, ◌≢◌, ◌++◌, ℕ, Err, On
 ghost use Rattle.std.specs.Io.KnownBytes.{Appends};
 ghost use Rattle.gv_text.specs.Reading.{TellsWrites};
 ghost use Rattle.gv_threads.specs.Script.{EndsByLine};
-ghost use Rattle.gv_threads.specs.Ending.{end_line, end_lines};
+ghost use Rattle.gv_threads.specs.Ending.{line_of_end, end_lines};
 
 use gv_queues::QueueEnd;
 use gv_text::{ScriptFault, Sink, write_all};
@@ -39,7 +39,7 @@ fn push_ends(text: &mut String, ends: &[QueueEnd]) -> Result<(), AllocError>
 
 /// The line of a queue.
 fn push_end(text: &mut String, queue: usize, end: &QueueEnd) -> Result<(), AllocError>
-    ensures { OnOk result (string_bytes text.new ≡ string_bytes text.old ++ end_line queue end.now) }
+    ensures { OnOk result (string_bytes text.new ≡ string_bytes text.old ++ line_of_end queue end.now) }
 {
     writeln!(
         text,

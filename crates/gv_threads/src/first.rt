@@ -2,13 +2,13 @@
 ghost use Rattle.std.specs.Prelude.{◌≡◌, ◌≤◌, ◌++◌, [], ℕ, List, IfOk, OnOk, length, string_bytes};
 ghost use Rattle.std.specs.Io.KnownBytes.{Appends, append_known};
 ghost use Rattle.std.specs.List.{All};
-ghost use Rattle.gv_sync.specs.Seats.{IsSeatOf, count_of, most_timelines};
+ghost use Rattle.gv_sync.specs.Seats.{IsSeatOf, timeline_count, most_timelines};
 ghost use Rattle.gv_text.specs.Reading.{TellsWrites};
 ghost use Rattle.gv_threads.specs.Parts.{unnumbered};
-ghost use Rattle.gv_threads.specs.Running.{AreNamed, IsFirst, Makes, SetsUp, SetUpAll, ready_of};
+ghost use Rattle.gv_threads.specs.Running.{AreNamed, IsFirst, MakesBuffer, SetsUp, SetUpAll, ready_of};
 ghost use Rattle.gv_threads.specs.Script.{EndsByLine, IsFor};
 
-use crate::ground::Ground;
+use crate::harness::Harness;
 use crate::script::ThreadsScript;
 use crate::setting::Setting;
 use gv_lines::Name;
@@ -20,30 +20,30 @@ use gv_types::{Fault, Request};
 use std::alloc::Global;
 use std::mem;
 
-/// Makes a buffer and declares its name, unless it is declared already, and writes the reply. A refusal comes before want of
+/// MakesBuffer a buffer and declares its name, unless it is declared already, and writes the reply. A refusal comes before want of
 /// memory for the name.
 fn make_buffer(
     alloc: Global,
     name: Name,
     pages: u64,
-    ground: &mut Ground,
+    harness: &mut Harness,
     out: &mut String,
 ) -> Result<(), LineFault>
-    ensures told { ground.new.vm.told ≡ ground.old.vm.told }
-    ensures timelines { ground.new.timelines ≡ ground.old.timelines }
-    ensures seat { ground.new.seat ≡ ground.old.seat }
+    ensures told { harness.new.vm.told ≡ harness.old.vm.told }
+    ensures timelines { harness.new.timelines ≡ harness.old.timelines }
+    ensures seat { harness.new.seat ≡ harness.old.seat }
     ensures done { (names : List (List ℕ)) → OnOk result ((text : List ℕ)
-        × Makes names name pages (ready_of ground.old) text (ready_of ground.new)
+        × MakesBuffer names name pages (ready_of harness.old) text (ready_of harness.new)
         × (string_bytes out.new ≡ string_bytes out.old ++ text)) }
 {
-    if ground.buffers.id_of(&name).is_some() {
+    if harness.buffers.id_of(&name).is_some() {
         return Err(LineFault::Bad);
     }
-    let room = ground.buffers.reserve();
-    match ground.vm.create(alloc, pages) {
+    let room = harness.buffers.reserve();
+    match harness.vm.create(alloc, pages) {
         Ok(id) => {
             room?;
-            ground.buffers.declare(name, id);
+            harness.buffers.declare(name, id);
             Ok(out.push_str("ok\n")?)
         }
         Err(Fault::OutOfMemory) => Err(LineFault::OutOfMemory),
@@ -56,27 +56,27 @@ fn set_up(
     alloc: Global,
     setting: Setting,
     names: &TimelineNames,
-    ground: &mut Ground,
+    harness: &mut Harness,
     out: &mut String,
 ) -> Result<(), LineFault>
-    requires own { IsSeatOf ground.old.timelines ground.old.seat }
-    requires there { length names.now.names ≤ count_of ground.old.timelines }
-    requires first { IsFirst ground.old.seat }
-    ensures told { ground.new.vm.told ≡ ground.old.vm.told }
-    ensures timelines { ground.new.timelines ≡ ground.old.timelines }
-    ensures own { IsSeatOf ground.new.timelines ground.new.seat }
-    ensures first { IsFirst ground.new.seat }
+    requires own { IsSeatOf harness.old.timelines harness.old.seat }
+    requires there { length names.now.names ≤ timeline_count harness.old.timelines }
+    requires first { IsFirst harness.old.seat }
+    ensures told { harness.new.vm.told ≡ harness.old.vm.told }
+    ensures timelines { harness.new.timelines ≡ harness.old.timelines }
+    ensures own { IsSeatOf harness.new.timelines harness.new.seat }
+    ensures first { IsFirst harness.new.seat }
     ensures done { OnOk result ((text : List ℕ)
-        × SetsUp names.now.names setting (ready_of ground.old) text (ready_of ground.new)
+        × SetsUp names.now.names setting (ready_of harness.old) text (ready_of harness.new)
         × (string_bytes out.new ≡ string_bytes out.old ++ text)) }
 {
     match setting {
         Setting::Stands => Ok(out.push_str("ok\n")?),
-        Setting::Buffer { name, pages } => make_buffer(alloc, name, pages, ground, out),
+        Setting::Buffer { name, pages } => make_buffer(alloc, name, pages, harness, out),
         Setting::Raise { point } => {
             let point = point_named(names, &point).ok_or(LineFault::Bad)?;
             laws::turns();
-            let now = ground.timelines.raise(&mut ground.seat, point);
+            let now = harness.timelines.raise(&mut harness.seat, point);
             Ok(write_number(out, names, point.timeline, now)?)
         }
     }
@@ -89,55 +89,55 @@ impl ThreadsScript<'_> {
     pub fn begin<W: Sink>(
         &mut self,
         alloc: Global,
-        ground: &mut Ground,
+        harness: &mut Harness,
         writer: &mut W,
     ) -> Result<Vec<(u64, Request)>, ScriptFault>
-        requires own { IsSeatOf ground.old.timelines ground.old.seat }
-        requires all { count_of ground.old.timelines ≡ most_timelines }
-        requires first { IsFirst ground.old.seat }
+        requires own { IsSeatOf harness.old.timelines harness.old.seat }
+        requires all { timeline_count harness.old.timelines ≡ most_timelines }
+        requires first { IsFirst harness.old.seat }
         ensures requests { IfOk result (λ requests. All (IsFor self.old.queues most_timelines) requests.items) }
         ensures named { IfOk result (λ requests.
-            AreNamed ground.new.buffers.entries self.old.timelines (unnumbered self.old.requests) requests.items) }
+            AreNamed harness.new.buffers.entries self.old.timelines (unnumbered self.old.requests) requests.items) }
         ensures sets_up { OnOk result ((text : List ℕ)
-            × SetUpAll self.old.timelines (unnumbered self.old.settings) (ready_of ground.old) text (ready_of ground.new)
+            × SetUpAll self.old.timelines (unnumbered self.old.settings) (ready_of harness.old) text (ready_of harness.new)
             × Appends (W.written writer.old) (W.written writer.new) text) }
-        ensures told { ground.new.vm.told ≡ ground.old.vm.told }
-        ensures timelines { ground.new.timelines ≡ ground.old.timelines }
-        ensures own { IsSeatOf ground.new.timelines ground.new.seat }
-        ensures first { IsFirst ground.new.seat }
+        ensures told { harness.new.vm.told ≡ harness.old.vm.told }
+        ensures timelines { harness.new.timelines ≡ harness.old.timelines }
+        ensures own { IsSeatOf harness.new.timelines harness.new.seat }
+        ensures first { IsFirst harness.new.seat }
         ensures same { self.new ≡ record self.old { settings = [] } }
         ensures ends { EndsByLine result }
         ensures write_fault { TellsWrites (W.failed writer.old) (W.failed writer.new) result }
     {
         let mut output = Output::new(alloc);
-        let set_up = self.set_up_all(alloc, ground, &mut output, writer);
+        let set_up = self.set_up_all(alloc, harness, &mut output, writer);
         if let Err(ScriptFault::WriteFault) = set_up {
             return Err(ScriptFault::WriteFault);
         }
         output.flush(writer)?;
         set_up?;
-        self.requests_named(alloc, &ground.buffers)
+        self.requests_named(alloc, &harness.buffers)
     }
 
     /// Runs the first part.
     fn set_up_all<W: Sink>(
         &mut self,
         alloc: Global,
-        ground: &mut Ground,
+        harness: &mut Harness,
         output: &mut Output,
         writer: &mut W,
     ) -> Result<(), ScriptFault>
-        requires own { IsSeatOf ground.old.timelines ground.old.seat }
-        requires all { count_of ground.old.timelines ≡ most_timelines }
-        requires first { IsFirst ground.old.seat }
+        requires own { IsSeatOf harness.old.timelines harness.old.seat }
+        requires all { timeline_count harness.old.timelines ≡ most_timelines }
+        requires first { IsFirst harness.old.seat }
         requires fresh { output.old ≡ [] }
         ensures sets_up { OnOk result ((text : List ℕ)
-            × SetUpAll self.old.timelines (unnumbered self.old.settings) (ready_of ground.old) text (ready_of ground.new)
+            × SetUpAll self.old.timelines (unnumbered self.old.settings) (ready_of harness.old) text (ready_of harness.new)
             × Appends (W.written writer.old) (append_known (W.written writer.new) output.new) text) }
-        ensures told { ground.new.vm.told ≡ ground.old.vm.told }
-        ensures timelines { ground.new.timelines ≡ ground.old.timelines }
-        ensures own { IsSeatOf ground.new.timelines ground.new.seat }
-        ensures first { IsFirst ground.new.seat }
+        ensures told { harness.new.vm.told ≡ harness.old.vm.told }
+        ensures timelines { harness.new.timelines ≡ harness.old.timelines }
+        ensures own { IsSeatOf harness.new.timelines harness.new.seat }
+        ensures first { IsFirst harness.new.seat }
         ensures same { self.new ≡ record self.old { settings = [] } }
         ensures ends { EndsByLine result }
         ensures fault { TellsWrites (W.failed writer.old) (W.failed writer.new) result }
@@ -146,7 +146,7 @@ impl ThreadsScript<'_> {
         let settings = mem::replace(&mut self.settings, Vec::new(alloc));
         for (number, setting) in settings {
             reply.clear();
-            let done = set_up(alloc, setting, &self.timelines, ground, &mut reply);
+            let done = set_up(alloc, setting, &self.timelines, harness, &mut reply);
             if let Err(fault) = done {
                 return Err(fault.at(number));
             }

@@ -2,14 +2,14 @@
 ghost use Rattle.std.specs.Prelude.{◌≡◌, ◌≤◌, ◌++◌, [], List, ℕ, Err, OnOk, length, string_bytes};
 ghost use Rattle.std.specs.Io.KnownBytes.{Appends, append_known};
 ghost use Rattle.std.specs.List.{All};
-ghost use Rattle.gv_sync.specs.Seats.{IsSeatOf, count_of, most_timelines};
+ghost use Rattle.gv_sync.specs.Seats.{IsSeatOf, timeline_count, most_timelines};
 ghost use Rattle.gv_text.specs.Reading.{TellsWrites};
 ghost use Rattle.gv_threads.specs.Naming.{HasNames, IsFirstBad};
 ghost use Rattle.gv_threads.specs.Parts.{IsAsked, unnumbered};
 ghost use Rattle.gv_threads.specs.Running.{AreAnswered, IsAnswered};
 ghost use Rattle.gv_threads.specs.Script.{EndsByLine};
 
-use crate::ground::Ground;
+use crate::harness::Harness;
 use crate::script::ThreadsScript;
 use gv_lines::Line;
 use gv_text::{LineFault, Output, ScriptFault, Sink, TimelineNames, answer, write_number};
@@ -20,28 +20,28 @@ fn ask(
     alloc: Global,
     question: &Line<'_>,
     names: &TimelineNames,
-    ground: &mut Ground,
+    harness: &mut Harness,
     out: &mut String,
 ) -> Result<(), LineFault>
-    requires own { IsSeatOf ground.old.timelines ground.old.seat }
-    requires there { length names.now.names ≤ count_of ground.old.timelines }
+    requires own { IsSeatOf harness.old.timelines harness.old.seat }
+    requires there { length names.now.names ≤ timeline_count harness.old.timelines }
     requires asked { IsAsked question.now }
-    ensures timelines { ground.new.timelines ≡ ground.old.timelines }
-    ensures own { IsSeatOf ground.new.timelines ground.new.seat }
-    ensures vm { ground.new.vm ≡ ground.old.vm }
-    ensures buffers { ground.new.buffers ≡ ground.old.buffers }
+    ensures timelines { harness.new.timelines ≡ harness.old.timelines }
+    ensures own { IsSeatOf harness.new.timelines harness.new.seat }
+    ensures vm { harness.new.vm ≡ harness.old.vm }
+    ensures buffers { harness.new.buffers ≡ harness.old.buffers }
     ensures done { OnOk result ((text : List ℕ)
-        × IsAnswered ground.old.buffers.entries names.now.names ground.old.vm question.now text
+        × IsAnswered harness.old.buffers.entries names.now.names harness.old.vm question.now text
         × (string_bytes out.new ≡ string_bytes out.old ++ text)) }
-    ensures bad { result ≡ Err LineFault.Bad → ¬ HasNames ground.old.buffers.entries names.now.names question.now }
+    ensures bad { result ≡ Err LineFault.Bad → ¬ HasNames harness.old.buffers.entries names.now.names question.now }
 {
     match question {
         Line::Value { name } => {
             let timeline = names.place_of(name).ok_or(LineFault::Bad)?;
-            let number = ground.timelines.value(&mut ground.seat, timeline);
+            let number = harness.timelines.value(&mut harness.seat, timeline);
             Ok(write_number(out, names, timeline, number)?)
         }
-        _ => answer(alloc, question, &ground.buffers, names, &ground.vm, out),
+        _ => answer(alloc, question, &harness.buffers, names, &harness.vm, out),
     }
 }
 
@@ -51,22 +51,22 @@ impl ThreadsScript<'_> {
     pub fn end<W: Sink>(
         &self,
         alloc: Global,
-        ground: &mut Ground,
+        harness: &mut Harness,
         writer: &mut W,
     ) -> Result<(), ScriptFault>
-        requires own { IsSeatOf ground.old.timelines ground.old.seat }
-        requires all { count_of ground.old.timelines ≡ most_timelines }
+        requires own { IsSeatOf harness.old.timelines harness.old.seat }
+        requires all { timeline_count harness.old.timelines ≡ most_timelines }
         requires asked { All IsAsked (unnumbered self.now.questions) }
         ensures answered { OnOk result ((text : List ℕ)
-            × AreAnswered ground.old.buffers.entries self.now.timelines ground.old.vm (unnumbered self.now.questions) text
+            × AreAnswered harness.old.buffers.entries self.now.timelines harness.old.vm (unnumbered self.now.questions) text
             × Appends (W.written writer.old) (W.written writer.new) text) }
         ensures bad_line { (line : ℕ) → result ≡ Err (ScriptFault.BadLine line)
-            → IsFirstBad (HasNames ground.old.buffers.entries self.now.timelines) self.now.questions line }
+            → IsFirstBad (HasNames harness.old.buffers.entries self.now.timelines) self.now.questions line }
         ensures ends { EndsByLine result }
         ensures write_fault { TellsWrites (W.failed writer.old) (W.failed writer.new) result }
     {
         let mut output = Output::new(alloc);
-        let ended = self.answer_all(alloc, ground, &mut output, writer);
+        let ended = self.answer_all(alloc, harness, &mut output, writer);
         if let Err(ScriptFault::WriteFault) = ended {
             return ended;
         }
@@ -78,26 +78,26 @@ impl ThreadsScript<'_> {
     fn answer_all<W: Sink>(
         &self,
         alloc: Global,
-        ground: &mut Ground,
+        harness: &mut Harness,
         output: &mut Output,
         writer: &mut W,
     ) -> Result<(), ScriptFault>
-        requires own { IsSeatOf ground.old.timelines ground.old.seat }
-        requires all { count_of ground.old.timelines ≡ most_timelines }
+        requires own { IsSeatOf harness.old.timelines harness.old.seat }
+        requires all { timeline_count harness.old.timelines ≡ most_timelines }
         requires asked { All IsAsked (unnumbered self.now.questions) }
         requires fresh { output.old ≡ [] }
         ensures answered { OnOk result ((text : List ℕ)
-            × AreAnswered ground.old.buffers.entries self.now.timelines ground.old.vm (unnumbered self.now.questions) text
+            × AreAnswered harness.old.buffers.entries self.now.timelines harness.old.vm (unnumbered self.now.questions) text
             × Appends (W.written writer.old) (append_known (W.written writer.new) output.new) text) }
         ensures bad_line { (line : ℕ) → result ≡ Err (ScriptFault.BadLine line)
-            → IsFirstBad (HasNames ground.old.buffers.entries self.now.timelines) self.now.questions line }
+            → IsFirstBad (HasNames harness.old.buffers.entries self.now.timelines) self.now.questions line }
         ensures ends { EndsByLine result }
         ensures fault { TellsWrites (W.failed writer.old) (W.failed writer.new) result }
     {
         let mut reply = String::new(alloc);
         for (number, question) in &self.questions {
             reply.clear();
-            let done = ask(alloc, question, &self.timelines, ground, &mut reply);
+            let done = ask(alloc, question, &self.timelines, harness, &mut reply);
             if let Err(fault) = done {
                 return Err(fault.at(*number));
             }

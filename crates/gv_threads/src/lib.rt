@@ -5,7 +5,7 @@ mod ends;
 mod fault;
 mod first;
 mod gate;
-mod ground;
+mod harness;
 mod last;
 mod requests;
 mod run;

@@ -5,7 +5,7 @@ ghost use Rattle.gv_sync.specs.Seats.{most_timelines};
 ghost use Rattle.gv_lines.specs.Clause.{queue_asked};
 ghost use Rattle.gv_threads.specs.Naming.{HasBuffer, IsFirstBad, MayBePut, NamesNone};
 ghost use Rattle.gv_threads.specs.Parts.{unnumbered};
-ghost use Rattle.gv_threads.specs.Places.{AreTimed};
+ghost use Rattle.gv_threads.specs.Standing.{AreTimed};
 ghost use Rattle.gv_threads.specs.Running.{AreNamed, IsNamed};
 ghost use Rattle.gv_threads.specs.Script.{IsFor, IsOfLine};
 

@@ -4,22 +4,22 @@ ghost use Rattle.std.specs.List.{All};
 ghost use Rattle.std.specs.Io.KnownBytes.{Appends};
 ghost use Rattle.std.specs.declared.alloc.Global.{Global as TheGlobal};
 ghost use Rattle.gv_types.specs.Limits.{IsFromOneTo};
-ghost use Rattle.gv_sync.specs.Seats.{IsSeatOf, count_of, most_timelines};
+ghost use Rattle.gv_sync.specs.Seats.{IsSeatOf, timeline_count, most_timelines};
 ghost use Rattle.gv_vm.specs.Outcomes.{queues};
-ghost use Rattle.gv_threads.specs.Script.{most_places};
+ghost use Rattle.gv_threads.specs.Script.{most_waiting};
 ghost use Rattle.gv_queues.specs.Ending.{IsOfQueueBelow, IsUntold};
 ghost use Rattle.gv_lines.specs.declared.line.Line.{Line as TheLine};
 ghost use Rattle.gv_text.specs.Reading.{TakesFew, most_read};
 ghost use Rattle.gv_queues.specs.declared.finishing.QueueEnd.{QueueEnd as TheEnd};
 ghost use Rattle.gv_threads.specs.Ending.{HasNotBegun, RunsAs, end_lines};
 ghost use Rattle.gv_threads.specs.Parts.{IsAsked, Keeps, unnumbered};
-ghost use Rattle.gv_threads.specs.Places.{IsBadLine};
+ghost use Rattle.gv_threads.specs.Standing.{IsBadLine};
 ghost use Rattle.gv_threads.specs.Running.{AreAnswered, IsFirst, IsServed, IsTextOf, IsThreadsRun, ready_of};
 
 use crate::ends::write_ends;
 use crate::fault::ThreadsFault;
 use crate::gate::TurnLimit;
-use crate::ground::Ground;
+use crate::harness::Harness;
 use crate::script::ThreadsScript;
 use gv_queues::{PutAll, QueueEnd, QueuesFault, run_queues};
 use gv_sync::{MAX_TIMELINES, Timelines};
@@ -72,13 +72,13 @@ pub fn run_threads<R: Threads + Wait + Sync, S: Source, K: Sink>(
     };
     match Vm::new(alloc, script.bounds(), script.limits()) {
         Ok(vm) => {
-            let ground = Ground {
+            let harness = Harness {
                 vm,
                 buffers: Names::new(alloc),
                 timelines,
                 seat,
             };
-            run_on(rt, alloc, script, ground, writer, count, turns)
+            run_on(rt, alloc, script, harness, writer, count, turns)
         }
         Err(_) => Err(ThreadsFault::Script(ScriptFault::OutOfMemory)),
     }
@@ -89,7 +89,7 @@ fn run_on<R: Threads + Wait + Sync, K: Sink>(
     rt: &R,
     alloc: Global,
     mut script: ThreadsScript<'_>,
-    mut ground: Ground,
+    mut harness: Harness,
     writer: &mut K,
     count: u64,
     turns: u64,
@@ -97,21 +97,21 @@ fn run_on<R: Threads + Wait + Sync, K: Sink>(
     requires queues { IsFromOneTo queues count }
     requires read { script.queues ≡ count }
     requires asked { All IsAsked (unnumbered script.questions) }
-    requires own { IsSeatOf ground.timelines ground.seat }
-    requires all { count_of ground.timelines ≡ most_timelines }
-    requires first { IsFirst ground.seat }
-    requires untold { IsUntold ground.vm }
-    requires depth { IsFromOneTo most_places script.depth }
+    requires own { IsSeatOf harness.timelines harness.seat }
+    requires all { timeline_count harness.timelines ≡ most_timelines }
+    requires first { IsFirst harness.seat }
+    requires untold { IsUntold harness.vm }
+    requires depth { IsFromOneTo most_waiting script.depth }
     ensures text { (lines : List TheLine) → Keeps lines script.entry → OnOk result ((text : List ℕ)
-        × IsTextOf lines (ready_of ground) count text × Appends (K.written writer.old) (K.written writer.new) text) }
+        × IsTextOf lines (ready_of harness) count text × Appends (K.written writer.old) (K.written writer.new) text) }
     // The reader has nothing to do with it.
     ensures ends { (read : Bool) → RunsAs read read (K.failed writer.old) (K.failed writer.new) count result }
     ensures begun { IfErr result (λ fault. HasNotBegun fault → ⊥) }
 {
-    match script.begin(alloc, &mut ground, writer) {
-        Ok(requests) => serve(rt, alloc, &script, requests, ground, writer, count, turns),
+    match script.begin(alloc, &mut harness, writer) {
+        Ok(requests) => serve(rt, alloc, &script, requests, harness, writer, count, turns),
         Err(fault) => {
-            ground.close();
+            harness.close();
             Err(ThreadsFault::Script(fault))
         }
     }
@@ -123,7 +123,7 @@ fn serve<R: Threads + Wait + Sync, K: Sink>(
     alloc: Global,
     script: &ThreadsScript<'_>,
     requests: Vec<(u64, Request)>,
-    ground: Ground,
+    harness: Harness,
     writer: &mut K,
     count: u64,
     turns: u64,
@@ -131,22 +131,22 @@ fn serve<R: Threads + Wait + Sync, K: Sink>(
     requires queues { IsFromOneTo queues count }
     requires read { script.now.queues ≡ count }
     requires asked { All IsAsked (unnumbered script.now.questions) }
-    requires own { IsSeatOf ground.timelines ground.seat }
-    requires all { count_of ground.timelines ≡ most_timelines }
-    requires untold { IsUntold ground.vm }
-    requires depth { IsFromOneTo most_places script.now.depth }
+    requires own { IsSeatOf harness.timelines harness.seat }
+    requires all { timeline_count harness.timelines ≡ most_timelines }
+    requires untold { IsUntold harness.vm }
+    requires depth { IsFromOneTo most_waiting script.now.depth }
     ensures served { OnOk result ((text : List ℕ)
-        × IsServed ground.buffers.entries script.now.timelines requests.items (unnumbered script.now.questions) count text
+        × IsServed harness.buffers.entries script.now.timelines requests.items (unnumbered script.now.questions) count text
         × Appends (K.written writer.old) (K.written writer.new) text) }
     ensures ends { (read : Bool) → RunsAs read read (K.failed writer.old) (K.failed writer.new) count result }
     ensures begun { IfErr result (λ fault. HasNotBegun fault → ⊥) }
 {
-    let Ground {
+    let Harness {
         vm,
         buffers,
         timelines,
         mut seat,
-    } = ground;
+    } = harness;
     let gate = TurnLimit::new(turns);
     let mut driver = PutAll::new(requests);
     let depth = script.depth();
@@ -161,14 +161,14 @@ fn serve<R: Threads + Wait + Sync, K: Sink>(
         &gate,
         &mut driver,
     );
-    let mut ground = Ground {
+    let mut harness = Harness {
         vm,
         buffers,
         timelines,
         seat,
     };
-    let ended = end(alloc, script, ran, &mut ground, writer);
-    ground.close();
+    let ended = end(alloc, script, ran, &mut harness, writer);
+    harness.close();
     ended
 }
 
@@ -177,15 +177,15 @@ fn end<K: Sink>(
     alloc: Global,
     script: &ThreadsScript<'_>,
     ran: Result<Vec<QueueEnd>, QueuesFault>,
-    ground: &mut Ground,
+    harness: &mut Harness,
     writer: &mut K,
 ) -> Result<(), ThreadsFault>
-    requires own { IsSeatOf ground.old.timelines ground.old.seat }
-    requires all { count_of ground.old.timelines ≡ most_timelines }
+    requires own { IsSeatOf harness.old.timelines harness.old.seat }
+    requires all { timeline_count harness.old.timelines ≡ most_timelines }
     requires asked { All IsAsked (unnumbered script.now.questions) }
     requires queue { IfErr ran (IsOfQueueBelow script.now.queues) }
     ensures text { OnOk result ((ends : Vec TheEnd TheGlobal) × (last : List ℕ) × (ran ≡ Ok ends)
-        × AreAnswered ground.old.buffers.entries script.now.timelines ground.old.vm (unnumbered script.now.questions) last
+        × AreAnswered harness.old.buffers.entries script.now.timelines harness.old.vm (unnumbered script.now.questions) last
         × Appends (K.written writer.old) (K.written writer.new) (end_lines ends.items ++ last)) }
     ensures ran { IfErr ran (λ fault. result ≡ Err (ThreadsFault.Queues fault)) }
     ensures ends { (read : Bool) → RunsAs read read (K.failed writer.old) (K.failed writer.new) script.now.queues result }
@@ -198,7 +198,7 @@ fn end<K: Sink>(
     if let Err(fault) = write_ends(alloc, ends.as_slice(), writer) {
         return Err(ThreadsFault::Script(fault));
     }
-    match script.end(alloc, ground, writer) {
+    match script.end(alloc, harness, writer) {
         Ok(()) => Ok(()),
         Err(fault) => Err(ThreadsFault::Script(fault)),
     }

@@ -5,10 +5,10 @@ ghost use Rattle.gv_vm.specs.Outcomes.{queues};
 ghost use Rattle.gv_text.specs.Reading.{script_limit};
 ghost use Rattle.gv_lines.specs.declared.line.Line.{Line as TheLine};
 ghost use Rattle.gv_threads.specs.Parts.{AreLinesOf, Keeps, areas_in, last_of, limits_in, settings_in, timelines_in, unnumbered};
-ghost use Rattle.gv_threads.specs.Places.{MayAsk, MayFollow, MaySet, MayStand, MayStandAll, MayStandText, StopsReading, place_behind, place_of, stages_in};
+ghost use Rattle.gv_threads.specs.Standing.{MayAsk, MayFollow, MaySet, MayStand, MayStandAll, MayStandText, StopsReading, standing_behind, standing_of, stages_in};
 ghost use Rattle.gv_threads.specs.Reading.{Adds, IsKept};
 ghost use Rattle.gv_threads.specs.declared.setting.Setting.{Setting as TheSetting};
-ghost use Rattle.gv_threads.specs.Script.{IsOfLine, most_places};
+ghost use Rattle.gv_threads.specs.Script.{IsOfLine, most_waiting};
 
 use crate::requests::queue_asked;
 use crate::setting::Setting;
@@ -50,10 +50,10 @@ pub struct ThreadsScript<'a> {
 }
 
 impl<'a> Model for ThreadsScript<'a> {
-    ghost use Rattle.gv_threads.specs.Script.{ThreadsState};
+    ghost use Rattle.gv_threads.specs.Script.{ThreadsScriptState};
     ghost use Rattle.gv_threads.specs.Inside.{IsRead, read_state};
 
-    ghost Value = { ThreadsState };
+    ghost Value = { ThreadsScriptState };
 
     ghost view = { λ s. record {
       part = s.part;
@@ -76,7 +76,7 @@ impl<'a> ThreadsScript<'a> {
     fn new(alloc: Global, count: u64) -> Self
         requires { IsFromOneTo queues count }
         ensures queues { result.queues ≡ count }
-        ensures place { place_of result ≡ place_behind [] }
+        ensures standing { standing_of result ≡ standing_behind [] }
         ensures none { Keeps [] result }
     {
         ThreadsScript {
@@ -102,7 +102,7 @@ impl<'a> ThreadsScript<'a> {
         requires count { IsFromOneTo queues count }
         requires short { length text.now ≤ script_limit }
         ensures queues { IfOk result (λ script. script.queues ≡ count) }
-        ensures depth { IfOk result (λ script. IsFromOneTo most_places script.depth) }
+        ensures depth { IfOk result (λ script. IsFromOneTo most_waiting script.depth) }
         ensures lines { IsOfLine result }
         ensures kept { IfOk result (λ script. (lines : List TheLine)
             × AreLinesOf text.now lines × MayStandAll count lines × Keeps lines script) }
@@ -131,7 +131,7 @@ impl<'a> ThreadsScript<'a> {
     fn read_line(&mut self, number: u64, text: &'a [u8]) -> Result<(), LineFault>
         ensures queues { self.new.queues ≡ self.old.queues }
         ensures adds { OnOk result (Adds text.now self.old self.new) }
-        ensures bad { result ≡ Err LineFault.Bad → ¬ MayStandText self.old.queues (place_of self.old) text.now }
+        ensures bad { result ≡ Err LineFault.Bad → ¬ MayStandText self.old.queues (standing_of self.old) text.now }
     {
         let line = parse_line(text).ok_or(LineFault::Bad)?;
         if !self.keep_line(number, line)? {
@@ -144,7 +144,7 @@ impl<'a> ThreadsScript<'a> {
     fn keep_line(&mut self, number: u64, line: Line<'a>) -> Result<bool, LineFault>
         ensures queues { self.new.queues ≡ self.old.queues }
         ensures kept { IfOk result (IsKept line.entry self.old self.new) }
-        ensures bad { result ≡ Err LineFault.Bad → ¬ MayStand self.old.queues (place_of self.old) line.entry }
+        ensures bad { result ≡ Err LineFault.Bad → ¬ MayStand self.old.queues (standing_of self.old) line.entry }
     {
         match line {
             Line::Silent => Ok(true),
@@ -179,9 +179,9 @@ impl<'a> ThreadsScript<'a> {
         }) }
         ensures added { IfOk result (λ kept. (setting : TheSetting) × (settings_in line.entry ≡ setting ∷ [])
             × (kept ≡ true → unnumbered self.new.settings ≡ unnumbered self.old.settings ++ setting ∷ [])) }
-        ensures may { OnOk result (MayFollow self.old.part Part.Settings × MaySet (place_of self.old) line.entry) }
+        ensures may { OnOk result (MayFollow self.old.part Part.Settings × MaySet (standing_of self.old) line.entry) }
         ensures bad { result ≡ Err LineFault.Bad
-            → ¬ (MayFollow self.old.part Part.Settings × MaySet (place_of self.old) line.entry) }
+            → ¬ (MayFollow self.old.part Part.Settings × MaySet (standing_of self.old) line.entry) }
         ensures queues { self.new.queues ≡ self.old.queues }
     {
         self.enter(Part::Settings)?;
@@ -192,9 +192,9 @@ impl<'a> ThreadsScript<'a> {
     fn keep_request(&mut self, number: u64, clauses: ClauseList<'a>) -> Result<bool, LineFault>
         ensures state { OnOk result
             (self.new ≡ record self.old { part = Part.Requests; depth = self.new.depth; requests = self.new.requests }) }
-        ensures may { OnOk result (MayFollow self.old.part Part.Requests × MayAsk self.old.queues (place_of self.old) clauses.entry) }
+        ensures may { OnOk result (MayFollow self.old.part Part.Requests × MayAsk self.old.queues (standing_of self.old) clauses.entry) }
         ensures bad { result ≡ Err LineFault.Bad
-            → ¬ (MayFollow self.old.part Part.Requests × MayAsk self.old.queues (place_of self.old) clauses.entry) }
+            → ¬ (MayFollow self.old.part Part.Requests × MayAsk self.old.queues (standing_of self.old) clauses.entry) }
         ensures added { IfOk result (λ kept. kept ≡ true
             → unnumbered self.new.requests ≡ unnumbered self.old.requests ++ clauses.entry ∷ []) }
         ensures queues { self.new.queues ≡ self.old.queues }
@@ -238,8 +238,8 @@ impl<'a> ThreadsScript<'a> {
     /// Counts a request of its queue, where there is such a queue and the timelines that it names are declared.
     fn count(&mut self, clauses: &ClauseList<'_>) -> Result<(), LineFault>
         ensures counted { self.new ≡ record self.old { depth = self.new.depth } }
-        ensures may { OnOk result (MayAsk self.old.queues (place_of self.old) clauses.now) }
-        ensures bad { result ≡ Err LineFault.Bad → ¬ MayAsk self.old.queues (place_of self.old) clauses.now }
+        ensures may { OnOk result (MayAsk self.old.queues (standing_of self.old) clauses.now) }
+        ensures bad { result ≡ Err LineFault.Bad → ¬ MayAsk self.old.queues (standing_of self.old) clauses.now }
         ensures fault { IfErr result (λ fault. fault ≡ LineFault.Bad) }
     {
         let queue = queue_asked(&self.timelines, clauses).ok_or(LineFault::Bad)?;
@@ -269,7 +269,7 @@ impl<'a> ThreadsScript<'a> {
     /// How many places each queue has: the greatest number of requests on one queue, at least 1 and at most 65,536.
     pub fn depth(&self) -> usize
         ensures value { result ≡ self.now.depth }
-        ensures limit { IsFromOneTo most_places result }
+        ensures limit { IsFromOneTo most_waiting result }
     {
         self.depth as usize
     }

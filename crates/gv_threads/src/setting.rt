@@ -3,7 +3,7 @@ ghost use Rattle.std.specs.Prelude.{◌≡◌, ◌++◌, ◌∷◌, [], Err, IfO
 ghost use Rattle.gv_types.specs.Limits.{IsWithin};
 ghost use Rattle.gv_text.specs.Line.{MaySetLimits, caps_of};
 ghost use Rattle.gv_threads.specs.Parts.{areas_in, areas_of, last_of, limits_in, settings_in, timelines_in};
-ghost use Rattle.gv_threads.specs.Places.{MaySet, place_of, stages_in};
+ghost use Rattle.gv_threads.specs.Standing.{MaySet, standing_of, stages_in};
 
 use crate::script::ThreadsScript;
 use gv_lines::{Line, Name, NamedPoint};
@@ -29,8 +29,8 @@ impl<'a> ThreadsScript<'a> {
           limits = last_of self.old.limits (limits_in line.entry);
           timelines = self.old.timelines ++ timelines_in line.entry;
         }) }
-        ensures may { OnOk result (MaySet (place_of self.old) line.entry) }
-        ensures bad { result ≡ Err LineFault.Bad → ¬ MaySet (place_of self.old) line.entry }
+        ensures may { OnOk result (MaySet (standing_of self.old) line.entry) }
+        ensures bad { result ≡ Err LineFault.Bad → ¬ MaySet (standing_of self.old) line.entry }
         ensures queues { self.new.queues ≡ self.old.queues }
     {
         let stage = self.stage;

@@ -1,5 +1,5 @@
 pub mod Page
-pub mod Span
+pub mod PageRange
 pub mod Generation
 pub mod Mapping
 pub mod Operation

@@ -1,7 +1,7 @@
 -- What a mapping says of a page, and what is left of it between two pages.
 use Rattle.std.specs.Prelude.{ℕ, Bool, false, ◌&&◌, ◌==◌, ◌+◌, ◌-◌, ◌≤◌, max, min, if◌then◌else◌, nat_lt, Option, Some, None}
 use Rattle.gv_types.specs.Page.{backing_pages}
-use Rattle.gv_types.specs.Span.{span, end_of, IsInSpace}
+use Rattle.gv_types.specs.PageRange.{span, end_of, IsInSpace}
 use Rattle.gv_types.specs.declared.mapping.Backing.{Backing}
 use Rattle.gv_types.specs.declared.mapping.Backing.TheVariants.{Buffer, Zero}
 use Rattle.gv_types.specs.declared.mapping.BufferId.{BufferId}

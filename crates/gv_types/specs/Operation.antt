@@ -1,7 +1,7 @@
 -- What an operation asks for, and what it does to an address map.
 use Rattle.std.specs.Prelude.{ℕ, ◌/◌, Bool, true, false, if◌then◌else◌, Option, Some, None, List, [], ◌∷◌}
 use Rattle.gv_types.specs.Page.{bytes_per_page}
-use Rattle.gv_types.specs.Span.{Span, span, covers, IsInSpace}
+use Rattle.gv_types.specs.PageRange.{PageRangeState, span, covers, IsInSpace}
 use Rattle.gv_types.specs.Mapping.{part, IsMapping}
 use Rattle.gv_types.specs.declared.mapping.Backing.TheVariants.{Buffer, Zero}
 use Rattle.gv_types.specs.declared.mapping.Entry.{Entry}
@@ -51,7 +51,7 @@ in_pages (ByteUnmap addr len) = Unmap (span (pages addr) (pages len))
 in_pages (ByteUnmapBuffer buffer) = UnmapBuffer buffer
 
 -- the pages that an operation names: none for an unmap of a whole buffer
-abbrev pub range_of : PageOp → Span
+abbrev pub range_of : PageOp → PageRangeState
 range_of (Map range backing flags) = range
 range_of (Unmap range) = range
 range_of (UnmapBuffer buffer) = span 0 0

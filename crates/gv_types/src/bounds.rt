@@ -18,9 +18,9 @@ pub struct Bounds {
 }
 
 impl Model for Bounds {
-    ghost use Rattle.gv_types.specs.Bounds.{Area};
+    ghost use Rattle.gv_types.specs.Bounds.{BoundsState};
 
-    ghost Value = { Area };
+    ghost Value = { BoundsState };
 
     ghost view = { λ b. record { space = b.space; reserved = b.reserved } };
 

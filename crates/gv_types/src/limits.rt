@@ -27,9 +27,9 @@ pub struct Limits {
 }
 
 impl Model for Limits {
-    ghost use Rattle.gv_types.specs.Limits.{Caps, IsWithin};
+    ghost use Rattle.gv_types.specs.Limits.{LimitsState, IsWithin};
 
-    ghost Value = { Caps };
+    ghost Value = { LimitsState };
 
     ghost view = { λ l. record { buffers = l.buffers; mappings = l.mappings; items = l.items; told = l.told } };
 

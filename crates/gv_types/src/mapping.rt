@@ -118,7 +118,7 @@ impl Entry {
 }
 
 impl Mapping {
-    ghost use Rattle.gv_types.specs.Span.{covers};
+    ghost use Rattle.gv_types.specs.PageRange.{covers};
     ghost use Rattle.gv_types.specs.Mapping.{part, clip, IsMapping};
 
     /// What the mapping holds at a page of its range.

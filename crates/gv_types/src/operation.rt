@@ -33,7 +33,7 @@ pub enum Op {
 }
 
 impl Op {
-    ghost use Rattle.gv_types.specs.Span.{IsInSpace};
+    ghost use Rattle.gv_types.specs.PageRange.{IsInSpace};
     ghost use Rattle.gv_types.specs.Operation.{addr_of, len_of, offset_of, has_range};
     ghost use Rattle.gv_types.specs.Operation.{in_pages, range_of, IsPageOp};
 

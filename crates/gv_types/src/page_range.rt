@@ -15,9 +15,9 @@ pub struct PageRange {
 }
 
 impl Model for PageRange {
-    ghost use Rattle.gv_types.specs.Span.{Span, IsInSpace};
+    ghost use Rattle.gv_types.specs.PageRange.{PageRangeState, IsInSpace};
 
-    ghost Value = { Span };
+    ghost Value = { PageRangeState };
 
     ghost view = { λ r. record { first = r.first; count = r.count } };
 
@@ -28,7 +28,7 @@ impl Model for PageRange {
 
 impl PageRange {
     ghost use Rattle.gv_types.specs.Page.{PAGES};
-    ghost use Rattle.gv_types.specs.Span.{IsInSpace, span, end_of, covers, meets, lies_in};
+    ghost use Rattle.gv_types.specs.PageRange.{IsInSpace, span, end_of, covers, meets, lies_in};
 
     /// The range of `count` pages from the page `first` on. None where there is no page, or one past the end of
     /// the address space.

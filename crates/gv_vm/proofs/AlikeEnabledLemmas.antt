@@ -6,30 +6,30 @@ use Rattle.std.proofs.lemmas.List.{length-map}
 use Rattle.gv_types.specs.declared.request.Point.{Point}
 use Rattle.gv_types.specs.declared.request.Request.{Request}
 use Rattle.gv_journal.specs.Bare.{BareRequest, bare_request}
-use Rattle.gv_vm.specs.World.{World, InHand, queue_at, next_wait}
+use Rattle.gv_vm.specs.World.{WorldState, HandState, queue_at, next_wait}
 use Rattle.gv_vm.specs.Step.{IsQueue, Has, CanTake, CanLook, CanBind, CanGiveUp, CanPay, IsEnabled}
 use Rattle.gv_vm.specs.Alike.{BareHand, bare_hand, BareQueue, AreAlikeWorlds}
 use Rattle.gv_vm.specs.declared.event.Event.TheVariants.{Put}
-use Rattle.gv_vm.proofs.AlikeMachineLemmas.{AreAlikeMachines-sym}
+use Rattle.gv_vm.proofs.AlikeVmLemmas.{AreAlikeVms-sym}
 use Rattle.gv_vm.proofs.AlikeQueueLemmas.{waiting_alike, hand_alike, owed_alike}
 
-pub AreAlikeWorlds-sym : (w w' : World) → AreAlikeWorlds w w' → AreAlikeWorlds w' w
+pub AreAlikeWorlds-sym : (w w' : WorldState) → AreAlikeWorlds w w' → AreAlikeWorlds w' w
 AreAlikeWorlds-sym w w' alike = record {
-  machine = AreAlikeMachines-sym w.machine w'.machine alike.machine;
+  vm = AreAlikeVms-sym w.vm w'.vm alike.vm;
   numbers = sym alike.numbers;
   depth = sym alike.depth;
   queues = sym alike.queues;
 }
 
-none_in_hand : (o : Option InHand) → option_map bare_hand o ≡ None → o ≡ None
+none_in_hand : (o : Option HandState) → option_map bare_hand o ≡ None → o ≡ None
 none_in_hand None is = refl
 none_in_hand (Some h) is = absurd (none-some (bare_hand h) (sym is))
 
-some_in_hand : (o : Option InHand) (seen : BareHand) → option_map bare_hand o ≡ Some seen → (h : InHand) × (o ≡ Some h) × (bare_hand h ≡ seen)
+some_in_hand : (o : Option HandState) (seen : BareHand) → option_map bare_hand o ≡ Some seen → (h : HandState) × (o ≡ Some h) × (bare_hand h ≡ seen)
 some_in_hand None seen is = absurd (none-some seen is)
 some_in_hand (Some h) seen is = (h, refl, same_Some (bare_hand h) seen is)
 
-module _ (w w' : World) (alike : AreAlikeWorlds w w') where
+module _ (w w' : WorldState) (alike : AreAlikeWorlds w w') where
   there : (n : ℕ) → IsQueue w n → IsQueue w' n
   there n is =
       let count : length w.queues ≡ length w'.queues =
@@ -69,7 +69,7 @@ module _ (w w' : World) (alike : AreAlikeWorlds w w') where
       let h = some_in_hand (queue_at w' n).hand (bare_hand has.hand) (sym (hand_alike w w' alike n) ∙ ap (option_map bare_hand) has.is) in
       record { other = record { there = there n has.there; hand = h.0; is = h.1 }; same = h.2 }
 
-  wait_same : (h h' : InHand) → bare_hand h' ≡ bare_hand h → next_wait h' ≡ next_wait h
+  wait_same : (h h' : HandState) → bare_hand h' ≡ bare_hand h → next_wait h' ≡ next_wait h
   wait_same h h' same = ap (λ (s : BareHand). slice_get s.request.waits (length s.reached)) same
 
   pub look_enabled : (n : ℕ) → CanLook w n → CanLook w' n

@@ -3,8 +3,8 @@ use Rattle.std.proofs.Common.{◌≡◌, ℕ, inl, inr, refl, ap, ◌∙◌, sub
 use Rattle.std.specs.Prelude.{◌⊎◌}
 use Rattle.std.proofs.lemmas.Option.{none-some}
 use Rattle.gv_types.specs.declared.request.Point.{Point}
-use Rattle.gv_vm.specs.World.{World}
-use Rattle.gv_vm.specs.Step.{IsEnabled, IsReachedNow, IsLackingNow, IsBoundNow, IsGivenUp, IsPaid, IsRaised, step}
+use Rattle.gv_vm.specs.World.{WorldState}
+use Rattle.gv_vm.specs.Step.{IsEnabled, IsReachedNow, IsLackingNow, IsBoundNow, IsGivenUp, IsPaidNow, IsRaisedNow, step}
 use Rattle.gv_vm.specs.Alike.{AreAlikeWorlds, IsAmple, IsAmpleReply, StaysAlike}
 use Rattle.gv_vm.specs.declared.event.Event.TheVariants.{Look, Bind, GiveUp, Pay, Raise}
 use Rattle.gv_vm.specs.declared.event.Reply.{Reply}
@@ -17,31 +17,31 @@ use Rattle.gv_vm.proofs.AlikeTakingLemmas.{IsIdle, moved, pair}
 
 -- A look.
 
-pub record LookReached (w : World) (n : ℕ) (r : Reply) (x : World) : Type 0 where
+pub record LookReached (w : WorldState) (n : ℕ) (r : Reply) (x : WorldState) : Type 0 where
   pub point : Point
   pub seen : ℕ
   pub is : r ≡ Reached point seen
   pub now : IsReachedNow w n point seen x
 
-pub record LookLacked (w : World) (n : ℕ) (r : Reply) (x : World) : Type 0 where
+pub record LookLacked (w : WorldState) (n : ℕ) (r : Reply) (x : WorldState) : Type 0 where
   pub point : Point
   pub have : ℕ
   pub is : r ≡ Lacking point have
   pub now : IsLackingNow w n point have x
 
-look_cases : (w x : World) (n : ℕ) (r : Reply) → step w (Look n) r x → (IsIdle w (Look n) r x) ⊎ (LookReached w n r x ⊎ LookLacked w n r x)
+look_cases : (w x : WorldState) (n : ℕ) (r : Reply) → step w (Look n) r x → (IsIdle w (Look n) r x) ⊎ (LookReached w n r x ⊎ LookLacked w n r x)
 look_cases w x n Idle is = inl (record { is = refl; disabled = is.0; same = is.1 })
 look_cases w x n (Refused fault) is = absurd (none-some fault is.0)
 look_cases w x n (Reached point seen) is = inr (inl (record { point = point; seen = seen; is = refl; now = is }))
 look_cases w x n (Lacking point have) is = inr (inr (record { point = point; have = have; is = refl; now = is }))
 look_cases w x n r is = absurd is
 
-look_enabled_by : (w x : World) (n : ℕ) (r : Reply) → (LookReached w n r x ⊎ LookLacked w n r x) → IsEnabled w (Look n)
+look_enabled_by : (w x : WorldState) (n : ℕ) (r : Reply) → (LookReached w n r x ⊎ LookLacked w n r x) → IsEnabled w (Look n)
 look_enabled_by w x n r (inl done) = done.now.enabled
 look_enabled_by w x n r (inr done) = done.now.enabled
 
-module _ (w w' : World) (alike : AreAlikeWorlds w w') where
-  look_both : (n : ℕ) (r r' : Reply) (x x' : World) → (LookReached w n r x ⊎ LookLacked w n r x) → (LookReached w' n r' x' ⊎ LookLacked w' n r' x') → StaysAlike r r' x x'
+module _ (w w' : WorldState) (alike : AreAlikeWorlds w w') where
+  look_both : (n : ℕ) (r r' : Reply) (x x' : WorldState) → (LookReached w n r x ⊎ LookLacked w n r x) → (LookReached w' n r' x' ⊎ LookLacked w' n r' x') → StaysAlike r r' x x'
   look_both n r r' x x' (inl done) (inl done') =
       let now = reached_alike w w' alike n done.point done'.point done.seen done'.seen x x' done.now done'.now in
       moved r r' (Reached done.point done.seen) (Reached done'.point done'.seen) x x' done.is done'.is
@@ -60,7 +60,7 @@ module _ (w w' : World) (alike : AreAlikeWorlds w w') where
         worlds = now.2;
       })
 
-  pub look_step : (n : ℕ) (r r' : Reply) (x x' : World) → step w (Look n) r x → step w' (Look n) r' x' → StaysAlike r r' x x'
+  pub look_step : (n : ℕ) (r r' : Reply) (x x' : WorldState) → step w (Look n) r x → step w' (Look n) r' x' → StaysAlike r r' x x'
   look_step n r r' x x' is is' =
       pair w w' alike (Look n) (Look n) r r' x x' (look_cases w x n r is) (look_cases w' x' n r' is')
       (look_enabled_by w x n r) (look_enabled_by w' x' n r')
@@ -69,13 +69,13 @@ module _ (w w' : World) (alike : AreAlikeWorlds w w') where
 
 -- A request is carried out.
 
-pub record BindDone (w : World) (n : ℕ) (r : Reply) (x : World) : Type 0 where
+pub record BindDone (w : WorldState) (n : ℕ) (r : Reply) (x : WorldState) : Type 0 where
   pub number : ℕ
   pub outcome : Outcome
   pub is : r ≡ Told number outcome
   pub bound : IsBoundNow w n number outcome x
 
-bind_cases : (w x : World) (n : ℕ) (r : Reply) → step w (Bind n) r x → (IsIdle w (Bind n) r x) ⊎ BindDone w n r x
+bind_cases : (w x : WorldState) (n : ℕ) (r : Reply) → step w (Bind n) r x → (IsIdle w (Bind n) r x) ⊎ BindDone w n r x
 bind_cases w x n Idle is = inl (record { is = refl; disabled = is.0; same = is.1 })
 bind_cases w x n (Refused fault) is = absurd (none-some fault is.0)
 bind_cases w x n (Told number outcome) is = inr (record { number = number; outcome = outcome; is = refl; bound = is })
@@ -83,13 +83,13 @@ bind_cases w x n r is = absurd is
 
 -- It is given up.
 
-pub record GiveUpDone (w : World) (n : ℕ) (r : Reply) (x : World) : Type 0 where
+pub record GiveUpDone (w : WorldState) (n : ℕ) (r : Reply) (x : WorldState) : Type 0 where
   pub number : ℕ
   pub outcome : Outcome
   pub is : r ≡ Told number outcome
   pub given : IsGivenUp w n number outcome x
 
-give_up_cases : (w x : World) (n : ℕ) (r : Reply) → step w (GiveUp n) r x → (IsIdle w (GiveUp n) r x) ⊎ GiveUpDone w n r x
+give_up_cases : (w x : WorldState) (n : ℕ) (r : Reply) → step w (GiveUp n) r x → (IsIdle w (GiveUp n) r x) ⊎ GiveUpDone w n r x
 give_up_cases w x n Idle is = inl (record { is = refl; disabled = is.0; same = is.1 })
 give_up_cases w x n (Refused fault) is = absurd (none-some fault is.0)
 give_up_cases w x n (Told number outcome) is = inr (record { number = number; outcome = outcome; is = refl; given = is })
@@ -97,13 +97,13 @@ give_up_cases w x n r is = absurd is
 
 -- A signal is paid.
 
-pub record PayDone (w : World) (n : ℕ) (r : Reply) (x : World) : Type 0 where
+pub record PayDone (w : WorldState) (n : ℕ) (r : Reply) (x : WorldState) : Type 0 where
   pub point : Point
   pub now : ℕ
   pub is : r ≡ Raised point now
-  pub paid : IsPaid w n point now x
+  pub paid : IsPaidNow w n point now x
 
-pay_cases : (w x : World) (n : ℕ) (r : Reply) → step w (Pay n) r x → (IsIdle w (Pay n) r x) ⊎ PayDone w n r x
+pay_cases : (w x : WorldState) (n : ℕ) (r : Reply) → step w (Pay n) r x → (IsIdle w (Pay n) r x) ⊎ PayDone w n r x
 pay_cases w x n Idle is = inl (record { is = refl; disabled = is.0; same = is.1 })
 pay_cases w x n (Refused fault) is = absurd (none-some fault is.0)
 pay_cases w x n (Raised point now) is = inr (record { point = point; now = now; is = refl; paid = is })
@@ -111,13 +111,13 @@ pay_cases w x n r is = absurd is
 
 -- A timeline is raised.
 
-pub record RaiseDone (w : World) (asked : Point) (r : Reply) (x : World) : Type 0 where
+pub record RaiseDone (w : WorldState) (asked : Point) (r : Reply) (x : WorldState) : Type 0 where
   pub point : Point
   pub now : ℕ
   pub is : r ≡ Raised point now
-  pub up : IsRaised w asked point now x
+  pub up : IsRaisedNow w asked point now x
 
-raise_cases : (w x : World) (asked : Point) (r : Reply) → step w (Raise asked) r x → (IsIdle w (Raise asked) r x) ⊎ RaiseDone w asked r x
+raise_cases : (w x : WorldState) (asked : Point) (r : Reply) → step w (Raise asked) r x → (IsIdle w (Raise asked) r x) ⊎ RaiseDone w asked r x
 raise_cases w x asked Idle is = inl (record { is = refl; disabled = is.0; same = is.1 })
 raise_cases w x asked (Refused fault) is = absurd (none-some fault is.0)
 raise_cases w x asked (Raised point now) is = inr (record { point = point; now = now; is = refl; up = is })
@@ -126,8 +126,8 @@ raise_cases w x asked r is = absurd is
 ample_told : (r : Reply) (number : ℕ) (outcome : Outcome) → r ≡ Told number outcome → IsAmpleReply r → IsAmple outcome
 ample_told r number outcome is ample = subst IsAmpleReply is ample
 
-module _ (w w' : World) (alike : AreAlikeWorlds w w') where
-  pub bind_step : (n : ℕ) (r r' : Reply) (x x' : World) → IsAmpleReply r → IsAmpleReply r' → step w (Bind n) r x → step w' (Bind n) r' x' →
+module _ (w w' : WorldState) (alike : AreAlikeWorlds w w') where
+  pub bind_step : (n : ℕ) (r r' : Reply) (x x' : WorldState) → IsAmpleReply r → IsAmpleReply r' → step w (Bind n) r x → step w' (Bind n) r' x' →
       StaysAlike r r' x x'
   bind_step n r r' x x' ample ample' is is' =
       pair w w' alike (Bind n) (Bind n) r r' x x' (bind_cases w x n r is) (bind_cases w' x' n r' is')
@@ -142,7 +142,7 @@ module _ (w w' : World) (alike : AreAlikeWorlds w w') where
         worlds = now.2;
       }))
 
-  pub give_up_step : (n : ℕ) (r r' : Reply) (x x' : World) → step w (GiveUp n) r x → step w' (GiveUp n) r' x' → StaysAlike r r' x x'
+  pub give_up_step : (n : ℕ) (r r' : Reply) (x x' : WorldState) → step w (GiveUp n) r x → step w' (GiveUp n) r' x' → StaysAlike r r' x x'
   give_up_step n r r' x x' is is' =
       pair w w' alike (GiveUp n) (GiveUp n) r r' x x' (give_up_cases w x n r is) (give_up_cases w' x' n r' is')
       (λ done. done.given.enabled) (λ done. done.given.enabled)
@@ -155,7 +155,7 @@ module _ (w w' : World) (alike : AreAlikeWorlds w w') where
         worlds = now.2;
       }))
 
-  pub pay_step : (n : ℕ) (r r' : Reply) (x x' : World) → step w (Pay n) r x → step w' (Pay n) r' x' → StaysAlike r r' x x'
+  pub pay_step : (n : ℕ) (r r' : Reply) (x x' : WorldState) → step w (Pay n) r x → step w' (Pay n) r' x' → StaysAlike r r' x x'
   pay_step n r r' x x' is is' =
       pair w w' alike (Pay n) (Pay n) r r' x x' (pay_cases w x n r is) (pay_cases w' x' n r' is')
       (λ done. done.paid.enabled) (λ done. done.paid.enabled)
@@ -168,7 +168,7 @@ module _ (w w' : World) (alike : AreAlikeWorlds w w') where
         worlds = now.2;
       }))
 
-  pub raise_step : (asked : Point) (r r' : Reply) (x x' : World) → step w (Raise asked) r x → step w' (Raise asked) r' x' → StaysAlike r r' x x'
+  pub raise_step : (asked : Point) (r r' : Reply) (x x' : WorldState) → step w (Raise asked) r x → step w' (Raise asked) r' x' → StaysAlike r r' x x'
   raise_step asked r r' x x' is is' =
       pair w w' alike (Raise asked) (Raise asked) r r' x x' (raise_cases w x asked r is) (raise_cases w' x' asked r' is')
       (λ done. done.up.enabled) (λ done. done.up.enabled)

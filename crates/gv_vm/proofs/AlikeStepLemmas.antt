@@ -3,7 +3,7 @@
 use Rattle.std.proofs.Common.{◌≡◌, ℕ, Vec, Global, inl, inr, refl, sym, ap, ◌∙◌, subst}
 use Rattle.std.specs.Prelude.{List, ◌⊎◌}
 use Rattle.gv_vm.specs.Jobs.{begin_fault, IsBegun, IsEnded}
-use Rattle.gv_vm.specs.World.{World}
+use Rattle.gv_vm.specs.World.{WorldState}
 use Rattle.gv_vm.specs.Step.{IsBegunNow, IsEndedNow, step}
 use Rattle.gv_vm.specs.Alike.{AreAlikeEvents, AreAlikeWorlds, IsAmpleReply, StaysAlike}
 use Rattle.gv_vm.specs.declared.event.Event.{Event}
@@ -13,8 +13,8 @@ use Rattle.gv_vm.specs.declared.event.Reply.TheVariants.{Idle, Begun, Ended, Ref
 use Rattle.gv_vm.specs.declared.jobs.Access.{Access}
 use Rattle.gv_vm.specs.declared.jobs.Job.{Job}
 use Rattle.gv_vm.specs.declared.places.Place.{Place}
-use Rattle.gv_vm.proofs.AlikeMachineLemmas.{begun_alike, ended_alike, places_alike, job_number_alike}
-use Rattle.gv_vm.proofs.AlikeTurnLemmas.{machines_alike}
+use Rattle.gv_vm.proofs.AlikeVmLemmas.{begun_alike, ended_alike, places_alike, job_number_alike}
+use Rattle.gv_vm.proofs.AlikeTurnLemmas.{vms_alike}
 use Rattle.gv_vm.proofs.AlikeTakingLemmas.{moved, put_step, take_step}
 use Rattle.gv_vm.proofs.AlikeServingLemmas.{look_step, bind_step, give_up_step, pay_step, raise_step}
 use Rattle.gv_vm.proofs.AlikeAnsweringLemmas.{IsRefusal, call_pair, create_step, destroy_step, translate_step}
@@ -22,13 +22,13 @@ use Rattle.gv_vm.proofs.AlikeRewindingLemmas.{rewind_step, withdraw_step, settle
 
 -- A job begins.
 
-pub record BeginDone (w : World) (accesses : List Access) (r : Reply) (x : World) : Type 0 where
+pub record BeginDone (w : WorldState) (accesses : List Access) (r : Reply) (x : WorldState) : Type 0 where
   pub number : ℕ
   pub places : Vec Place Global
   pub is : r ≡ Begun number places
   pub begun : IsBegunNow w accesses (record { number = number; places = places }) x
 
-begin_cases : (w x : World) (accesses : Vec Access Global) (r : Reply) → step w (JobBegin accesses) r x → (IsRefusal w (JobBegin accesses) r x) ⊎ BeginDone w accesses.items r x
+begin_cases : (w x : WorldState) (accesses : Vec Access Global) (r : Reply) → step w (JobBegin accesses) r x → (IsRefusal w (JobBegin accesses) r x) ⊎ BeginDone w accesses.items r x
 begin_cases w x accesses Idle is = absurd (is.0 tt)
 begin_cases w x accesses (Refused fault) is = inl (record { fault = fault; is = refl; why = is.0; rest = is.1 })
 begin_cases w x accesses (Begun number places) is = inr (record { number = number; places = places; is = refl; begun = is })
@@ -36,55 +36,55 @@ begin_cases w x accesses r is = absurd is
 
 -- It ends.
 
-pub record EndDone (w : World) (asked : ℕ) (r : Reply) (x : World) : Type 0 where
+pub record EndDone (w : WorldState) (asked : ℕ) (r : Reply) (x : WorldState) : Type 0 where
   pub job : ℕ
   pub is : r ≡ Ended job
   pub ended : IsEndedNow w asked job x
 
-end_cases : (w x : World) (asked : ℕ) (r : Reply) → step w (JobEnd asked) r x → (IsRefusal w (JobEnd asked) r x) ⊎ EndDone w asked r x
+end_cases : (w x : WorldState) (asked : ℕ) (r : Reply) → step w (JobEnd asked) r x → (IsRefusal w (JobEnd asked) r x) ⊎ EndDone w asked r x
 end_cases w x asked Idle is = absurd (is.0 tt)
 end_cases w x asked (Refused fault) is = inl (record { fault = fault; is = refl; why = is.0; rest = is.1 })
 end_cases w x asked (Ended job) is = inr (record { job = job; is = refl; ended = is })
 end_cases w x asked r is = absurd is
 
-module _ (w w' : World) (alike : AreAlikeWorlds w w') where
-  begin_step : (accesses accesses' : Vec Access Global) (r r' : Reply) (x x' : World) → accesses.items ≡ accesses'.items → step w (JobBegin accesses) r x → step w' (JobBegin accesses') r' x' →
+module _ (w w' : WorldState) (alike : AreAlikeWorlds w w') where
+  begin_step : (accesses accesses' : Vec Access Global) (r r' : Reply) (x x' : WorldState) → accesses.items ≡ accesses'.items → step w (JobBegin accesses) r x → step w' (JobBegin accesses') r' x' →
       StaysAlike r r' x x'
   begin_step accesses accesses' r r' x x' same is is' =
       call_pair w w' alike (JobBegin accesses) (JobBegin accesses') r r' x x' (begin_cases w x accesses r is) (begin_cases w' x' accesses' r' is')
-      (ap (begin_fault w'.machine.space w'.machine.running) same)
+      (ap (begin_fault w'.vm.space w'.vm.running) same)
       (λ done. done.begun.allowed) (λ done. done.begun.allowed)
       (λ done done'.
       let job : Job = record { number = done.number; places = done.places } in
       let job' : Job = record { number = done'.number; places = done'.places } in
-      let now' : IsBegun w'.machine.space x'.machine.space w'.machine.running x'.machine.running accesses.items job' =
-      subst (λ asked. IsBegun w'.machine.space x'.machine.space w'.machine.running x'.machine.running asked job') (sym same) done'.begun.begun in
+      let now' : IsBegun w'.vm.space x'.vm.space w'.vm.running x'.vm.running accesses.items job' =
+      subst (λ asked. IsBegun w'.vm.space x'.vm.space w'.vm.running x'.vm.running asked job') (sym same) done'.begun.begun in
       moved r r' (Begun done.number done.places) (Begun done'.number done'.places) x x' done.is done'.is
       (record {
         replies = (
-          job_number_alike w.machine w'.machine alike.machine x.machine x'.machine accesses.items job job' done.begun.begun now',
-          places_alike w.machine w'.machine alike.machine x.machine x'.machine accesses.items job job' done.begun.begun now',
+          job_number_alike w.vm w'.vm alike.vm x.vm x'.vm accesses.items job job' done.begun.begun now',
+          places_alike w.vm w'.vm alike.vm x.vm x'.vm accesses.items job job' done.begun.begun now',
         );
-        worlds = machines_alike w w' alike x x' done.begun.state done'.begun.state
-            (begun_alike w.machine w'.machine alike.machine x.machine x'.machine accesses.items job job' done.begun.begun now' done.begun.machine done'.begun.machine);
+        worlds = vms_alike w w' alike x x' done.begun.state done'.begun.state
+            (begun_alike w.vm w'.vm alike.vm x.vm x'.vm accesses.items job job' done.begun.begun now' done.begun.vm done'.begun.vm);
       }))
 
-  end_step : (asked : ℕ) (r r' : Reply) (x x' : World) → step w (JobEnd asked) r x → step w' (JobEnd asked) r' x' → StaysAlike r r' x x'
+  end_step : (asked : ℕ) (r r' : Reply) (x x' : WorldState) → step w (JobEnd asked) r x → step w' (JobEnd asked) r' x' → StaysAlike r r' x x'
   end_step asked r r' x x' is is' =
       call_pair w w' alike (JobEnd asked) (JobEnd asked) r r' x x' (end_cases w x asked r is) (end_cases w' x' asked r' is') refl
       (λ done. done.ended.allowed) (λ done. done.ended.allowed)
       (λ done done'.
       let one : done.job ≡ done'.job = done.ended.job_is ∙ sym done'.ended.job_is in
-      let now' = subst (λ k. IsEnded w'.machine.space x'.machine.space w'.machine.running x'.machine.running k) (sym one) done'.ended.ended in
+      let now' = subst (λ k. IsEnded w'.vm.space x'.vm.space w'.vm.running x'.vm.running k) (sym one) done'.ended.ended in
       moved r r' (Ended done.job) (Ended done'.job) x x' done.is done'.is
       (record {
         replies = ap (λ k. Ended k) one;
-        worlds = machines_alike w w' alike x x' done.ended.state done'.ended.state
-            (ended_alike w.machine w'.machine alike.machine x.machine x'.machine done.job done.ended.ended now' done.ended.machine done'.ended.machine);
+        worlds = vms_alike w w' alike x x' done.ended.state done'.ended.state
+            (ended_alike w.vm w'.vm alike.vm x.vm x'.vm done.job done.ended.ended now' done.ended.vm done'.ended.vm);
       }))
 
   -- one event
-  one_step : (e : Event) (r r' : Reply) (x x' : World) → IsAmpleReply r → IsAmpleReply r' → step w e r x → step w' e r' x' → StaysAlike r r' x x'
+  one_step : (e : Event) (r r' : Reply) (x x' : WorldState) → IsAmpleReply r → IsAmpleReply r' → step w e r x → step w' e r' x' → StaysAlike r r' x x'
   one_step (Put n request) r r' x x' ample ample' is is' = put_step w w' alike n request request r r' x x' refl is is'
   one_step (Take n) r r' x x' ample ample' is is' = take_step w w' alike n r r' x x' is is'
   one_step (Look n) r r' x x' ample ample' is is' = look_step w w' alike n r r' x x' is is'
@@ -101,20 +101,20 @@ module _ (w w' : World) (alike : AreAlikeWorlds w w') where
   one_step (JobEnd job) r r' x x' ample ample' is is' = end_step job r r' x x' is is'
   one_step (Translate addr) r r' x x' ample ample' is is' = translate_step w w' alike addr r r' x x' is is'
 
-  same_step : (e e' : Event) (r r' : Reply) (x x' : World) → e ≡ e' → IsAmpleReply r → IsAmpleReply r' → step w e r x → step w' e' r' x' → StaysAlike r r' x x'
+  same_step : (e e' : Event) (r r' : Reply) (x x' : WorldState) → e ≡ e' → IsAmpleReply r → IsAmpleReply r' → step w e r x → step w' e' r' x' → StaysAlike r r' x x'
   same_step e e' r r' x x' same ample ample' is is' = one_step e r r' x x' ample ample' is (subst (λ (event : Event). step w' event r' x') (sym same) is')
 
   -- the same event
-  pub step_alike : (e e' : Event) (r r' : Reply) (x x' : World) → AreAlikeEvents e e' → IsAmpleReply r → IsAmpleReply r' → step w e r x → step w' e' r' x' → StaysAlike r r' x x'
+  pub step_alike : (e e' : Event) (r r' : Reply) (x x' : WorldState) → AreAlikeEvents e e' → IsAmpleReply r → IsAmpleReply r' → step w e r x → step w' e' r' x' → StaysAlike r r' x x'
   step_alike (Put n request) (Put n' request') r r' x x' same ample ample' is is' =
       put_step w w' alike n request request' r r' x x' same.1 is (subst (λ k. step w' (Put k request') r' x') (sym same.0) is')
   step_alike (JobBegin accesses) (JobBegin accesses') r r' x x' same ample ample' is is' = begin_step accesses accesses' r r' x x' same is is'
   step_alike e e' r r' x x' same ample ample' is is' = same_step e e' r r' x x' same ample ample' is is'
 
 -- a world is the same as itself
-pub AreAlikeWorlds-itself : (w : World) → AreAlikeWorlds w w
+pub AreAlikeWorlds-itself : (w : WorldState) → AreAlikeWorlds w w
 AreAlikeWorlds-itself w = record {
-  machine = record { space = refl; journal = refl; running = refl; told = refl };
+  vm = record { space = refl; journal = refl; running = refl; told = refl };
   numbers = refl;
   depth = refl;
   queues = refl;

@@ -5,7 +5,7 @@ use Rattle.std.proofs.lemmas.Option.{none-some, same_Some}
 use Rattle.gv_types.specs.declared.fault.Fault.{Fault}
 use Rattle.gv_types.specs.declared.request.Request.{Request}
 use Rattle.gv_journal.specs.Bare.{bare_request}
-use Rattle.gv_vm.specs.World.{World}
+use Rattle.gv_vm.specs.World.{WorldState}
 use Rattle.gv_vm.specs.Step.{IsEnabled, IsPutAs, IsNotPut, IsTaken, step}
 use Rattle.gv_vm.specs.Alike.{AreAlikeWorlds, StaysAlike}
 use Rattle.gv_vm.specs.declared.event.Event.{Event}
@@ -16,25 +16,25 @@ use Rattle.gv_vm.proofs.AlikeQueueLemmas.{put_fault_alike, put_alike, taken_alik
 use Rattle.gv_vm.proofs.AlikeEnabledLemmas.{AreAlikeWorlds-sym, put_enabled, take_enabled}
 
 -- the event isn't enabled
-pub record IsIdle (w : World) (event : Event) (reply : Reply) (x : World) : Type 0 where
+pub record IsIdle (w : WorldState) (event : Event) (reply : Reply) (x : WorldState) : Type 0 where
   pub is : reply ≡ Idle
   pub disabled : ¬ IsEnabled w event
   pub same : x ≡ w
 
 -- replies told by equations
-pub moved : (r r' a a' : Reply) (x x' : World) → r ≡ a → r' ≡ a' → StaysAlike a a' x x' → StaysAlike r r' x x'
+pub moved : (r r' a a' : Reply) (x x' : WorldState) → r ≡ a → r' ≡ a' → StaysAlike a a' x x' → StaysAlike r r' x x'
 moved r r' a a' x x' is is' stays =
     subst (λ y. StaysAlike y r' x x') (sym is) (subst (λ y. StaysAlike a y x x') (sym is') stays)
 
-module _ (w w' : World) (alike : AreAlikeWorlds w w') where
-  pub unchanged : (x x' : World) → x ≡ w → x' ≡ w' → StaysAlike Idle Idle x x'
+module _ (w w' : WorldState) (alike : AreAlikeWorlds w w') where
+  pub unchanged : (x x' : WorldState) → x ≡ w → x' ≡ w' → StaysAlike Idle Idle x x'
   unchanged x x' is is' = record {
     replies = refl;
     worlds = subst (λ z. AreAlikeWorlds z x') (sym is) (subst (AreAlikeWorlds w) (sym is') alike);
   }
 
   -- the event is enabled in both worlds or in none
-  pub pair : {D D' : Type 0} (e e' : Event) (r r' : Reply) (x x' : World) → (IsIdle w e r x) ⊎ D → (IsIdle w' e' r' x') ⊎ D' → (D → IsEnabled w e) → (D' → IsEnabled w' e') →
+  pub pair : {D D' : Type 0} (e e' : Event) (r r' : Reply) (x x' : WorldState) → (IsIdle w e r x) ⊎ D → (IsIdle w' e' r' x') ⊎ D' → (D → IsEnabled w e) → (D' → IsEnabled w' e') →
       (IsEnabled w e → IsEnabled w' e') → (IsEnabled w' e' → IsEnabled w e) → (D → D' → StaysAlike r r' x x') → StaysAlike r r' x x'
   pair e e' r r' x x' (inl idle) (inl idle') enabled enabled' there back both = moved r r' Idle Idle x x' idle.is idle'.is (unchanged x x' idle.same idle'.same)
   pair e e' r r' x x' (inl idle) (inr done') enabled enabled' there back both = absurd (idle.disabled (back (enabled' done')))
@@ -43,30 +43,30 @@ module _ (w w' : World) (alike : AreAlikeWorlds w w') where
 
 -- A request is put.
 
-pub record PutDone (w : World) (n : ℕ) (request : Request) (r : Reply) (x : World) : Type 0 where
+pub record PutDone (w : WorldState) (n : ℕ) (request : Request) (r : Reply) (x : WorldState) : Type 0 where
   pub number : ℕ
   pub is : r ≡ IsPut number
   pub put : IsPutAs w n request number x
 
-pub record PutRefused (w : World) (n : ℕ) (request : Request) (r : Reply) (x : World) : Type 0 where
+pub record PutRefused (w : WorldState) (n : ℕ) (request : Request) (r : Reply) (x : WorldState) : Type 0 where
   pub fault : Fault
   pub back : Request
   pub is : r ≡ NotPut fault back
   pub put : IsNotPut w n request fault back x
 
-put_cases : (w x : World) (n : ℕ) (request : Request) (r : Reply) → step w (Put n request) r x → (IsIdle w (Put n request) r x) ⊎ (PutDone w n request r x ⊎ PutRefused w n request r x)
+put_cases : (w x : WorldState) (n : ℕ) (request : Request) (r : Reply) → step w (Put n request) r x → (IsIdle w (Put n request) r x) ⊎ (PutDone w n request r x ⊎ PutRefused w n request r x)
 put_cases w x n request Idle is = inl (record { is = refl; disabled = is.0; same = is.1 })
 put_cases w x n request (Refused fault) is = absurd (none-some fault is.0)
 put_cases w x n request (IsPut number) is = inr (inl (record { number = number; is = refl; put = is }))
 put_cases w x n request (NotPut fault back) is = inr (inr (record { fault = fault; back = back; is = refl; put = is }))
 put_cases w x n request r is = absurd is
 
-put_enabled_by : (w x : World) (n : ℕ) (request : Request) (r : Reply) → (PutDone w n request r x ⊎ PutRefused w n request r x) → IsEnabled w (Put n request)
+put_enabled_by : (w x : WorldState) (n : ℕ) (request : Request) (r : Reply) → (PutDone w n request r x ⊎ PutRefused w n request r x) → IsEnabled w (Put n request)
 put_enabled_by w x n request r (inl done) = done.put.enabled
 put_enabled_by w x n request r (inr done) = done.put.enabled
 
-module _ (w w' : World) (alike : AreAlikeWorlds w w') where
-  put_both : (n : ℕ) (request request' : Request) (r r' : Reply) (x x' : World) → bare_request request ≡ bare_request request' →
+module _ (w w' : WorldState) (alike : AreAlikeWorlds w w') where
+  put_both : (n : ℕ) (request request' : Request) (r r' : Reply) (x x' : WorldState) → bare_request request ≡ bare_request request' →
       (PutDone w n request r x ⊎ PutRefused w n request r x) → (PutDone w' n request' r' x' ⊎ PutRefused w' n request' r' x') → StaysAlike r r' x x'
   put_both n request request' r r' x x' same (inl done) (inl done') =
       let now = put_alike w w' alike n done.number done'.number request request' x x' same done.put done'.put in
@@ -85,7 +85,7 @@ module _ (w w' : World) (alike : AreAlikeWorlds w w') where
         worlds = subst (λ z. AreAlikeWorlds z x') (sym done.put.state) (subst (AreAlikeWorlds w) (sym done'.put.state) alike);
       })
 
-  pub put_step : (n : ℕ) (request request' : Request) (r r' : Reply) (x x' : World) → bare_request request ≡ bare_request request' →
+  pub put_step : (n : ℕ) (request request' : Request) (r r' : Reply) (x x' : WorldState) → bare_request request ≡ bare_request request' →
       step w (Put n request) r x → step w' (Put n request') r' x' → StaysAlike r r' x x'
   put_step n request request' r r' x x' same is is' =
       pair w w' alike (Put n request) (Put n request') r r' x x' (put_cases w x n request r is) (put_cases w' x' n request' r' is')
@@ -95,19 +95,19 @@ module _ (w w' : World) (alike : AreAlikeWorlds w w') where
 
 -- One is taken.
 
-pub record TakeDone (w : World) (n : ℕ) (r : Reply) (x : World) : Type 0 where
+pub record TakeDone (w : WorldState) (n : ℕ) (r : Reply) (x : WorldState) : Type 0 where
   pub number : ℕ
   pub is : r ≡ Taken number
   pub took : IsTaken w n number x
 
-take_cases : (w x : World) (n : ℕ) (r : Reply) → step w (Take n) r x → (IsIdle w (Take n) r x) ⊎ TakeDone w n r x
+take_cases : (w x : WorldState) (n : ℕ) (r : Reply) → step w (Take n) r x → (IsIdle w (Take n) r x) ⊎ TakeDone w n r x
 take_cases w x n Idle is = inl (record { is = refl; disabled = is.0; same = is.1 })
 take_cases w x n (Refused fault) is = absurd (none-some fault is.0)
 take_cases w x n (Taken number) is = inr (record { number = number; is = refl; took = is })
 take_cases w x n r is = absurd is
 
-module _ (w w' : World) (alike : AreAlikeWorlds w w') where
-  pub take_step : (n : ℕ) (r r' : Reply) (x x' : World) → step w (Take n) r x → step w' (Take n) r' x' → StaysAlike r r' x x'
+module _ (w w' : WorldState) (alike : AreAlikeWorlds w w') where
+  pub take_step : (n : ℕ) (r r' : Reply) (x x' : WorldState) → step w (Take n) r x → step w' (Take n) r' x' → StaysAlike r r' x x'
   take_step n r r' x x' is is' =
       pair w w' alike (Take n) (Take n) r r' x x' (take_cases w x n r is) (take_cases w' x' n r' is')
       (λ done. done.took.enabled) (λ done. done.took.enabled)

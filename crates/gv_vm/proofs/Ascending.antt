@@ -9,7 +9,7 @@ use Rattle.std.proofs.lemmas.Bool.{eqb-true, eqb-false}
 use Rattle.std.proofs.lemmas.Bool.Decides.{nat_tests}
 use Rattle.std.proofs.lemmas.Cmp.{ranked}
 use Rattle.std.proofs.lemmas.List.Elements.{All-nil, All-cons, All-head, All-tail, All-weaker, All-push}
-use Rattle.gv_vm.specs.Jobs.{RunningJob, Running, AreRunning, has_number, runs, places_in, running_job, without_job, many_fault, most_running, most_begun}
+use Rattle.gv_vm.specs.Jobs.{JobState, JobsState, AreRunning, has_number, runs, places_in, job_state, without_job, many_fault, most_running, most_begun}
 use Rattle.gv_vm.specs.Inside.{AreAscending, IsAt}
 use Rattle.gv_vm.specs.declared.jobs.Job.{Job}
 use Rattle.gv_vm.specs.declared.places.Place.{Place}
@@ -32,28 +32,28 @@ apart j js number k ascending at same =
 abbrev HaveAnother : List Job → ℕ → Type 0
 HaveAnother js number = (k : ℕ) (d : Job) → k < length js → (slice_index_or js k d).number ≢ number
 
-absent : (js : List Job) (number : ℕ) → HaveAnother js number → runs (map running_job js) number ≡ false
+absent : (js : List Job) (number : ℕ) → HaveAnother js number → runs (map job_state js) number ≡ false
 absent [] number none = refl
 absent (j ∷ js) number none =
-    elim (eqb j.number number) as (λ t. eqb j.number number ≡ t → (t || runs (map running_job js) number) ≡ false) [
+    elim (eqb j.number number) as (λ t. eqb j.number number ≡ t → (t || runs (map job_state js) number) ≡ false) [
       | true ↦ (λ same. absurd (none 0 j (omega arith) (eqb-true j.number number same)))
       | false ↦ (λ other. absent js number (λ k d less. none (suc k) d (omega arith)))
     ] refl
 
-others : (js : List Job) (number : ℕ) → HaveAnother js number → All (λ j. j.number ≢ number) (map running_job js)
+others : (js : List Job) (number : ℕ) → HaveAnother js number → All (λ j. j.number ≢ number) (map job_state js)
 others [] number none = All-nil (λ j. j.number ≢ number)
 others (j ∷ js) number none =
-    All-cons (λ j. j.number ≢ number) (running_job j) (map running_job js) (none 0 j (omega arith)) (others js number (λ k d less. none (suc k) d (omega arith)))
+    All-cons (λ j. j.number ≢ number) (job_state j) (map job_state js) (none 0 j (omega arith)) (others js number (λ k d less. none (suc k) d (omega arith)))
 
-pub present : (js : List Job) (number place : ℕ) → IsAt js number place → runs (map running_job js) number ≡ true
+pub present : (js : List Job) (number place : ℕ) → IsAt js number place → runs (map job_state js) number ≡ true
 present [] number place at = absurd (omega (arith, at.in_range))
 present (j ∷ js) number zero at =
-    elim (eqb j.number number) as (λ t. eqb j.number number ≡ t → (t || runs (map running_job js) number) ≡ true) [
+    elim (eqb j.number number) as (λ t. eqb j.number number ≡ t → (t || runs (map job_state js) number) ≡ true) [
       | true ↦ (λ same. refl)
       | false ↦ (λ other. absurd (eqb-false j.number number other (at.has_number j)))
     ] refl
 present (j ∷ js) number (suc k) at =
-    elim (eqb j.number number) as (λ t. (t || runs (map running_job js) number) ≡ true) [
+    elim (eqb j.number number) as (λ t. (t || runs (map job_state js) number) ≡ true) [
       | true ↦ refl
       | false ↦ present js number k (tail_at j js number k at)
     ]
@@ -68,68 +68,68 @@ module _ (js : List Job) (ascending : AreAscending js) (number : ℕ) where
   pub found : (place : ℕ) → IsSearchInRange (Ok place) (length js) → IsBinarySearchResult (λ (j : Job). nat_cmp j.number number) js (Ok place) → IsAt js number place
   found place in_range equal = record { in_range = in_range; has_number = λ d. ranked _ number _ (sym (equal d)) }
 
-  pub not_found : (gap : ℕ) → IsSearchInRange (Err gap) (length js) → IsBinarySearchResult (λ (j : Job). nat_cmp j.number number) js (Err gap) → runs (map running_job js) number ≡ false
+  pub not_found : (gap : ℕ) → IsSearchInRange (Err gap) (length js) → IsBinarySearchResult (λ (j : Job). nat_cmp j.number number) js (Err gap) → runs (map job_state js) number ≡ false
   not_found gap in_range parted = absent js number (λ k d less same.
       let smaller : k < gap → (slice_index_or js k d).number < number = λ lt. ranked _ number _ (sym ((parted comparisons_rise).0 k d (omega arith) lt)) in
       let greater : gap ≤ k → number < (slice_index_or js k d).number = λ le. ranked _ number _ (sym ((parted comparisons_rise).1 k d le less)) in
       grind (arith, smaller, greater))
 
 -- the places of the job at a place
-pub places_at : (js : List Job) (number place : ℕ) (d : Job) → AreAscending js → IsAt js number place → places_in (map running_job js) number ≡ Some (slice_index_or js place d).places.items
+pub places_at : (js : List Job) (number place : ℕ) (d : Job) → AreAscending js → IsAt js number place → places_in (map job_state js) number ≡ Some (slice_index_or js place d).places.items
 places_at [] number place d ascending at = absurd (omega (arith, at.in_range))
 places_at (j ∷ js) number zero d ascending at =
-    elim (eqb j.number number) as (λ t. eqb j.number number ≡ t → option_map (λ (r : RunningJob). r.places) (cond t (Some (running_job j)) (find (has_number number) (map running_job js))) ≡ Some j.places.items) [
+    elim (eqb j.number number) as (λ t. eqb j.number number ≡ t → option_map (λ (r : JobState). r.places) (cond t (Some (job_state j)) (find (has_number number) (map job_state js))) ≡ Some j.places.items) [
       | true ↦ (λ same. refl)
       | false ↦ (λ other. absurd (eqb-false j.number number other (at.has_number j)))
     ] refl
 places_at (j ∷ js) number (suc k) d ascending at =
-    elim (eqb j.number number) as (λ t. eqb j.number number ≡ t → option_map (λ (r : RunningJob). r.places) (cond t (Some (running_job j)) (find (has_number number) (map running_job js))) ≡ Some (slice_index_or js k d).places.items) [
+    elim (eqb j.number number) as (λ t. eqb j.number number ≡ t → option_map (λ (r : JobState). r.places) (cond t (Some (job_state j)) (find (has_number number) (map job_state js))) ≡ Some (slice_index_or js k d).places.items) [
       | true ↦ (λ same. absurd (apart j js number k ascending at (eqb-true j.number number same)))
       | false ↦ (λ other. places_at js number k d (tail_ascending j js ascending) (tail_at j js number k at))
     ] refl
 
-pub places_absent : (js : List RunningJob) (number : ℕ) → runs js number ≡ false → places_in js number ≡ None
+pub places_absent : (js : List JobState) (number : ℕ) → runs js number ≡ false → places_in js number ≡ None
 places_absent [] number none = refl
 places_absent (j ∷ js) number none =
-    elim (has_number number j) as (λ t. (t || runs js number) ≡ false → option_map (λ (r : RunningJob). r.places) (cond t (Some j) (find (has_number number) js)) ≡ None) [
+    elim (has_number number j) as (λ t. (t || runs js number) ≡ false → option_map (λ (r : JobState). r.places) (cond t (Some j) (find (has_number number) js)) ≡ None) [
       | true ↦ (λ h. cc)
       | false ↦ (λ h. places_absent js number h)
     ] none
 
 -- the job at a place, taken out, is the one that is left away
-pub removed : (js : List Job) (number place : ℕ) → AreAscending js → IsAt js number place → map running_job (remove js place) ≡ without_job number (map running_job js)
+pub removed : (js : List Job) (number place : ℕ) → AreAscending js → IsAt js number place → map job_state (remove js place) ≡ without_job number (map job_state js)
 removed [] number place ascending at = absurd (omega (arith, at.in_range))
 removed (j ∷ js) number zero ascending at =
-    elim (eqb j.number number) as (λ t. eqb j.number number ≡ t → map running_job js ≡ cond t (map running_job js) (running_job j ∷ without_job number (map running_job js))) [
+    elim (eqb j.number number) as (λ t. eqb j.number number ≡ t → map job_state js ≡ cond t (map job_state js) (job_state j ∷ without_job number (map job_state js))) [
       | true ↦ (λ same. refl)
       | false ↦ (λ other. absurd (eqb-false j.number number other (at.has_number j)))
     ] refl
 removed (j ∷ js) number (suc k) ascending at =
-    elim (eqb j.number number) as (λ t. eqb j.number number ≡ t → running_job j ∷ map running_job (remove js k) ≡ cond t (map running_job js) (running_job j ∷ without_job number (map running_job js))) [
+    elim (eqb j.number number) as (λ t. eqb j.number number ≡ t → job_state j ∷ map job_state (remove js k) ≡ cond t (map job_state js) (job_state j ∷ without_job number (map job_state js))) [
       | true ↦ (λ same. absurd (apart j js number k ascending at (eqb-true j.number number same)))
-      | false ↦ (λ other. ap (λ (rs : List RunningJob). running_job j ∷ rs) (removed js number k (tail_ascending j js ascending) (tail_at j js number k at)))
+      | false ↦ (λ other. ap (λ (rs : List JobState). job_state j ∷ rs) (removed js number k (tail_ascending j js ascending) (tail_at j js number k at)))
     ] refl
 
 -- the number of a job that is taken off is that of no other
-pub gone : (js : List Job) (number : ℕ) → AreAscending js → All (λ j. j.number ≢ number) (without_job number (map running_job js))
+pub gone : (js : List Job) (number : ℕ) → AreAscending js → All (λ j. j.number ≢ number) (without_job number (map job_state js))
 gone [] number ascending = All-nil (λ j. j.number ≢ number)
 gone (j ∷ js) number ascending =
-    elim (eqb j.number number) as (λ t. eqb j.number number ≡ t → All (λ j. j.number ≢ number) (cond t (map running_job js) (running_job j ∷ without_job number (map running_job js)))) [
+    elim (eqb j.number number) as (λ t. eqb j.number number ≡ t → All (λ j. j.number ≢ number) (cond t (map job_state js) (job_state j ∷ without_job number (map job_state js)))) [
       | true ↦ (λ same. others js number (λ k d less is.
           let number_is : j.number ≡ number = eqb-true j.number number same in
           let above : j.number < (slice_index_or js k d).number = ascending 0 (suc k) d (omega arith) (omega arith) in
           omega (arith, number_is, above, is)))
-      | false ↦ (λ other. All-cons (λ j. j.number ≢ number) (running_job j) (without_job number (map running_job js)) (eqb-false j.number number other) (gone js number (tail_ascending j js ascending)))
+      | false ↦ (λ other. All-cons (λ j. j.number ≢ number) (job_state j) (without_job number (map job_state js)) (eqb-false j.number number other) (gone js number (tail_ascending j js ascending)))
     ] refl
 
 -- each number is below that of the next job
-pub below_next : (js : List Job) (next : ℕ) → All (λ j. j.number < next) (map running_job js) → (k : ℕ) (d : Job) → k < length js → (slice_index_or js k d).number < next
+pub below_next : (js : List Job) (next : ℕ) → All (λ j. j.number < next) (map job_state js) → (k : ℕ) (d : Job) → k < length js → (slice_index_or js k d).number < next
 below_next [] next below k d less = absurd (omega (arith, less))
-below_next (j ∷ js) next below zero d less = All-head (λ j. j.number < next) (running_job j) (map running_job js) below
-below_next (j ∷ js) next below (suc k) d less = below_next js next (All-tail (λ j. j.number < next) (running_job j) (map running_job js) below) k d (omega arith)
+below_next (j ∷ js) next below zero d less = All-head (λ j. j.number < next) (job_state j) (map job_state js) below
+below_next (j ∷ js) next below (suc k) d less = below_next js next (All-tail (λ j. j.number < next) (job_state j) (map job_state js) below) k d (omega arith)
 
 -- what holds of all jobs holds of those without one
-pub All-without : (P : RunningJob → Type 0) (number : ℕ) (js : List RunningJob) → All P js → All P (without_job number js)
+pub All-without : (P : JobState → Type 0) (number : ℕ) (js : List JobState) → All P js → All P (without_job number js)
 All-without P number [] all = all
 All-without P number (j ∷ js) all =
     elim (has_number number j) as (λ t. All P (cond t js (j ∷ without_job number js))) [
@@ -137,7 +137,7 @@ All-without P number (j ∷ js) all =
       | false ↦ All-cons P j (without_job number js) (All-head P j js all) (All-without P number js (All-tail P j js all))
     ]
 
-pub length-without : (number : ℕ) (js : List RunningJob) → length (without_job number js) ≤ length js
+pub length-without : (number : ℕ) (js : List JobState) → length (without_job number js) ≤ length js
 length-without number [] = omega arith
 length-without number (j ∷ js) =
     elim (has_number number j) as (λ t. length (cond t js (j ∷ without_job number js)) ≤ length (j ∷ js)) [
@@ -145,34 +145,34 @@ length-without number (j ∷ js) =
       | false ↦ omega (arith, length-without number js)
     ]
 
-pub without_none : (number : ℕ) (js : List RunningJob) → runs js number ≡ false → without_job number js ≡ js
+pub without_none : (number : ℕ) (js : List JobState) → runs js number ≡ false → without_job number js ≡ js
 without_none number [] none = refl
 without_none number (j ∷ js) none =
     elim (has_number number j) as (λ t. (t || runs js number) ≡ false → cond t js (j ∷ without_job number js) ≡ j ∷ js) [
       | true ↦ (λ h. cc)
-      | false ↦ (λ h. ap (λ (xs : List RunningJob). j ∷ xs) (without_none number js h))
+      | false ↦ (λ h. ap (λ (xs : List JobState). j ∷ xs) (without_none number js h))
     ] none
 
 -- why no whole job is refused
-few_from_none : (r : Running) (count : ℕ) → many_fault r count ≡ None → length r.jobs < most_running
+few_from_none : (r : JobsState) (count : ℕ) → many_fault r count ≡ None → length r.jobs < most_running
 few_from_none r count none = grind arith
 
-made_from_none : (r : Running) (count : ℕ) → many_fault r count ≡ None → r.begun < most_begun
+made_from_none : (r : JobsState) (count : ℕ) → many_fault r count ≡ None → r.begun < most_begun
 made_from_none r count none = grind arith
 
 -- no whole job is refused: there is room for one more
-pub record HasRoomForOne (r : Running) : Type 0 where
+pub record HasRoomForOne (r : JobsState) : Type 0 where
   pub few : length r.jobs < most_running
   pub made : r.begun < most_begun
 
-pub room_from_none : (r : Running) (count : ℕ) → many_fault r count ≡ None → HasRoomForOne r
+pub room_from_none : (r : JobsState) (count : ℕ) → many_fault r count ≡ None → HasRoomForOne r
 room_from_none r count none = record { few = few_from_none r count none; made = made_from_none r count none }
 
 -- a job more, with the next number
-pub AreRunning-more : (r : Running) (places : List Place) → AreRunning r → HasRoomForOne r →
+pub AreRunning-more : (r : JobsState) (places : List Place) → AreRunning r → HasRoomForOne r →
     AreRunning (record { begun = r.begun + 1; jobs = r.jobs ++ record { number = r.begun; places = places } ∷ [] })
 AreRunning-more r places running room =
-    let j : RunningJob = record { number = r.begun; places = places } in
+    let j : JobState = record { number = r.begun; places = places } in
     let older : All (λ j. j.number < r.begun + 1) r.jobs = All-weaker (λ j. j.number < r.begun) (λ j. j.number < r.begun + 1) (λ j h. omega (arith, h)) r.jobs running.below in
     let newest : r.begun < r.begun + 1 = omega arith in
     record {

@@ -6,9 +6,9 @@ use Rattle.std.specs.List.{All}
 use Rattle.std.proofs.lemmas.List.Elements.{All-head, All-tail}
 use Rattle.std.proofs.lemmas.Bool.{and_parts, leb-true}
 use borrow.Author.Tests.{ltb-true}
-use Rattle.gv_types.specs.Bounds.{Area}
+use Rattle.gv_types.specs.Bounds.{BoundsState}
 use Rattle.gv_types.specs.Page.{pages_per_buffer}
-use Rattle.gv_types.specs.Span.{covers, end_of}
+use Rattle.gv_types.specs.PageRange.{covers, end_of}
 use Rattle.gv_types.specs.Mapping.{part, advanced}
 use Rattle.gv_types.specs.declared.mapping.Backing.{Backing}
 use Rattle.gv_types.specs.declared.mapping.Backing.TheVariants.{Buffer as BufferPages, Zero as ZeroPages}
@@ -16,8 +16,8 @@ use Rattle.gv_types.specs.declared.mapping.BufferId.{BufferId}
 use Rattle.gv_types.specs.declared.mapping.Entry.{Entry}
 use Rattle.gv_types.specs.declared.mapping.Mapping.{Mapping}
 use Rattle.gv_ranges.specs.List.{at}
-use Rattle.gv_buffers.specs.Table.{Buffer, Table, buffer, pages, IsBuffer, IsTable}
-use Rattle.gv_space.specs.State.{AddressSpace, LieInside, IsPlaced, IsSpace}
+use Rattle.gv_buffers.specs.Buffers.{Buffer, BuffersState, buffer, pages, IsBuffer, IsTable}
+use Rattle.gv_space.specs.State.{SpaceState, LieInside, IsPlaced, IsSpace}
 use Rattle.gv_space.proofs.TableLemmas.{found_live, IsFound}
 use Rattle.gv_vm.specs.Places.{HasBytes}
 
@@ -25,13 +25,13 @@ lives : (P : ℕ → Type 0) (o : Option Buffer) → IsSomeAnd (option_map (λ b
 lives P None h = absurd h
 lives P (Some b) h = refl
 
-past_none : (t : Table) (id : BufferId) (end : ℕ) → IsTable t → IsSomeAnd (pages t id) (λ size. end ≤ size) → end ≤ pages_per_buffer
+past_none : (t : BuffersState) (id : BufferId) (end : ℕ) → IsTable t → IsSomeAnd (pages t id) (λ size. end ≤ size) → end ≤ pages_per_buffer
 past_none t id end table inside =
     let found : IsFound t id (IsBuffer t.made) = found_live (IsBuffer t.made) t id table.buffers (lives (λ size. end ≤ size) (buffer t id) inside) in
     let within : end ≤ found.b.pages = rw found.found at inside in
     omega (arith, found.holds.few_pages)
 
-HasBytes-inside : (t : Table) (backing : Backing) (count rest : ℕ) → IsTable t → rest < count → LieInside t backing count → HasBytes (advanced backing rest)
+HasBytes-inside : (t : BuffersState) (backing : Backing) (count rest : ℕ) → IsTable t → rest < count → LieInside t backing count → HasBytes (advanced backing rest)
 HasBytes-inside t (BufferPages id page) count rest table less inside = omega (arith, past_none t id (page + count) table inside)
 HasBytes-inside t ZeroPages count rest table less inside = tt
 
@@ -40,7 +40,7 @@ rest_less m page covered =
     let both = and_parts (leb m.range.first page) (ltb page (end_of m.range)) covered in
     omega (arith, leb-true m.range.first page both.0, ltb-true page (end_of m.range) both.1)
 
-HasBytes-at : (a : Area) (t : Table) (ms : List Mapping) (page : ℕ) (e : Entry) → IsTable t → All (IsPlaced a t) ms → at ms page ≡ Some e → HasBytes e.backing
+HasBytes-at : (a : BoundsState) (t : BuffersState) (ms : List Mapping) (page : ℕ) (e : Entry) → IsTable t → All (IsPlaced a t) ms → at ms page ≡ Some e → HasBytes e.backing
 HasBytes-at a t [] page e table placed is = cc
 HasBytes-at a t (m ∷ ms) page e table placed is =
     elim (covers m.range page) as (λ c. covers m.range page ≡ c → cond c (Some (part m page)) (at ms page) ≡ Some e → HasBytes e.backing) [
@@ -53,5 +53,5 @@ HasBytes-at a t (m ∷ ms) page e table placed is =
     ] refl is
 
 -- what a page of an address space holds has bytes
-pub HasBytes-held : (s : AddressSpace) (page : ℕ) (e : Entry) → IsSpace s → at s.mappings page ≡ Some e → HasBytes e.backing
+pub HasBytes-held : (s : SpaceState) (page : ℕ) (e : Entry) → IsSpace s → at s.mappings page ≡ Some e → HasBytes e.backing
 HasBytes-held s page e space is = HasBytes-at s.area s.buffers s.mappings page e space.buffers space.placed is

@@ -10,20 +10,20 @@ use Rattle.gv_types.specs.declared.fault.Fault.{Fault}
 use Rattle.gv_types.specs.declared.operation.PageOp.{PageOp}
 use Rattle.gv_types.specs.declared.request.Point.{Point}
 use Rattle.gv_types.specs.declared.request.Request.{Request}
-use Rattle.gv_space.specs.State.{AddressSpace, IsSpace}
+use Rattle.gv_space.specs.State.{SpaceState, IsSpace}
 use Rattle.gv_sync.specs.Sights.{Sight}
-use Rattle.gv_journal.specs.Items.{Journaled, Numbered, entries, next}
+use Rattle.gv_journal.specs.Items.{JournalState, NumberedItem, entries, next}
 use Rattle.gv_journal.specs.State.{FitsSpace}
 use Rattle.gv_journal.specs.Applying.{all_do}
 use Rattle.gv_journal.specs.declared.item.ItemKind.{ItemKind}
 use Rattle.gv_journal.specs.declared.item.ItemKind.TheVariants.{Bind, Withdrawal}
-use Rattle.gv_vm.specs.Jobs.{RunningJob, AreHeld}
+use Rattle.gv_vm.specs.Jobs.{JobState, AreHeld}
 use Rattle.gv_vm.specs.Outcomes.{told_to, with_outcome, tell_fault}
 use Rattle.gv_vm.specs.Told.{CameTo, seen_by}
-use Rattle.gv_vm.specs.State.{Machine, roomless, IsMachine, WasTold, ToldMatchesJournal, SawItsWaits, WaitsWereReached}
+use Rattle.gv_vm.specs.State.{VmState, roomless, IsVm, WasTold, ToldMatchesJournal, SawItsWaits, WaitsWereReached}
 use Rattle.gv_vm.specs.declared.outcome.Outcome.{Outcome}
 use Rattle.gv_vm.specs.declared.outcome.Outcome.TheVariants.{Accepted, Refused, NotReady}
-use Rattle.gv_vm.proofs.Machines.{fits_space, IsMachine-of, AreHeld-after_all}
+use Rattle.gv_vm.proofs.Vms.{fits_space, IsVm-of, AreHeld-after_all}
 
 -- what was told stays told
 still_there : (told : List Outcome) (n : ℕ) (more x : Outcome) → slice_get told n ≡ Some x → slice_get (told ++ more ∷ []) n ≡ Some x
@@ -53,16 +53,16 @@ was_told_still : (told : List (List Outcome)) (queue : ℕ) (more : Outcome) (ki
 was_told_still told queue more (Bind other number request seen done) entry less h = still_told told queue other number more (Accepted entry) less h
 was_told_still told queue more (Withdrawal of) entry less h = tt
 
-all_told_still : (told : List (List Outcome)) (queue : ℕ) (more : Outcome) (xs : List Numbered) → queue < length told → ToldMatchesJournal xs told → ToldMatchesJournal xs (with_outcome told queue more)
+all_told_still : (told : List (List Outcome)) (queue : ℕ) (more : Outcome) (xs : List NumberedItem) → queue < length told → ToldMatchesJournal xs told → ToldMatchesJournal xs (with_outcome told queue more)
 all_told_still told queue more xs less all = All-weaker (λ x. WasTold x.item.kind x.number told) (λ x. WasTold x.item.kind x.number (with_outcome told queue more)) (λ x h. was_told_still told queue more x.item.kind x.number less h) xs all
 
 -- a queue was told something more, and nothing else changed
-pub IsMachine-told : (v : Machine) (queue : ℕ) (outcome : Outcome) (told : List (List Outcome)) → IsMachine v → queue < 16 → told ≡ with_outcome v.told queue outcome →
-    IsMachine (record { space = v.space; journal = v.journal; running = v.running; told = told })
-IsMachine-told v queue outcome told holds less is =
+pub IsVm-told : (v : VmState) (queue : ℕ) (outcome : Outcome) (told : List (List Outcome)) → IsVm v → queue < 16 → told ≡ with_outcome v.told queue outcome →
+    IsVm (record { space = v.space; journal = v.journal; running = v.running; told = told })
+IsVm-told v queue outcome told holds less is =
     let within : queue < length v.told = omega (arith, holds.queues) in
-    subst (λ (x : List (List Outcome)). IsMachine (record { space = v.space; journal = v.journal; running = v.running; told = x })) (sym is)
-    (IsMachine-of v.space v.journal v.running (with_outcome v.told queue outcome) (fits_space v holds) holds.buffers_counted.used holds.buffers_counted.held
+    subst (λ (x : List (List Outcome)). IsVm (record { space = v.space; journal = v.journal; running = v.running; told = x })) (sym is)
+    (IsVm-of v.space v.journal v.running (with_outcome v.told queue outcome) (fits_space v holds) holds.buffers_counted.used holds.buffers_counted.held
     (all_told_still v.told queue outcome (entries v.journal) within holds.told_matches_journal) holds.waits_were_reached
     (length-set v.told queue (told_to v.told queue ++ outcome ∷ []) ∙ holds.queues))
 
@@ -72,18 +72,18 @@ saw_waits [] reached = tt
 saw_waits (r ∷ sights) reached = (All-head (λ r. r.point.value ≤ r.number) r sights reached, saw_waits sights (All-tail (λ r. r.point.value ≤ r.number) r sights reached))
 
 -- a request was carried out and told
-came_held : (s t : AddressSpace) (old new : Journaled) (queue number : ℕ) (request : Request) (seen : List ℕ) (outcome : Outcome) (js : List RunningJob) →
+came_held : (s t : SpaceState) (old new : JournalState) (queue number : ℕ) (request : Request) (seen : List ℕ) (outcome : Outcome) (js : List JobState) →
     CameTo s t old new queue number request seen outcome → AreHeld s.buffers js → AreHeld t.buffers js
 came_held s t old new queue number request seen (Accepted entry) js came held =
     let ops : List PageOp = reverse (all_do s.mappings request.ops.items) in
-    subst (λ (x : AddressSpace). AreHeld x.buffers js) (sym came.space.state) (AreHeld-after_all s ops js held)
-came_held s t old new queue number request seen (Refused op fault) js came held = subst (λ (x : AddressSpace). AreHeld x.buffers js) (sym came.space) held
+    subst (λ (x : SpaceState). AreHeld x.buffers js) (sym came.space.state) (AreHeld-after_all s ops js held)
+came_held s t old new queue number request seen (Refused op fault) js came held = subst (λ (x : SpaceState). AreHeld x.buffers js) (sym came.space) held
 came_held s t old new queue number request seen (NotReady point have) js came held = absurd came
 
-came_told : (s t : AddressSpace) (old new : Journaled) (queue number : ℕ) (request : Request) (seen : List ℕ) (outcome : Outcome) (told : List (List Outcome)) →
+came_told : (s t : SpaceState) (old new : JournalState) (queue number : ℕ) (request : Request) (seen : List ℕ) (outcome : Outcome) (told : List (List Outcome)) →
     CameTo s t old new queue number request seen outcome → queue < length told → number ≡ length (told_to told queue) → ToldMatchesJournal (entries old) told → ToldMatchesJournal (entries new) (with_outcome told queue outcome)
 came_told s t old new queue number request seen (Accepted entry) told came less turn all =
-    let P : Numbered → Type 0 = λ x. WasTold x.item.kind x.number (with_outcome told queue (Accepted entry)) in
+    let P : NumberedItem → Type 0 = λ x. WasTold x.item.kind x.number (with_outcome told queue (Accepted entry)) in
     let here : told_to (with_outcome told queue (Accepted entry)) queue ≡ told_to told queue ++ Accepted entry ∷ [] = get_or-set_same told queue (told_to told queue ++ Accepted entry ∷ []) [] less in
     let last : slice_get (told_to (with_outcome told queue (Accepted entry)) queue) number ≡ Some (Accepted entry) =
     subst (λ (xs : List Outcome). slice_get xs number ≡ Some (Accepted entry)) (sym here)
@@ -91,36 +91,36 @@ came_told s t old new queue number request seen (Accepted entry) told came less 
     let newest : WasTold came.item.item.kind (next old) (with_outcome told queue (Accepted entry)) =
     subst (λ (k : ItemKind). WasTold k (next old) (with_outcome told queue (Accepted entry))) (sym came.item.kind)
     (subst (λ (e : ℕ). slice_get (told_to (with_outcome told queue (Accepted entry)) queue) number ≡ Some (Accepted e)) came.entry_is last) in
-    subst (λ (j : Journaled). All P (entries j)) (sym came.item.items)
+    subst (λ (j : JournalState). All P (entries j)) (sym came.item.items)
     (All-cons P (record { number = next old; item = came.item.item }) (entries old) newest (all_told_still told queue (Accepted entry) (entries old) less all))
 came_told s t old new queue number request seen (Refused op fault) told came less turn all =
-    subst (λ (j : Journaled). ToldMatchesJournal (entries j) (with_outcome told queue (Refused op fault))) (sym came.journal) (all_told_still told queue (Refused op fault) (entries old) less all)
+    subst (λ (j : JournalState). ToldMatchesJournal (entries j) (with_outcome told queue (Refused op fault))) (sym came.journal) (all_told_still told queue (Refused op fault) (entries old) less all)
 came_told s t old new queue number request seen (NotReady point have) told came less turn all = absurd came
 
-came_saw : (s t : AddressSpace) (old new : Journaled) (queue number : ℕ) (request : Request) (seen : List ℕ) (outcome : Outcome) →
+came_saw : (s t : SpaceState) (old new : JournalState) (queue number : ℕ) (request : Request) (seen : List ℕ) (outcome : Outcome) →
     CameTo s t old new queue number request seen outcome → AllZip (λ (p : Point) n. p.value ≤ n) request.waits.items seen → WaitsWereReached (entries old) → WaitsWereReached (entries new)
 came_saw s t old new queue number request seen (Accepted entry) came saw all =
-    let P : Numbered → Type 0 = λ x. SawItsWaits x.item.kind in
+    let P : NumberedItem → Type 0 = λ x. SawItsWaits x.item.kind in
     let newest : SawItsWaits came.item.item.kind =
     subst SawItsWaits (sym came.item.kind) (subst (λ (ns : List ℕ). AllZip (λ (p : Point) n. p.value ≤ n) request.waits.items ns) (sym came.saw_is) saw) in
-    subst (λ (j : Journaled). All P (entries j)) (sym came.item.items) (All-cons P (record { number = next old; item = came.item.item }) (entries old) newest all)
-came_saw s t old new queue number request seen (Refused op fault) came saw all = subst (λ (j : Journaled). WaitsWereReached (entries j)) (sym came.journal) all
+    subst (λ (j : JournalState). All P (entries j)) (sym came.item.items) (All-cons P (record { number = next old; item = came.item.item }) (entries old) newest all)
+came_saw s t old new queue number request seen (Refused op fault) came saw all = subst (λ (j : JournalState). WaitsWereReached (entries j)) (sym came.journal) all
 came_saw s t old new queue number request seen (NotReady point have) came saw all = absurd came
 
 turn_from_none : (limit : ℕ) (told : List (List Outcome)) (queue number : ℕ) → tell_fault limit told queue number ≡ None → number ≡ length (told_to told queue)
 turn_from_none limit told queue number none = grind arith
 
-pub IsMachine-carried_out : (v : Machine) (t : AddressSpace) (j : Journaled) (queue number : ℕ) (request : Request) (sights : List Sight) (outcome : Outcome) (told : List (List Outcome)) → IsMachine v →
+pub IsVm-carried_out : (v : VmState) (t : SpaceState) (j : JournalState) (queue number : ℕ) (request : Request) (sights : List Sight) (outcome : Outcome) (told : List (List Outcome)) → IsVm v →
     FitsSpace t j → IsSpace t → CameTo (roomless v.space) (roomless t) v.journal j queue number request (seen_by sights) outcome → queue < 16 → tell_fault v.space.limits.told v.told queue number ≡ None →
     map (λ r. r.point) sights ≡ request.waits.items → All (λ r. r.point.value ≤ r.number) sights → told ≡ with_outcome v.told queue outcome →
-    IsMachine (record { space = t; journal = j; running = v.running; told = told })
-IsMachine-carried_out v t j queue number request sights outcome told holds fits space came less none points reached is =
+    IsVm (record { space = t; journal = j; running = v.running; told = told })
+IsVm-carried_out v t j queue number request sights outcome told holds fits space came less none points reached is =
     let within : queue < length v.told = omega (arith, holds.queues) in
     let turn : number ≡ length (told_to v.told queue) = turn_from_none v.space.limits.told v.told queue number none in
     let saw : AllZip (λ (p : Point) n. p.value ≤ n) request.waits.items (seen_by sights) =
     subst (λ (ps : List Point). AllZip (λ (p : Point) n. p.value ≤ n) ps (seen_by sights)) points (saw_waits sights reached) in
-    subst (λ (x : List (List Outcome)). IsMachine (record { space = t; journal = j; running = v.running; told = x })) (sym is)
-    (IsMachine-of t j v.running (with_outcome v.told queue outcome) fits space
+    subst (λ (x : List (List Outcome)). IsVm (record { space = t; journal = j; running = v.running; told = x })) (sym is)
+    (IsVm-of t j v.running (with_outcome v.told queue outcome) fits space
     (came_held (roomless v.space) (roomless t) v.journal j queue number request (seen_by sights) outcome v.running.jobs came holds.buffers_counted.held)
     (came_told (roomless v.space) (roomless t) v.journal j queue number request (seen_by sights) outcome v.told came within turn holds.told_matches_journal)
     (came_saw (roomless v.space) (roomless t) v.journal j queue number request (seen_by sights) outcome came saw holds.waits_were_reached)

@@ -12,13 +12,13 @@ use Rattle.gv_types.specs.declared.fault.Fault.{Fault}
 use Rattle.gv_buffers.specs.declared.usage.Usage.{Usage}
 use Rattle.gv_buffers.specs.declared.usage.User.{User}
 use Rattle.gv_buffers.specs.Users.{stronger, joined, left}
-use Rattle.gv_buffers.specs.Table.{Buffer, Table, buffer, has_id, only, changed, joined_by, left_by, left_everywhere, join_fault_of}
+use Rattle.gv_buffers.specs.Buffers.{Buffer, BuffersState, buffer, has_id, only, changed, joined_by, left_by, left_everywhere, join_fault_of}
 use Rattle.gv_buffers.specs.Laws.{ChangedBufferIsFound, LeftBufferIsFound, IsNoUser}
 use Rattle.gv_space.specs.Refusal.{first_of}
-use Rattle.gv_space.specs.State.{AddressSpace}
+use Rattle.gv_space.specs.State.{SpaceState}
 use Rattle.gv_space.proofs.TableLemmas.{found_live, IsFound}
 use Rattle.gv_vm.specs.Places.{place_at}
-use Rattle.gv_vm.specs.Jobs.{RunningJob, Running, AreRunning, AreHeld, IsHeld, IsBegun, runs, has_number, without_job, target_fault, place_fault, access_fault, accesses_fault, target_held, place_held, access_held, all_held}
+use Rattle.gv_vm.specs.Jobs.{JobState, JobsState, AreRunning, AreHeld, IsHeld, IsBegun, runs, has_number, without_job, target_fault, place_fault, access_fault, accesses_fault, target_held, place_held, access_held, all_held}
 use Rattle.gv_vm.specs.declared.jobs.Access.{Access}
 use Rattle.gv_vm.specs.declared.jobs.Job.{Job}
 use Rattle.gv_vm.specs.declared.places.Place.{Place}
@@ -76,18 +76,18 @@ used-only : (other : ℕ) (id : BufferId) (job : ℕ) (usage : Usage) (b : Buffe
 used-only other id job usage b h = elim (has_id id b) as (λ t. UsedBy other (cond t (joined_by job usage b) b)) [ true ↦ uses-joined other job usage b.users h | false ↦ h ]
 
 -- what a job holds it still holds once a job holds more
-IsHeld-target_held : (law : ChangedBufferIsFound) (t : Table) (other job : ℕ) (usage : Usage) (more target : Target) → IsHeld t other target → IsHeld (target_held job usage more t) other target
+IsHeld-target_held : (law : ChangedBufferIsFound) (t : BuffersState) (other job : ℕ) (usage : Usage) (more target : Target) → IsHeld t other target → IsHeld (target_held job usage more t) other target
 IsHeld-target_held law t other job usage (BufferByte id byte) (BufferByte at at_byte) h =
     subst (λ (o : Option Buffer). IsSomeAnd o (UsedBy other)) (sym (law t id at (joined_by job usage) (λ b. refl)))
     (someone (UsedBy other) (UsedBy other) (only id (joined_by job usage)) (buffer t at) (used-only other id job usage) h)
 IsHeld-target_held law t other job usage (BufferByte id byte) Zero h = tt
 IsHeld-target_held law t other job usage Zero target h = h
 
-IsHeld-place_held : (law : ChangedBufferIsFound) (t : Table) (other job : ℕ) (usage : Usage) (more : Option Place) (target : Target) → IsHeld t other target → IsHeld (place_held job usage more t) other target
+IsHeld-place_held : (law : ChangedBufferIsFound) (t : BuffersState) (other job : ℕ) (usage : Usage) (more : Option Place) (target : Target) → IsHeld t other target → IsHeld (place_held job usage more t) other target
 IsHeld-place_held law t other job usage None target h = h
 IsHeld-place_held law t other job usage (Some place) target h = IsHeld-target_held law t other job usage place.target target h
 
-IsHeld-all_held : (law : ChangedBufferIsFound) (ms : List Mapping) (t : Table) (other job : ℕ) (accesses : List Access) (target : Target) → IsHeld t other target → IsHeld (all_held ms job accesses t) other target
+IsHeld-all_held : (law : ChangedBufferIsFound) (ms : List Mapping) (t : BuffersState) (other job : ℕ) (accesses : List Access) (target : Target) → IsHeld t other target → IsHeld (all_held ms job accesses t) other target
 IsHeld-all_held law ms t other job [] target h = h
 IsHeld-all_held law ms t other job (a ∷ accesses) target h =
     IsHeld-all_held law ms (access_held ms job a t) other job accesses target (IsHeld-place_held law t other job a.usage (place_at ms a.addr) target h)
@@ -97,7 +97,7 @@ lives None job usage none = cc
 lives (Some b) job usage none = refl
 
 -- a job holds what it was let hold
-IsHeld-itself : (law : ChangedBufferIsFound) (t : Table) (job : ℕ) (usage : Usage) (target : Target) → target_fault t job usage target ≡ None → IsHeld (target_held job usage target t) job target
+IsHeld-itself : (law : ChangedBufferIsFound) (t : BuffersState) (job : ℕ) (usage : Usage) (target : Target) → target_fault t job usage target ≡ None → IsHeld (target_held job usage target t) job target
 IsHeld-itself law t job usage (BufferByte id byte) none =
     let found : IsFound t id (λ _. Unit {0}) = found_live (λ _. Unit {0}) t id (λ k d less. tt) (lives (buffer t id) job usage none) in
     let changed_is : buffer (changed id (joined_by job usage) t) id ≡ Some (only id (joined_by job usage) found.b) =
@@ -120,7 +120,7 @@ none_of_choice true fault o none = cc
 none_of_choice false fault o none = none
 
 -- and so what its places are before
-places_held : (law : ChangedBufferIsFound) (ms : List Mapping) (job n : ℕ) (t : Table) (accesses : List Access) (places : List Place) → accesses_fault ms job t n accesses ≡ None →
+places_held : (law : ChangedBufferIsFound) (ms : List Mapping) (job n : ℕ) (t : BuffersState) (accesses : List Access) (places : List Place) → accesses_fault ms job t n accesses ≡ None →
     map Some places ≡ map (λ a. place_at ms a.addr) accesses → All (λ p. IsHeld (all_held ms job accesses t) job p.target) places
 places_held law ms job n t [] [] none found = All-nil (λ p. IsHeld t job p.target)
 places_held law ms job n t [] (p ∷ places) none found = cc
@@ -128,11 +128,11 @@ places_held law ms job n t (a ∷ accesses) [] none found = cc
 places_held law ms job n t (a ∷ accesses) (p ∷ places) none found =
     let here : place_at ms a.addr ≡ Some p = cc in
     let rest : map Some places ≡ map (λ a. place_at ms a.addr) accesses = cc in
-    let after : Table = access_held ms job a t in
+    let after : BuffersState = access_held ms job a t in
     let held_is : after ≡ target_held job a.usage p.target t = ap (λ (o : Option Place). place_held job a.usage o t) here in
     let allowed : place_fault t job n a.usage (Some p) ≡ None =
     ap (λ (o : Option Place). place_fault t job n a.usage o) (sym here) ∙ none_of_first (access_fault ms job t n a) (accesses_fault ms job after (n + 1) accesses) none in
-    let held_now : IsHeld after job p.target = subst (λ (u : Table). IsHeld u job p.target) (sym held_is) (IsHeld-itself law t job a.usage p.target (none_of_choice _ _ _ allowed)) in
+    let held_now : IsHeld after job p.target = subst (λ (u : BuffersState). IsHeld u job p.target) (sym held_is) (IsHeld-itself law t job a.usage p.target (none_of_choice _ _ _ allowed)) in
     All-cons (λ p. IsHeld (all_held ms job accesses after) job p.target) p places
     (IsHeld-all_held law ms after job job accesses p.target held_now)
     (places_held law ms job (n + 1) after accesses places (none_of_later (access_fault ms job t n a) (accesses_fault ms job after (n + 1) accesses) none) rest)
@@ -152,40 +152,40 @@ users-joined P job usage (u ∷ users) new all =
 users-only : (P : ℕ → Type 0) (id : BufferId) (job : ℕ) (usage : Usage) (b : Buffer) → P job → UsersAre P b → UsersAre P (only id (joined_by job usage) b)
 users-only P id job usage b new all = elim (has_id id b) as (λ t. UsersAre P (cond t (joined_by job usage b) b)) [ true ↦ users-joined P job usage b.users new all | false ↦ all ]
 
-users-target_held : (P : ℕ → Type 0) (job : ℕ) (usage : Usage) (target : Target) (t : Table) → P job → All (UsersAre P) t.live → All (UsersAre P) (target_held job usage target t).live
+users-target_held : (P : ℕ → Type 0) (job : ℕ) (usage : Usage) (target : Target) (t : BuffersState) → P job → All (UsersAre P) t.live → All (UsersAre P) (target_held job usage target t).live
 users-target_held P job usage (BufferByte id byte) t new all =
     All-map (UsersAre P) (only id (joined_by job usage)) t.live (All-weaker (UsersAre P) (λ b. UsersAre P (only id (joined_by job usage) b)) (λ b h. users-only P id job usage b new h) t.live all)
 users-target_held P job usage Zero t new all = all
 
-users-place_held : (P : ℕ → Type 0) (job : ℕ) (usage : Usage) (place : Option Place) (t : Table) → P job → All (UsersAre P) t.live → All (UsersAre P) (place_held job usage place t).live
+users-place_held : (P : ℕ → Type 0) (job : ℕ) (usage : Usage) (place : Option Place) (t : BuffersState) → P job → All (UsersAre P) t.live → All (UsersAre P) (place_held job usage place t).live
 users-place_held P job usage None t new all = all
 users-place_held P job usage (Some place) t new all = users-target_held P job usage place.target t new all
 
-users-all_held : (P : ℕ → Type 0) (ms : List Mapping) (job : ℕ) (accesses : List Access) (t : Table) → P job → All (UsersAre P) t.live → All (UsersAre P) (all_held ms job accesses t).live
+users-all_held : (P : ℕ → Type 0) (ms : List Mapping) (job : ℕ) (accesses : List Access) (t : BuffersState) → P job → All (UsersAre P) t.live → All (UsersAre P) (all_held ms job accesses t).live
 users-all_held P ms job [] t new all = all
 users-all_held P ms job (a ∷ accesses) t new all =
     users-all_held P ms job accesses (access_held ms job a t) new (users-place_held P job a.usage (place_at ms a.addr) t new all)
 
-abbrev Runs : List RunningJob → ℕ → Type 0
+abbrev Runs : List JobState → ℕ → Type 0
 Runs js job = runs js job ≡ true
 
-runs-older : (js : List RunningJob) (j : RunningJob) (job : ℕ) → Runs js job → Runs (js ++ j ∷ []) job
+runs-older : (js : List JobState) (j : JobState) (job : ℕ) → Runs js job → Runs (js ++ j ∷ []) job
 runs-older js j job h = list_any-append (has_number job) js (j ∷ []) ∙ or_left (runs js job) (runs (j ∷ []) job) h
 
-runs-newest : (js : List RunningJob) (j : RunningJob) → Runs (js ++ j ∷ []) j.number
+runs-newest : (js : List JobState) (j : JobState) → Runs (js ++ j ∷ []) j.number
 runs-newest js j =
     let same : eqb j.number j.number ≡ true = eq-eqb j.number j.number refl in
     let itself : runs (j ∷ []) j.number ≡ true = or_left (eqb j.number j.number) false same in
     list_any-append (has_number j.number) js (j ∷ []) ∙ or_right (runs js j.number) (runs (j ∷ []) j.number) itself
 
 -- a job began
-AreHeld-more : (law : ChangedBufferIsFound) (ms : List Mapping) (t : Table) (js : List RunningJob) (j : RunningJob) (accesses : List Access) → AreHeld t js →
+AreHeld-more : (law : ChangedBufferIsFound) (ms : List Mapping) (t : BuffersState) (js : List JobState) (j : JobState) (accesses : List Access) → AreHeld t js →
     accesses_fault ms j.number t 0 accesses ≡ None → map Some j.places ≡ map (λ a. place_at ms a.addr) accesses → AreHeld (all_held ms j.number accesses t) (js ++ j ∷ [])
 AreHeld-more law ms t js j accesses held none found =
-    let after : Table = all_held ms j.number accesses t in
+    let after : BuffersState = all_held ms j.number accesses t in
     let older : All (λ b. UsersAre (Runs (js ++ j ∷ [])) b) t.live =
     All-weaker (UsersAre (Runs js)) (UsersAre (Runs (js ++ j ∷ []))) (λ b h. All-weaker (λ u. Runs js u.job) (λ u. Runs (js ++ j ∷ []) u.job) (λ u g. runs-older js j u.job g) b.users h) t.live held.users in
-    let Holds : RunningJob → Type 0 = λ i. All (λ p. IsHeld after i.number p.target) i.places in
+    let Holds : JobState → Type 0 = λ i. All (λ p. IsHeld after i.number p.target) i.places in
     let still : All Holds js =
     All-weaker (λ i. All (λ p. IsHeld t i.number p.target) i.places) Holds
     (λ i h. All-weaker (λ p. IsHeld t i.number p.target) (λ p. IsHeld after i.number p.target) (λ p g. IsHeld-all_held law ms t i.number j.number accesses p.target g) i.places h) js held.places in
@@ -194,16 +194,16 @@ AreHeld-more law ms t js j accesses held none found =
       places = All-push Holds js j still (places_held law ms j.number 0 t accesses j.places none found);
     }
 
-pub AreHeld-begun : (law : ChangedBufferIsFound) (old new : AddressSpace) (before after : Running) (accesses : List Access) (job : Job) → AreHeld old.buffers before.jobs →
+pub AreHeld-begun : (law : ChangedBufferIsFound) (old new : SpaceState) (before after : JobsState) (accesses : List Access) (job : Job) → AreHeld old.buffers before.jobs →
     accesses_fault old.mappings before.begun old.buffers 0 accesses ≡ None → IsBegun old new before after accesses job → AreHeld new.buffers after.jobs
 AreHeld-begun law old new before after accesses job held none begun =
-    let j : RunningJob = record { number = before.begun; places = job.places.items } in
+    let j : JobState = record { number = before.begun; places = job.places.items } in
     let jobs : after.jobs ≡ before.jobs ++ j ∷ [] =
-    ap (λ (r : Running). r.jobs) begun.jobs ∙ ap (λ (n : ℕ). before.jobs ++ record { number = n; places = job.places.items } ∷ []) begun.number in
-    subst (λ (t : Table). AreHeld t after.jobs) (sym (ap (λ (s : AddressSpace). s.buffers) begun.space))
+    ap (λ (r : JobsState). r.jobs) begun.jobs ∙ ap (λ (n : ℕ). before.jobs ++ record { number = n; places = job.places.items } ∷ []) begun.number in
+    subst (λ (t : BuffersState). AreHeld t after.jobs) (sym (ap (λ (s : SpaceState). s.buffers) begun.space))
     (subst (AreHeld (all_held old.mappings before.begun accesses old.buffers)) (sym jobs) (AreHeld-more law old.mappings old.buffers before.jobs j accesses held none begun.places))
 
-runs-without : (js : List RunningJob) (number job : ℕ) → job ≢ number → Runs js job → Runs (without_job number js) job
+runs-without : (js : List JobState) (number job : ℕ) → job ≢ number → Runs js job → Runs (without_job number js) job
 runs-without [] number job apart h = h
 runs-without (j ∷ js) number job apart h =
     elim (eqb j.number number) as (λ t. eqb j.number number ≡ t → Runs (cond t js (j ∷ without_job number js)) job) [
@@ -216,7 +216,7 @@ runs-without (j ∷ js) number job apart h =
       ] h)
     ] refl
 
-users-left : (js : List RunningJob) (number : ℕ) (users : List User) → All (λ u. Runs js u.job) users → All (λ u. Runs (without_job number js) u.job) (left number users)
+users-left : (js : List JobState) (number : ℕ) (users : List User) → All (λ u. Runs js u.job) users → All (λ u. Runs (without_job number js) u.job) (left number users)
 users-left js number [] all = All-nil (λ u. Runs (without_job number js) u.job)
 users-left js number (u ∷ users) all =
     let P : User → Type 0 = λ u. Runs (without_job number js) u.job in
@@ -226,20 +226,20 @@ users-left js number (u ∷ users) all =
       | false ↦ (λ other. All-cons P u (left number users) (runs-without js number u.job (eqb-false u.job number other) (All-head (λ u. Runs js u.job) u users all)) rest)
     ] refl
 
-IsHeld-left : (law : LeftBufferIsFound) (t : Table) (other job : ℕ) (target : Target) → other ≢ job → IsHeld t other target → IsHeld (left_everywhere job t) other target
+IsHeld-left : (law : LeftBufferIsFound) (t : BuffersState) (other job : ℕ) (target : Target) → other ≢ job → IsHeld t other target → IsHeld (left_everywhere job t) other target
 IsHeld-left law t other job (BufferByte id byte) apart h =
     subst (λ (o : Option Buffer). IsSomeAnd o (UsedBy other)) (sym (law t id job))
     (someone (UsedBy other) (UsedBy other) (left_by job) (buffer t id) (λ b g. uses-left other job b.users apart g) h)
 IsHeld-left law t other job Zero apart h = tt
 
-both : (P Q : RunningJob → Type 0) (js : List RunningJob) → All P js → All Q js → All (λ j. P j × Q j) js
+both : (P Q : JobState → Type 0) (js : List JobState) → All P js → All Q js → All (λ j. P j × Q j) js
 both P Q js p q k d less = (p k d less, q k d less)
 
 -- a job ended
-pub AreHeld-ended : (law : LeftBufferIsFound) (t : Table) (js : List RunningJob) (number : ℕ) → AreHeld t js → All (λ j. j.number ≢ number) (without_job number js) →
+pub AreHeld-ended : (law : LeftBufferIsFound) (t : BuffersState) (js : List JobState) (number : ℕ) → AreHeld t js → All (λ j. j.number ≢ number) (without_job number js) →
     AreHeld (left_everywhere number t) (without_job number js)
 AreHeld-ended law t js number held gone =
-    let Held : RunningJob → Type 0 = λ j. All (λ p. IsHeld t j.number p.target) j.places in
+    let Held : JobState → Type 0 = λ j. All (λ p. IsHeld t j.number p.target) j.places in
     record {
       users = All-map (UsersAre (Runs (without_job number js))) (left_by number) t.live
           (All-weaker (UsersAre (Runs js)) (λ b. UsersAre (Runs (without_job number js)) (left_by number b)) (λ b h. users-left js number b.users h) t.live held.users);
@@ -248,7 +248,7 @@ AreHeld-ended law t js number held gone =
           (without_job number js) (both Held (λ j. j.number ≢ number) (without_job number js) (All-without Held number js held.places) gone);
     }
 
-runs_below : (js : List RunningJob) (job begun : ℕ) → All (λ j. j.number < begun) js → Runs js job → job < begun
+runs_below : (js : List JobState) (job begun : ℕ) → All (λ j. j.number < begun) js → Runs js job → job < begun
 runs_below [] job begun below h = cc
 runs_below (j ∷ js) job begun below h =
     elim (eqb j.number job) as (λ t. eqb j.number job ≡ t → (t || runs js job) ≡ true → job < begun) [
@@ -257,14 +257,14 @@ runs_below (j ∷ js) job begun below h =
     ] refl h
 
 -- the next number is that of no user
-pub next_uses_nothing : (t : Table) (r : Running) → AreHeld t r.jobs → AreRunning r → All (IsNoUser r.begun) t.live
+pub next_uses_nothing : (t : BuffersState) (r : JobsState) → AreHeld t r.jobs → AreRunning r → All (IsNoUser r.begun) t.live
 next_uses_nothing t r held running =
     All-weaker (UsersAre (Runs r.jobs)) (IsNoUser r.begun)
     (λ b h. All-weaker (λ u. Runs r.jobs u.job) (λ u. u.job ≢ r.begun)
     (λ u g same. let less : u.job < r.begun = runs_below r.jobs u.job r.begun running.below g in absurd (omega (arith, same))) b.users h) t.live held.users
 
 -- what a refused job held is given up, and the space is as it was
-pub given_up : (old mid new : AddressSpace) (job : ℕ) → mid ≡ record old { buffers = mid.buffers } → left_everywhere job mid.buffers ≡ left_everywhere job old.buffers →
+pub given_up : (old mid new : SpaceState) (job : ℕ) → mid ≡ record old { buffers = mid.buffers } → left_everywhere job mid.buffers ≡ left_everywhere job old.buffers →
     new ≡ record mid { buffers = left_everywhere job mid.buffers } → left_everywhere job old.buffers ≡ old.buffers → new ≡ old
 given_up old mid new job rest left gone nothing =
-    gone ∙ ap (λ (t : Table). record mid { buffers = t }) (left ∙ nothing) ∙ ap (λ (s : AddressSpace). record s { buffers = old.buffers }) rest
+    gone ∙ ap (λ (t : BuffersState). record mid { buffers = t }) (left ∙ nothing) ∙ ap (λ (s : SpaceState). record s { buffers = old.buffers }) rest

@@ -1,72 +1,72 @@
--- Running jobs keep their places.
+-- JobsState jobs keep their places.
 use Rattle.std.proofs.Common.{◌≡◌, ◌≢◌, ℕ, ◌<◌, ◌≤◌, true, false, cond, eqb, List, [], ◌∷◌, ◌++◌, arith, refl, sym, ◌∙◌, ap, subst, Some}
 use Rattle.std.specs.Option.{option_map}
 use Rattle.std.specs.List.{All, find}
 use Rattle.std.proofs.lemmas.Bool.{eqb-true}
 use Rattle.std.proofs.lemmas.List.Elements.{All-head, All-tail}
-use Rattle.gv_vm.specs.Jobs.{Running, RunningJob, has_number, places_in, without_job}
-use Rattle.gv_vm.specs.State.{Machine}
-use Rattle.gv_vm.specs.World.{World}
+use Rattle.gv_vm.specs.Jobs.{JobsState, JobState, has_number, places_in, without_job}
+use Rattle.gv_vm.specs.State.{VmState}
+use Rattle.gv_vm.specs.World.{WorldState}
 use Rattle.gv_vm.specs.Step.{step}
-use Rattle.gv_vm.specs.Run.{run}
+use Rattle.gv_vm.specs.Run.{IsRunOf}
 use Rattle.gv_vm.specs.declared.event.Event.{Event}
 use Rattle.gv_vm.specs.declared.event.Event.TheVariants.{Put, Take, Look, Bind, GiveUp, Pay, Raise, Create, Destroy, Rewind, Withdraw, Settle, JobBegin, JobEnd, Translate}
 use Rattle.gv_vm.specs.declared.event.Reply.{Reply}
 use Rattle.gv_vm.specs.declared.event.Reply.TheVariants.{Idle, Put as IsPut, NotPut, Taken, Reached, Lacking, Told, Raised, Created, Destroyed, Rewound, Withdrawn, Settled, Begun, Ended, Found, Refused}
 
-abbrev running_in : World → Running
-running_in w = w.machine.running
+abbrev running_in : WorldState → JobsState
+running_in w = w.vm.running
 
-abbrev running_by : Machine → Running
+abbrev running_by : VmState → JobsState
 running_by v = v.running
 
 -- what lasts of one job
-pub record Lasts (number : ℕ) (old new : Running) : Type 0 where
+pub record Lasts (number : ℕ) (old new : JobsState) : Type 0 where
   pub begun : old.begun ≤ new.begun
   pub places : places_in new.jobs number ≡ places_in old.jobs number
 
-lasts : (number : ℕ) (old new : Running) → new ≡ old → Lasts number old new
-lasts number old new is = subst (λ (r : Running). Lasts number old r) (sym is) (record { begun = omega arith; places = refl })
+lasts : (number : ℕ) (old new : JobsState) → new ≡ old → Lasts number old new
+lasts number old new is = subst (λ (r : JobsState). Lasts number old r) (sym is) (record { begun = omega arith; places = refl })
 
-not_it : (j : RunningJob) (number : ℕ) → j.number ≢ number → has_number number j ≡ false
+not_it : (j : JobState) (number : ℕ) → j.number ≢ number → has_number number j ≡ false
 not_it j number apart =
     elim (eqb j.number number) as (λ t. eqb j.number number ≡ t → t ≡ false) [
       | true ↦ (λ is. absurd (apart (eqb-true j.number number is)))
       | false ↦ (λ _. refl)
     ] refl
 
-passed : (j : RunningJob) (js : List RunningJob) (number : ℕ) → j.number ≢ number → places_in (j ∷ js) number ≡ places_in js number
-passed j js number apart = ap (λ t. option_map (λ (x : RunningJob). x.places) (cond t (Some j) (find (has_number number) js))) (not_it j number apart)
+passed : (j : JobState) (js : List JobState) (number : ℕ) → j.number ≢ number → places_in (j ∷ js) number ≡ places_in js number
+passed j js number apart = ap (λ t. option_map (λ (x : JobState). x.places) (cond t (Some j) (find (has_number number) js))) (not_it j number apart)
 
-places_more : (js : List RunningJob) (j : RunningJob) (number : ℕ) → j.number ≢ number → places_in (js ++ j ∷ []) number ≡ places_in js number
+places_more : (js : List JobState) (j : JobState) (number : ℕ) → j.number ≢ number → places_in (js ++ j ∷ []) number ≡ places_in js number
 places_more [] j number apart = passed j [] number apart
 places_more (x ∷ js) j number apart =
-    elim (has_number number x) as (λ t. option_map (λ (y : RunningJob). y.places) (cond t (Some x) (find (has_number number) (js ++ j ∷ []))) ≡ option_map (λ (y : RunningJob). y.places) (cond t (Some x) (find (has_number number) js))) [
+    elim (has_number number x) as (λ t. option_map (λ (y : JobState). y.places) (cond t (Some x) (find (has_number number) (js ++ j ∷ []))) ≡ option_map (λ (y : JobState). y.places) (cond t (Some x) (find (has_number number) js))) [
       | true ↦ refl
       | false ↦ places_more js j number apart
     ]
 
-places_without : (other number : ℕ) (js : List RunningJob) → other ≢ number → places_in (without_job other js) number ≡ places_in js number
+places_without : (other number : ℕ) (js : List JobState) → other ≢ number → places_in (without_job other js) number ≡ places_in js number
 places_without other number [] apart = refl
 places_without other number (x ∷ js) apart =
     elim (eqb x.number other) as (λ t. eqb x.number other ≡ t → places_in (cond t js (x ∷ without_job other js)) number ≡ places_in (x ∷ js) number) [
       | true ↦ (λ is. sym (passed x js number (λ same. apart (sym (eqb-true x.number other is) ∙ same))))
-      | false ↦ (λ _. elim (has_number number x) as (λ t. option_map (λ (y : RunningJob). y.places) (cond t (Some x) (find (has_number number) (without_job other js))) ≡ option_map (λ (y : RunningJob). y.places) (cond t (Some x) (find (has_number number) js))) [
+      | false ↦ (λ _. elim (has_number number x) as (λ t. option_map (λ (y : JobState). y.places) (cond t (Some x) (find (has_number number) (without_job other js))) ≡ option_map (λ (y : JobState). y.places) (cond t (Some x) (find (has_number number) js))) [
         | true ↦ refl
         | false ↦ places_without other number js apart
       ])
     ] refl
 
-step_lasts : (number : ℕ) (old new : World) (event : Event) (reply : Reply) → step old event reply new → number < old.machine.running.begun → event ≢ JobEnd number → Lasts number old.machine.running new.machine.running
+step_lasts : (number : ℕ) (old new : WorldState) (event : Event) (reply : Reply) → step old event reply new → number < old.vm.running.begun → event ≢ JobEnd number → Lasts number old.vm.running new.vm.running
 step_lasts number old new (JobBegin accesses) (Begun job places) st below other =
     let apart : job ≢ number = λ same. absurd (omega (arith, same, st.begun.number, below)) in
-    subst (λ (r : Running). Lasts number old.machine.running r) (sym st.begun.jobs) (record {
+    subst (λ (r : JobsState). Lasts number old.vm.running r) (sym st.begun.jobs) (record {
       begun = omega arith;
-      places = places_more old.machine.running.jobs (record { number = job; places = places.items }) number apart;
+      places = places_more old.vm.running.jobs (record { number = job; places = places.items }) number apart;
     })
 step_lasts number old new (JobEnd asked) (Ended job) st below other =
     let apart : job ≢ number = λ same. other (ap (λ (k : ℕ). JobEnd k) (sym st.job_is ∙ same)) in
-    subst (λ (r : Running). Lasts number old.machine.running r) (sym st.ended.jobs) (record { begun = omega arith; places = places_without job number old.machine.running.jobs apart })
+    subst (λ (r : JobsState). Lasts number old.vm.running r) (sym st.ended.jobs) (record { begun = omega arith; places = places_without job number old.vm.running.jobs apart })
 step_lasts number old new (Pay n) (Raised point now) st below other = lasts number _ _ (ap running_in st.state)
 step_lasts number old new (Raise asked) (Raised point now) st below other = lasts number _ _ (ap running_in st.state)
 step_lasts number old new (Put n request) (IsPut put) st below other = lasts number _ _ (ap running_in st.state)
@@ -74,10 +74,10 @@ step_lasts number old new (Put n request) (NotPut fault back) st below other = l
 step_lasts number old new (Take n) (Taken told) st below other = lasts number _ _ (ap running_in st.state)
 step_lasts number old new (Look n) (Reached point seen) st below other = lasts number _ _ (ap running_in st.state)
 step_lasts number old new (Look n) (Lacking point have) st below other = lasts number _ _ (ap running_in st.state)
-step_lasts number old new (Bind n) (Told told outcome) st below other = lasts number _ _ st.machine.running
+step_lasts number old new (Bind n) (Told told outcome) st below other = lasts number _ _ st.vm.running
 step_lasts number old new (GiveUp n) (Told told outcome) st below other = lasts number _ _ (ap running_in st.state)
-step_lasts number old new (Create size) (Created id) st below other = lasts number _ _ (ap running_by st.machine)
-step_lasts number old new (Destroy id) Destroyed st below other = lasts number _ _ (ap running_by st.machine)
+step_lasts number old new (Create size) (Created id) st below other = lasts number _ _ (ap running_by st.vm)
+step_lasts number old new (Destroy id) Destroyed st below other = lasts number _ _ (ap running_by st.vm)
 step_lasts number old new Rewind (Rewound item) st below other = lasts number _ _ (ap running_in st.state)
 step_lasts number old new (Withdraw entry) (Withdrawn item) st below other = lasts number _ _ (ap running_in st.state)
 step_lasts number old new (Settle to) (Settled count) st below other = lasts number _ _ (ap running_in st.state)
@@ -86,11 +86,11 @@ step_lasts number old new event Idle st below other = lasts number _ _ (ap runni
 step_lasts number old new event (Refused fault) st below other = lasts number _ _ (ap running_in st.1)
 step_lasts number old new event reply st below other = absurd st
 
-pub keeps_places : (old new : World) (events : List Event) (replies : List Reply) (number : ℕ) → run old events replies new → number < old.machine.running.begun →
-    All (λ event. event ≢ JobEnd number) events → places_in new.machine.running.jobs number ≡ places_in old.machine.running.jobs number
-keeps_places old new [] [] number ran below others = ap (λ (w : World). places_in w.machine.running.jobs number) ran
+pub keeps_places : (old new : WorldState) (events : List Event) (replies : List Reply) (number : ℕ) → IsRunOf old events replies new → number < old.vm.running.begun →
+    All (λ event. event ≢ JobEnd number) events → places_in new.vm.running.jobs number ≡ places_in old.vm.running.jobs number
+keeps_places old new [] [] number ran below others = ap (λ (w : WorldState). places_in w.vm.running.jobs number) ran
 keeps_places old new (event ∷ events) (reply ∷ replies) number ran below others =
-    let here : Lasts number old.machine.running ran.0.machine.running = step_lasts number old ran.0 event reply ran.1 below (All-head (λ e. e ≢ JobEnd number) event events others) in
+    let here : Lasts number old.vm.running ran.0.vm.running = step_lasts number old ran.0 event reply ran.1 below (All-head (λ e. e ≢ JobEnd number) event events others) in
     keeps_places ran.0 new events replies number ran.3 (omega (arith, here.begun, below)) (All-tail (λ e. e ≢ JobEnd number) event events others) ∙ here.places
 keeps_places old new [] (reply ∷ replies) number ran below others = absurd ran
 keeps_places old new (event ∷ events) [] number ran below others = absurd ran

@@ -3,22 +3,22 @@ use Rattle.std.proofs.Common.{◌≡◌, ◌≢◌, ℕ, zero, suc, ◌<◌, ◌
 use Rattle.std.specs.Prelude.{slice_index, slice_set}
 use Rattle.std.proofs.lemmas.Bool.{eqb-true, eqb-false}
 use Rattle.std.proofs.lemmas.List.{get_or-set_same, get_or-set_other, length-set}
-use Rattle.gv_types.specs.Bounds.{Area}
-use Rattle.gv_types.specs.Limits.{Caps}
+use Rattle.gv_types.specs.Bounds.{BoundsState}
+use Rattle.gv_types.specs.Limits.{LimitsState}
 use Rattle.gv_types.specs.declared.fault.OutOfMemory.{OutOfMemory as WantOfMemory}
 use Rattle.gv_types.specs.declared.request.Point.{Point}
 use Rattle.gv_sync.specs.Laws.{RaisedOnceMore}
 use Rattle.gv_sync.specs.Raises.{raised, values_on, with_raise, IsAfter}
-use Rattle.gv_vm.specs.World.{World, new_world}
+use Rattle.gv_vm.specs.World.{WorldState, new_world}
 use Rattle.gv_vm.specs.Step.{step, IsStep, NoneFalls}
-use Rattle.gv_vm.specs.Run.{run}
+use Rattle.gv_vm.specs.Run.{IsRunOf}
 use Rattle.gv_vm.specs.Past.{raised_by}
 use Rattle.gv_vm.specs.declared.event.Event.{Event}
 use Rattle.gv_vm.specs.declared.event.Event.TheVariants.{Put, Take, Look, Bind, GiveUp, Pay, Raise, Create, Destroy, Rewind, Withdraw, Settle, JobBegin, JobEnd, Translate}
 use Rattle.gv_vm.specs.declared.event.Reply.{Reply}
 use Rattle.gv_vm.specs.declared.event.Reply.TheVariants.{Idle, Put as IsPut, NotPut, Taken, Reached, Lacking, Told, Raised, Created, Destroyed, Rewound, Withdrawn, Settled, Begun, Ended, Found, Refused}
 
-abbrev numbers_in : World → List ℕ
+abbrev numbers_in : WorldState → List ℕ
 numbers_in w = w.numbers
 
 -- what a reply did to the timelines
@@ -26,7 +26,7 @@ abbrev numbers_after : Reply → List ℕ → List ℕ
 numbers_after (Raised point now) ns = with_raise ns point
 numbers_after reply ns = ns
 
-moved : (old new : World) (event : Event) (reply : Reply) → step old event reply new → new.numbers ≡ numbers_after reply old.numbers
+moved : (old new : WorldState) (event : Event) (reply : Reply) → step old event reply new → new.numbers ≡ numbers_after reply old.numbers
 moved old new (Pay n) (Raised point now) st = ap numbers_in st.state
 moved old new (Raise asked) (Raised point now) st = ap numbers_in st.state
 moved old new (Put n request) (IsPut number) st = ap numbers_in st.state
@@ -72,8 +72,8 @@ rises : (reply : Reply) (ns : List ℕ) (timeline : ℕ) → slice_index ns time
 rises (Raised point now) ns timeline = no_less ns point.timeline (max (slice_index ns point.timeline) point.value) timeline (omega arith)
 rises reply ns timeline = omega arith
 
-pub never_falls : (old new : World) (events : List Event) (replies : List Reply) (timeline : ℕ) → run old events replies new → slice_index old.numbers timeline ≤ slice_index new.numbers timeline
-never_falls old new [] [] timeline ran = subst (λ (w : World). slice_index old.numbers timeline ≤ slice_index w.numbers timeline) (sym ran) (omega arith)
+pub never_falls : (old new : WorldState) (events : List Event) (replies : List Reply) (timeline : ℕ) → IsRunOf old events replies new → slice_index old.numbers timeline ≤ slice_index new.numbers timeline
+never_falls old new [] [] timeline ran = subst (λ (w : WorldState). slice_index old.numbers timeline ≤ slice_index w.numbers timeline) (sym ran) (omega arith)
 never_falls old new (event ∷ events) (reply ∷ replies) timeline ran =
     let here : slice_index old.numbers timeline ≤ slice_index ran.0.numbers timeline =
     subst (λ (ns : List ℕ). slice_index old.numbers timeline ≤ slice_index ns timeline) (sym (moved old ran.0 event reply ran.1)) (rises reply old.numbers timeline) in
@@ -82,7 +82,7 @@ never_falls old new [] (reply ∷ replies) timeline ran = absurd ran
 never_falls old new (event ∷ events) [] timeline ran = absurd ran
 
 -- a step lowers no timeline, and want of memory none
-pub none_falls : (old new : World) (event : Event) (answer : Result Reply WantOfMemory) → IsStep old event answer new → NoneFalls old new
+pub none_falls : (old new : WorldState) (event : Event) (answer : Result Reply WantOfMemory) → IsStep old event answer new → NoneFalls old new
 none_falls old new event (Ok reply) st timeline = subst (λ (ns : List ℕ). slice_index old.numbers timeline ≤ slice_index ns timeline) (sym (moved old new event reply st)) (rises reply old.numbers timeline)
 none_falls old new event (Err want) st timeline = subst (λ (ns : List ℕ). slice_index old.numbers timeline ≤ slice_index ns timeline) (sym (ap numbers_in st.1)) (omega arith)
 
@@ -120,9 +120,9 @@ raised_cons : (reply : Reply) (replies : List Reply) → raised_by (reply ∷ []
 raised_cons (Raised point now) replies = refl
 raised_cons reply replies = refl
 
-runs_after : RaisedOnceMore → (raises : List Point) (old new : World) (events : List Event) (replies : List Reply) → run old events replies new → IsAfter raises old.numbers → IsAfter (raises ++ raised_by replies) new.numbers
+runs_after : RaisedOnceMore → (raises : List Point) (old new : WorldState) (events : List Event) (replies : List Reply) → IsRunOf old events replies new → IsAfter raises old.numbers → IsAfter (raises ++ raised_by replies) new.numbers
 runs_after law raises old new [] [] ran after =
-    subst (λ (w : World). IsAfter (raises ++ []) w.numbers) (sym ran) (subst (λ (ps : List Point). IsAfter ps old.numbers) (sym (append-nil raises)) after)
+    subst (λ (w : WorldState). IsAfter (raises ++ []) w.numbers) (sym ran) (subst (λ (ps : List Point). IsAfter ps old.numbers) (sym (append-nil raises)) after)
 runs_after law raises old new (event ∷ events) (reply ∷ replies) ran after =
     let here : IsAfter (raises ++ raised_by (reply ∷ [])) ran.0.numbers = subst (λ (ns : List ℕ). IsAfter (raises ++ raised_by (reply ∷ [])) ns) (sym (moved old ran.0 event reply ran.1)) (reply_more law raises old.numbers reply after) in
     subst (λ (ps : List Point). IsAfter ps new.numbers) (append_assoc raises (raised_by (reply ∷ [])) (raised_by replies) ∙ ap (λ (ps : List Point). raises ++ ps) (raised_cons reply replies))
@@ -135,7 +135,7 @@ zeros zero i = refl
 zeros (suc n) zero = refl
 zeros (suc n) (suc i) = zeros n i
 
-pub follows_raises : RaisedOnceMore → (area : Area) (limits : Caps) (queues depth timelines : ℕ) (events : List Event) (replies : List Reply) (w : World) →
-    run (new_world area limits queues depth timelines) events replies w → IsAfter (raised_by replies) w.numbers
+pub follows_raises : RaisedOnceMore → (area : BoundsState) (limits : LimitsState) (queues depth timelines : ℕ) (events : List Event) (replies : List Reply) (w : WorldState) →
+    IsRunOf (new_world area limits queues depth timelines) events replies w → IsAfter (raised_by replies) w.numbers
 follows_raises law area limits queues depth timelines events replies w ran =
     runs_after law [] (new_world area limits queues depth timelines) w events replies ran (λ timeline less. zeros timelines timeline)

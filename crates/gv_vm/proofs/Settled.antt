@@ -5,8 +5,8 @@ use Rattle.std.specs.List.{All}
 use Rattle.std.proofs.lemmas.List.{length-take-le}
 use Rattle.std.proofs.lemmas.List.Elements.{All-take}
 use Rattle.gv_space.specs.Counts.{less_kept}
-use Rattle.gv_space.specs.State.{AddressSpace, IsSpace}
-use Rattle.gv_journal.specs.Items.{Journaled, Numbered, numbered, entries, next}
+use Rattle.gv_space.specs.State.{SpaceState, IsSpace}
+use Rattle.gv_journal.specs.Items.{JournalState, NumberedItem, numbered, entries, next}
 use Rattle.gv_journal.specs.History.{kept_by}
 use Rattle.gv_journal.specs.State.{FitsSpace}
 use Rattle.gv_journal.specs.Settling.{earlier, later, settle_fault, IsSettled}
@@ -14,8 +14,8 @@ use Rattle.gv_journal.specs.declared.item.Item.{Item}
 use Rattle.gv_types.specs.declared.fault.Fault.{Fault}
 use Rattle.gv_space.proofs.ByCountLemmas.{less_kept_of_counts}
 use Rattle.gv_vm.specs.Jobs.{AreHeld}
-use Rattle.gv_vm.specs.State.{Machine, IsMachine, WasTold, SawItsWaits}
-use Rattle.gv_vm.proofs.Machines.{IsMachine-of, AreHeld-by_count}
+use Rattle.gv_vm.specs.State.{VmState, IsVm, WasTold, SawItsWaits}
+use Rattle.gv_vm.proofs.Vms.{IsVm-of, AreHeld-by_count}
 
 -- later items keep their numbers
 numbered-take : (first : ℕ) (items : List Item) (k : ℕ) → k ≤ length items → numbered (first + (length items - k)) (take k items) ≡ take k (numbered first items)
@@ -27,41 +27,41 @@ numbered-take first (item ∷ older) (suc k) few =
     let number : first + (length older - k) + length (take k older) ≡ first + length older = omega (arith, length-take-le k older less) in
     ap (λ (n : ℕ). record { number = first + n + length (take k older); item = item } ∷ numbered (first + n) (take k older)) below
     ∙ ap (λ (n : ℕ). record { number = n; item = item } ∷ numbered (first + (length older - k)) (take k older)) number
-    ∙ ap (λ (xs : List Numbered). record { number = first + length older; item = item } ∷ xs) (numbered-take first older k less)
+    ∙ ap (λ (xs : List NumberedItem). record { number = first + length older; item = item } ∷ xs) (numbered-take first older k less)
 
-low_from_none : (j : Journaled) (to : ℕ) → settle_fault j to ≡ None → j.first ≤ to
+low_from_none : (j : JournalState) (to : ℕ) → settle_fault j to ≡ None → j.first ≤ to
 low_from_none j to none = grind arith
 
-high_from_none : (j : Journaled) (to : ℕ) → settle_fault j to ≡ None → to ≤ next j
+high_from_none : (j : JournalState) (to : ℕ) → settle_fault j to ≡ None → to ≤ next j
 high_from_none j to none = grind arith
 
-entries_left : (old new : Journaled) (to : ℕ) → new ≡ record old { first = to; items = later old to } → old.first ≤ to → to ≤ next old → entries new ≡ take (next old - to) (entries old)
+entries_left : (old new : JournalState) (to : ℕ) → new ≡ record old { first = to; items = later old to } → old.first ≤ to → to ≤ next old → entries new ≡ take (next old - to) (entries old)
 entries_left old new to is low high =
     let k : ℕ = next old - to in
     let few : k ≤ length old.items = omega arith in
     let first : to ≡ old.first + (length old.items - k) = omega arith in
-    ap (λ (j : Journaled). entries j) is
+    ap (λ (j : JournalState). entries j) is
     ∙ ap (λ (n : ℕ). numbered n (take k old.items)) first
     ∙ numbered-take old.first old.items k few
 
-All-left : (P : Numbered → Type 0) (old new : Journaled) (to : ℕ) → new ≡ record old { first = to; items = later old to } → old.first ≤ to → to ≤ next old → All P (entries old) → All P (entries new)
+All-left : (P : NumberedItem → Type 0) (old new : JournalState) (to : ℕ) → new ≡ record old { first = to; items = later old to } → old.first ≤ to → to ≤ next old → All P (entries old) → All P (entries new)
 All-left P old new to is low high all = subst (All P) (sym (entries_left old new to is low high)) (All-take P (next old - to) (entries old) all)
 
-IsMachine-settled : (v : Machine) (t : AddressSpace) (j : Journaled) (to : ℕ) → IsMachine v → settle_fault v.journal to ≡ None → IsSettled v.space t v.journal j to → FitsSpace t j → IsSpace t →
-    IsMachine (record { space = t; journal = j; running = v.running; told = v.told })
-IsMachine-settled v t j to holds none settled fits space =
+IsVm-settled : (v : VmState) (t : SpaceState) (j : JournalState) (to : ℕ) → IsVm v → settle_fault v.journal to ≡ None → IsSettled v.space t v.journal j to → FitsSpace t j → IsSpace t →
+    IsVm (record { space = t; journal = j; running = v.running; told = v.told })
+IsVm-settled v t j to holds none settled fits space =
     let low : v.journal.first ≤ to = low_from_none v.journal to none in
     let high : to ≤ next v.journal = high_from_none v.journal to none in
-    let held : AreHeld t.buffers v.running.jobs = subst (λ (x : AddressSpace). AreHeld x.buffers v.running.jobs) (sym settled.space)
+    let held : AreHeld t.buffers v.running.jobs = subst (λ (x : SpaceState). AreHeld x.buffers v.running.jobs) (sym settled.space)
     (AreHeld-by_count less_kept (kept_by (earlier v.journal to)) v.space.buffers v.running.jobs less_kept_of_counts holds.buffers_counted.held) in
-    IsMachine-of t j v.running v.told fits space held
+    IsVm-of t j v.running v.told fits space held
     (All-left (λ x. WasTold x.item.kind x.number v.told) v.journal j to settled.items low high holds.told_matches_journal)
     (All-left (λ x. SawItsWaits x.item.kind) v.journal j to settled.items low high holds.waits_were_reached) holds.queues
 
-pub IsMachine-settle : (v : Machine) (t : AddressSpace) (j : Journaled) (to : ℕ) (r : Result ℕ Fault) → IsMachine v → OnOk r (settle_fault v.journal to ≡ None) →
+pub IsVm-settle : (v : VmState) (t : SpaceState) (j : JournalState) (to : ℕ) (r : Result ℕ Fault) → IsVm v → OnOk r (settle_fault v.journal to ≡ None) →
     OnOk r (IsSettled v.space t v.journal j to) → OnErr r (t ≡ v.space) → OnErr r (j ≡ v.journal) → FitsSpace t j → IsSpace t →
-    IsMachine (record { space = t; journal = j; running = v.running; told = v.told })
-IsMachine-settle v t j to (Ok count) holds why settled space_same same fits space = IsMachine-settled v t j to holds why settled fits space
-IsMachine-settle v t j to (Err fault) holds why settled space_same same fits space =
-    subst (λ (x : Journaled). IsMachine (record { space = t; journal = x; running = v.running; told = v.told })) (sym same)
-    (subst (λ (x : AddressSpace). IsMachine (record { space = x; journal = v.journal; running = v.running; told = v.told })) (sym space_same) holds)
+    IsVm (record { space = t; journal = j; running = v.running; told = v.told })
+IsVm-settle v t j to (Ok count) holds why settled space_same same fits space = IsVm-settled v t j to holds why settled fits space
+IsVm-settle v t j to (Err fault) holds why settled space_same same fits space =
+    subst (λ (x : JournalState). IsVm (record { space = t; journal = x; running = v.running; told = v.told })) (sym same)
+    (subst (λ (x : SpaceState). IsVm (record { space = x; journal = v.journal; running = v.running; told = v.told })) (sym space_same) holds)

@@ -1,8 +1,8 @@
 -- For callers: the space that a machine gives, with the room that it has.
-use Rattle.gv_space.specs.State.{AddressSpace, IsSpace}
+use Rattle.gv_space.specs.State.{SpaceState, IsSpace}
 use Rattle.gv_vm.specs.State.{roomless}
 
-pub with_its_room : (s : AddressSpace) → IsSpace (roomless s) → IsSpace s
+pub with_its_room : (s : SpaceState) → IsSpace (roomless s) → IsSpace s
 with_its_room s is = record {
   limits = is.limits;
   laid_out = is.laid_out;

@@ -12,10 +12,10 @@ use Rattle.gv_types.specs.declared.request.Request.{Request}
 use Rattle.gv_sync.specs.Raises.{IsReached, with_raise}
 use Rattle.gv_sync.specs.Sights.{Sight, sight}
 use Rattle.gv_vm.specs.Outcomes.{told_to, with_outcome, tell_fault}
-use Rattle.gv_vm.specs.Told.{IsCarriedOut, seen_by}
-use Rattle.gv_vm.specs.State.{Machine}
-use Rattle.gv_vm.specs.World.{World, InHand, Queue, put_fault_of, new_queue, queue_at, with_queue, next_number, next_wait, seen_at}
-use Rattle.gv_vm.specs.Turns.{IsPutReply, MayTake, TookFront, wait_in, wait_of, hand_reached, with_reached, hand_lacked, with_lacked, IsReady, IsLacking, without_hand, PaidFirst, IsToldLacking}
+use Rattle.gv_vm.specs.Told.{IsBoundAndTold, seen_by}
+use Rattle.gv_vm.specs.State.{VmState}
+use Rattle.gv_vm.specs.World.{WorldState, HandState, QueueState, put_fault_of, new_queue, queue_at, with_queue, next_number, next_wait, seen_at}
+use Rattle.gv_vm.specs.Turns.{IsPutReply, MayTake, TookFront, wait_in, wait_of, hand_reached, with_reached, hand_lacked, with_lacked, IsReadyToBind, IsLacking, without_hand, PaidFirst, IsToldLacking}
 use Rattle.gv_vm.specs.Step.{step, IsStep, MayGrow, CanTake, CanLook, CanReach, CanBind, CanGiveUp, CanPay, owed_in, owed_for}
 use Rattle.gv_vm.specs.declared.event.Event.{Event}
 use Rattle.gv_vm.specs.declared.event.Reply.{Reply}
@@ -46,45 +46,45 @@ from_ok P (Ok x) is h = h
 from_ok P (Err e) is h = cc
 
 -- what was read is the queue
-pub queue_read : (w : World) (n : ℕ) (q : Queue) → n < length w.queues → q ≡ slice_index_or w.queues n q → q ≡ queue_at w n
+pub queue_read : (w : WorldState) (n : ℕ) (q : QueueState) → n < length w.queues → q ≡ slice_index_or w.queues n q → q ≡ queue_at w n
 queue_read w n q less is = is ∙ get_or_default w.queues n q new_queue less
 
 -- a queue that did not change
-pub same_world : (w : World) (n : ℕ) (q : Queue) → q ≡ queue_at w n → with_queue w n q ≡ w
+pub same_world : (w : WorldState) (n : ℕ) (q : QueueState) → q ≡ queue_at w n → with_queue w n q ≡ w
 same_world w n q is =
-    ap (λ (x : Queue). with_queue w n x) is ∙ ap (λ (qs : List Queue). record w { queues = qs }) (set-get_or w.queues n new_queue)
+    ap (λ (x : QueueState). with_queue w n x) is ∙ ap (λ (qs : List QueueState). record w { queues = qs }) (set-get_or w.queues n new_queue)
 
-pub took : (w : World) (n : ℕ) (q : Queue) → n < length w.queues → TookFront (queue_at w n) q → step w (Take n) (Taken (next_number w n)) (with_queue w n q)
+pub took : (w : WorldState) (n : ℕ) (q : QueueState) → n < length w.queues → TookFront (queue_at w n) q → step w (Take n) (Taken (next_number w n)) (with_queue w n q)
 took w n q less front = record {
   enabled = record { there = less; waits = front.may.waits; free = front.may.free; paid = front.may.paid };
   request = front.request;
   later = front.later;
   front = front.front;
   number_is = refl;
-  state = ap (λ (x : Queue). with_queue w n x) front.state;
+  state = ap (λ (x : QueueState). with_queue w n x) front.state;
 }
 
-pub not_taken : (w : World) (n : ℕ) → (MayTake (queue_at w n) → ⊥) → CanTake w n → ⊥
+pub not_taken : (w : WorldState) (n : ℕ) → (MayTake (queue_at w n) → ⊥) → CanTake w n → ⊥
 not_taken w n never can = never (record { waits = can.waits; free = can.free; paid = can.paid })
 
-wait_of_hand : (w : World) (n : ℕ) (can : CanLook w n) → wait_of (queue_at w n) ≡ Some can.point
+wait_of_hand : (w : WorldState) (n : ℕ) (can : CanLook w n) → wait_of (queue_at w n) ≡ Some can.point
 wait_of_hand w n can = ap wait_in can.has.is ∙ can.wait
 
-pub not_looked : (w : World) (n : ℕ) → wait_of (queue_at w n) ≡ None → CanLook w n → ⊥
+pub not_looked : (w : WorldState) (n : ℕ) → wait_of (queue_at w n) ≡ None → CanLook w n → ⊥
 not_looked w n none can = let some : None ≡ Some can.point = sym none ∙ wait_of_hand w n can in cc
 
 -- what can be looked at
-abbrev can_look : (w : World) (n : ℕ) (hand : InHand) (point : Point) → n < length w.queues → (queue_at w n).hand ≡ Some hand → next_wait hand ≡ Some point → CanLook w n
+abbrev can_look : (w : WorldState) (n : ℕ) (hand : HandState) (point : Point) → n < length w.queues → (queue_at w n).hand ≡ Some hand → next_wait hand ≡ Some point → CanLook w n
 can_look w n hand point less is wait = record { has = record { there = less; hand = hand; is = is }; point = point; wait = wait }
 
-pub may_reach : (w : World) (n : ℕ) (point : Point) → n < length w.queues → wait_of (queue_at w n) ≡ Some point → IsReached w.numbers point → CanReach w n
+pub may_reach : (w : WorldState) (n : ℕ) (point : Point) → n < length w.queues → wait_of (queue_at w n) ≡ Some point → IsReached w.numbers point → CanReach w n
 may_reach w n point less is enough =
     elim (queue_at w n).hand as (λ o. (queue_at w n).hand ≡ o → wait_in o ≡ Some point → CanReach w n) [
       | None ↦ (λ _ g. cc)
       | Some hand ↦ (λ same g. record { look = can_look w n hand point less same g; now = enough })
     ] refl is
 
-pub reached : (w : World) (n : ℕ) (point : Point) (s : Sight) (q : Queue) → n < length w.queues → wait_of (queue_at w n) ≡ Some point → s ≡ seen_at w point → IsReached w.numbers point →
+pub reached : (w : WorldState) (n : ℕ) (point : Point) (s : Sight) (q : QueueState) → n < length w.queues → wait_of (queue_at w n) ≡ Some point → s ≡ seen_at w point → IsReached w.numbers point →
     q ≡ with_reached s (queue_at w n) → step w (Look n) (Reached point s.number) (with_queue w n q)
 reached w n point s q less is sees enough new =
     elim (queue_at w n).hand as (λ o. (queue_at w n).hand ≡ o → wait_in o ≡ Some point → step w (Look n) (Reached point s.number) (with_queue w n q)) [
@@ -96,12 +96,12 @@ reached w n point s q less is sees enough new =
         reached = enough;
         state =
             let s_is : s ≡ sight point s.number = sees ∙ ap (λ (x : Sight). sight point x.number) (sym sees) in
-            ap (λ (x : Queue). with_queue w n x) (new ∙ ap (λ (o : Option InHand). record (queue_at w n) { hand = hand_reached s o }) same
+            ap (λ (x : QueueState). with_queue w n x) (new ∙ ap (λ (o : Option HandState). record (queue_at w n) { hand = hand_reached s o }) same
             ∙ ap (λ (x : Sight). record (queue_at w n) { hand = Some (record hand { reached = hand.reached ++ x ∷ []; lacked = None }) }) s_is);
       })
     ] refl is
 
-pub lacked : (w : World) (n : ℕ) (point : Point) (s : Sight) (q : Queue) → n < length w.queues → wait_of (queue_at w n) ≡ Some point → s ≡ seen_at w point → s.number < point.value →
+pub lacked : (w : WorldState) (n : ℕ) (point : Point) (s : Sight) (q : QueueState) → n < length w.queues → wait_of (queue_at w n) ≡ Some point → s ≡ seen_at w point → s.number < point.value →
     q ≡ with_lacked s (queue_at w n) → step w (Look n) (Lacking point s.number) (with_queue w n q)
 lacked w n point s q less is sees short new =
     elim (queue_at w n).hand as (λ o. (queue_at w n).hand ≡ o → wait_in o ≡ Some point → step w (Look n) (Lacking point s.number) (with_queue w n q)) [
@@ -113,53 +113,53 @@ lacked w n point s q less is sees short new =
         lacking = short;
         state =
             let s_is : s ≡ sight point s.number = sees ∙ ap (λ (x : Sight). sight point x.number) (sym sees) in
-            ap (λ (x : Queue). with_queue w n x) (new ∙ ap (λ (o : Option InHand). record (queue_at w n) { hand = hand_lacked s o }) same
+            ap (λ (x : QueueState). with_queue w n x) (new ∙ ap (λ (o : Option HandState). record (queue_at w n) { hand = hand_lacked s o }) same
             ∙ ap (λ (x : Sight). record (queue_at w n) { hand = Some (record hand { lacked = Some x }) }) s_is);
       })
     ] refl is
 
-pub not_bound : (w : World) (n : ℕ) → (IsReady (queue_at w n) → ⊥) → CanBind w n → ⊥
+pub not_bound : (w : WorldState) (n : ℕ) → (IsReadyToBind (queue_at w n) → ⊥) → CanBind w n → ⊥
 not_bound w n never can = never (record { hand = can.has.hand; is = can.has.is; reached = can.reached })
 
-abbrev pub may_bind : (w : World) (n : ℕ) (hand : InHand) → n < length w.queues → (queue_at w n).hand ≡ Some hand → next_wait hand ≡ None → CanBind w n
+abbrev pub may_bind : (w : WorldState) (n : ℕ) (hand : HandState) → n < length w.queues → (queue_at w n).hand ≡ Some hand → next_wait hand ≡ None → CanBind w n
 may_bind w n hand less is all = record { has = record { there = less; hand = hand; is = is }; reached = all }
 
 -- a world with another machine and another queue
-abbrev pub with_machine : World → Machine → ℕ → Queue → World
-with_machine w v n q = with_queue (record w { machine = v }) n q
+abbrev pub with_vm : WorldState → VmState → ℕ → QueueState → WorldState
+with_vm w v n q = with_queue (record w { vm = v }) n q
 
-pub bound : (w : World) (v : Machine) (n : ℕ) (hand : InHand) (outcome : Outcome) (q : Queue) → n < length w.queues → (queue_at w n).hand ≡ Some hand → next_wait hand ≡ None →
-    IsCarriedOut w.machine v n (next_number w n) hand.request (seen_by hand.reached) outcome → q ≡ record (queue_at w n) { hand = None; owed = owed_for hand.request outcome } →
-    step w (Bind n) (Told (next_number w n) outcome) (with_machine w v n q)
+pub bound : (w : WorldState) (v : VmState) (n : ℕ) (hand : HandState) (outcome : Outcome) (q : QueueState) → n < length w.queues → (queue_at w n).hand ≡ Some hand → next_wait hand ≡ None →
+    IsBoundAndTold w.vm v n (next_number w n) hand.request (seen_by hand.reached) outcome → q ≡ record (queue_at w n) { hand = None; owed = owed_for hand.request outcome } →
+    step w (Bind n) (Told (next_number w n) outcome) (with_vm w v n q)
 bound w v n hand outcome q less is all carried new = record {
   enabled = may_bind w n hand less is all;
   number_is = refl;
-  machine = carried;
-  state = ap (λ (x : Queue). with_machine w v n x) new;
+  vm = carried;
+  state = ap (λ (x : QueueState). with_vm w v n x) new;
 }
 
-pub not_given_up : (w : World) (n : ℕ) → (IsLacking (queue_at w n) → ⊥) → CanGiveUp w n → ⊥
+pub not_given_up : (w : WorldState) (n : ℕ) → (IsLacking (queue_at w n) → ⊥) → CanGiveUp w n → ⊥
 not_given_up w n never can = never (record { hand = can.has.hand; is = can.has.is; saw = can.saw; lacked = can.lacked })
 
-pub given_up : (w : World) (v : Machine) (n : ℕ) (hand : InHand) (outcome : Outcome) (q : Queue) → n < length w.queues → (queue_at w n).hand ≡ Some hand →
-    IsToldLacking w.machine v n hand outcome → q ≡ without_hand (queue_at w n) → step w (GiveUp n) (Told (next_number w n) outcome) (with_machine w v n q)
+pub given_up : (w : WorldState) (v : VmState) (n : ℕ) (hand : HandState) (outcome : Outcome) (q : QueueState) → n < length w.queues → (queue_at w n).hand ≡ Some hand →
+    IsToldLacking w.vm v n hand outcome → q ≡ without_hand (queue_at w n) → step w (GiveUp n) (Told (next_number w n) outcome) (with_vm w v n q)
 given_up w v n hand outcome q less is told new = record {
   enabled = record { has = record { there = less; hand = hand; is = is }; saw = told.saw; lacked = told.lacked };
   number_is = refl;
   outcome_is = told.outcome_is;
-  state = ap (λ (x : Machine). with_machine w x n q) told.state ∙ ap (λ (x : Queue). with_queue (record w { machine = record w.machine { told = with_outcome w.machine.told n outcome } }) n x) new;
+  state = ap (λ (x : VmState). with_vm w x n q) told.state ∙ ap (λ (x : QueueState). with_queue (record w { vm = record w.vm { told = with_outcome w.vm.told n outcome } }) n x) new;
 }
 
-pub not_paid : (w : World) (n : ℕ) → (queue_at w n).owed ≡ [] → CanPay w n → ⊥
+pub not_paid : (w : WorldState) (n : ℕ) → (queue_at w n).owed ≡ [] → CanPay w n → ⊥
 not_paid w n none can = let some : [] ≡ can.point ∷ can.later = sym none ∙ can.owed in cc
 
-pub paid : (w : World) (n : ℕ) (point : Point) (numbers : List ℕ) (now : ℕ) (q : Queue) → n < length w.queues → PaidFirst (queue_at w n) point q → numbers ≡ with_raise w.numbers point →
+pub paid : (w : WorldState) (n : ℕ) (point : Point) (numbers : List ℕ) (now : ℕ) (q : QueueState) → n < length w.queues → PaidFirst (queue_at w n) point q → numbers ≡ with_raise w.numbers point →
     now ≡ slice_index numbers point.timeline → step w (Pay n) (Raised point now) (with_queue (record w { numbers = numbers }) n q)
 paid w n point numbers now q less first raised now_is = record {
   enabled = record { there = less; point = point; later = q.owed; owed = first.owed };
   point_is = refl;
   now_is = now_is;
-  state = ap (λ (ns : List ℕ). with_queue (record w { numbers = ns }) n q) raised ∙ ap (λ (x : Queue). with_queue (record w { numbers = with_raise w.numbers point }) n x) first.state;
+  state = ap (λ (ns : List ℕ). with_queue (record w { numbers = ns }) n q) raised ∙ ap (λ (x : QueueState). with_queue (record w { numbers = with_raise w.numbers point }) n x) first.state;
 }
 
 -- why a request is put, or is not
@@ -168,10 +168,10 @@ allowed_where_ok None number h = refl
 allowed_where_ok (Some fault) number h = absurd h
 
 -- no fault of a put is want of memory
-put_named : (limit depth : ℕ) (q : Queue) → put_fault_of limit depth q ≡ Some OutOfMemory → ⊥
+put_named : (limit depth : ℕ) (q : QueueState) → put_fault_of limit depth q ≡ Some OutOfMemory → ⊥
 put_named limit depth q h = grind arith
 
-pub put_allowed : (limit depth : ℕ) (q : Queue) (n : NotTold) → n.fault ≡ OutOfMemory →
+pub put_allowed : (limit depth : ℕ) (q : QueueState) (n : NotTold) → n.fault ≡ OutOfMemory →
     MatchOption (put_fault_of limit depth q) (IfErr (put_err n) (λ n. n.fault ≡ OutOfMemory)) (λ fault. IsErrAnd (put_err n) (λ n. n.fault ≡ fault)) → put_fault_of limit depth q ≡ None
 put_allowed limit depth q n is h =
     elim (put_fault_of limit depth q) as (λ o. put_fault_of limit depth q ≡ o → MatchOption o (IfErr (put_err n) (λ n. n.fault ≡ OutOfMemory)) (λ fault. IsErrAnd (put_err n) (λ n. n.fault ≡ fault)) → put_fault_of limit depth q ≡ None) [
@@ -179,7 +179,7 @@ put_allowed limit depth q n is h =
       | Some fault ↦ (λ same g. absurd (put_named limit depth q (same ∙ ap (λ (f : Fault). Some f) (sym g ∙ is))))
     ] refl h
 
-pub put_refused : (limit depth : ℕ) (q : Queue) (n : NotTold) → n.fault ≢ OutOfMemory →
+pub put_refused : (limit depth : ℕ) (q : QueueState) (n : NotTold) → n.fault ≢ OutOfMemory →
     MatchOption (put_fault_of limit depth q) (IfErr (put_err n) (λ n. n.fault ≡ OutOfMemory)) (λ fault. IsErrAnd (put_err n) (λ n. n.fault ≡ fault)) → put_fault_of limit depth q ≡ Some n.fault
 put_refused limit depth q n isnt h =
     elim (put_fault_of limit depth q) as (λ o. MatchOption o (IfErr (put_err n) (λ n. n.fault ≡ OutOfMemory)) (λ fault. IsErrAnd (put_err n) (λ n. n.fault ≡ fault)) → o ≡ Some n.fault) [
@@ -188,50 +188,50 @@ put_refused limit depth q n isnt h =
     ] h
 
 -- what a put makes of a queue, and what it is told
-pub record PutCameTo (limit depth : ℕ) (request : Request) (old new : Queue) (r : Result ℕ NotTold) : Type 0 where
+pub record PutCameTo (limit depth : ℕ) (request : Request) (old new : QueueState) (r : Result ℕ NotTold) : Type 0 where
   pub fault : MatchOption (put_fault_of limit depth old) (IfErr r (λ n. n.fault ≡ OutOfMemory)) (λ fault. IsErrAnd r (λ n. n.fault ≡ fault))
   pub back : IfOk r (λ number. new ≡ record old { put = number + 1; waiting = old.waiting ++ request ∷ [] })
   pub number : IfOk r (λ number. number ≡ old.put)
   pub err : OnErr r (new ≡ old)
 
-pub put_keeps : (w : World) (n : ℕ) (request : Request) (q : Queue) (r : Result ℕ NotTold) → AreQueues w → n < length w.queues → Fits (length w.numbers) request →
-    PutCameTo w.machine.space.limits.told w.depth request (queue_at w n) q r → AreQueues (with_queue w n q)
+pub put_keeps : (w : WorldState) (n : ℕ) (request : Request) (q : QueueState) (r : Result ℕ NotTold) → AreQueues w → n < length w.queues → Fits (length w.numbers) request →
+    PutCameTo w.vm.space.limits.told w.depth request (queue_at w n) q r → AreQueues (with_queue w n q)
 put_keeps w n request q (Ok number) holds less fits came =
-    let old : Queue = queue_at w n in
+    let old : QueueState = queue_at w n in
     let is : q ≡ record old { put = old.put + 1; waiting = old.waiting ++ request ∷ [] } = came.back ∙ ap (λ (k : ℕ). record old { put = k + 1; waiting = old.waiting ++ request ∷ [] }) came.number in
-    AreQueues-with_queue w n q holds less (subst (IsQueueOf w.machine.space.limits.told (length w.numbers) (next_number w n)) (sym is)
-    (IsQueueOf-put w.machine.space.limits.told (length w.numbers) (next_number w n) w.depth old request (allowed_where_ok _ number came.fault) fits (holds.each n less)))
+    AreQueues-with_queue w n q holds less (subst (IsQueueOf w.vm.space.limits.told (length w.numbers) (next_number w n)) (sym is)
+    (IsQueueOf-put w.vm.space.limits.told (length w.numbers) (next_number w n) w.depth old request (allowed_where_ok _ number came.fault) fits (holds.each n less)))
 put_keeps w n request q (Err e) holds less fits came = subst AreQueues (sym (same_world w n q came.err)) holds
 
-pub was_put : (w : World) (n : ℕ) (request : Request) (q : Queue) (number : ℕ) → n < length w.queues → Fits (length w.numbers) request →
-    PutCameTo w.machine.space.limits.told w.depth request (queue_at w n) q (Ok number) → step w (Put n request) (IsPut number) (with_queue w n q)
+pub was_put : (w : WorldState) (n : ℕ) (request : Request) (q : QueueState) (number : ℕ) → n < length w.queues → Fits (length w.numbers) request →
+    PutCameTo w.vm.space.limits.told w.depth request (queue_at w n) q (Ok number) → step w (Put n request) (IsPut number) (with_queue w n q)
 was_put w n request q number less fits came = record {
   enabled = (less, fits);
   allowed = allowed_where_ok _ number came.fault;
   number_is = came.number;
-  state = ap (λ (x : Queue). with_queue w n x) came.back;
+  state = ap (λ (x : QueueState). with_queue w n x) came.back;
 }
 
-pub was_not_put : (w : World) (n : ℕ) (request : Request) (q : Queue) (e : NotTold) → n < length w.queues → Fits (length w.numbers) request → e.fault ≢ OutOfMemory → e.request ≡ request →
-    PutCameTo w.machine.space.limits.told w.depth request (queue_at w n) q (Err e) → step w (Put n request) (NotPut e.fault e.request) (with_queue w n q)
+pub was_not_put : (w : WorldState) (n : ℕ) (request : Request) (q : QueueState) (e : NotTold) → n < length w.queues → Fits (length w.numbers) request → e.fault ≢ OutOfMemory → e.request ≡ request →
+    PutCameTo w.vm.space.limits.told w.depth request (queue_at w n) q (Err e) → step w (Put n request) (NotPut e.fault e.request) (with_queue w n q)
 was_not_put w n request q e less fits named back came = record {
   enabled = (less, fits);
-  refused = put_refused w.machine.space.limits.told w.depth (queue_at w n) e named came.fault;
+  refused = put_refused w.vm.space.limits.told w.depth (queue_at w n) e named came.fault;
   returned = back;
   state = same_world w n q came.err;
 }
 
-pub put_wanted : (w : World) (n : ℕ) (request : Request) (q : Queue) (e : NotTold) → n < length w.queues → Fits (length w.numbers) request → e.fault ≡ OutOfMemory →
-    PutCameTo w.machine.space.limits.told w.depth request (queue_at w n) q (Err e) → MayGrow w (Put n request) × (with_queue w n q ≡ w)
+pub put_wanted : (w : WorldState) (n : ℕ) (request : Request) (q : QueueState) (e : NotTold) → n < length w.queues → Fits (length w.numbers) request → e.fault ≡ OutOfMemory →
+    PutCameTo w.vm.space.limits.told w.depth request (queue_at w n) q (Err e) → MayGrow w (Put n request) × (with_queue w n q ≡ w)
 put_wanted w n request q e less fits memory came =
-    (((less, fits), put_allowed w.machine.space.limits.told w.depth (queue_at w n) e memory came.fault), same_world w n q came.err)
+    (((less, fits), put_allowed w.vm.space.limits.told w.depth (queue_at w n) e memory came.fault), same_world w n q came.err)
 
-wanted : (w new : World) (event : Event) (a : Result Reply WantOfMemory) → IsErr a → MayGrow w event × (new ≡ w) → IsStep w event a new
+wanted : (w new : WorldState) (event : Event) (a : Result Reply WantOfMemory) → IsErr a → MayGrow w event × (new ≡ w) → IsStep w event a new
 wanted w new event (Ok reply) is h = cc
 wanted w new event (Err e) is h = h
 
-pub put_answers : (w : World) (n : ℕ) (request : Request) (q : Queue) (r : Result ℕ NotTold) (a : Result Reply WantOfMemory) → n < length w.queues → Fits (length w.numbers) request →
-    PutCameTo w.machine.space.limits.told w.depth request (queue_at w n) q r → IfErr r (λ e. e.request ≡ request) → IsPutReply r a → IsStep w (Put n request) a (with_queue w n q)
+pub put_answers : (w : WorldState) (n : ℕ) (request : Request) (q : QueueState) (r : Result ℕ NotTold) (a : Result Reply WantOfMemory) → n < length w.queues → Fits (length w.numbers) request →
+    PutCameTo w.vm.space.limits.told w.depth request (queue_at w n) q r → IfErr r (λ e. e.request ≡ request) → IsPutReply r a → IsStep w (Put n request) a (with_queue w n q)
 put_answers w n request q (Ok number) a less fits came back is =
     subst (λ (x : Result Reply WantOfMemory). IsStep w (Put n request) x (with_queue w n q)) (sym is) (was_put w n request q number less fits came)
 put_answers w n request q (Err e) a less fits came back (inl memory) = wanted w (with_queue w n q) (Put n request) a memory.0 (put_wanted w n request q e less fits memory.1 came)
@@ -254,24 +254,24 @@ owed_fit timelines request (Refused op fault) all = All-nil (λ p. p.timeline < 
 owed_fit timelines request (NotReady point have) all = All-nil (λ p. p.timeline < timelines)
 
 -- nothing came of it
-pub came_back : (w : World) (v : Machine) (n : ℕ) (q : Queue) → q ≡ queue_at w n → v ≡ w.machine → with_machine w v n q ≡ w
-came_back w v n q same machine = ap (λ (x : Machine). with_machine w x n q) machine ∙ same_world w n q same
+pub came_back : (w : WorldState) (v : VmState) (n : ℕ) (q : QueueState) → q ≡ queue_at w n → v ≡ w.vm → with_vm w v n q ≡ w
+came_back w v n q same vm = ap (λ (x : VmState). with_vm w x n q) vm ∙ same_world w n q same
 
-pub bound_keeps : (w : World) (v : Machine) (n number : ℕ) (hand : InHand) (outcome : Outcome) → AreQueues w → n < length w.queues → (queue_at w n).hand ≡ Some hand →
-    IsCarriedOut w.machine v n number hand.request (seen_by hand.reached) outcome → AreQueues (with_machine w v n (record (queue_at w n) { hand = None; owed = owed_for hand.request outcome }))
+pub bound_keeps : (w : WorldState) (v : VmState) (n number : ℕ) (hand : HandState) (outcome : Outcome) → AreQueues w → n < length w.queues → (queue_at w n).hand ≡ Some hand →
+    IsBoundAndTold w.vm v n number hand.request (seen_by hand.reached) outcome → AreQueues (with_vm w v n (record (queue_at w n) { hand = None; owed = owed_for hand.request outcome }))
 bound_keeps w v n number hand outcome holds less is carried =
     AreQueues-told w v n hand outcome (owed_for hand.request outcome) holds less is
-    (limits-came w.machine.space v.space w.machine.journal v.journal n number hand.request (seen_by hand.reached) outcome carried.came) carried.told
-    (owed_fit (length w.numbers) hand.request outcome (signals_fit w.machine.space.limits.told (length w.numbers) (next_number w n) (queue_at w n) hand is (holds.each n less)))
+    (limits-came w.vm.space v.space w.vm.journal v.journal n number hand.request (seen_by hand.reached) outcome carried.came) carried.told
+    (owed_fit (length w.numbers) hand.request outcome (signals_fit w.vm.space.limits.told (length w.numbers) (next_number w n) (queue_at w n) hand is (holds.each n less)))
 
-pub may_give_up : (w : World) (n : ℕ) (hand : InHand) → n < length w.queues → (queue_at w n).hand ≡ Some hand → hand.lacked ≢ None → CanGiveUp w n
+pub may_give_up : (w : WorldState) (n : ℕ) (hand : HandState) → n < length w.queues → (queue_at w n).hand ≡ Some hand → hand.lacked ≢ None → CanGiveUp w n
 may_give_up w n hand less is lacks =
     elim hand.lacked as (λ o. hand.lacked ≡ o → CanGiveUp w n) [
       | None ↦ (λ none. absurd (lacks none))
       | Some saw ↦ (λ same. record { has = record { there = less; hand = hand; is = is }; saw = saw; lacked = same })
     ] refl
 
-pub given_up_keeps : (w : World) (v : Machine) (n : ℕ) (hand : InHand) (outcome : Outcome) → AreQueues w → n < length w.queues → (queue_at w n).hand ≡ Some hand →
-    IsToldLacking w.machine v n hand outcome → AreQueues (with_machine w v n (without_hand (queue_at w n)))
+pub given_up_keeps : (w : WorldState) (v : VmState) (n : ℕ) (hand : HandState) (outcome : Outcome) → AreQueues w → n < length w.queues → (queue_at w n).hand ≡ Some hand →
+    IsToldLacking w.vm v n hand outcome → AreQueues (with_vm w v n (without_hand (queue_at w n)))
 given_up_keeps w v n hand outcome holds less is told =
-    AreQueues-told w v n hand outcome (queue_at w n).owed holds less is (ap (λ (x : Machine). x.space.limits) told.state) (ap (λ (x : Machine). x.told) told.state) (holds.each n less).owed
+    AreQueues-told w v n hand outcome (queue_at w n).owed holds less is (ap (λ (x : VmState). x.space.limits) told.state) (ap (λ (x : VmState). x.told) told.state) (holds.each n less).owed

@@ -9,47 +9,47 @@ use Rattle.gv_types.specs.declared.mapping.Mapping.{Mapping}
 use Rattle.gv_types.specs.declared.operation.PageOp.{PageOp}
 use Rattle.gv_ranges.specs.Edit.{edited_by_all, restored}
 use Rattle.gv_space.specs.Counts.{by_count, counted, more_kept}
-use Rattle.gv_space.specs.State.{AddressSpace, IsSpace, IsUnchanged}
+use Rattle.gv_space.specs.State.{SpaceState, IsSpace, IsUnchanged}
 use Rattle.gv_space.proofs.ByCountLemmas.{counted_of_counts, more_kept_of_counts}
-use Rattle.gv_journal.specs.Items.{Journaled, Numbered, entries, next}
+use Rattle.gv_journal.specs.Items.{JournalState, NumberedItem, entries, next}
 use Rattle.gv_journal.specs.Applying.{met}
 use Rattle.gv_journal.specs.State.{FitsSpace}
 use Rattle.gv_journal.specs.Withdrawing.{after_restore, after_withdrawal, list_before, ops_at, IsWithdrawn}
 use Rattle.gv_journal.specs.declared.item.ItemKind.{ItemKind}
-use Rattle.gv_vm.specs.Jobs.{RunningJob, AreHeld}
-use Rattle.gv_vm.specs.State.{Machine, IsMachine, WasTold, SawItsWaits}
-use Rattle.gv_vm.proofs.Machines.{IsMachine-of, AreHeld-by_count}
+use Rattle.gv_vm.specs.Jobs.{JobState, AreHeld}
+use Rattle.gv_vm.specs.State.{VmState, IsVm, WasTold, SawItsWaits}
+use Rattle.gv_vm.proofs.Vms.{IsVm-of, AreHeld-by_count}
 
-AreHeld-after_withdrawal : (before : List Mapping) (ops : List PageOp) (s : AddressSpace) (js : List RunningJob) → AreHeld s.buffers js → AreHeld (after_withdrawal before ops s).buffers js
+AreHeld-after_withdrawal : (before : List Mapping) (ops : List PageOp) (s : SpaceState) (js : List JobState) → AreHeld s.buffers js → AreHeld (after_withdrawal before ops s).buffers js
 AreHeld-after_withdrawal before [] s js held = held
 AreHeld-after_withdrawal before (op ∷ older) s js held =
     AreHeld-after_withdrawal before older (after_restore s op (edited_by_all older before)) js
     (AreHeld-by_count counted (restored s.mappings (range_of op) (edited_by_all older before)) (by_count more_kept (met s.mappings (range_of op)) s.buffers) js counted_of_counts
     (AreHeld-by_count more_kept (met s.mappings (range_of op)) s.buffers js more_kept_of_counts held))
 
-IsMachine-withdrawn : (v : Machine) (t : AddressSpace) (j : Journaled) (n : ℕ) → IsMachine v → IsWithdrawn v.space t v.journal j n → FitsSpace t j → IsSpace t →
-    IsMachine (record { space = t; journal = j; running = v.running; told = v.told })
-IsMachine-withdrawn v t j n holds withdrawn fits space =
-    let Told : Numbered → Type 0 = λ x. WasTold x.item.kind x.number v.told in
-    let Saw : Numbered → Type 0 = λ x. SawItsWaits x.item.kind in
-    let x : Numbered = record { number = next v.journal; item = withdrawn.item } in
-    let held : AreHeld t.buffers v.running.jobs = subst (λ (s : AddressSpace). AreHeld s.buffers v.running.jobs) (sym withdrawn.state)
+IsVm-withdrawn : (v : VmState) (t : SpaceState) (j : JournalState) (n : ℕ) → IsVm v → IsWithdrawn v.space t v.journal j n → FitsSpace t j → IsSpace t →
+    IsVm (record { space = t; journal = j; running = v.running; told = v.told })
+IsVm-withdrawn v t j n holds withdrawn fits space =
+    let Told : NumberedItem → Type 0 = λ x. WasTold x.item.kind x.number v.told in
+    let Saw : NumberedItem → Type 0 = λ x. SawItsWaits x.item.kind in
+    let x : NumberedItem = record { number = next v.journal; item = withdrawn.item } in
+    let held : AreHeld t.buffers v.running.jobs = subst (λ (s : SpaceState). AreHeld s.buffers v.running.jobs) (sym withdrawn.state)
     (AreHeld-after_withdrawal (list_before v.space v.journal n) (ops_at v.journal n) v.space v.running.jobs holds.buffers_counted.held) in
     let told : Told x = subst (λ (k : ItemKind). WasTold k (next v.journal) v.told) (sym withdrawn.kind) tt in
     let saw : Saw x = subst SawItsWaits (sym withdrawn.kind) tt in
-    IsMachine-of t j v.running v.told fits space held
-    (subst (λ (i : Journaled). All Told (entries i)) (sym withdrawn.items) (All-cons Told x (entries v.journal) told holds.told_matches_journal))
-    (subst (λ (i : Journaled). All Saw (entries i)) (sym withdrawn.items) (All-cons Saw x (entries v.journal) saw holds.waits_were_reached)) holds.queues
+    IsVm-of t j v.running v.told fits space held
+    (subst (λ (i : JournalState). All Told (entries i)) (sym withdrawn.items) (All-cons Told x (entries v.journal) told holds.told_matches_journal))
+    (subst (λ (i : JournalState). All Saw (entries i)) (sym withdrawn.items) (All-cons Saw x (entries v.journal) saw holds.waits_were_reached)) holds.queues
 
-IsMachine-unchanged : (v : Machine) (t : AddressSpace) (j : Journaled) → IsMachine v → IsUnchanged v.space t → j ≡ v.journal → FitsSpace t j → IsSpace t →
-    IsMachine (record { space = t; journal = j; running = v.running; told = v.told })
-IsMachine-unchanged v t j holds unchanged same fits space =
-    IsMachine-of t j v.running v.told fits space
-    (subst (λ (s : AddressSpace). AreHeld s.buffers v.running.jobs) (sym unchanged.state) holds.buffers_counted.held)
-    (subst (λ (i : Journaled). All (λ x. WasTold x.item.kind x.number v.told) (entries i)) (sym same) holds.told_matches_journal)
-    (subst (λ (i : Journaled). All (λ x. SawItsWaits x.item.kind) (entries i)) (sym same) holds.waits_were_reached) holds.queues
+IsVm-unchanged : (v : VmState) (t : SpaceState) (j : JournalState) → IsVm v → IsUnchanged v.space t → j ≡ v.journal → FitsSpace t j → IsSpace t →
+    IsVm (record { space = t; journal = j; running = v.running; told = v.told })
+IsVm-unchanged v t j holds unchanged same fits space =
+    IsVm-of t j v.running v.told fits space
+    (subst (λ (s : SpaceState). AreHeld s.buffers v.running.jobs) (sym unchanged.state) holds.buffers_counted.held)
+    (subst (λ (i : JournalState). All (λ x. WasTold x.item.kind x.number v.told) (entries i)) (sym same) holds.told_matches_journal)
+    (subst (λ (i : JournalState). All (λ x. SawItsWaits x.item.kind) (entries i)) (sym same) holds.waits_were_reached) holds.queues
 
-pub IsMachine-withdraw : (v : Machine) (t : AddressSpace) (j : Journaled) (n : ℕ) (r : Result ℕ Fault) → IsMachine v → OnOk r (IsWithdrawn v.space t v.journal j n) → OnErr r (IsUnchanged v.space t) →
-    OnErr r (j ≡ v.journal) → FitsSpace t j → IsSpace t → IsMachine (record { space = t; journal = j; running = v.running; told = v.told })
-IsMachine-withdraw v t j n (Ok item) holds withdrawn unchanged same fits space = IsMachine-withdrawn v t j n holds withdrawn fits space
-IsMachine-withdraw v t j n (Err fault) holds withdrawn unchanged same fits space = IsMachine-unchanged v t j holds unchanged same fits space
+pub IsVm-withdraw : (v : VmState) (t : SpaceState) (j : JournalState) (n : ℕ) (r : Result ℕ Fault) → IsVm v → OnOk r (IsWithdrawn v.space t v.journal j n) → OnErr r (IsUnchanged v.space t) →
+    OnErr r (j ≡ v.journal) → FitsSpace t j → IsSpace t → IsVm (record { space = t; journal = j; running = v.running; told = v.told })
+IsVm-withdraw v t j n (Ok item) holds withdrawn unchanged same fits space = IsVm-withdrawn v t j n holds withdrawn fits space
+IsVm-withdraw v t j n (Err fault) holds withdrawn unchanged same fits space = IsVm-unchanged v t j holds unchanged same fits space

@@ -5,8 +5,8 @@ use Rattle.gv_types.specs.declared.fault.Fault.TheVariants.{OutOfMemory}
 use Rattle.gv_types.specs.declared.request.Point.{Point}
 use Rattle.gv_sync.specs.Sights.{Sight}
 use Rattle.gv_journal.specs.Bare.{BareRequest, bare_request, bare_journal}
-use Rattle.gv_vm.specs.State.{Machine}
-use Rattle.gv_vm.specs.World.{World, Queue, InHand}
+use Rattle.gv_vm.specs.State.{VmState}
+use Rattle.gv_vm.specs.World.{WorldState, QueueState, HandState}
 use Rattle.gv_vm.specs.declared.event.Event.{Event}
 use Rattle.gv_vm.specs.declared.event.Event.TheVariants.{Put, JobBegin}
 use Rattle.gv_vm.specs.declared.event.Reply.{Reply}
@@ -19,7 +19,7 @@ pub record BareHand : Type 0 where
   pub reached : List Sight
   pub lacked : Option Sight
 
-abbrev pub bare_hand : InHand → BareHand
+abbrev pub bare_hand : HandState → BareHand
 bare_hand hand = record { request = bare_request hand.request; reached = hand.reached; lacked = hand.lacked }
 
 pub record BareQueue : Type 0 where
@@ -28,17 +28,17 @@ pub record BareQueue : Type 0 where
   pub hand : Option BareHand
   pub owed : List Point
 
-abbrev pub bare_queue : Queue → BareQueue
+abbrev pub bare_queue : QueueState → BareQueue
 bare_queue q = record { put = q.put; waiting = map bare_request q.waiting; hand = option_map bare_hand q.hand; owed = q.owed }
 
-pub record AreAlikeMachines (v v' : Machine) : Type 0 where
+pub record AreAlikeVms (v v' : VmState) : Type 0 where
   pub space : v.space ≡ v'.space
   pub journal : bare_journal v.journal ≡ bare_journal v'.journal
   pub running : v.running ≡ v'.running
   pub told : v.told ≡ v'.told
 
-pub record AreAlikeWorlds (w w' : World) : Type 0 where
-  pub machine : AreAlikeMachines w.machine w'.machine
+pub record AreAlikeWorlds (w w' : WorldState) : Type 0 where
+  pub vm : AreAlikeVms w.vm w'.vm
   pub numbers : w.numbers ≡ w'.numbers
   pub depth : w.depth ≡ w'.depth
   pub queues : map bare_queue w.queues ≡ map bare_queue w'.queues
@@ -66,6 +66,6 @@ AreAlikeReplies (Begun job places) (Begun job' places') = (job ≡ job') × (pla
 AreAlikeReplies reply reply' = reply ≡ reply'
 
 -- Steps in two worlds gave the same reply, and led to worlds that are the same.
-pub record StaysAlike (reply reply' : Reply) (w w' : World) : Type 0 where
+pub record StaysAlike (reply reply' : Reply) (w w' : WorldState) : Type 0 where
   pub replies : AreAlikeReplies reply reply'
   pub worlds : AreAlikeWorlds w w'

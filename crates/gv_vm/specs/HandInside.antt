@@ -1,10 +1,10 @@
 -- What a request in hand keeps. No public clause cites this module.
-use Rattle.gv_vm.specs.World.{InHand}
+use Rattle.gv_vm.specs.World.{HandState}
 use Rattle.gv_vm.specs.Queues.{IsInOrder}
 use Rattle.gv_vm.specs.declared.queue.Hand.TheInside.{Inside}
 
-abbrev pub hand_of : Inside → InHand
+abbrev pub hand_of : Inside → HandState
 hand_of h = record { request = h.request; reached = h.reached.items; lacked = h.lacked }
 
-abbrev pub IsSound : Inside → Type 0
-IsSound h = IsInOrder (hand_of h)
+abbrev pub IsSoundHand : Inside → Type 0
+IsSoundHand h = IsInOrder (hand_of h)

@@ -1,12 +1,12 @@
 -- What `Jobs` keeps of its parts. No public clause cites this module.
 use Rattle.std.specs.Prelude.{◌≡◌, ℕ, ◌<◌, List, length, map, slice_index_or}
 use Rattle.std.specs.List.{AllPairs}
-use Rattle.gv_vm.specs.Jobs.{Running, AreRunning, running_job}
+use Rattle.gv_vm.specs.Jobs.{JobsState, AreRunning, job_state}
 use Rattle.gv_vm.specs.declared.jobs.Job.{Job}
 use Rattle.gv_vm.specs.declared.jobs.Jobs.TheInside.{Inside}
 
-abbrev pub running_of : Inside → Running
-running_of j = record { begun = j.begun; jobs = map running_job j.running.items }
+abbrev pub running_of : Inside → JobsState
+running_of j = record { begun = j.begun; jobs = map job_state j.running.items }
 
 -- the jobs stand in the order of their numbers
 abbrev pub AreAscending : List Job → Type 0
@@ -17,6 +17,6 @@ pub record IsAt (js : List Job) (number place : ℕ) : Type 0 where
   pub in_range : place < length js
   pub has_number : (d : Job) → (slice_index_or js place d).number ≡ number
 
-pub record IsSound (j : Inside) : Type 0 where
+pub record AreSoundJobs (j : Inside) : Type 0 where
   pub running : AreRunning (running_of j)
   pub ascending : AreAscending j.running.items

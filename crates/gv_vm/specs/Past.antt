@@ -7,7 +7,7 @@ use Rattle.gv_sync.specs.Sights.{Sight, sight}
 use Rattle.gv_journal.specs.declared.item.Item.{Item}
 use Rattle.gv_journal.specs.declared.item.ItemKind.{ItemKind}
 use Rattle.gv_journal.specs.declared.item.ItemKind.TheVariants.{Bind as BindItem, Withdrawal}
-use Rattle.gv_vm.specs.World.{World, InHand, Queue, new_queue}
+use Rattle.gv_vm.specs.World.{WorldState, HandState, QueueState, new_queue}
 use Rattle.gv_vm.specs.Outcomes.{told_to}
 use Rattle.gv_vm.specs.declared.event.Event.{Event}
 use Rattle.gv_vm.specs.declared.event.Event.TheVariants.{Put, Take, Look, Bind, GiveUp, Pay}
@@ -27,13 +27,13 @@ pub record Past : Type 0 where
 abbrev pub no_past : Past
 no_past = record { puts = []; looked = []; due = []; paid = [] }
 
-abbrev pub signals_of : Option Request → List Point
-signals_of None = []
-signals_of (Some request) = request.signals.items
+abbrev pub signals_asked : Option Request → List Point
+signals_asked None = []
+signals_asked (Some request) = request.signals.items
 
 -- what the request with a number came to be owed
 abbrev pub due_for : List Request → ℕ → Outcome → List Point
-due_for puts number (Accepted entry) = signals_of (slice_get puts number)
+due_for puts number (Accepted entry) = signals_asked (slice_get puts number)
 due_for puts number (Refused op fault) = []
 due_for puts number (NotReady point have) = []
 
@@ -47,17 +47,17 @@ after_event (Pay queue) (Raised point now) p = record p { paid = p.paid ++ point
 after_event event reply p = p
 
 -- the event is one of this queue
-abbrev pub is_of : ℕ → Event → Bool
-is_of queue (Put n request) = n == queue
-is_of queue (Take n) = n == queue
-is_of queue (Look n) = n == queue
-is_of queue (Bind n) = n == queue
-is_of queue (GiveUp n) = n == queue
-is_of queue (Pay n) = n == queue
-is_of queue event = false
+abbrev pub is_of_queue : ℕ → Event → Bool
+is_of_queue queue (Put n request) = n == queue
+is_of_queue queue (Take n) = n == queue
+is_of_queue queue (Look n) = n == queue
+is_of_queue queue (Bind n) = n == queue
+is_of_queue queue (GiveUp n) = n == queue
+is_of_queue queue (Pay n) = n == queue
+is_of_queue queue event = false
 
 abbrev pub one_more : ℕ → Event → Reply → Past → Past
-one_more queue event reply p = if is_of queue event then after_event event reply p else p
+one_more queue event reply p = if is_of_queue queue event then after_event event reply p else p
 
 -- what events with their replies did on a queue, after what was before
 abbrev pub past_from : ℕ → Past → List Event → List Reply → Past
@@ -66,15 +66,15 @@ past_from queue p (event ∷ events) [] = p
 past_from queue p (event ∷ events) (reply ∷ replies) = past_from queue (one_more queue event reply p) events replies
 
 -- the requests that are in hand or wait, in order
-abbrev pub held_in : Option InHand → List Request → List Request
+abbrev pub held_in : Option HandState → List Request → List Request
 held_in None waiting = waiting
 held_in (Some h) waiting = h.request ∷ waiting
 
-abbrev pub held_by : Queue → List Request
+abbrev pub held_by : QueueState → List Request
 held_by q = held_in q.hand q.waiting
 
 -- the request in hand had just these waits reached
-abbrev pub HasReached : Option InHand → List Sight → Type 0
+abbrev pub HasReached : Option HandState → List Sight → Type 0
 HasReached None looked = Unit {0}
 HasReached (Some h) looked = h.reached ≡ looked
 
@@ -84,19 +84,19 @@ HoldsPut queue puts (BindItem n number request seen done) = n ≡ queue → slic
 HoldsPut queue puts (Withdrawal of) = Unit {0}
 
 -- those are its first waits, in order
-abbrev pub IsInTurn : Option InHand → Type 0
+abbrev pub IsInTurn : Option HandState → Type 0
 IsInTurn None = Unit {0}
 IsInTurn (Some h) = map (λ s. s.point) h.reached ≡ take (length h.reached) h.request.waits.items
 
 -- nothing is owed while a request is in hand
-abbrev pub HasNoDebt : Option InHand → List Point → Type 0
+abbrev pub HasNoDebt : Option HandState → List Point → Type 0
 HasNoDebt None owed = Unit {0}
 HasNoDebt (Some h) owed = owed ≡ []
 
 -- Of the requests that were put on a queue the first ones are told, so many, and the others are those in hand and waiting, in
 -- order; the one in hand had those waits reached that were looked at; and what was paid and is owed are the signals of those
 -- that were accepted.
-pub record IsQueueAfter (p : Past) (told : ℕ) (q : Queue) : Type 0 where
+pub record IsQueueAfter (p : Past) (told : ℕ) (q : QueueState) : Type 0 where
   pub few : told ≤ length p.puts
   pub rest : drop told p.puts ≡ held_by q
   pub put : q.put ≡ length p.puts
@@ -110,13 +110,13 @@ abbrev pub AreHeldAsPut : ℕ → List Request → List Item → Type 0
 AreHeldAsPut queue puts items = All (λ x. HoldsPut queue puts x.kind) items
 
 -- that holds of the queue with this number, and each item of the queue holds the request that was put with its number
-pub record AreAfter (queue : ℕ) (p : Past) (told : List (List Outcome)) (queues : List Queue) (items : List Item) : Type 0 where
+pub record AreAfter (queue : ℕ) (p : Past) (told : List (List Outcome)) (queues : List QueueState) (items : List Item) : Type 0 where
   pub there : length queues ≤ length told
   pub queue_is : IsQueueAfter p (length (told_to told queue)) (slice_index_or queues queue new_queue)
   pub items_are : AreHeldAsPut queue p.puts items
 
-abbrev pub IsAfterPast : ℕ → Past → World → Type 0
-IsAfterPast queue p w = AreAfter queue p w.machine.told w.queues w.machine.journal.items
+abbrev pub IsAfterPast : ℕ → Past → WorldState → Type 0
+IsAfterPast queue p w = AreAfter queue p w.vm.told w.queues w.vm.journal.items
 
 -- looks reached all waits of a request, in order
 pub record HasReachedAll (p : Past) (request : Request) : Type 0 where

@@ -5,6 +5,6 @@ use Rattle.gv_vm.specs.declared.queue.Queue.TheInside.{Inside}
 
 -- The requests that wait were put, and there are at most four places for each that was put: a queue on which nothing was put
 -- has none.
-pub record IsSound (q : Inside) : Type 0 where
+pub record IsSoundQueue (q : Inside) : Type 0 where
   pub waiting : deque_len q.waiting ≤ q.put
   pub places : deque_capacity q.waiting ≤ 4 * q.put

@@ -8,7 +8,7 @@ use Rattle.gv_types.specs.declared.fault.OutOfMemory.{OutOfMemory as WantOfMemor
 use Rattle.gv_types.specs.declared.mapping.BufferId.{BufferId}
 use Rattle.gv_types.specs.declared.request.Point.{Point}
 use Rattle.gv_types.specs.declared.request.Request.{Request}
-use Rattle.gv_buffers.specs.Table.{create_fault, destroy_fault, without, IsCreated}
+use Rattle.gv_buffers.specs.Buffers.{create_fault, destroy_fault, without, IsCreated}
 use Rattle.gv_sync.specs.Raises.{IsReached, with_raise}
 use Rattle.gv_sync.specs.Sights.{Sight, sight}
 use Rattle.gv_journal.specs.Items.{next}
@@ -20,9 +20,9 @@ use Rattle.gv_journal.specs.Withdrawing.{entry_fault, withdraw_fault, IsWithdraw
 use Rattle.gv_vm.specs.Places.{place_at}
 use Rattle.gv_vm.specs.Jobs.{begin_fault, end_fault, IsBegun, IsEnded, IsBeginRefused}
 use Rattle.gv_vm.specs.Outcomes.{with_outcome}
-use Rattle.gv_vm.specs.Told.{IsCarriedOut, seen_by}
-use Rattle.gv_vm.specs.State.{Machine, HasOtherBuffers, HasOtherJobs}
-use Rattle.gv_vm.specs.World.{World, InHand, put_fault_of, queue_at, with_queue, taken, next_number, next_wait, seen_at}
+use Rattle.gv_vm.specs.Told.{IsBoundAndTold, seen_by}
+use Rattle.gv_vm.specs.State.{VmState, HasOtherBuffers, HasOtherJobs}
+use Rattle.gv_vm.specs.World.{WorldState, HandState, put_fault_of, queue_at, with_queue, taken, next_number, next_wait, seen_at}
 use Rattle.gv_vm.specs.declared.event.Event.{Event}
 use Rattle.gv_vm.specs.declared.event.Event.TheVariants.{Put, Take, Look, Bind, GiveUp, Pay, Raise, Create, Destroy, Rewind, Withdraw, Settle, JobBegin, JobEnd, Translate}
 use Rattle.gv_vm.specs.declared.event.Reply.{Reply}
@@ -35,52 +35,52 @@ use Rattle.gv_vm.specs.declared.outcome.Outcome.TheVariants.{Accepted, NotReady,
 -- Which events are enabled.
 
 -- such a queue there is
-abbrev pub IsQueue : World → ℕ → Type 0
+abbrev pub IsQueue : WorldState → ℕ → Type 0
 IsQueue w queue = queue < length w.queues
 
 -- a request is in hand
-pub record Has (w : World) (queue : ℕ) : Type 0 where
+pub record Has (w : WorldState) (queue : ℕ) : Type 0 where
   pub there : IsQueue w queue
-  pub hand : InHand
+  pub hand : HandState
   pub is : (queue_at w queue).hand ≡ Some hand
 
 -- a request waits, nothing is in hand and nothing is owed
-pub record CanTake (w : World) (queue : ℕ) : Type 0 where
+pub record CanTake (w : WorldState) (queue : ℕ) : Type 0 where
   pub there : IsQueue w queue
   pub waits : 0 < length (queue_at w queue).waiting
   pub free : (queue_at w queue).hand ≡ None
   pub paid : (queue_at w queue).owed ≡ []
 
 -- a wait of the request in hand is not reached
-pub record CanLook (w : World) (queue : ℕ) : Type 0 where
+pub record CanLook (w : WorldState) (queue : ℕ) : Type 0 where
   pub has : Has w queue
   pub point : Point
   pub wait : next_wait has.hand ≡ Some point
 
 -- and now it is, so that a look at it is kept
-pub record CanReach (w : World) (queue : ℕ) : Type 0 where
+pub record CanReach (w : WorldState) (queue : ℕ) : Type 0 where
   pub look : CanLook w queue
   pub now : IsReached w.numbers look.point
 
 -- each of them is
-pub record CanBind (w : World) (queue : ℕ) : Type 0 where
+pub record CanBind (w : WorldState) (queue : ℕ) : Type 0 where
   pub has : Has w queue
   pub reached : next_wait has.hand ≡ None
 
 -- the last look lacked
-pub record CanGiveUp (w : World) (queue : ℕ) : Type 0 where
+pub record CanGiveUp (w : WorldState) (queue : ℕ) : Type 0 where
   pub has : Has w queue
   pub saw : Sight
   pub lacked : has.hand.lacked ≡ Some saw
 
 -- signals are owed
-pub record CanPay (w : World) (queue : ℕ) : Type 0 where
+pub record CanPay (w : WorldState) (queue : ℕ) : Type 0 where
   pub there : IsQueue w queue
   pub point : Point
   pub later : List Point
   pub owed : (queue_at w queue).owed ≡ point ∷ later
 
-abbrev pub IsEnabled : World → Event → Type 0
+abbrev pub IsEnabled : WorldState → Event → Type 0
 IsEnabled w (Put queue request) = IsQueue w queue × Fits (length w.numbers) request
 IsEnabled w (Take queue) = CanTake w queue
 IsEnabled w (Look queue) = CanLook w queue
@@ -99,24 +99,24 @@ IsEnabled w (Translate addr) = Unit {0}
 
 -- What they do.
 
-abbrev pub put_fault : World → ℕ → Option Fault
-put_fault w queue = put_fault_of w.machine.space.limits.told w.depth (queue_at w queue)
+abbrev pub put_fault : WorldState → ℕ → Option Fault
+put_fault w queue = put_fault_of w.vm.space.limits.told w.depth (queue_at w queue)
 
 -- a request is at the back
-pub record IsPutAs (old : World) (queue : ℕ) (request : Request) (number : ℕ) (new : World) : Type 0 where
+pub record IsPutAs (old : WorldState) (queue : ℕ) (request : Request) (number : ℕ) (new : WorldState) : Type 0 where
   pub enabled : IsEnabled old (Put queue request)
   pub allowed : put_fault old queue ≡ None
   pub number_is : number ≡ (queue_at old queue).put
   pub state : new ≡ with_queue old queue (record (queue_at old queue) { put = number + 1; waiting = (queue_at old queue).waiting ++ request ∷ [] })
 
-pub record IsNotPut (old : World) (queue : ℕ) (request : Request) (fault : Fault) (back : Request) (new : World) : Type 0 where
+pub record IsNotPut (old : WorldState) (queue : ℕ) (request : Request) (fault : Fault) (back : Request) (new : WorldState) : Type 0 where
   pub enabled : IsEnabled old (Put queue request)
   pub refused : put_fault old queue ≡ Some fault
   pub returned : back ≡ request
   pub state : new ≡ old
 
 -- the front is in hand
-pub record IsTaken (old : World) (queue number : ℕ) (new : World) : Type 0 where
+pub record IsTaken (old : WorldState) (queue number : ℕ) (new : WorldState) : Type 0 where
   pub enabled : CanTake old queue
   pub request : Request
   pub later : List Request
@@ -125,7 +125,7 @@ pub record IsTaken (old : World) (queue number : ℕ) (new : World) : Type 0 whe
   pub state : new ≡ with_queue old queue (record (queue_at old queue) { waiting = later; hand = Some (taken request) })
 
 -- one wait more is reached
-pub record IsReachedNow (old : World) (queue : ℕ) (point : Point) (seen : ℕ) (new : World) : Type 0 where
+pub record IsReachedNow (old : WorldState) (queue : ℕ) (point : Point) (seen : ℕ) (new : WorldState) : Type 0 where
   pub enabled : CanLook old queue
   pub point_is : point ≡ enabled.point
   pub seen_is : sight point seen ≡ seen_at old point
@@ -136,7 +136,7 @@ pub record IsReachedNow (old : World) (queue : ℕ) (point : Point) (seen : ℕ)
   })
 
 -- it lacks
-pub record IsLackingNow (old : World) (queue : ℕ) (point : Point) (have : ℕ) (new : World) : Type 0 where
+pub record IsLackingNow (old : WorldState) (queue : ℕ) (point : Point) (have : ℕ) (new : WorldState) : Type 0 where
   pub enabled : CanLook old queue
   pub point_is : point ≡ enabled.point
   pub have_is : sight point have ≡ seen_at old point
@@ -157,81 +157,81 @@ abbrev pub owed_for : Request → Outcome → List Point
 owed_for request outcome = owed_in outcome request.signals.items
 
 -- the request in hand was carried out
-pub record IsBoundNow (old : World) (queue number : ℕ) (outcome : Outcome) (new : World) : Type 0 where
+pub record IsBoundNow (old : WorldState) (queue number : ℕ) (outcome : Outcome) (new : WorldState) : Type 0 where
   pub enabled : CanBind old queue
   pub number_is : number ≡ next_number old queue
-  pub machine : IsCarriedOut old.machine new.machine queue number enabled.has.hand.request (seen_by enabled.has.hand.reached) outcome
-  pub state : new ≡ with_queue (record old { machine = new.machine }) queue
+  pub vm : IsBoundAndTold old.vm new.vm queue number enabled.has.hand.request (seen_by enabled.has.hand.reached) outcome
+  pub state : new ≡ with_queue (record old { vm = new.vm }) queue
       (record (queue_at old queue) { hand = None; owed = owed_for enabled.has.hand.request outcome })
 
 -- it was given up
-pub record IsGivenUp (old : World) (queue number : ℕ) (outcome : Outcome) (new : World) : Type 0 where
+pub record IsGivenUp (old : WorldState) (queue number : ℕ) (outcome : Outcome) (new : WorldState) : Type 0 where
   pub enabled : CanGiveUp old queue
   pub number_is : number ≡ next_number old queue
   pub outcome_is : outcome ≡ NotReady enabled.saw.point enabled.saw.number
-  pub state : new ≡ with_queue (record old { machine = record old.machine { told = with_outcome old.machine.told queue outcome } }) queue
+  pub state : new ≡ with_queue (record old { vm = record old.vm { told = with_outcome old.vm.told queue outcome } }) queue
       (record (queue_at old queue) { hand = None })
 
 -- the first signal owed was raised
-pub record IsPaid (old : World) (queue : ℕ) (point : Point) (now : ℕ) (new : World) : Type 0 where
+pub record IsPaidNow (old : WorldState) (queue : ℕ) (point : Point) (now : ℕ) (new : WorldState) : Type 0 where
   pub enabled : CanPay old queue
   pub point_is : point ≡ enabled.point
   pub now_is : now ≡ slice_index new.numbers point.timeline
   pub state : new ≡ with_queue (record old { numbers = with_raise old.numbers point }) queue (record (queue_at old queue) { owed = enabled.later })
 
-pub record IsRaised (old : World) (asked point : Point) (now : ℕ) (new : World) : Type 0 where
+pub record IsRaisedNow (old : WorldState) (asked point : Point) (now : ℕ) (new : WorldState) : Type 0 where
   pub enabled : IsEnabled old (Raise asked)
   pub point_is : point ≡ asked
   pub now_is : now ≡ slice_index new.numbers point.timeline
   pub state : new ≡ record old { numbers = with_raise old.numbers point }
 
-pub record IsCreatedNow (old : World) (pages : ℕ) (id : BufferId) (new : World) : Type 0 where
-  pub allowed : create_fault old.machine.space.buffers pages ≡ None
-  pub made : IsCreated old.machine.space.buffers new.machine.space.buffers id pages
-  pub machine : HasOtherBuffers old.machine new.machine
-  pub state : new ≡ record old { machine = new.machine }
+pub record IsCreatedNow (old : WorldState) (pages : ℕ) (id : BufferId) (new : WorldState) : Type 0 where
+  pub allowed : create_fault old.vm.space.buffers pages ≡ None
+  pub made : IsCreated old.vm.space.buffers new.vm.space.buffers id pages
+  pub vm : HasOtherBuffers old.vm new.vm
+  pub state : new ≡ record old { vm = new.vm }
 
-pub record IsDestroyedNow (old : World) (id : BufferId) (new : World) : Type 0 where
-  pub allowed : destroy_fault old.machine.space.buffers id ≡ None
-  pub gone : new.machine.space.buffers ≡ without id old.machine.space.buffers
-  pub machine : HasOtherBuffers old.machine new.machine
-  pub state : new ≡ record old { machine = new.machine }
+pub record IsDestroyedNow (old : WorldState) (id : BufferId) (new : WorldState) : Type 0 where
+  pub allowed : destroy_fault old.vm.space.buffers id ≡ None
+  pub gone : new.vm.space.buffers ≡ without id old.vm.space.buffers
+  pub vm : HasOtherBuffers old.vm new.vm
+  pub state : new ≡ record old { vm = new.vm }
 
 -- only the space and the journal of the machine are others
-abbrev pub HasOtherEntries : World → World → Type 0
-HasOtherEntries old new = new ≡ record old { machine = record old.machine { space = new.machine.space; journal = new.machine.journal } }
+abbrev pub HasOtherEntries : WorldState → WorldState → Type 0
+HasOtherEntries old new = new ≡ record old { vm = record old.vm { space = new.vm.space; journal = new.vm.journal } }
 
-pub record IsRewoundNow (old : World) (item : ℕ) (new : World) : Type 0 where
-  pub number_is : item ≡ next new.machine.journal
-  pub rewound : IsRewound old.machine.space new.machine.space old.machine.journal new.machine.journal
+pub record IsRewoundNow (old : WorldState) (item : ℕ) (new : WorldState) : Type 0 where
+  pub number_is : item ≡ next new.vm.journal
+  pub rewound : IsRewound old.vm.space new.vm.space old.vm.journal new.vm.journal
   pub state : HasOtherEntries old new
 
-pub record IsWithdrawnNow (old : World) (entry item : ℕ) (new : World) : Type 0 where
-  pub allowed : withdraw_fault old.machine.space old.machine.journal entry ≡ None
-  pub number_is : item ≡ next old.machine.journal
-  pub withdrawn : IsWithdrawn old.machine.space new.machine.space old.machine.journal new.machine.journal entry
-  pub room : new.machine.space.room ≡ old.machine.space.room
-  pub rewinds : (n : ℕ) → back new.machine.space.mappings new.machine.journal.items (n + 1) ≡ back old.machine.space.mappings old.machine.journal.items n
+pub record IsWithdrawnNow (old : WorldState) (entry item : ℕ) (new : WorldState) : Type 0 where
+  pub allowed : withdraw_fault old.vm.space old.vm.journal entry ≡ None
+  pub number_is : item ≡ next old.vm.journal
+  pub withdrawn : IsWithdrawn old.vm.space new.vm.space old.vm.journal new.vm.journal entry
+  pub room : new.vm.space.room ≡ old.vm.space.room
+  pub rewinds : (n : ℕ) → back new.vm.space.mappings new.vm.journal.items (n + 1) ≡ back old.vm.space.mappings old.vm.journal.items n
   pub state : HasOtherEntries old new
 
-pub record IsSettledNow (old : World) (to count : ℕ) (new : World) : Type 0 where
-  pub allowed : settle_fault old.machine.journal to ≡ None
-  pub count_is : old.machine.journal.first + count ≡ to
-  pub settled : IsSettled old.machine.space new.machine.space old.machine.journal new.machine.journal to
+pub record IsSettledNow (old : WorldState) (to count : ℕ) (new : WorldState) : Type 0 where
+  pub allowed : settle_fault old.vm.journal to ≡ None
+  pub count_is : old.vm.journal.first + count ≡ to
+  pub settled : IsSettled old.vm.space new.vm.space old.vm.journal new.vm.journal to
   pub state : HasOtherEntries old new
 
-pub record IsBegunNow (old : World) (accesses : List Access) (job : Job) (new : World) : Type 0 where
-  pub allowed : begin_fault old.machine.space old.machine.running accesses ≡ None
-  pub begun : IsBegun old.machine.space new.machine.space old.machine.running new.machine.running accesses job
-  pub machine : HasOtherJobs old.machine new.machine
-  pub state : new ≡ record old { machine = new.machine }
+pub record IsBegunNow (old : WorldState) (accesses : List Access) (job : Job) (new : WorldState) : Type 0 where
+  pub allowed : begin_fault old.vm.space old.vm.running accesses ≡ None
+  pub begun : IsBegun old.vm.space new.vm.space old.vm.running new.vm.running accesses job
+  pub vm : HasOtherJobs old.vm new.vm
+  pub state : new ≡ record old { vm = new.vm }
 
-pub record IsEndedNow (old : World) (asked job : ℕ) (new : World) : Type 0 where
-  pub allowed : end_fault old.machine.running asked ≡ None
+pub record IsEndedNow (old : WorldState) (asked job : ℕ) (new : WorldState) : Type 0 where
+  pub allowed : end_fault old.vm.running asked ≡ None
   pub job_is : job ≡ asked
-  pub ended : IsEnded old.machine.space new.machine.space old.machine.running new.machine.running job
-  pub machine : HasOtherJobs old.machine new.machine
-  pub state : new ≡ record old { machine = new.machine }
+  pub ended : IsEnded old.vm.space new.vm.space old.vm.running new.vm.running job
+  pub vm : HasOtherJobs old.vm new.vm
+  pub state : new ≡ record old { vm = new.vm }
 
 -- where no item is held none is taken back
 abbrev pub rewind_fault : List Item → Option Fault
@@ -239,7 +239,7 @@ rewind_fault [] = Some NoEntry
 rewind_fault (item ∷ older) = None
 
 -- why an event that is always enabled is refused, where memory suffices
-abbrev pub event_fault : Machine → Event → Option Fault
+abbrev pub event_fault : VmState → Event → Option Fault
 event_fault v (Create pages) = create_fault v.space.buffers pages
 event_fault v (Destroy id) = destroy_fault v.space.buffers id
 event_fault v Rewind = rewind_fault v.journal.items
@@ -250,9 +250,9 @@ event_fault v (JobEnd job) = end_fault v.running job
 event_fault v _ = None
 
 -- From `old` the world may give this reply to the event and go on to `new`.
-abbrev pub step : World → Event → Reply → World → Type 0
+abbrev pub step : WorldState → Event → Reply → WorldState → Type 0
 step old event Idle new = (¬ IsEnabled old event) × (new ≡ old)
-step old event (Refused fault) new = (event_fault old.machine event ≡ Some fault) × (new ≡ old)
+step old event (Refused fault) new = (event_fault old.vm event ≡ Some fault) × (new ≡ old)
 step old (Put queue request) (IsPut number) new = IsPutAs old queue request number new
 step old (Put queue request) (NotPut fault back) new = IsNotPut old queue request fault back new
 step old (Take queue) (Taken number) new = IsTaken old queue number new
@@ -260,8 +260,8 @@ step old (Look queue) (Reached point seen) new = IsReachedNow old queue point se
 step old (Look queue) (Lacking point have) new = IsLackingNow old queue point have new
 step old (Bind queue) (Told number outcome) new = IsBoundNow old queue number outcome new
 step old (GiveUp queue) (Told number outcome) new = IsGivenUp old queue number outcome new
-step old (Pay queue) (Raised point now) new = IsPaid old queue point now new
-step old (Raise asked) (Raised point now) new = IsRaised old asked point now new
+step old (Pay queue) (Raised point now) new = IsPaidNow old queue point now new
+step old (Raise asked) (Raised point now) new = IsRaisedNow old asked point now new
 step old (Create pages) (Created id) new = IsCreatedNow old pages id new
 step old (Destroy id) Destroyed new = IsDestroyedNow old id new
 step old Rewind (Rewound item) new = IsRewoundNow old item new
@@ -269,25 +269,25 @@ step old (Withdraw entry) (Withdrawn item) new = IsWithdrawnNow old entry item n
 step old (Settle to) (Settled count) new = IsSettledNow old to count new
 step old (JobBegin accesses) (Begun number places) new = IsBegunNow old accesses.items (record { number = number; places = places }) new
 step old (JobEnd asked) (Ended job) new = IsEndedNow old asked job new
-step old (Translate addr) (Found place) new = (place ≡ place_at old.machine.space.mappings addr) × (new ≡ old)
+step old (Translate addr) (Found place) new = (place ≡ place_at old.vm.space.mappings addr) × (new ≡ old)
 step old event _ new = ⊥
 
 -- no timeline is lower
-abbrev pub NoneFalls : World → World → Type 0
+abbrev pub NoneFalls : WorldState → WorldState → Type 0
 NoneFalls old new = (timeline : ℕ) → slice_index old.numbers timeline ≤ slice_index new.numbers timeline
 
 -- Which events may want memory: those that are enabled, are not refused before, and keep something more.
-abbrev pub MayGrow : World → Event → Type 0
+abbrev pub MayGrow : WorldState → Event → Type 0
 MayGrow w (Put queue request) = IsEnabled w (Put queue request) × (put_fault w queue ≡ None)
 MayGrow w (Look queue) = CanReach w queue
 MayGrow w (Bind queue) = CanBind w queue
 MayGrow w (GiveUp queue) = CanGiveUp w queue
-MayGrow w (Create pages) = create_fault w.machine.space.buffers pages ≡ None
-MayGrow w (Withdraw entry) = entry_fault w.machine.journal entry ≡ None
-MayGrow w (JobBegin accesses) = IsBeginRefused w.machine.space w.machine.running accesses.items OutOfMemory
+MayGrow w (Create pages) = create_fault w.vm.space.buffers pages ≡ None
+MayGrow w (Withdraw entry) = entry_fault w.vm.journal entry ≡ None
+MayGrow w (JobBegin accesses) = IsBeginRefused w.vm.space w.vm.running accesses.items OutOfMemory
 MayGrow w _ = ⊥
 
 -- What a world answers to an event: a reply of a step; or want of memory, at an event that may grow, and all is as it was.
-abbrev pub IsStep : World → Event → Result Reply WantOfMemory → World → Type 0
+abbrev pub IsStep : WorldState → Event → Result Reply WantOfMemory → WorldState → Type 0
 IsStep old event (Ok reply) new = step old event reply new
 IsStep old event (Err _) new = MayGrow old event × (new ≡ old)

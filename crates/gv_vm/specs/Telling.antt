@@ -11,9 +11,9 @@ abbrev pub lists_of : Lists → List (List Outcome)
 lists_of told = map (λ v. v.items) told.items
 
 -- there is such a queue
-abbrev pub AreQueues : Lists → ℕ → Type 0
-AreQueues told queue = queue < length told.items
+abbrev pub HaveQueue : Lists → ℕ → Type 0
+HaveQueue told queue = queue < length told.items
 
 -- there is room for one outcome more of this queue
-abbrev pub HasRoom : Lists → ℕ → Type 0
-HasRoom told queue = (d : Vec Outcome) → vec_len (slice_index_or told.items queue d) < vec_capacity (slice_index_or told.items queue d)
+abbrev pub HasRoomToTell : Lists → ℕ → Type 0
+HasRoomToTell told queue = (d : Vec Outcome) → vec_len (slice_index_or told.items queue d) < vec_capacity (slice_index_or told.items queue d)

@@ -2,7 +2,7 @@
 ghost use Rattle.std.specs.Prelude.{◌≡◌, ◌⊎◌, IfOk, IsOk, IsOkUnless, OnOk, OnErr, IfErr};
 ghost use Rattle.std.specs.Prelude.{MatchOption, List, Some, None, map};
 ghost use Rattle.gv_types.specs.declared.mapping.Mapping.{Mapping};
-ghost use Rattle.gv_buffers.specs.Table.{left_everywhere};
+ghost use Rattle.gv_buffers.specs.Buffers.{left_everywhere};
 ghost use Rattle.gv_space.specs.State.{AreKept};
 ghost use Rattle.gv_vm.specs.Places.{place_at};
 ghost use Rattle.gv_vm.specs.Jobs.{access_fault, access_held, target_fault, target_held};

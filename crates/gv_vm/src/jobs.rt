@@ -5,10 +5,10 @@ ghost use Rattle.std.specs.List.{All};
 ghost use Rattle.std.specs.Option.{option_copied};
 ghost use Rattle.gv_types.specs.declared.mapping.Mapping.{Mapping};
 ghost use Rattle.gv_space.specs.State.{AreKept};
-ghost use Rattle.gv_buffers.specs.Table.{left_everywhere};
+ghost use Rattle.gv_buffers.specs.Buffers.{left_everywhere};
 ghost use Rattle.gv_vm.specs.Places.{place_at};
 ghost use Rattle.gv_vm.specs.Jobs.{access_fault, access_held, target_fault, target_held, accesses_fault, all_held, AreRefused};
-ghost use Rattle.gv_vm.specs.Jobs.{runs, running_job};
+ghost use Rattle.gv_vm.specs.Jobs.{runs, job_state};
 ghost use Rattle.gv_vm.specs.Inside.{AreAscending, IsAt};
 
 use crate::holding::hold_all;
@@ -49,25 +49,25 @@ pub struct Jobs {
 }
 
 impl Model for Jobs {
-    ghost use Rattle.gv_vm.specs.Jobs.{Running};
-    ghost use Rattle.gv_vm.specs.Inside.{running_of, IsSound};
+    ghost use Rattle.gv_vm.specs.Jobs.{JobsState};
+    ghost use Rattle.gv_vm.specs.Inside.{running_of, AreSoundJobs};
 
-    ghost Value = { Running };
+    ghost Value = { JobsState };
 
     ghost view = { running_of };
 
-    ghost invariant = { IsSound };
+    ghost invariant = { AreSoundJobs };
 }
 
 impl Jobs {
-    ghost use Rattle.gv_buffers.specs.Table.{Table};
+    ghost use Rattle.gv_buffers.specs.Buffers.{BuffersState};
     ghost use Rattle.gv_vm.specs.Jobs.{no_jobs, places_in, without_job, many_fault, begin_fault, end_fault};
     ghost use Rattle.gv_vm.specs.Jobs.{IsBegun, IsEnded, IsBeginRefused, AreHeld, AreRunning};
 
     /// No job. It takes no memory.
     pub fn new(alloc: Global) -> Jobs
         ensures none { result ≡ no_jobs }
-        ensures held { (t : Table) → All (λ b. b.users ≡ []) t.live → AreHeld t result.jobs }
+        ensures held { (t : BuffersState) → All (λ b. b.users ≡ []) t.live → AreHeld t result.jobs }
     {
         Jobs {
             begun: 0,
@@ -187,7 +187,7 @@ impl Jobs {
         ensures number { IfOk result (λ job. job.number ≡ self.old.begun) }
         ensures places { IfOk result (λ job. job.places.items ≡ places.items) }
         ensures jobs { IfOk result (λ job. self.new
-            ≡ record { begun = self.old.begun + 1; jobs = self.old.jobs ++ running_job job ∷ [] }) }
+            ≡ record { begun = self.old.begun + 1; jobs = self.old.jobs ++ job_state job ∷ [] }) }
         ensures err { OnErr result (self.new ≡ self.old) }
     {
         let number = self.begun;
@@ -221,7 +221,7 @@ impl Jobs {
 fn place_of(running: &[Job], number: u64) -> Option<usize>
     requires { AreAscending running.now }
     ensures some { IfSome result (IsAt running.now number) }
-    ensures none { IfNone result (runs (map running_job running.now) number ≡ false) }
+    ensures none { IfNone result (runs (map job_state running.now) number ≡ false) }
 {
     match running.binary_search_by_key(&number, |job| job.number) {
         Ok(place) => Some(place),

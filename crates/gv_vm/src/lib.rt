@@ -12,7 +12,7 @@
 //! Rewind, Withdraw and Settle go back over the entries; Create, Destroy, JobBegin, JobEnd and Translate ask the machine alone.
 #![tactic(auto)]
 
-mod carry;
+mod dispatch;
 mod event;
 mod holding;
 mod jobs;

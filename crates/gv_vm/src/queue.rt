@@ -4,7 +4,7 @@ ghost use Rattle.std.specs.VecDeque.{deque_len, deque_capacity};
 ghost use Rattle.gv_types.specs.declared.request.Point.{Point};
 ghost use Rattle.gv_vm.specs.World.{new_queue, taken, put_fault_of, next_wait};
 ghost use Rattle.gv_vm.specs.Queues.{IsInOrder};
-ghost use Rattle.gv_vm.specs.Turns.{MayTake, TookFront, wait_of, with_reached, with_lacked, IsReady, IsLacking, without_hand, PaidFirst};
+ghost use Rattle.gv_vm.specs.Turns.{MayTake, TookFront, wait_of, with_reached, with_lacked, IsReadyToBind, IsLacking, without_hand, PaidFirst};
 
 use crate::outcome::NotTold;
 use gv_sync::{Lacking, Reached};
@@ -22,15 +22,15 @@ pub struct Hand {
 }
 
 impl Model for Hand {
-    ghost use Rattle.gv_vm.specs.World.{InHand};
+    ghost use Rattle.gv_vm.specs.World.{HandState};
 
-    ghost Value = { InHand };
+    ghost Value = { HandState };
 
-    ghost use Rattle.gv_vm.specs.HandInside.{hand_of, IsSound};
+    ghost use Rattle.gv_vm.specs.HandInside.{hand_of, IsSoundHand};
 
     ghost view = { hand_of };
 
-    ghost invariant = { IsSound };
+    ghost invariant = { IsSoundHand };
 }
 
 /// So many places the first request makes.
@@ -47,15 +47,15 @@ pub struct Queue {
 
 impl Model for Queue {
     ghost use Rattle.std.specs.Prelude.{reverse};
-    ghost use Rattle.gv_vm.specs.World.{Queue as QueueState};
+    ghost use Rattle.gv_vm.specs.World.{QueueState};
 
     ghost Value = { QueueState };
 
     ghost view = { λ q. record { put = q.put; waiting = q.waiting.items; hand = q.hand; owed = reverse q.owed.items } };
 
-    ghost use Rattle.gv_vm.specs.QueueInside.{IsSound};
+    ghost use Rattle.gv_vm.specs.QueueInside.{IsSoundQueue};
 
-    ghost invariant = { IsSound };
+    ghost invariant = { IsSoundQueue };
 }
 
 impl Hand {
@@ -185,7 +185,7 @@ impl Queue {
 
     /// Gives the request in hand away, where each of its waits is reached.
     pub fn ready(&mut self) -> Option<Hand>
-        ensures not { IfNone result (IsReady self.old → ⊥) }
+        ensures not { IfNone result (IsReadyToBind self.old → ⊥) }
         ensures same { IfNone result (self.new ≡ self.old) }
         ensures hand { IfSome result (λ hand. self.old.hand ≡ Some hand) }
         ensures reached { IfSome result (λ hand. next_wait hand ≡ None) }

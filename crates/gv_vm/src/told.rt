@@ -1,7 +1,7 @@
 //! The outcomes that each queue was told.
 ghost use Rattle.std.specs.Prelude.{◌≡◌, ◌+◌, ◌<◌, ◌≤◌, map, replicate, length, [], IfOk, IsOk, IsOkUnless, OnOk, OnErr, MatchOption};
 ghost use Rattle.gv_vm.specs.Outcomes.{queues, told_to, with_outcome, tell_fault};
-ghost use Rattle.gv_vm.specs.Telling.{Lists, lists_of, HasRoom, AreQueues};
+ghost use Rattle.gv_vm.specs.Telling.{Lists, lists_of, HasRoomToTell, HaveQueue};
 
 use crate::outcome::Outcome;
 use gv_types::{Fault, OutOfMemory};
@@ -27,10 +27,10 @@ pub fn nothing_told(alloc: Global) -> Result<Told, OutOfMemory>
 /// Makes room to tell a queue the outcome with this number. `QueueSpent` where the limit's outcomes are told, `OutOfTurn`
 /// with the next number where this is another, then `OutOfMemory`.
 pub fn prepare(told: &mut Told, limit: u64, queue: u64, number: u64) -> Result<(), Fault>
-    requires { AreQueues told.old queue }
+    requires { HaveQueue told.old queue }
     ensures fault { MatchOption (tell_fault limit (lists_of told.old) queue number)
         (IsOkUnless result Fault.OutOfMemory) (λ fault. result ≡ Err fault) }
-    ensures room { OnOk result (HasRoom told.new queue) }
+    ensures room { OnOk result (HasRoomToTell told.new queue) }
     ensures same { lists_of told.new ≡ lists_of told.old }
 {
     let list = &mut told[queue as usize];
@@ -47,8 +47,8 @@ pub fn prepare(told: &mut Told, limit: u64, queue: u64, number: u64) -> Result<(
 
 /// Tells a queue an outcome, for which there is room.
 pub fn tell(told: &mut Told, queue: u64, outcome: Outcome)
-    requires queue { AreQueues told.old queue }
-    requires room { HasRoom told.old queue }
+    requires queue { HaveQueue told.old queue }
+    requires room { HasRoomToTell told.old queue }
     ensures { lists_of told.new ≡ with_outcome (lists_of told.old) queue outcome }
 {
     told[queue as usize].push_reserved(outcome);

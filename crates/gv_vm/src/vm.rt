@@ -8,9 +8,9 @@ ghost use Rattle.gv_space.specs.Refusal.{operation_fault};
 ghost use Rattle.gv_space.specs.State.{TableMatchesList};
 ghost use Rattle.gv_vm.specs.Places.{place_at};
 ghost use Rattle.gv_vm.specs.Outcomes.{queues, told_to, with_outcome, tell_fault};
-ghost use Rattle.gv_vm.specs.Told.{IsCarriedOut, seen_by};
+ghost use Rattle.gv_vm.specs.Told.{IsBoundAndTold, seen_by};
 
-use crate::carry::{carry_out, seen_of};
+use crate::dispatch::{dispatch, seen_of};
 use crate::jobs::{Access, Job, Jobs};
 use crate::outcome::{NotTold, Outcome};
 use crate::places::{Place, translate};
@@ -37,26 +37,26 @@ pub struct Vm {
 }
 
 impl Model for Vm {
-    ghost use Rattle.gv_vm.specs.State.{Machine};
-    ghost use Rattle.gv_vm.specs.VmInside.{machine_of, IsSound};
+    ghost use Rattle.gv_vm.specs.State.{VmState};
+    ghost use Rattle.gv_vm.specs.VmInside.{vm_of, IsSoundVm};
 
-    ghost Value = { Machine };
+    ghost Value = { VmState };
 
-    ghost view = { machine_of };
+    ghost view = { vm_of };
 
-    ghost invariant = { IsSound };
+    ghost invariant = { IsSoundVm };
 }
 
 impl Vm {
     ghost use Rattle.gv_journal.specs.Items.{next};
     ghost use Rattle.gv_journal.specs.History.{back};
     ghost use Rattle.gv_journal.specs.Binding.{IsRewound};
-    ghost use Rattle.gv_vm.specs.State.{new_machine, roomless, IsMachine, HasOtherJobs};
+    ghost use Rattle.gv_vm.specs.State.{new_vm, roomless, IsVm, HasOtherJobs};
     ghost use Rattle.gv_vm.specs.Jobs.{begin_fault, end_fault, places_in, IsBegun, IsEnded, IsBeginRefused};
 
     /// A machine of no mapping, no buffer, no entry and no job. `OutOfMemory` where the system refuses its first room.
     pub fn new(alloc: Global, bounds: Bounds, limits: Limits) -> Result<Vm, OutOfMemory>
-        ensures { IfOk result (λ v. v ≡ new_machine bounds limits) }
+        ensures { IfOk result (λ v. v ≡ new_vm bounds limits) }
     {
         let told = nothing_told(alloc)?;
         let space = match Space::new(alloc, bounds, limits) {
@@ -83,7 +83,7 @@ impl Vm {
     /// The address space, and what always holds of the whole.
     pub fn space(&self) -> &Space
         ensures value { self.now.space ≡ roomless result.now }
-        ensures holds { IsMachine self.now }
+        ensures holds { IsVm self.now }
     {
         &self.space
     }
@@ -205,7 +205,7 @@ impl Vm {
             (IfErr result (λ n. n.fault ≡ Fault.OutOfMemory)) (λ fault. IsErrAnd result (λ n. n.fault ≡ fault)) }
         ensures request { IfErr result (λ n. n.request ≡ request) }
         ensures outcome { IfOk result
-            (IsCarriedOut self.old self.new queue number request (seen_by reached.now)) }
+            (IsBoundAndTold self.old self.new queue number request (seen_by reached.now)) }
         ensures err { OnErr result (self.new ≡ self.old) }
     {
         let limit = self.space.limits().told();
@@ -221,7 +221,7 @@ impl Vm {
                 });
             }
         };
-        let outcome = carry_out(
+        let outcome = dispatch(
             alloc,
             &mut self.space,
             &mut self.journal,

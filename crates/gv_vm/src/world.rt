@@ -29,20 +29,20 @@ pub struct World {
 }
 
 impl Model for World {
-    ghost use Rattle.gv_vm.specs.World.{World as WorldState};
+    ghost use Rattle.gv_vm.specs.World.{WorldState};
 
     ghost Value = { WorldState };
 
-    ghost use Rattle.gv_vm.specs.WorldInside.{world_of, IsSound};
+    ghost use Rattle.gv_vm.specs.WorldInside.{world_of, IsSoundWorld};
 
     ghost view = { world_of };
 
-    ghost invariant = { IsSound };
+    ghost invariant = { IsSoundWorld };
 }
 
 impl World {
     ghost use Rattle.gv_vm.specs.World.{new_world};
-    ghost use Rattle.gv_vm.specs.State.{IsMachine};
+    ghost use Rattle.gv_vm.specs.State.{IsVm};
     ghost use Rattle.gv_vm.specs.Step.{IsStep, NoneFalls};
     ghost use Rattle.gv_vm.specs.Headline.{Says};
 
@@ -78,7 +78,7 @@ impl World {
 
     /// The machine.
     pub fn vm(&self) -> &Vm
-        ensures { result.now ≡ self.now.machine }
+        ensures { result.now ≡ self.now.vm }
     {
         &self.vm
     }
@@ -101,13 +101,13 @@ impl World {
     {
         // For the prover: what always holds of the machine.
         let _before = self.vm.space();
-        let reply = self.carry(alloc, event);
+        let reply = self.dispatch(alloc, event);
         // For the prover: what always holds of the machine.
         let _after = self.vm.space();
         reply
     }
 
-    fn carry(&mut self, alloc: Global, event: Event) -> Result<Reply, OutOfMemory>
+    fn dispatch(&mut self, alloc: Global, event: Event) -> Result<Reply, OutOfMemory>
         ensures { IsStep self.old event result self.new }
     {
         match event {

@@ -2,10 +2,10 @@
 ghost use Rattle.std.specs.Prelude.{◌≡◌, ◌<◌, List};
 ghost use Rattle.std.specs.Prelude.{IfOk, IsOk, IsOkUnless, OnOk, OnErr, MatchOption};
 ghost use Rattle.std.specs.List.{All};
-ghost use Rattle.gv_types.specs.Span.{IsInSpace};
+ghost use Rattle.gv_types.specs.PageRange.{IsInSpace};
 ghost use Rattle.gv_types.specs.declared.mapping.Mapping.{Mapping};
-ghost use Rattle.gv_buffers.specs.Table.{uses, kept, pages, create_fault, destroy_fault, join_fault};
-ghost use Rattle.gv_buffers.specs.Table.{without, changed, joined_by, left_everywhere, IsCreated};
+ghost use Rattle.gv_buffers.specs.Buffers.{uses, kept, pages, create_fault, destroy_fault, join_fault};
+ghost use Rattle.gv_buffers.specs.Buffers.{without, changed, joined_by, left_everywhere, IsCreated};
 ghost use Rattle.gv_space.specs.Counts.{count_of, ranges_of};
 ghost use Rattle.gv_space.specs.State.{AreKept};
 ghost use Rattle.gv_space.specs.Refusal.{dead_fault};

@@ -39,39 +39,39 @@ impl Space {
     {
         let overlap = Overlap::of(self.mapped.list(), range);
         self.check_limits(range, &overlap, saved)?;
-        let place = overlap.place;
-        let taken = copied(alloc, self.list().run(place, overlap.count))?;
+        let index = overlap.index;
+        let taken = copied(alloc, self.list().run(index, overlap.count))?;
         let pieces = with_rests(alloc, &overlap, saved, range)?;
         let pieces = pieces.as_slice();
         let inside = between_rests(&overlap, pieces);
         let spares = self.mapped.spare(alloc, range, inside)?;
         self.mapped
             .reserve(pieces.len().saturating_sub(taken.len()))?;
-        Ok(self.commit(range, place, taken, pieces, spares))
+        Ok(self.commit(range, index, taken, pieces, spares))
     }
 
     /// The change, for which all room is there.
     fn commit(
         &mut self,
         range: PageRange,
-        place: usize,
+        index: usize,
         taken: Pieces,
         pieces: &[Mapping],
         spares: Spares,
     ) -> OpUndo
-        requires { (inside : List Mapping) × IsReady inside self.old range place taken.items pieces.now spares }
+        requires { (inside : List Mapping) × IsReady inside self.old range index taken.items pieces.now spares }
         ensures changed { IsChanged self.old self.new
-            (splice self.old.mappings place (place + length taken.items) pieces.now) result }
+            (splice self.old.mappings index (index + length taken.items) pieces.now) result }
         ensures range { result.range ≡ range }
         ensures room { self.new.room ≡ self.old.room }
     {
         let count = taken.len();
-        let run = self.mapped.list().run(place, count);
+        let run = self.mapped.list().run(index, count);
         counts::move_counts(&mut self.buffers, run, taken.as_slice(), pieces);
-        let tables = self.mapped.replace(range, place, count, pieces, spares);
+        let tables = self.mapped.replace(range, index, count, pieces, spares);
         self.kept_count += count as u64;
         OpUndo {
-            place,
+            index,
             put_in: pieces.len(),
             range,
             taken,

@@ -5,7 +5,7 @@ ghost use Rattle.gv_types.specs.Bounds.{IsAllowed};
 ghost use Rattle.gv_types.specs.Operation.{in_pages, own_mapping, IsChecked};
 ghost use Rattle.gv_ranges.specs.List.{IsLaidOut};
 ghost use Rattle.gv_ranges.specs.Edit.{restored};
-ghost use Rattle.gv_buffers.specs.Table.{pages as size_of};
+ghost use Rattle.gv_buffers.specs.Buffers.{pages as size_of};
 ghost use Rattle.gv_space.specs.State.{IsPlaced};
 ghost use Rattle.gv_space.specs.Refusal.{operation_fault, buffer_fault, dead_fault, past_end, limit_fault};
 ghost use Rattle.gv_space.specs.Ready.{IsOverlap};

@@ -1,6 +1,6 @@
 //! The buffers of a machine's address space.
 ghost use Rattle.std.specs.Prelude.{◌≡◌, IfOk, IsOk, IsOkUnless, OnOk, OnErr, MatchOption};
-ghost use Rattle.gv_buffers.specs.Table.{create_fault, destroy_fault, without, IsCreated};
+ghost use Rattle.gv_buffers.specs.Buffers.{create_fault, destroy_fault, without, IsCreated};
 ghost use Rattle.gv_vm.specs.State.{HasOtherBuffers};
 
 use super::Vm;

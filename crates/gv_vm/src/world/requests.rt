@@ -2,7 +2,7 @@
 ghost use Rattle.std.specs.Prelude.{◌≡◌, ◌≢◌, ◌<◌, map, None, OnErr, IfErr, IfOk, reverse};
 ghost use Rattle.gv_vm.specs.World.{next_wait};
 ghost use Rattle.gv_vm.specs.Outcomes.{queues, told_to, tell_fault};
-ghost use Rattle.gv_vm.specs.Told.{IsCarriedOut, seen_by};
+ghost use Rattle.gv_vm.specs.Told.{IsBoundAndTold, seen_by};
 ghost use Rattle.gv_vm.specs.Step.{owed_in, owed_for};
 ghost use Rattle.gv_vm.specs.Turns.{IsToldLacking, IsPutReply};
 
@@ -157,7 +157,7 @@ fn bind_hand(alloc: Global, vm: &mut Vm, queue: u64, number: u64, hand: Hand) ->
     requires queue { queue < queues }
     requires turn { tell_fault vm.old.space.limits.told vm.old.told queue number ≡ None }
     requires reached { next_wait hand ≡ None }
-    ensures carried { IfOk result (λ b. IsCarriedOut vm.old vm.new queue number hand.request (seen_by hand.reached) b.outcome) }
+    ensures carried { IfOk result (λ b. IsBoundAndTold vm.old vm.new queue number hand.request (seen_by hand.reached) b.outcome) }
     ensures owed { IfOk result (λ b. reverse b.owed.items ≡ owed_for hand.request b.outcome) }
     ensures hand { IfErr result (λ back. back ≡ hand) }
     ensures err { OnErr result (vm.new ≡ vm.old) }

@@ -11,10 +11,10 @@ push_reserved-requires c =
 pub returns-in-Some : goal.returns-in-Some
 returns-in-Some c =
     let users = c.args.users.now.items in
-    let found : position (is_of c.args.job) users ≡ Some c.in-Some.place = cc in
-    let at = position-Some (is_of c.args.job) users c.in-Some.place c.index_mut.result.now found in
+    let found : position (is_of c.args.job) users ≡ Some c.in-Some.index = cc in
+    let at = position-Some (is_of c.args.job) users c.in-Some.index c.index_mut.result.now found in
     let here : is_of c.args.job c.index_mut.result.now ≡ true = rw c.index_mut.ensures.value at.1 in
-    set_joined c.args.job c.args.usage c.stronger.result users c.in-Some.place c.index_mut.result.now c.index.result.now at.0 c.index_mut.ensures.value c.index.ensures c.stronger.ensures here at.2
+    set_joined c.args.job c.args.usage c.stronger.result users c.in-Some.index c.index_mut.result.now c.index.result.now at.0 c.index_mut.ensures.value c.index.ensures c.stronger.ensures here at.2
 
 pub returns-in-None : goal.returns-in-None
 returns-in-None c =

@@ -2,7 +2,7 @@ use Rattle.std.proofs.Common.{◌≡◌, ℕ, ◌+◌, ◌-◌, ◌∙◌, ◌<�
 use Rattle.std.proofs.lemmas.List.{length-set, length-drop, length-take, get_or-take, get_or_default, take-take, take_rest}
 use Rattle.std.specs.Global.{Vec}
 use Rattle.gv_types.specs.declared.mapping.Mapping.{Mapping}
-use Rattle.gv_chunks.specs.Chunks.{joined, AreChunks}
+use Rattle.gv_chunks.specs.Chunks.{chunks_joined, AreChunks}
 use Rattle.gv_chunks.specs.declared.TheConstants.{CHUNK}
 use Rattle.gv_chunks.proofs.ChunkLemmas.{taken_chunks, dropped_chunks, appended_chunks, changed_chunks, turned_chunks, cut_front, cut_back, turned_joined, turned_first, spare_behind}
 use Rattle.gv_chunks.proofs.GapLemmas.{divided_front, divided_first, divided_second, divided_later}
@@ -23,7 +23,7 @@ append-requires c =
     let front : AreChunks c.split_at_mut-front.result.0.now = rw c.split_at_mut-front.ensures.front (taken_chunks (c.args.chunk + 1) c.args.chunks.now c.requires.chunks) in
     let back : AreChunks c.split_at_mut-front.result.1.now = rw c.split_at_mut-front.ensures.back (dropped_chunks (c.args.chunk + 1) c.args.chunks.now c.requires.chunks) in
     let turned : AreChunks c.rotate_right.new.self = turned_chunks c.split_at_mut-front.result.1.now c.rotate_right.new.self (length c.split_at_mut-front.result.1.now - 1) c.rotate_right.ensures.after back in
-    let spare : joined (drop (length c.split_at_mut-front.result.1.now - 1) c.split_at_mut-front.result.1.now) ≡ [] =
+    let spare : chunks_joined (drop (length c.split_at_mut-front.result.1.now - 1) c.split_at_mut-front.result.1.now) ≡ [] =
     spare_behind c.args.chunks.now c.split_at_mut-front.result.1.now (c.args.chunk + 1) c.split_at_mut-front.ensures.back c.split_at_mut-front.ensures.back_len some_left c.requires.spare in
     let none : (slice_index_or c.rotate_right.new.self 0 c.index-back-0.result).items ≡ [] =
     rw c.rotate_right.ensures.after (turned_first c.split_at_mut-front.result.1.now (length c.split_at_mut-front.result.1.now - 1) c.index-back-0.result (omega arith) spare) in
@@ -40,11 +40,11 @@ returns c =
     let front : AreChunks c.split_at_mut-front.result.0.now = rw c.split_at_mut-front.ensures.front (taken_chunks (c.args.chunk + 1) c.args.chunks.now c.requires.chunks) in
     let back : AreChunks c.split_at_mut-front.result.1.now = rw c.split_at_mut-front.ensures.back (dropped_chunks (c.args.chunk + 1) c.args.chunks.now c.requires.chunks) in
     let turned : AreChunks c.rotate_right.new.self = turned_chunks c.split_at_mut-front.result.1.now c.rotate_right.new.self (length c.split_at_mut-front.result.1.now - 1) c.rotate_right.ensures.after back in
-    let spare : joined (drop (length c.split_at_mut-front.result.1.now - 1) c.split_at_mut-front.result.1.now) ≡ [] =
+    let spare : chunks_joined (drop (length c.split_at_mut-front.result.1.now - 1) c.split_at_mut-front.result.1.now) ≡ [] =
     spare_behind c.args.chunks.now c.split_at_mut-front.result.1.now (c.args.chunk + 1) c.split_at_mut-front.ensures.back c.split_at_mut-front.ensures.back_len some_left c.requires.spare in
     let none : (slice_index_or c.rotate_right.new.self 0 c.index-back-0.result).items ≡ [] =
     rw c.rotate_right.ensures.after (turned_first c.split_at_mut-front.result.1.now (length c.split_at_mut-front.result.1.now - 1) c.index-back-0.result (omega arith) spare) in
-    let same : joined c.rotate_right.new.self ≡ joined c.split_at_mut-front.result.1.now =
+    let same : chunks_joined c.rotate_right.new.self ≡ chunks_joined c.split_at_mut-front.result.1.now =
     rw c.rotate_right.ensures.after (turned_joined c.split_at_mut-front.result.1.now (length c.split_at_mut-front.result.1.now - 1) spare) in
     let source : vec_capacity c.truncate.new.self ≡ CHUNK = c.truncate.ensures.capacity ∙ front c.args.chunk c.index-front-chunk.result in_front in
     let target : vec_capacity c.append.new.items ≡ CHUNK = c.append.ensures.room ∙ turned 0 c.index-back-0.result in_back in

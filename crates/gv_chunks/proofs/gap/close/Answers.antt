@@ -3,7 +3,7 @@ use Rattle.std.proofs.Math.Seq.{take-add}
 use Rattle.std.proofs.lemmas.List.{take-append-le}
 use Rattle.std.specs.Global.{Vec}
 use Rattle.gv_types.specs.declared.mapping.Mapping.{Mapping}
-use Rattle.gv_chunks.specs.Chunks.{joined, AreChunks}
+use Rattle.gv_chunks.specs.Chunks.{chunks_joined, AreChunks}
 use Rattle.gv_chunks.proofs.ChunkLemmas.{dropped_chunks, appended_chunks}
 use Rattle.gv_chunks.proofs.RunLemmas.{none_with_rest}
 use Rattle.gv_chunks.proofs.gap.close.Goals as goal
@@ -29,8 +29,8 @@ returns-clause-spare c =
     let b : List (Vec Mapping) = c.split_at_mut-used.result.1.now in
     let was : List (Vec Mapping) = c.split_at_mut-used.result.0.now in
     let size : length was ≡ s = c.split_at_mut-used.ensures.front_len in
-    let here : joined (drop (s - 1) f) ≡ [] = ap (λ n. joined (drop (n - 1) f)) (sym size) ∙ c.turn_out.ensures.spare in
-    let rest : joined b ≡ [] = ap joined c.split_at_mut-used.ensures.back ∙ c.requires.spare in
+    let here : chunks_joined (drop (s - 1) f) ≡ [] = ap (λ n. chunks_joined (drop (n - 1) f)) (sym size) ∙ c.turn_out.ensures.spare in
+    let rest : chunks_joined b ≡ [] = ap chunks_joined c.split_at_mut-used.ensures.back ∙ c.requires.spare in
     none_with_rest f b (s - 1) (omega (arith, size)) here rest
 
 pub returns-clause-chunks : goal.returns-clause-chunks

@@ -2,7 +2,7 @@ use Rattle.std.proofs.Common.{◌≡◌, ◌+◌, ◌-◌, ◌++◌, ◌∙◌, 
 use Rattle.std.proofs.lemmas.List.{drop_at, get_or_append_left, get_or-take, take-append-drop}
 use Rattle.std.specs.Global.{Vec}
 use Rattle.gv_types.specs.declared.mapping.Mapping.{Mapping}
-use Rattle.gv_chunks.specs.Chunks.{joined, AreChunks}
+use Rattle.gv_chunks.specs.Chunks.{chunks_joined, AreChunks}
 use Rattle.gv_chunks.proofs.ChunkLemmas.{joined-append, joined_parts, dropped_chunks, appended_chunks}
 use Rattle.gv_chunks.proofs.PutLemmas.{nothing_from}
 use Rattle.gv_chunks.proofs.RunLemmas.{none_in_front}
@@ -12,7 +12,7 @@ pub divide-requires-clause-spare : goal.divide-requires-clause-spare
 divide-requires-clause-spare c =
     let u : List (Vec Mapping) = c.split_at_mut-used.result.0.now in
     let at : length u - 1 ≡ c.args.standing = omega (arith, c.split_at_mut-used.ensures.front_len) in
-    ap (λ k. joined (drop k u)) at
+    ap (λ k. chunks_joined (drop k u)) at
     ∙ rw c.split_at_mut-used.ensures.front (none_in_front c.args.chunks.now c.args.standing (c.args.standing + 1) (omega arith) c.requires.spare)
 
 pub returns-clause-items : goal.returns-clause-items
@@ -20,11 +20,11 @@ returns-clause-items c =
     let u : List (Vec Mapping) = c.split_at_mut-used.result.0.now in
     let b : List (Vec Mapping) = c.split_at_mut-used.result.1.now in
     let v : List (Vec Mapping) = c.divide.new.chunks in
-    let k = length (joined (take c.args.chunk u)) + c.args.left in
-    let same : joined v ≡ joined u =
-    joined_parts v (c.args.chunk + 1) ∙ (ap (λ ms. ms ++ joined (drop (c.args.chunk + 1) v)) c.divide.ensures.before
-    ∙ (ap (λ ms. take k (joined u) ++ ms) c.divide.ensures.behind ∙ take-append-drop k (joined u))) in
-    joined-append v b ∙ (ap (λ ms. ms ++ joined b) same ∙ (sym (joined-append u b) ∙ ap joined (sym c.split_at_mut-used.ensures.value)))
+    let k = length (chunks_joined (take c.args.chunk u)) + c.args.left in
+    let same : chunks_joined v ≡ chunks_joined u =
+    joined_parts v (c.args.chunk + 1) ∙ (ap (λ ms. ms ++ chunks_joined (drop (c.args.chunk + 1) v)) c.divide.ensures.before
+    ∙ (ap (λ ms. take k (chunks_joined u) ++ ms) c.divide.ensures.behind ∙ take-append-drop k (chunks_joined u))) in
+    joined-append v b ∙ (ap (λ ms. ms ++ chunks_joined b) same ∙ (sym (joined-append u b) ∙ ap chunks_joined (sym c.split_at_mut-used.ensures.value)))
 
 pub returns-clause-first : goal.returns-clause-first
 returns-clause-first c = λ d.
@@ -51,8 +51,8 @@ returns-clause-later c = λ k d past below.
 pub returns-clause-spare : goal.returns-clause-spare
 returns-clause-spare c =
     let b : List (Vec Mapping) = c.split_at_mut-used.result.1.now in
-    ap joined (drop_at c.divide.new.chunks b (c.args.standing + 1) (omega (arith, c.split_at_mut-used.ensures.front_len)))
-    ∙ (ap joined c.split_at_mut-used.ensures.back ∙ nothing_from c.args.chunks.now c.args.standing (c.args.standing + 1) (omega arith) c.requires.spare)
+    ap chunks_joined (drop_at c.divide.new.chunks b (c.args.standing + 1) (omega (arith, c.split_at_mut-used.ensures.front_len)))
+    ∙ (ap chunks_joined c.split_at_mut-used.ensures.back ∙ nothing_from c.args.chunks.now c.args.standing (c.args.standing + 1) (omega arith) c.requires.spare)
 
 pub returns-clause-chunks : goal.returns-clause-chunks
 returns-clause-chunks c =

@@ -1,5 +1,5 @@
 use Rattle.std.proofs.Common.{◌≡◌, ◌+◌, ◌-◌, ◌<◌, ◌∙◌, length, drop, vec_capacity, arith, slice_set, []}
-use Rattle.gv_chunks.specs.Chunks.{joined, AreChunks}
+use Rattle.gv_chunks.specs.Chunks.{chunks_joined, AreChunks}
 use Rattle.gv_chunks.specs.declared.TheConstants.{CHUNK}
 use Rattle.gv_chunks.proofs.ChunkLemmas.{taken_chunks, dropped_chunks, appended_chunks, changed_chunks, turned_chunks}
 use Rattle.gv_chunks.proofs.JoinLemmas.{last_turned}
@@ -10,7 +10,7 @@ pub returns-clause-spare : goal.returns-clause-spare
 returns-clause-spare c =
     let back = c.split_at_mut-back.result.1.now in
     let some_left : 0 < length back = omega arith in
-    let none : joined (drop (length back - 1) c.rotate_left.new.self) ≡ [] = rw c.rotate_left.ensures.after (last_turned back c.truncate.new.self (length back - 1) (omega arith) c.truncate.ensures.items) in
+    let none : chunks_joined (drop (length back - 1) c.rotate_left.new.self) ≡ [] = rw c.rotate_left.ensures.after (last_turned back c.truncate.new.self (length back - 1) (omega arith) c.truncate.ensures.items) in
     let past : length c.args.chunks.now - 1 ≡ c.args.chunk + (length back - 1) = omega arith in
     rw past (none_behind_front c.split_at_mut-back.result.0.now c.rotate_left.new.self c.args.chunk (length back - 1) c.split_at_mut-back.ensures.front_len none)
 

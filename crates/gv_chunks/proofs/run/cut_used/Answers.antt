@@ -4,8 +4,8 @@ use Rattle.gv_chunks.proofs.ChunkLemmas.{dropped_chunks, appended_chunks}
 use Rattle.gv_chunks.proofs.PutLemmas.{nothing_from}
 use Rattle.gv_chunks.proofs.run.cut_used.Goals as goal
 
-pub returns-then-place-eq0-clause-spare : goal.returns-then-place-eq0-clause-spare
-returns-then-place-eq0-clause-spare c = nothing_from c.args.chunks.now _ c.args.used (omega arith) c.requires.spare
+pub returns-then-index-eq0-clause-spare : goal.returns-then-index-eq0-clause-spare
+returns-then-index-eq0-clause-spare c = nothing_from c.args.chunks.now _ c.args.used (omega arith) c.requires.spare
 
 pub returns-clause-chunks : goal.returns-clause-chunks
 returns-clause-chunks c =

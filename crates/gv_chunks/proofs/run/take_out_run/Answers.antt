@@ -1,5 +1,5 @@
 use Rattle.std.proofs.Common.{◌≡◌, ◌+◌, ◌-◌, [], drop, length, arith}
-use Rattle.gv_chunks.specs.Chunks.{joined, AreChunks}
+use Rattle.gv_chunks.specs.Chunks.{chunks_joined, AreChunks}
 use Rattle.gv_chunks.proofs.ChunkLemmas.{spare_behind, taken_chunks, appended_chunks}
 use Rattle.gv_chunks.proofs.PutLemmas.{nothing_from}
 use Rattle.gv_chunks.proofs.RunLemmas.{none_behind_front}
@@ -7,7 +7,7 @@ use Rattle.gv_chunks.proofs.run.take_out_run.Goals as goal
 
 pub drop_first-left-requires-clause-spare : goal.drop_first-left-requires-clause-spare
 drop_first-left-requires-clause-spare c =
-    let last : joined (drop (length c.cut_used-start.new.chunks - 1) c.cut_used-start.new.chunks) ≡ [] =
+    let last : chunks_joined (drop (length c.cut_used-start.new.chunks - 1) c.cut_used-start.new.chunks) ≡ [] =
     nothing_from c.cut_used-start.new.chunks (c.args.standing + 1) (length c.cut_used-start.new.chunks - 1) (omega arith) c.cut_used-start.ensures.spare in
     spare_behind c.cut_used-start.new.chunks c.split_at_mut-tail.result.1.now c.cut_used-start.result c.split_at_mut-tail.ensures.back (omega arith) (omega arith) last
 

@@ -1,5 +1,5 @@
 use Rattle.std.proofs.Common.{◌≡◌, ◌≤◌, sym, subst, List}
-use Rattle.gv_types.specs.Span.{Span}
+use Rattle.gv_types.specs.PageRange.{Span}
 use Rattle.gv_types.specs.Operation.{range_of}
 use Rattle.gv_types.specs.declared.mapping.Mapping.{Mapping}
 use Rattle.gv_ranges.specs.List.{IsLaidOut}

@@ -1,6 +1,6 @@
 use Rattle.std.proofs.Common.{◌≡◌, ℕ, ◌+◌, ◌-◌, List, map, length, arith, ◌∙◌, subst}
 use Rattle.std.specs.List.{All}
-use Rattle.gv_types.specs.Span.{Span, IsInSpace}
+use Rattle.gv_types.specs.PageRange.{PageRangeState, IsInSpace}
 use Rattle.gv_types.specs.declared.operation.PageOp.TheVariants.{Unmap}
 use Rattle.gv_journal.specs.Applying.{GrowsFor}
 use Rattle.gv_journal.specs.Work.{HasRoom}
@@ -29,7 +29,7 @@ returns-in-Err-apply_pages-clause-err c =
 
 pub returns-in-Err-apply_pages-clause-grown : goal.returns-in-Err-apply_pages-clause-grown
 returns-in-Err-apply_pages-clause-grown c =
-    subst (λ (rs : List Span). GrowsFor (map Unmap rs) c.args.space.now c.apply_pages.new.space) (c.deref-range-items.ensures.value ∙ c.in-Ok.ensures.ranges)
+    subst (λ (rs : List PageRangeState). GrowsFor (map Unmap rs) c.args.space.now c.apply_pages.new.space) (c.deref-range-items.ensures.value ∙ c.in-Ok.ensures.ranges)
     (grows_unmapped c.args.space.now c.loop-range.space c.apply_pages.new.space c.deref-range-items.result.now c.loop-range.range-index c.range-item.result c.loop-range-test.true c.range-item.is
     c.loop-range.invariant.state c.loop-range.invariant.grown c.apply_pages.ensures.grown)
 

@@ -4,7 +4,7 @@ use Rattle.gv_space.specs.State.{AreKept}
 use Rattle.gv_space.specs.Undo.{released}
 use Rattle.gv_journal.specs.Undoing.{taken_by}
 use Rattle.gv_journal.specs.History.{kept_by, undos_of}
-use Rattle.gv_journal.specs.Shelf.{IsSpent}
+use Rattle.gv_journal.specs.ItemStore.{IsSpent}
 use Rattle.gv_journal.specs.declared.item.Item.{Item}
 use Rattle.gv_space.proofs.ReleasedLemmas.{released-none}
 use Rattle.gv_journal.proofs.Histories.{released_without}

@@ -4,7 +4,7 @@ use Rattle.gv_types.specs.declared.mapping.Mapping.{Mapping}
 use Rattle.gv_space.specs.State.{AreKept}
 use Rattle.gv_space.specs.Undo.{released}
 use Rattle.gv_journal.specs.History.{kept_by}
-use Rattle.gv_journal.specs.Shelf.{IsSpent}
+use Rattle.gv_journal.specs.ItemStore.{IsSpent}
 use Rattle.gv_journal.proofs.settling.release_items.Given as goal
 
 abbrev pub invariant-loop-left : goal.invariant-loop-left

@@ -1,5 +1,5 @@
 use Rattle.std.proofs.Common.{◌≡◌, List, [], reverse, sym, ◌∙◌, ap, rules}
-use Rattle.gv_space.specs.Undo.{UndoValue, released}
+use Rattle.gv_space.specs.Undo.{OpUndoState, released}
 use Rattle.gv_journal.specs.Undoing.{taken_by}
 use Rattle.gv_journal.proofs.Lists.{last_first}
 use Rattle.gv_space.proofs.ReleasedLemmas.{released-none}
@@ -24,5 +24,5 @@ pub returns-clause-state : goal.returns-clause-state
 returns-clause-state c =
     let empty : c.loop-undo.undos.items ≡ [] = search rules in
     sym (released-none c.loop-undo.space)
-    ∙ ap (λ (us : List UndoValue). released c.loop-undo.space (taken_by (reverse us))) (sym empty)
+    ∙ ap (λ (us : List OpUndoState). released c.loop-undo.space (taken_by (reverse us))) (sym empty)
     ∙ c.loop-undo.invariant.rest

@@ -6,9 +6,9 @@ use Rattle.gv_queues.proofs.finishing.finish.Given as goal
 abbrev pub invariant-loop-worker : goal.invariant-loop-worker
 invariant-loop-worker l =
     let rest = l.worker-iterator in
-    (l.place + into_iter_len rest ≡ vec_len l.fn.workers)
-    × ((k : ℕ) (d : _) → k < into_iter_len rest → get_or (into_iter_items rest) k d ≡ get_or l.fn.workers.items (l.place + k) d)
-    × ((k : ℕ) → k < l.place → AgreesAt l.vm l.puts l.fn.workers.items k)
-    × (vec_len l.ends ≡ l.place)
+    (l.index + into_iter_len rest ≡ vec_len l.fn.workers)
+    × ((k : ℕ) (d : _) → k < into_iter_len rest → get_or (into_iter_items rest) k d ≡ get_or l.fn.workers.items (l.index + k) d)
+    × ((k : ℕ) → k < l.index → AgreesAt l.vm l.puts l.fn.workers.items k)
+    × (vec_len l.ends ≡ l.index)
     × (vec_len l.fn.workers ≤ vec_capacity l.ends)
     × AreEndsOf l.vm l.puts l.fn.workers.items l.ends.items

@@ -1,5 +1,5 @@
 use Rattle.std.proofs.Common.{rules, ◌≡◌, ◌∙◌, ◌+◌, ℕ, length, vec_len, sym, refl, ap, arith}
-use Rattle.gv_sync.specs.Seats.{SeatState, count_of, mark_of, split_from}
+use Rattle.gv_sync.specs.Seats.{SeatState, timeline_count, mark_of, split_from}
 use Rattle.gv_sync.proofs.LookLemmas.{split_raised}
 use Rattle.gv_queues.specs.Sharing.{after_splits, seat_of, split_behind}
 use Rattle.gv_queues.specs.Submitting.{IsOpened, SubmitterState}
@@ -22,7 +22,7 @@ loop-queue-preserved c =
     let was = c.loop-queue.invariant in
     let long : vec_len c.loop-queue.submitters ≡ length c.loop-queue.submitters.items = search rules in
     let wide : vec_len c.loop-queue.workers ≡ length c.loop-queue.workers.items = search rules in
-    let opened : IsOpened (length c.loop-queue.submitters.items) c.args.limit c.args.depth (count_of c.args.timelines.now) c.new.result = record {
+    let opened : IsOpened (length c.loop-queue.submitters.items) c.args.limit c.args.depth (timeline_count c.args.timelines.now) c.new.result = record {
       queue = ap (λ (s : SubmitterState). s.queue) c.new.ensures ∙ (sym was.3 ∙ long);
       channel = ap (λ (s : SubmitterState). s.channel.queue) c.new.ensures ∙ (sym was.3 ∙ long);
       limit = ap (λ (s : SubmitterState). s.limit) c.new.ensures;
@@ -50,7 +50,7 @@ loop-queue-preserved c =
       shared,
       search rules,
       search rules,
-      opened_more c.args.limit c.args.depth (count_of c.args.timelines.now) c.loop-queue.submitters.items c.push_reserved.new.self.items c.new.result c.push_reserved.ensures.items opened was.5,
+      opened_more c.args.limit c.args.depth (timeline_count c.args.timelines.now) c.loop-queue.submitters.items c.push_reserved.new.self.items c.new.result c.push_reserved.ensures.items opened was.5,
       in_order_more (λ (w : WorkerState). w.queue) c.loop-queue.workers.items c.push_reserved-in-loop-queue.new.self.items c.new-in-loop-queue-2.result was.6 queue c.push_reserved-in-loop-queue.ensures.items,
       each_more (λ (k : ℕ) (w : WorkerState). w.of ≡ c.args.timelines.now) c.loop-queue.workers.items c.push_reserved-in-loop-queue.new.self.items c.new-in-loop-queue-2.result
           c.push_reserved-in-loop-queue.ensures.items (ap (λ (w : WorkerState). w.of) c.new-in-loop-queue-2.ensures ∙ c.in_ok-own.ensures.own_given) was.7,
@@ -65,7 +65,7 @@ loop-queue-preserved c =
 
 pub returns-clause-channels : goal.returns-clause-channels
 returns-clause-channels c =
-    let was = c.loop-queue.invariant in own_channels c.args.limit c.args.depth (count_of c.args.timelines.now) c.loop-queue.submitters.items c.loop-queue.workers.items was.5 was.8
+    let was = c.loop-queue.invariant in own_channels c.args.limit c.args.depth (timeline_count c.args.timelines.now) c.loop-queue.submitters.items c.loop-queue.workers.items was.5 was.8
 
 pub returns-clause-share : goal.returns-clause-share
 returns-clause-share c =

@@ -1,5 +1,5 @@
 use Rattle.std.proofs.Common.{◌≡◌, ◌≤◌, ◌+◌, All, vec_len, vec_capacity}
-use Rattle.gv_sync.specs.Seats.{IsSeatOf, count_of}
+use Rattle.gv_sync.specs.Seats.{IsSeatOf, timeline_count}
 use Rattle.gv_queues.specs.Ending.{AreInOrder}
 use Rattle.gv_queues.specs.Submitting.{AreOpened}
 use Rattle.gv_queues.specs.Working.{WorkerState}
@@ -14,7 +14,7 @@ invariant-loop-queue l =
     × (l.seat.halvings ≡ l.fn.seat.halvings + l.queue)
     × (vec_len l.submitters ≡ l.queue)
     × (vec_len l.workers ≡ l.queue)
-    × AreOpened l.fn.limit l.fn.depth (count_of l.timelines) l.submitters.items
+    × AreOpened l.fn.limit l.fn.depth (timeline_count l.timelines) l.submitters.items
     × AreInOrder (λ (w : WorkerState). w.queue) l.workers.items
     × All (λ (w : WorkerState). w.of ≡ l.timelines) l.workers.items
     × (of_submitters l.submitters.items ≡ of_workers l.workers.items)

@@ -1,6 +1,6 @@
 use Rattle.std.proofs.Common.{◌<◌, ◌≤◌, arith}
 use Rattle.gv_ranges.proofs.JoinedLemmas.{laid_out-chunk, few_before, All-take_in_chunk, All-drop_in_chunk}
-use Rattle.gv_chunks.proofs.StartLemmas.{place_within}
+use Rattle.gv_chunks.proofs.StartLemmas.{index_within}
 use Rattle.gv_ranges.proofs.chunk_search.count_begun_in.Goals as goal
 
 pub count_begun-count-requires-clause-laid_out : goal.count_begun-count-requires-clause-laid_out
@@ -17,7 +17,7 @@ overflow_add-result c =
 pub returns-clause-within : goal.returns-clause-within
 returns-clause-within c =
     rw ((c.requires.starts c.last_begun_chunk-last.result 0 c.last_begun_chunk-last.ensures.within).1)
-    (place_within c.args.standing.chunks.now c.last_begun_chunk-last.result c.index-standing-last.result c.deref.result.now c.last_begun_chunk-last.ensures.within
+    (index_within c.args.standing.chunks.now c.last_begun_chunk-last.result c.index-standing-last.result c.deref.result.now c.last_begun_chunk-last.ensures.within
     c.deref.ensures.value c.count_begun-count.result c.count_begun-count.ensures.within)
 
 pub returns-clause-begun : goal.returns-clause-begun

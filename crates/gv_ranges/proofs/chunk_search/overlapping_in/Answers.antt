@@ -1,8 +1,8 @@
 use Rattle.std.proofs.Common.{◌+◌, arith, slice_index_or}
-use Rattle.gv_ranges.specs.List.{IsPlaceOf}
-use Rattle.gv_chunks.specs.Chunks.{joined}
+use Rattle.gv_ranges.specs.List.{IsIndexOfPage}
+use Rattle.gv_chunks.specs.Chunks.{chunks_joined}
 use Rattle.gv_ranges.proofs.JoinedLemmas.{laid_out-chunk, few_before, placed-in_chunk}
-use Rattle.gv_ranges.proofs.Places.{places_rise, run_between}
+use Rattle.gv_ranges.proofs.Indices.{indices_rise, run_between}
 use Rattle.gv_ranges.proofs.chunk_search.overlapping_in.Goals as goal
 
 pub count_ended-ended-requires-clause-laid_out : goal.count_ended-ended-requires-clause-laid_out
@@ -10,14 +10,14 @@ count_ended-ended-requires-clause-laid_out c =
     laid_out-chunk c.args.standing.chunks.now c.chunk_of_page-chunk.result c.index-standing-chunk.result c.deref.result.now c.requires.laid_out c.chunk_of_page-chunk.ensures.within
     c.deref.ensures.value
 
-pub overflow_add-place : goal.overflow_add-place
-overflow_add-place c =
+pub overflow_add-index : goal.overflow_add-index
+overflow_add-index c =
     let few = few_before c.args.standing.chunks.now c.chunk_of_page-chunk.result c.count_ended-ended.result _ c.index-standing-chunk.result c.deref.result.now c.requires.laid_out c.chunk_of_page-chunk.ensures.within
     c.deref.ensures.value c.count_ended-ended.ensures.within (c.requires.starts c.chunk_of_page-chunk.result 0 c.chunk_of_page-chunk.ensures.within).1 in
     omega (arith, few)
 
 -- how many mappings end before the range
-placed : (c : goal.After-count_begun_in-behind) → IsPlaceOf (joined c.args.standing.chunks.now) c.args.range.first (slice_index_or c.args.standing.starts.now c.chunk_of_page-chunk.result 0 + c.count_ended-ended.result)
+placed : (c : goal.After-count_begun_in-behind) → IsIndexOfPage (chunks_joined c.args.standing.chunks.now) c.args.range.first (slice_index_or c.args.standing.starts.now c.chunk_of_page-chunk.result 0 + c.count_ended-ended.result)
 placed c =
     placed-in_chunk c.args.standing.chunks.now c.args.range.first c.chunk_of_page-chunk.result c.count_ended-ended.result _ c.index-standing-chunk.result c.deref.result.now c.chunk_of_page-chunk.ensures.within
     c.deref.ensures.value (rw c.first-2.ensures.value at c.count_ended-ended.ensures)
@@ -26,10 +26,10 @@ placed c =
 
 pub overflow_sub-result : goal.overflow_sub-result
 overflow_sub-result c =
-    places_rise (joined c.args.standing.chunks.now) c.args.range _ c.count_begun_in-behind.result c.requires.laid_out c.first.ensures.in_space (placed c) c.count_begun_in-behind.ensures.within
+    indices_rise (chunks_joined c.args.standing.chunks.now) c.args.range _ c.count_begun_in-behind.result c.requires.laid_out c.first.ensures.in_space (placed c) c.count_begun_in-behind.ensures.within
     (rw c.end.ensures.value at c.count_begun_in-behind.ensures.not_begun)
 
 pub returns : goal.returns
 returns c =
-    run_between (joined c.args.standing.chunks.now) c.args.range _ c.count_begun_in-behind.result c.requires.laid_out c.first.ensures.in_space (placed c) c.count_begun_in-behind.ensures.within
+    run_between (chunks_joined c.args.standing.chunks.now) c.args.range _ c.count_begun_in-behind.result c.requires.laid_out c.first.ensures.in_space (placed c) c.count_begun_in-behind.ensures.within
     (rw c.end.ensures.value at c.count_begun_in-behind.ensures.not_begun) (rw c.end.ensures.value at c.count_begun_in-behind.ensures.begun)

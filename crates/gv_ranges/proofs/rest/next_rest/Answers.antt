@@ -7,9 +7,9 @@ use Rattle.gv_ranges.proofs.rest.next_rest.Goals as goal
 
 pub clip-requires : goal.clip-requires
 clip-requires c =
-    rw (c.get.ensures c.get.result.now) (is_mapping c.args.list.now.mappings 0 (c.args.place + c.args.count - 1) c.get.result.now c.len-len.ensures.laid_out (omega (arith, c.if-count-eq0.false)))
+    rw (c.get.ensures c.get.result.now) (is_mapping c.args.list.now.mappings 0 (c.args.index + c.args.count - 1) c.get.result.now c.len-len.ensures.laid_out (omega (arith, c.if-count-eq0.false)))
 
 pub returns : goal.returns
 returns c =
     ap option_to_list c.clip.ensures ∙
-    sym (rw (c.get.ensures c.get.result.now) (rest_of_last c.args.list.now.mappings c.args.place c.args.count c.args.page PAGES c.get.result.now (omega arith) c.requires.within c.len-len.ensures.laid_out c.requires.before))
+    sym (rw (c.get.ensures c.get.result.now) (rest_of_last c.args.list.now.mappings c.args.index c.args.count c.args.page PAGES c.get.result.now (omega arith) c.requires.within c.len-len.ensures.laid_out c.requires.before))

@@ -1,8 +1,8 @@
 use Rattle.std.proofs.Common.{◌-◌, ◌≤◌, ◌<◌, ◌≡◌, arith, get_or, length, sym, ◌∙◌}
 use Rattle.std.proofs.lemmas.List.{get_or_default}
 use Rattle.std.proofs.lemmas.Option.{get_or_from_slice_get}
-use Rattle.gv_types.specs.Span.{end_of}
-use Rattle.gv_ranges.proofs.Places.{placed-last, placed-next, placed-here}
+use Rattle.gv_types.specs.PageRange.{end_of}
+use Rattle.gv_ranges.proofs.Indices.{placed-last, placed-next, placed-here}
 use Rattle.gv_ranges.proofs.RestLemmas.{some_of_last}
 use Rattle.gv_ranges.proofs.search.count_ended.Goals as goal
 
@@ -19,15 +19,15 @@ returns-then-end-page c =
 pub returns-then-end-page-2 : goal.returns-then-end-page-2
 returns-then-end-page-2 c =
     let ms = c.args.mappings.now in
-    let i = c.last_begun-place.result in
-    let ends : end_of (get_or ms i c.index-mappings-place.result).range ≤ c.args.page = omega arith in
-    placed-next ms c.args.page i c.requires.laid_out c.last_begun-place.ensures.within c.last_begun-place.ensures.later
-    (λ d. rw (get_or_default ms i d c.index-mappings-place.result c.last_begun-place.ensures.within) ends)
+    let i = c.last_begun-index.result in
+    let ends : end_of (get_or ms i c.index-mappings-index.result).range ≤ c.args.page = omega arith in
+    placed-next ms c.args.page i c.requires.laid_out c.last_begun-index.ensures.within c.last_begun-index.ensures.later
+    (λ d. rw (get_or_default ms i d c.index-mappings-index.result c.last_begun-index.ensures.within) ends)
 
 pub returns-else-end-page-2 : goal.returns-else-end-page-2
 returns-else-end-page-2 c =
     let ms = c.args.mappings.now in
-    let i = c.last_begun-place.result in
-    let past : c.args.page < end_of (get_or ms i c.index-mappings-place.result).range = omega arith in
-    placed-here ms c.args.page i c.requires.laid_out c.last_begun-place.ensures.within c.last_begun-place.ensures.ended
-    (λ d. rw (get_or_default ms i d c.index-mappings-place.result c.last_begun-place.ensures.within) past)
+    let i = c.last_begun-index.result in
+    let past : c.args.page < end_of (get_or ms i c.index-mappings-index.result).range = omega arith in
+    placed-here ms c.args.page i c.requires.laid_out c.last_begun-index.ensures.within c.last_begun-index.ensures.ended
+    (λ d. rw (get_or_default ms i d c.index-mappings-index.result c.last_begun-index.ensures.within) past)

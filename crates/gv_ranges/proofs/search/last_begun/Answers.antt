@@ -1,16 +1,16 @@
 use Rattle.std.proofs.Common.{◌+◌, ◌/◌, ◌≡◌, arith, refl}
-use Rattle.gv_ranges.proofs.Places.{halved}
+use Rattle.gv_ranges.proofs.Indices.{halved}
 use Rattle.gv_ranges.proofs.search.last_begun.Goals as goal
 
 pub loop-left-preserved : goal.loop-left-preserved
 loop-left-preserved c =
     let inv = c.loop-left.invariant in
-    let next = halved c.args.mappings.now c.args.page c.loop-left.place c.loop-left.left (c.loop-left.left / 2)
-    _ c.first-first.result c.step_past-place.result c.index-mappings-place.result c.requires.laid_out inv.within c.loop-left-test.true refl inv.ended inv.later
-    c.index-mappings-place.is (rw c.index-mappings-place.is c.first-first.ensures.value) c.step_past-place.ensures refl in
+    let next = halved c.args.mappings.now c.args.page c.loop-left.index c.loop-left.left (c.loop-left.left / 2)
+    _ c.first-first.result c.step_past-index.result c.index-mappings-index.result c.requires.laid_out inv.within c.loop-left-test.true refl inv.ended inv.later
+    c.index-mappings-index.is (rw c.index-mappings-index.is c.first-first.ensures.value) c.step_past-index.ensures refl in
     record { some = omega arith; within = next.0; ended = next.1; later = next.2 }
 
 pub returns-clause-later : goal.returns-clause-later
 returns-clause-later c =
-    let one : c.loop-left.place + c.loop-left.left ≡ c.loop-left.place + 1 = (let some = c.loop-left.invariant.some in omega (arith, some)) in
+    let one : c.loop-left.index + c.loop-left.left ≡ c.loop-left.index + 1 = (let some = c.loop-left.invariant.some in omega (arith, some)) in
     rw one at c.loop-left.invariant.later

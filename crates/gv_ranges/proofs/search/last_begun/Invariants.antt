@@ -6,9 +6,9 @@ use Rattle.gv_ranges.proofs.search.last_begun.Given as goal
 abbrev pub invariant-loop-left : goal.invariant-loop-left
 invariant-loop-left l = record {
   some : 0 < l.left;
-  within : l.place + l.left ≤ length l.mappings;
-  ended : AreEnded l.mappings l.page l.place;
-  later : All (λ m. l.page < m.range.first) (drop (l.place + l.left) l.mappings);
+  within : l.index + l.left ≤ length l.mappings;
+  ended : AreEnded l.mappings l.page l.index;
+  later : All (λ m. l.page < m.range.first) (drop (l.index + l.left) l.mappings);
 }
 
 abbrev pub decreases-loop-left : goal.decreases-loop-left

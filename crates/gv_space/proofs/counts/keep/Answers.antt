@@ -1,5 +1,5 @@
 use Rattle.std.proofs.Common.{◌+◌, ◌<◌, ◌≤◌, arith, sym, ◌∙◌}
-use Rattle.gv_buffers.specs.Table.{most_counted}
+use Rattle.gv_buffers.specs.Buffers.{most_counted}
 use Rattle.gv_types.specs.declared.mapping.Backing.TheVariants.{Zero}
 use Rattle.gv_space.specs.Counts.{more_kept}
 use Rattle.gv_space.proofs.Counting.{more_kept_counting, by_count_none, can_count, count_turn, count_end}

@@ -1,7 +1,7 @@
 use Rattle.std.proofs.Common.{◌+◌, ◌≤◌, arith, sym, subst, ap, ◌∙◌}
 use Rattle.std.specs.List.{All}
 use Rattle.std.proofs.lemmas.List.Elements.{All-weaker}
-use Rattle.gv_buffers.specs.Table.{Table, most_counted}
+use Rattle.gv_buffers.specs.Buffers.{BuffersState, most_counted}
 use Rattle.gv_space.specs.Counts.{by_count, count_of, more_used, more_kept}
 use Rattle.gv_space.specs.Live.{IsLiveBacking}
 use Rattle.gv_space.proofs.ByCountLemmas.{more_used_of_counts, more_kept_of_counts, live-by_count, All-by_count}
@@ -9,25 +9,25 @@ use Rattle.gv_space.proofs.counts.move_counts.Goals as goal
 
 pub count_in-requires-clause-live : goal.count_in-requires-clause-live
 count_in-requires-clause-live c =
-    subst (λ (t : Table). All (λ m. IsLiveBacking t m.backing) c.args.pieces.now) (sym c.keep.ensures)
+    subst (λ (t : BuffersState). All (λ m. IsLiveBacking t m.backing) c.args.pieces.now) (sym c.keep.ensures)
     (live-by_count more_kept c.args.taken.now c.args.buffers.now c.args.pieces.now more_kept_of_counts c.requires.pieces)
 
 pub count_in-requires-clause-room : goal.count_in-requires-clause-room
 count_in-requires-clause-room c =
-    subst (λ (t : Table). All (λ b. b.uses + count_of b.id c.args.pieces.now ≤ most_counted) t.live) (sym c.keep.ensures)
+    subst (λ (t : BuffersState). All (λ b. b.uses + count_of b.id c.args.pieces.now ≤ most_counted) t.live) (sym c.keep.ensures)
     (All-by_count (λ b. b.uses + count_of b.id c.args.pieces.now ≤ most_counted) more_kept c.args.taken.now c.args.buffers.now c.requires.room)
 
 pub count_out-requires-clause-live : goal.count_out-requires-clause-live
 count_out-requires-clause-live c =
-    let kept : Table = by_count more_kept c.args.taken.now c.args.buffers.now in
-    rw c.requires.same (subst (λ (t : Table). All (λ m. IsLiveBacking t m.backing) c.args.taken.now) (sym (c.count_in.ensures ∙ ap (by_count more_used c.args.pieces.now) c.keep.ensures))
+    let kept : BuffersState = by_count more_kept c.args.taken.now c.args.buffers.now in
+    rw c.requires.same (subst (λ (t : BuffersState). All (λ m. IsLiveBacking t m.backing) c.args.taken.now) (sym (c.count_in.ensures ∙ ap (by_count more_used c.args.pieces.now) c.keep.ensures))
     (live-by_count more_used c.args.pieces.now kept c.args.taken.now more_used_of_counts
     (live-by_count more_kept c.args.taken.now c.args.buffers.now c.args.taken.now more_kept_of_counts c.requires.taken)))
 
 pub count_out-requires-clause-counted : goal.count_out-requires-clause-counted
 count_out-requires-clause-counted c =
-    let kept : Table = by_count more_kept c.args.taken.now c.args.buffers.now in
-    rw c.requires.same (subst (λ (t : Table). All (λ b. count_of b.id c.args.taken.now ≤ b.uses) t.live) (sym (c.count_in.ensures ∙ ap (by_count more_used c.args.pieces.now) c.keep.ensures))
+    let kept : BuffersState = by_count more_kept c.args.taken.now c.args.buffers.now in
+    rw c.requires.same (subst (λ (t : BuffersState). All (λ b. count_of b.id c.args.taken.now ≤ b.uses) t.live) (sym (c.count_in.ensures ∙ ap (by_count more_used c.args.pieces.now) c.keep.ensures))
     (All-by_count (λ b. count_of b.id c.args.taken.now ≤ b.uses) more_used c.args.pieces.now kept
     (All-by_count (λ b. count_of b.id c.args.taken.now ≤ b.uses + count_of b.id c.args.pieces.now) more_kept c.args.taken.now c.args.buffers.now
     (All-weaker (λ b. count_of b.id c.args.taken.now ≤ b.uses) (λ b. count_of b.id c.args.taken.now ≤ b.uses + count_of b.id c.args.pieces.now) (λ b few. omega arith)

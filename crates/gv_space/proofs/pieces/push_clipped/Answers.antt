@@ -3,7 +3,7 @@ use Rattle.std.proofs.lemmas.List.{append_assoc}
 use Rattle.gv_types.specs.declared.mapping.Mapping.{Mapping}
 use Rattle.gv_ranges.specs.Edit.{clipped}
 use Rattle.gv_types.specs.Mapping.{clip, IsMapping}
-use Rattle.gv_types.specs.Span.{end_of}
+use Rattle.gv_types.specs.PageRange.{end_of}
 use Rattle.gv_ranges.proofs.ReplacedLemmas.{all_mappings}
 use Rattle.gv_space.proofs.Clips.{grown_by_none, grown_by_piece}
 use Rattle.gv_space.proofs.pieces.push_clipped.Goals as goal

@@ -1,5 +1,5 @@
 use Rattle.std.proofs.Common.{◌≡◌, ◌++◌, take}
-use Rattle.gv_types.specs.Span.{end_of}
+use Rattle.gv_types.specs.PageRange.{end_of}
 use Rattle.gv_ranges.specs.Edit.{clipped}
 use Rattle.gv_space.proofs.pieces.push_clipped.Given as goal
 

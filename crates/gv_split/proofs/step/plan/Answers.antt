@@ -3,7 +3,7 @@ use Rattle.std.specs.Prelude.{OnErr}
 use Rattle.std.proofs.lemmas.Result.{IfOk-weaker}
 use Rattle.std.proofs.lemmas.List.{append-nil, length-append, length-map}
 use Rattle.gv_types.specs.Mapping.{is_of}
-use Rattle.gv_types.specs.Span.{meets}
+use Rattle.gv_types.specs.PageRange.{meets}
 use Rattle.gv_types.specs.Operation.{range_of, own_mapping}
 use Rattle.gv_types.specs.declared.mapping.BufferId.{BufferId}
 use Rattle.gv_types.specs.declared.mapping.Mapping.{Mapping}

@@ -1,5 +1,5 @@
 use Rattle.std.proofs.Common.{arith, ◌-◌, ◌*◌}
-use Rattle.gv_types.specs.Span.{span}
+use Rattle.gv_types.specs.PageRange.{span}
 use Rattle.gv_table.specs.Levels.{pages_of}
 use Rattle.gv_table.proofs.PagesOf.{row-past, index-below, over-rises, pages_of-some}
 use Rattle.gv_table.proofs.Spans.{meets-bounds}

@@ -2,11 +2,11 @@ use Rattle.std.proofs.Common.{arith, ◌≡◌, ◌+◌, ◌*◌, ◌≤◌, ℕ
 use Rattle.std.proofs.lemmas.Bool.{cases_lt}
 use Rattle.gv_table.specs.declared.slot.Slot.{Slot}
 use Rattle.gv_table.specs.declared.slot.Slot.TheVariants.{Empty}
-use Rattle.gv_table.specs.Levels.{pages_of, slot_pages, entered}
+use Rattle.gv_table.specs.Levels.{pages_of, slot_pages, first_within}
 use Rattle.gv_table.specs.Tree.{IsTreeOf}
 use Rattle.gv_table.proofs.PagesOf.{pages_of-zero, part-within, slots-of-one-page}
 use Rattle.gv_table.proofs.Painted.{row-tree}
-use Rattle.gv_table.proofs.Places.{ended-later, place-ended}
+use Rattle.gv_table.proofs.Positions.{ended-later, position-ended}
 use Rattle.gv_table.proofs.Spans.{meets-before, meets-bounds}
 use Rattle.gv_table.proofs.Trees.{outside-apart}
 use Rattle.gv_table.proofs.pages.paint_pages.Goals as goal
@@ -15,7 +15,7 @@ pub loop-index-init : goal.loop-index-init
 loop-index-init c = record {
   from = omega arith;
   upto = c.slots_met-low.ensures.ordered;
-  place = ended-later c.args.mappings.now (entered c.args.range c.args.first) _ c.args.place (omega (arith, pages_of-zero)) c.requires.place;
+  position = ended-later c.args.mappings.now (first_within c.args.range c.args.first) _ c.args.position (omega (arith, pages_of-zero)) c.requires.position;
   painted = λ k below.
       let fits = part-within k (512 * pages_of 0) (pages_of 0) (omega (arith, c.slots_met-low.ensures.ordered, c.slots_met-low.ensures.within)) refl in
       let apart = meets-before (slot_pages 0 (c.args.first + k * pages_of 0)) c.args.range (c.slots_met-low.ensures.before k below) in
@@ -25,11 +25,11 @@ loop-index-init c = record {
   untouched = λ k above. refl;
 }
 
-pub advance-place-requires-clause-ended : goal.advance-place-requires-clause-ended
-advance-place-requires-clause-ended c =
+pub advance-position-requires-clause-ended : goal.advance-position-requires-clause-ended
+advance-position-requires-clause-ended c =
     let from : c.slots_met-low.result.0 ≤ c.loop-index.index = c.loop-index.invariant.from in
     let in_range = meets-bounds (slot_pages 0 (c.args.first + c.loop-index.index * pages_of 0)) c.args.range (c.slots_met-low.ensures.met c.loop-index.index from c.loop-index-test.true) in
-    ended-later c.args.mappings.now _ (c.args.first + c.loop-index.index) c.loop-index.place (omega (arith, in_range, slots-of-one-page c.loop-index.index, pages_of-zero)) c.loop-index.invariant.place
+    ended-later c.args.mappings.now _ (c.args.first + c.loop-index.index) c.loop-index.position (omega (arith, in_range, slots-of-one-page c.loop-index.index, pages_of-zero)) c.loop-index.invariant.position
 
 pub paint_run-index-requires-clause-in_space : goal.paint_run-index-requires-clause-in_space
 paint_run-index-requires-clause-in_space c = omega (arith, pages_of-zero, c.requires.in_space)
@@ -45,7 +45,7 @@ loop-index-preserved c =
     record {
       from = omega (arith, inv.from, run.further);
       upto = run.within;
-      place = place-ended ms (first + i) _ c.advance-place.result (omega (arith, run.further, slots-of-one-page c.paint_run-index.result)) c.advance-place.ensures;
+      position = position-ended ms (first + i) _ c.advance-position.result (omega (arith, run.further, slots-of-one-page c.paint_run-index.result)) c.advance-position.ensures;
       painted = λ k below. elim (cases_lt k i) [
         | inl less ↦ subst (λ (s : Slot). IsTreeOf ms 0 (first + k * pages_of 0) s) (sym (run.before k less)) (inv.painted k less)
         | inr up ↦ (

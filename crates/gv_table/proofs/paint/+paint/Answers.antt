@@ -2,11 +2,11 @@ use Rattle.std.proofs.Common.{rules, arith, ◌≡◌, ◌≢◌, ◌+◌, ◌*�
 use Rattle.std.proofs.lemmas.List.{get_or_default}
 use borrow.Enum.Total.{values_o_at}
 use Rattle.gv_table.specs.contracts.slot.Slot.{enum}
-use Rattle.gv_types.specs.Span.{span, meets}
+use Rattle.gv_types.specs.PageRange.{span, meets}
 use Rattle.gv_table.specs.declared.slot.Slot.{Slot}
 use Rattle.gv_table.specs.declared.slot.Slot.TheVariants.{Empty}
-use Rattle.gv_ranges.specs.List.{IsPlaceOf}
-use Rattle.gv_table.specs.Levels.{pages_of, slot_pages, entered}
+use Rattle.gv_ranges.specs.List.{IsIndexOfPage}
+use Rattle.gv_table.specs.Levels.{pages_of, slot_pages, first_within}
 use Rattle.gv_table.specs.Wanted.{is_divided}
 use Rattle.gv_table.specs.Tree.{IsTreeOf, IsTreeOutside, is_table}
 use Rattle.gv_table.specs.Counts.{gained, lost, tables_at, IsPartOf}
@@ -15,7 +15,7 @@ use Rattle.gv_table.proofs.Fewness.{row_lost-few}
 use Rattle.gv_table.proofs.Matches.{lost-whole, gained-none}
 use Rattle.gv_table.proofs.PagesOf.{pages_of-below, part-within, one-more-part}
 use Rattle.gv_table.proofs.Painted.{table-row, row-tables, painted-below, painted-above, painted-gained, painted-lost, row-tree, row_gained-zero, row_lost-zero, gained-divided, lost-divided, row_gained-pages, row_lost-pages, row_tables_at-pages}
-use Rattle.gv_table.proofs.Places.{ended-later, place-ended}
+use Rattle.gv_table.proofs.Positions.{ended-later, position-ended}
 use Rattle.gv_table.proofs.Rows.{row-other, row-here}
 use Rattle.gv_table.proofs.Slots.{is_table-Empty, is_table-leaf, no-table}
 use Rattle.gv_table.proofs.Counting.{divided-row, divided-counted, row-part, row-counted}
@@ -27,7 +27,7 @@ use Rattle.gv_table.proofs.paint.+paint.Goals as goal
 
 pub paint_row-loop-index-init : goal.paint_row-loop-index-init
 paint_row-loop-index-init t c = record {
-  place = ended-later c.args.mappings.now (entered c.args.range c.args.first) _ c.args.place (omega arith) c.requires.place;
+  position = ended-later c.args.mappings.now (first_within c.args.range c.args.first) _ c.args.position (omega arith) c.requires.position;
   painted = λ k below.
       let fits = part-within k (512 * pages_of c.args.level) (pages_of c.args.level) (omega (arith, c.slots_met-low.ensures.ordered, c.slots_met-low.ensures.within)) refl in
       let apart = meets-before (slot_pages c.args.level (c.args.first + k * pages_of c.args.level)) c.args.range (c.slots_met-low.ensures.before k below) in
@@ -54,8 +54,8 @@ paint_row-paint_slot-lost-requires t c =
     let slot : slice_index_or c.loop-index.slots c.loop-index.index c.index-slots-index.result ≡ slice_index_or c.loop-index.slots c.loop-index.index Empty =
     get_or_default c.loop-index.slots c.loop-index.index c.index-slots-index.result Empty within in
     let read = slot ∙ c.loop-index.invariant.untouched c.loop-index.index (omega arith) in
-    let page : c.max.result ≡ entered c.args.range (c.args.first + c.loop-index.index * c.pages_of-pages.result) = omega arith in
-    let place-at = subst (λ (n : ℕ). IsPlaceOf c.args.mappings.now n c.advance-place.result) page c.advance-place.ensures in
+    let page : c.max.result ≡ first_within c.args.range (c.args.first + c.loop-index.index * c.pages_of-pages.result) = omega arith in
+    let position-at = subst (λ (n : ℕ). IsIndexOfPage c.args.mappings.now n c.advance-position.result) page c.advance-position.ensures in
     let g = λ (k : ℕ). gained c.args.mappings.now c.args.level (c.args.first + k * pages_of c.args.level) (slice_index_or c.loop-index.slots k Empty) in
     let part = sum_below-at 512 g c.loop-index.index below in
     let here : gained c.args.mappings.now c.args.level (c.args.first + c.loop-index.index * c.pages_of-pages.result) (slice_index_or c.loop-index.slots c.loop-index.index c.index-slots-index.result) ≡ g c.loop-index.index =
@@ -69,7 +69,7 @@ paint_row-paint_slot-lost-requires t c =
           (
             c.requires.laid_out,
             (
-              place-at,
+              position-at,
               (
                 subst (λ (n : ℕ). meets (slot_pages c.args.level n) c.args.range ≡ true) (sym start) (c.slots_met-low.ensures.met c.loop-index.index from c.loop-index-test.true),
                 (
@@ -114,7 +114,7 @@ paint_row-loop-index-preserved t c =
     let l = painted-lost ms c.args.level c.args.first i c.args.slots.now row after same inv.untouched c.requires.laid_out here below in
     let next = one-more-part c.loop-index.index (pages_of c.args.level) in
     record {
-      place = place-ended ms c.max.result _ c.advance-place.result (omega (arith, start, next)) c.advance-place.ensures;
+      position = position-ended ms c.max.result _ c.advance-position.result (omega (arith, start, next)) c.advance-position.ensures;
       painted = painted-below ms c.args.level c.args.first i c.args.slots.now row after same inv.untouched c.requires.laid_out here inv.painted;
       untouched = painted-above ms c.args.level c.args.first i c.args.slots.now row after same inv.untouched c.requires.laid_out here;
       enough = omega (arith, g1, g2, l1, l2, g, l, inv.enough, c.paint_slot-lost.ensures.exchanged);
@@ -232,10 +232,10 @@ paint_slot-returns-in-Entry-clause-exchanged t c =
     let l = lost-whole c.args.mappings.now c.args.level c.args.first c.args.slot.now c.requires.laid_out none in
     omega (arith, g, l, c.clear-lost.ensures.put)
 
-pub paint_row-advance-place-requires-clause-ended : goal.paint_row-advance-place-requires-clause-ended
-paint_row-advance-place-requires-clause-ended t c =
+pub paint_row-advance-position-requires-clause-ended : goal.paint_row-advance-position-requires-clause-ended
+paint_row-advance-position-requires-clause-ended t c =
     let same = ap (λ (n : ℕ). c.loop-index.index * n) c.pages_of-pages.ensures.pages in
-    ended-later c.args.mappings.now _ c.max.result c.loop-index.place (omega (arith, same)) c.loop-index.invariant.place
+    ended-later c.args.mappings.now _ c.max.result c.loop-index.position (omega (arith, same)) c.loop-index.invariant.position
 
 pub paint_slot-make_table-requires-clause-some : goal.paint_slot-make_table-requires-clause-some
 paint_slot-make_table-requires-clause-some t c = table-above _ c.args.level c.args.first (sym c.slot_wanted.ensures ∙ c.in-Table.is)
@@ -265,7 +265,7 @@ paint_slot-paint_row-requires t c =
           (
             rw c.near.ensures c.requires.laid_out,
             (
-              rw c.near.ensures (place-ended ms (entered c.args.range c.args.first) (entered c.args.range c.args.first) c.args.place (omega arith) c.requires.place),
+              rw c.near.ensures (position-ended ms (first_within c.args.range c.args.first) (first_within c.args.range c.args.first) c.args.position (omega arith) c.requires.position),
               (
                 subst (λ (n : ℕ). meets (span c.args.first n) c.args.range ≡ true) below-of c.requires.met,
                 (

@@ -1,7 +1,7 @@
 use Rattle.std.proofs.Common.{◌≡◌, ◌+◌, ◌*◌, ◌<◌, ◌≤◌, ℕ, slice_index_or}
 use Rattle.gv_table.specs.declared.slot.Slot.TheVariants.{Empty}
 use Rattle.gv_ranges.specs.List.{AreEnded}
-use Rattle.gv_table.specs.Levels.{pages_of, entered}
+use Rattle.gv_table.specs.Levels.{pages_of, first_within}
 use Rattle.gv_table.specs.Sums.{sum_below}
 use Rattle.gv_table.specs.Tree.{IsTreeOf}
 use Rattle.gv_table.specs.Counts.{gained, lost, row_tables_at, count_at}
@@ -15,7 +15,7 @@ decreases-paint_row l = 2 * l.level + 1
 
 abbrev pub invariant-paint_row-loop-index : goal.invariant-paint_row-loop-index
 invariant-paint_row-loop-index l = record {
-  place : AreEnded l.mappings (entered l.range (l.first + l.index * pages_of l.level)) l.place;
+  position : AreEnded l.mappings (first_within l.range (l.first + l.index * pages_of l.level)) l.position;
   painted : (k : ℕ) → k < l.index → IsTreeOf l.mappings l.level (l.first + k * pages_of l.level) (slice_index_or l.slots k Empty);
   untouched : (k : ℕ) → l.index ≤ k → slice_index_or l.slots k Empty ≡ slice_index_or l.initial.slots k Empty;
   enough : sum_below 512 (λ k. gained l.mappings l.level (l.first + k * pages_of l.level) (slice_index_or l.slots k Empty)) ≤ l.spares;

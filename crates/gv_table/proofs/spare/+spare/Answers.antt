@@ -1,12 +1,12 @@
 use Rattle.std.proofs.Common.{arith, ◌≡◌, ◌≤◌, ◌+◌, ◌-◌, ◌*◌, ℕ, true, sym, ap, ◌∙◌, subst}
-use Rattle.gv_types.specs.Span.{span, meets}
+use Rattle.gv_types.specs.PageRange.{span, meets}
 use Rattle.gv_table.specs.declared.slot.Slot.{Slot}
 use Rattle.gv_table.specs.Levels.{pages_of, slot_pages}
 use Rattle.gv_table.specs.Tree.{child, is_table}
 use Rattle.gv_table.specs.Counts.{needed, may_divide}
 use Rattle.gv_table.proofs.Needs.{needed-zero, needed-none, needed-apart, may-met, needed-parts, one_if_not-small, product-up, rest-bound}
 use Rattle.gv_table.proofs.PagesOf.{pages_of-some, pages_of-below, pages_of-bound, one-more-part}
-use Rattle.gv_table.proofs.Places.{ended-later, place-ended}
+use Rattle.gv_table.proofs.Positions.{ended-later, position-ended}
 use Rattle.gv_table.proofs.Spans.{meets-before, meets-after}
 use Rattle.gv_table.proofs.Sums.{sum_below-zeros, sum_below-more, sum_below-rest}
 use Rattle.gv_table.proofs.spare.+spare.Goals as goal
@@ -54,7 +54,7 @@ needed_in-needed_below-requires t c =
           (
             c.requires.laid_out,
             (
-              place-ended c.args.pieces.now _ _ c.args.place (omega arith) c.requires.place,
+              position-ended c.args.pieces.now _ _ c.args.position (omega arith) c.requires.position,
               subst (λ (n : ℕ). meets (span c.args.first n) c.args.range ≡ true) below-of (may-met c.args.pieces.now c.args.range c.args.level c.args.first may),
             ),
           ),
@@ -89,7 +89,7 @@ needed_below-loop-index-init t c =
     (meets-before (slot_pages c.args.level (c.args.first + k * pages_of c.args.level)) c.args.range (c.slots_met-low.ensures.before k below))) in
     let up = product-up c.slots_met-low.result.0 (pages_of c.args.level) (pages_of-some c.args.level) in
     record {
-      place = ended-later c.args.pieces.now _ _ c.args.place (omega arith) c.requires.place;
+      position = ended-later c.args.pieces.now _ _ c.args.position (omega arith) c.requires.position;
       counted = omega (arith, z);
       bound = omega (arith, up);
     }
@@ -106,7 +106,7 @@ needed_below-loop-index-preserved t c =
     ap (λ (s : Slot). needed c.args.pieces.now c.args.range c.args.level (c.args.first + c.loop-index.index * pages_of c.args.level) s) c.child_of-part.ensures in
     let product = one-more-part c.loop-index.index (pages_of c.args.level) in
     record {
-      place = place-ended c.args.pieces.now c.max.result _ c.advance-place.result (omega (arith, start, product)) c.advance-place.ensures;
+      position = position-ended c.args.pieces.now c.max.result _ c.advance-position.result (omega (arith, start, product)) c.advance-position.ensures;
       counted = omega (arith, more, here, c.loop-index.invariant.counted);
       bound = omega (arith, product, c.loop-index.invariant.bound, c.needed_in-total.ensures.bound);
     }

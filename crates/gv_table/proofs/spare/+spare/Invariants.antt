@@ -1,6 +1,6 @@
 use Rattle.std.proofs.Common.{◌≡◌, ◌≤◌, ◌+◌, ◌*◌}
 use Rattle.gv_ranges.specs.List.{AreEnded}
-use Rattle.gv_table.specs.Levels.{pages_of, entered}
+use Rattle.gv_table.specs.Levels.{pages_of, first_within}
 use Rattle.gv_table.specs.Sums.{sum_below}
 use Rattle.gv_table.specs.Tree.{child}
 use Rattle.gv_table.specs.Counts.{needed}
@@ -14,7 +14,7 @@ decreases-needed_below l = 2 * l.level + 1
 
 abbrev pub invariant-needed_below-loop-index : goal.invariant-needed_below-loop-index
 invariant-needed_below-loop-index l = record {
-  place : AreEnded l.pieces (entered l.range (l.first + l.index * pages_of l.level)) l.place;
+  position : AreEnded l.pieces (first_within l.range (l.first + l.index * pages_of l.level)) l.position;
   counted : l.total ≡ sum_below l.index (λ k. needed l.pieces l.range l.level (l.first + k * pages_of l.level) (child l.slot k));
   bound : l.total + l.index ≤ l.index * pages_of l.level;
 }

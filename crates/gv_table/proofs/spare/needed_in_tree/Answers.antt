@@ -1,6 +1,6 @@
 use Rattle.std.proofs.Common.{arith, ◌≡◌, ◌+◌, ◌-◌, ◌*◌, ℕ, ap, sym, ◌∙◌, subst}
 use Rattle.gv_table.specs.declared.slot.Slot.{Slot}
-use Rattle.gv_table.specs.Levels.{pages_of, IsWithin}
+use Rattle.gv_table.specs.Levels.{pages_of, LiesInSlot}
 use Rattle.gv_table.specs.Tree.{is_table, child}
 use Rattle.gv_table.specs.Counts.{needed}
 use Rattle.gv_table.proofs.Around.{needed-around}
@@ -38,7 +38,7 @@ loop-index-preserved c =
     ap (λ (s : Slot). needed c.args.pieces.now range (level - 1) (first + index * c.pages_of.result) s) (sym c.child_of-slot.ensures) in
     record {
       in_space = omega (arith, inv.in_space, all, fits, start);
-      within = subst (λ (n : ℕ). IsWithin range (level - 1) n) start is.part;
+      within = subst (λ (n : ℕ). LiesInSlot range (level - 1) n) start is.part;
       few = omega (arith, inv.few, c.one_if_not_table-count.ensures, small, some);
       counted = omega (arith, inv.counted, c.one_if_not_table-count.ensures, parts, part);
     }

@@ -1,13 +1,13 @@
 use Rattle.std.proofs.Common.{◌≡◌, ◌+◌, ◌≤◌}
 use Rattle.gv_types.specs.Page.{PAGES}
-use Rattle.gv_table.specs.Levels.{top_level, pages_of, IsWithin}
+use Rattle.gv_table.specs.Levels.{top_level, pages_of, LiesInSlot}
 use Rattle.gv_table.specs.Counts.{needed}
 use Rattle.gv_table.proofs.spare.needed_in_tree.Given as goal
 
 abbrev pub invariant-loop-index : goal.invariant-loop-index
 invariant-loop-index l = record {
   in_space : l.first + pages_of l.level ≤ PAGES;
-  within : IsWithin l.range l.level l.first;
+  within : LiesInSlot l.range l.level l.first;
   few : l.count + l.level ≤ top_level;
   counted : needed l.pieces l.range top_level 0 l.root ≡ l.count + needed l.pieces l.range l.level l.first l.slot;
 }

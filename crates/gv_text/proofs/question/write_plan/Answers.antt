@@ -2,10 +2,10 @@ use Rattle.std.proofs.Common.{◌≡◌, ◌∙◌, ◌++◌, Option, Some, None
 use Rattle.gv_types.specs.Operation.{in_pages}
 use Rattle.gv_types.specs.declared.fault.Fault.{Fault}
 use Rattle.gv_split.specs.Steps.{steps}
-use Rattle.gv_space.specs.State.{AddressSpace, IsSpace}
+use Rattle.gv_space.specs.State.{SpaceState, IsSpace}
 use Rattle.gv_space.specs.Refusal.{operation_fault}
 use Rattle.gv_vm.proofs.SpaceLemmas.{with_its_room}
-use Rattle.gv_text.specs.State.{texts}
+use Rattle.gv_text.specs.State.{names_alone}
 use Rattle.gv_text.specs.Said.{plan_reply}
 use Rattle.gv_text.proofs.AnswerLemmas.{none_from_ok, fault_but_memory}
 use Rattle.gv_text.proofs.Held.{held_plan}
@@ -19,16 +19,16 @@ write_steps-requires c =
 pub returns-in_ok-write_steps-in-Ok : goal.returns-in_ok-write_steps-in-Ok
 returns-in_ok-write_steps-in-Ok c =
     let shown : c.deref.result.now ≡ steps c.args.vm.now.space.mappings (in_pages c.args.op.now) =
-    c.deref.ensures.value ∙ c.in-Ok.ensures.steps ∙ ap (λ (x : AddressSpace). steps x.mappings (in_pages c.args.op.now)) (sym c.space.ensures.value) in
+    c.deref.ensures.value ∙ c.in-Ok.ensures.steps ∙ ap (λ (x : SpaceState). steps x.mappings (in_pages c.args.op.now)) (sym c.space.ensures.value) in
     let none : operation_fault c.args.vm.now.space c.args.op.now ≡ None =
-    ap (λ (x : AddressSpace). operation_fault x c.args.op.now) c.space.ensures.value ∙ none_from_ok (operation_fault c.space.result.now c.args.op.now) c.in-Ok.steps c.in-Ok.ensures.fault in
+    ap (λ (x : SpaceState). operation_fault x c.args.op.now) c.space.ensures.value ∙ none_from_ok (operation_fault c.space.result.now c.args.op.now) c.in-Ok.steps c.in-Ok.ensures.fault in
     (rw shown at c.in_ok-write_steps-in-Ok.ensures)
-    ∙ ap (λ (o : Option Fault). string_bytes c.args.out.now ++ plan_reply (texts c.args.names.now.entries) c.args.vm.now.space c.args.op.now o) (sym none)
+    ∙ ap (λ (o : Option Fault). string_bytes c.args.out.now ++ plan_reply (names_alone c.args.names.now.entries) c.args.vm.now.space c.args.op.now o) (sym none)
 
 pub returns-in_ok-write_refused-in-Err : goal.returns-in_ok-write_refused-in-Err
 returns-in_ok-write_refused-in-Err c =
     let refused : operation_fault c.args.vm.now.space c.args.op.now ≡ Some c.in-Err.fault =
-    ap (λ (x : AddressSpace). operation_fault x c.args.op.now) c.space.ensures.value
+    ap (λ (x : SpaceState). operation_fault x c.args.op.now) c.space.ensures.value
     ∙ fault_but_memory _ (operation_fault c.space.result.now c.args.op.now) c.in-Err.fault c.in-Err.ensures.fault (search rules) in
     c.in_ok-write_refused-in-Err.ensures
-    ∙ ap (λ (o : Option Fault). string_bytes c.args.out.now ++ plan_reply (texts c.args.names.now.entries) c.args.vm.now.space c.args.op.now o) (sym refused)
+    ∙ ap (λ (o : Option Fault). string_bytes c.args.out.now ++ plan_reply (names_alone c.args.names.now.entries) c.args.vm.now.space c.args.op.now o) (sym refused)

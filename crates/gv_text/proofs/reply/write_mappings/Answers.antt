@@ -4,7 +4,7 @@ use Rattle.std.proofs.lemmas.List.{append_assoc}
 use Rattle.std.proofs.lemmas.List.Concat.{flat_map-cons}
 use Rattle.std.proofs.lemmas.List.Elements.{All-tail}
 use Rattle.gv_types.specs.declared.mapping.Mapping.{Mapping}
-use Rattle.gv_text.specs.State.{texts, IsHeld}
+use Rattle.gv_text.specs.State.{names_alone, HasBytesThatFit}
 use Rattle.gv_text.specs.Reply.{mapping_text, reply}
 use Rattle.gv_text.proofs.reply.write_mappings.Goals as goal
 
@@ -18,9 +18,9 @@ turn f old between new all text m left rest line first second steps so_far =
 
 pub loop-mapping-preserved : goal.loop-mapping-preserved
 loop-mapping-preserved c = record {
-  written = turn (λ m. reply (mapping_text (texts c.args.names.now.entries) m ∷ [])) _ _ _ _ (mapping_text (texts c.args.names.now.entries) c.in-Some.mapping.now) c.in-Some.mapping.now c.loop-mapping.mapping-iterator c.next.new.self
+  written = turn (λ m. reply (mapping_text (names_alone c.args.names.now.entries) m ∷ [])) _ _ _ _ (mapping_text (names_alone c.args.names.now.entries) c.in-Some.mapping.now) c.in-Some.mapping.now c.loop-mapping.mapping-iterator c.next.new.self
       refl c.in_ok-write_mapping.ensures c.in_ok-push_str.ensures.bytes c.in-Some.ensures.steps c.loop-mapping.invariant.written;
-  held = All-tail IsHeld c.in-Some.mapping.now c.next.new.self (rw c.in-Some.ensures.steps at c.loop-mapping.invariant.held);
+  held = All-tail HasBytesThatFit c.in-Some.mapping.now c.next.new.self (rw c.in-Some.ensures.steps at c.loop-mapping.invariant.held);
   can = tt;
   finite = tt;
 }

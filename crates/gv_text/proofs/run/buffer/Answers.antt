@@ -1,6 +1,6 @@
 use Rattle.std.proofs.Common.{◌≡◌, ◌∙◌, sym, ap, refl, None, is_some, false, rules}
 use Rattle.gv_lines.specs.declared.line.Line.TheVariants as line
-use Rattle.gv_text.specs.State.{State, Buffers, texts, buffer_named}
+use Rattle.gv_text.specs.State.{SessionState, Buffers, names_alone, buffer_named}
 use Rattle.gv_text.specs.Said.{said}
 use Rattle.gv_text.specs.Line.{Runs}
 use Rattle.gv_vm.specs.declared.event.Event.TheVariants.{Create}
@@ -10,13 +10,13 @@ use Rattle.gv_text.proofs.run.buffer.Goals as goal
 
 pub returns-clause-done : goal.returns-clause-done
 returns-clause-done c =
-    let s : State = c.args.session.now in
-    let t : State = c.make_buffer.new.self in
+    let s : SessionState = c.args.session.now in
+    let t : SessionState = c.make_buffer.new.self in
     let ran = c.in_ok-reply.ensures in
     let absent : is_some c.id_of.result ≡ false = search rules in
     let undeclared : buffer_named s.buffers c.args.name ≡ None =
     ap (λ (bs : Buffers). buffer_named bs c.args.name) (sym c.buffers.ensures) ∙ sym c.id_of.ensures.id ∙ none_of c.id_of.result absent in
-    wrote_plain (Runs (line.Buffer c.args.name c.args.pages)) s t (said (texts t.buffers) t.timelines c.in_ok-reply.reply) c.args.out.now c.write_said.new.out
+    wrote_plain (Runs (line.Buffer c.args.name c.args.pages)) s t (said (names_alone t.buffers) t.timelines c.in_ok-reply.reply) c.args.out.now c.write_said.new.out
     (rw (c.buffers-2.ensures, c.timelines.ensures.names) at c.in_ok-write_said.ensures)
     (record {
       undeclared = undeclared;

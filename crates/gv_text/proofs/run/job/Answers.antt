@@ -4,7 +4,7 @@ use Rattle.gv_types.specs.declared.fault.Fault.TheVariants.{TooManyAccesses}
 use Rattle.gv_vm.specs.Jobs.{most_accesses}
 use Rattle.gv_vm.specs.declared.event.Event.TheVariants.{JobBegin}
 use Rattle.gv_lines.specs.declared.line.Line.TheVariants as line
-use Rattle.gv_text.specs.Asking.{access_of}
+use Rattle.gv_text.specs.Asking.{access_named}
 use Rattle.gv_text.specs.Reply.{refused_reply}
 use Rattle.gv_text.specs.Line.{Runs, DoesOnce}
 use Rattle.gv_text.proofs.AnswerLemmas.{then_ok}
@@ -15,9 +15,9 @@ pub returns-then-are_too_many-clause-done : goal.returns-then-are_too_many-claus
 returns-then-are_too_many-clause-done c =
     let s = c.args.session.now in
     let many : most_accesses < length c.args.accesses = search rules in
-    let same : length (map access_of c.args.accesses) ≡ length c.args.accesses = length-map c.args.accesses access_of in
+    let same : length (map access_named c.args.accesses) ≡ length c.args.accesses = length-map c.args.accesses access_named in
     wrote_plain (Runs (line.Job c.args.accesses)) s c.begin.new.self (refused_reply TooManyAccesses) c.args.out.now c.write_refused.new.out c.in_ok-write_refused.ensures
-    (inr (too_many s.world.machine.running (length (map access_of c.args.accesses)) (subst (λ (n : ℕ). most_accesses < n) (sym same) many), (refl, c.begin.ensures)))
+    (inr (too_many s.world.vm.running (length (map access_named c.args.accesses)) (subst (λ (n : ℕ). most_accesses < n) (sym same) many), (refl, c.begin.ensures)))
 
 pub returns-clause-done : goal.returns-clause-done
 returns-clause-done c =

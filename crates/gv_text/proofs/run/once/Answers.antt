@@ -1,5 +1,5 @@
 use Rattle.std.proofs.Common.{◌≡◌, ap, ◌∙◌}
-use Rattle.gv_text.specs.State.{State, texts}
+use Rattle.gv_text.specs.State.{SessionState, names_alone}
 use Rattle.gv_text.specs.Said.{said}
 use Rattle.std.specs.List.{flat_map}
 use Rattle.gv_text.specs.Events.{once}
@@ -10,9 +10,9 @@ use Rattle.gv_text.proofs.run.once.Goals as goal
 pub returns-clause-done : goal.returns-clause-done
 returns-clause-done c =
     let ran = c.in_ok-reply.ensures in
-    let buffers : c.buffers.result.now.entries ≡ c.args.session.now.buffers = c.buffers.ensures ∙ ap (λ (s : State). s.buffers) ran.state in
-    let timelines : c.timelines.result.now.names ≡ c.args.session.now.timelines = c.timelines.ensures.names ∙ ap (λ (s : State). s.timelines) ran.state in
-    wrote_as (Does (once c.args.event) (flat_map (said (texts c.args.session.now.buffers) c.args.session.now.timelines))) (DoesOnce c.args.event)
+    let buffers : c.buffers.result.now.entries ≡ c.args.session.now.buffers = c.buffers.ensures ∙ ap (λ (s : SessionState). s.buffers) ran.state in
+    let timelines : c.timelines.result.now.names ≡ c.args.session.now.timelines = c.timelines.ensures.names ∙ ap (λ (s : SessionState). s.timelines) ran.state in
+    wrote_as (Does (once c.args.event) (flat_map (said (names_alone c.args.session.now.buffers) c.args.session.now.timelines))) (DoesOnce c.args.event)
     c.args.session.now c.step.new.self c.args.out.now c.write_said.new.out (λ w runs. runs)
-    (wrote_once c.args.event (said (texts c.args.session.now.buffers) c.args.session.now.timelines) c.args.session.now c.step.new.self c.in_ok-reply.reply
+    (wrote_once c.args.event (said (names_alone c.args.session.now.buffers) c.args.session.now.timelines) c.args.session.now c.step.new.self c.in_ok-reply.reply
     c.args.out.now c.write_said.new.out ran.step ran.state (rw (buffers, timelines) at c.in_ok-write_said.ensures))

@@ -1,7 +1,7 @@
 use Rattle.std.proofs.Common.{◌≡◌, ◌∙◌, List, ℕ, Some, ap, sym, refl, slice_index}
-use Rattle.gv_vm.specs.World.{World}
+use Rattle.gv_vm.specs.World.{WorldState}
 use Rattle.gv_lines.specs.declared.line.Line.TheVariants as line
-use Rattle.gv_text.specs.State.{State, timeline_named}
+use Rattle.gv_text.specs.State.{SessionState, timeline_named}
 use Rattle.gv_text.specs.Reply.{number_reply}
 use Rattle.gv_text.specs.Line.{Runs}
 use Rattle.gv_text.proofs.AnswerLemmas.{of_found, ok_or_some}
@@ -10,13 +10,13 @@ use Rattle.gv_text.proofs.run.value.Goals as goal
 
 pub returns-clause-done : goal.returns-clause-done
 returns-clause-done c =
-    let s : State = c.args.session.now in
-    let clock : c.clock.result.now ≡ s.world.numbers = c.clock.ensures ∙ ap (λ (x : World). x.numbers) (c.world.ensures ∙ ap (λ (x : State). x.world) c.begin.ensures) in
+    let s : SessionState = c.args.session.now in
+    let clock : c.clock.result.now ≡ s.world.numbers = c.clock.ensures ∙ ap (λ (x : WorldState). x.numbers) (c.world.ensures ∙ ap (λ (x : SessionState). x.world) c.begin.ensures) in
     let found : c.place_of.result ≡ Some c.in_ok-timeline.timeline = ok_or_some c.place_of.result _ c.in_ok-timeline.timeline c.in_ok-timeline.ensures.value in
     let named : Some c.in_ok-timeline.timeline ≡ timeline_named s.timelines c.args.name.now =
     sym found ∙ c.place_of.ensures.place ∙ ap (λ (ns : List (List ℕ)). timeline_named ns c.args.name.now) c.timelines.ensures.names in
     let number : c.value-number.result ≡ slice_index s.world.numbers c.in_ok-timeline.timeline = c.value-number.ensures ∙ ap (λ (ns : List ℕ). slice_index ns c.in_ok-timeline.timeline) clock in
-    let names : c.timelines-2.result.now.names ≡ s.timelines = c.timelines-2.ensures.names ∙ ap (λ (x : State). x.timelines) c.begin.ensures in
+    let names : c.timelines-2.result.now.names ≡ s.timelines = c.timelines-2.ensures.names ∙ ap (λ (x : SessionState). x.timelines) c.begin.ensures in
     wrote_plain (Runs (line.Value c.args.name.now)) s c.begin.new.self (number_reply s.timelines c.in_ok-timeline.timeline (slice_index s.world.numbers c.in_ok-timeline.timeline))
     c.args.out.now c.write_number.new.out (rw (names, number) at c.in_ok-write_number.ensures)
     (of_found (timeline_named s.timelines c.args.name.now) c.in_ok-timeline.timeline _ named (refl, c.begin.ensures))

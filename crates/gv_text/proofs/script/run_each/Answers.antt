@@ -2,7 +2,7 @@ use Rattle.std.proofs.Common.{◌≡◌, ◌∙◌, ◌++◌, ◌+◌, [], Err, 
 use Rattle.std.proofs.KnownBytes.{Appends-trans}
 use Rattle.gv_lines.proofs.PartsLemmas.{parts_some}
 use Rattle.std.proofs.lemmas.Result.{err_from_is_err_and}
-use Rattle.gv_text.specs.Script.{one_if}
+use Rattle.gv_text.specs.Script.{refusals_of}
 use Rattle.gv_text.proofs.Front.{front_more}
 use Rattle.gv_text.specs.Script.{RunsWhole}
 use Rattle.gv_text.proofs.Alike.{only_whole}
@@ -28,7 +28,7 @@ loop-line-preserved g c =
     let ran = c.in_ok-run_line.ensures.ends in
     record {
       text = c.loop-line.invariant.text ++ ran.0.text;
-      refusals = c.loop-line.invariant.refusals + one_if ran.0.lacking;
+      refusals = c.loop-line.invariant.refusals + refusals_of ran.0.lacking;
       front = front_more _ _ _ _ _ _ _ _ _ front ran.1;
       wrote = Appends-trans _ _ _ _ _ c.loop-line.invariant.wrote ran.2;
       flag = c.in_ok-run_line.ensures.fault ∙ c.loop-line.invariant.flag;

@@ -12,10 +12,10 @@ use Rattle.gv_threads.proofs.first.make_buffer.Goals as goal
 
 pub returns-in_ok-push_str-in-Ok-clause-done : goal.returns-in_ok-push_str-in-Ok-clause-done
 returns-in_ok-push_str-in-Ok-clause-done c = λ names.
-    let old : Buffers = c.args.ground.now.buffers.entries in
+    let old : Buffers = c.args.harness.now.buffers.entries in
     let absent : is_some c.id_of.result ≡ false = search rules in
     let undeclared : buffer_named old c.args.name ≡ None = sym c.id_of.ensures.id ∙ none_of c.id_of.result absent in
-    let allowed : event_fault c.args.ground.now.vm (Create c.args.pages) ≡ None = none_from_ok _ c.in-Ok.id c.in-Ok.ensures.fault in
+    let allowed : event_fault c.args.harness.now.vm (Create c.args.pages) ≡ None = none_from_ok _ c.in-Ok.id c.in-Ok.ensures.fault in
     let longer : c.declare.new.self.entries ≡ old ++ (c.args.name, c.in-Ok.id) ∷ [] =
     c.declare.ensures ∙ ap (λ (bs : Buffers). bs ++ (c.args.name, c.in-Ok.id) ∷ []) c.reserve-room.ensures.entries in
     let wrote : string_bytes c.push_str.new.self ≡ string_bytes c.args.out.now ++ ok_reply = search rules in (
@@ -23,8 +23,8 @@ returns-in_ok-push_str-in-Ok-clause-done c = λ names.
       record {
         undeclared = undeclared;
         reply = Created c.in-Ok.id;
-        creates = λ w. record { allowed = allowed; made = c.in-Ok.ensures.ok; machine = c.create.ensures.rest; state = refl };
-        state = ap (λ (bs : Buffers). let r : Ready = record (ready_of c.args.ground.now) { machine = c.create.new.self; buffers = bs } in r) longer;
+        creates = λ w. record { allowed = allowed; made = c.in-Ok.ensures.ok; vm = c.create.ensures.rest; state = refl };
+        state = ap (λ (bs : Buffers). let r : Ready = record (ready_of c.args.harness.now) { vm = c.create.new.self; buffers = bs } in r) longer;
         text_is = refl;
       },
       wrote,
@@ -32,11 +32,11 @@ returns-in_ok-push_str-in-Ok-clause-done c = λ names.
 
 pub returns-in_ok-write_refused-in-Err : goal.returns-in_ok-write_refused-in-Err
 returns-in_ok-write_refused-in-Err c =
-    let old : Buffers = c.args.ground.now.buffers.entries in
+    let old : Buffers = c.args.harness.now.buffers.entries in
     let absent : is_some c.id_of.result ≡ false = search rules in
     let undeclared : buffer_named old c.args.name ≡ None = sym c.id_of.ensures.id ∙ none_of c.id_of.result absent in
     let other : c.in-Err.fault ≢ OutOfMemory = search rules in
-    let refused : event_fault c.args.ground.now.vm (Create c.args.pages) ≡ Some c.in-Err.fault = fault_but_memory _ _ c.in-Err.fault c.in-Err.ensures.fault other in
+    let refused : event_fault c.args.harness.now.vm (Create c.args.pages) ≡ Some c.in-Err.fault = fault_but_memory _ _ c.in-Err.fault c.in-Err.ensures.fault other in
     record {
       told = search rules;
       timelines = refl;
@@ -46,8 +46,8 @@ returns-in_ok-write_refused-in-Err c =
         record {
           undeclared = undeclared;
           reply = Refused c.in-Err.fault;
-          creates = refused_creates c.args.ground.now.vm c.create.new.self c.args.pages c.in-Err.fault refused c.in-Err.ensures.err;
-          state = ap (λ (bs : Buffers). let r : Ready = record (ready_of c.args.ground.now) { machine = c.create.new.self; buffers = bs } in r) c.reserve-room.ensures.entries;
+          creates = refused_creates c.args.harness.now.vm c.create.new.self c.args.pages c.in-Err.fault refused c.in-Err.ensures.err;
+          state = ap (λ (bs : Buffers). let r : Ready = record (ready_of c.args.harness.now) { vm = c.create.new.self; buffers = bs } in r) c.reserve-room.ensures.entries;
           text_is = refl;
         },
         c.in_ok-write_refused-in-Err.ensures,

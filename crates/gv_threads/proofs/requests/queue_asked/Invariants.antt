@@ -1,6 +1,6 @@
 use Rattle.std.proofs.Common.{◌≡◌, length, MatchOption}
 use Rattle.gv_lines.specs.Clause.{queue_asked}
-use Rattle.gv_threads.specs.Places.{AreTimed}
+use Rattle.gv_threads.specs.Standing.{AreTimed}
 use Rattle.gv_threads.proofs.requests.queue_asked.Given as goal
 
 abbrev pub invariant-loop-clause : goal.invariant-loop-clause

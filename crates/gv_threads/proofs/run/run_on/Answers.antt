@@ -12,7 +12,7 @@ returns-in-Ok-clause-text g c = λ lines keeps.
     then_ok c.serve.result _ _
     (λ found. (
       first.0 ++ found.0,
-      text_of lines c.args.script c.begin.new.self (ready_of c.args.ground) (ready_of c.begin.new.ground) c.in-Ok.requests.items c.args.count first.0 found.0
+      text_of lines c.args.script c.begin.new.self (ready_of c.args.harness) (ready_of c.begin.new.harness) c.in-Ok.requests.items c.args.count first.0 found.0
           keeps c.begin.ensures.same first.1 c.in-Ok.ensures.named found.1,
       Appends-trans _ _ _ _ _ first.2 found.2,
     ))

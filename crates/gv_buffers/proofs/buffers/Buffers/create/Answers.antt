@@ -1,5 +1,5 @@
 use Rattle.std.proofs.Common.{arith, refl, ap}
-use Rattle.gv_buffers.specs.Table.{Table}
+use Rattle.gv_buffers.specs.Buffers.{BuffersState}
 use Rattle.gv_buffers.proofs.Tables.{is_table}
 use Rattle.gv_buffers.proofs.Making.{made_with_room}
 use Rattle.gv_buffers.proofs.Using.{grown}
@@ -7,29 +7,29 @@ use Rattle.gv_buffers.proofs.buffers.Buffers.create.Goals as goal
 
 pub invariant_of-self : goal.invariant_of-self
 invariant_of-self c =
-    (grown c.self.inside c.args.self.now c.next_place.new.self c.self.invariant c.self.view_is c.in_err-place.ensures.entries c.in_err-place.ensures.vacant
-    (c.in_err-place.ensures.kept c.self.invariant.room)).sound
+    (grown c.self.inside c.args.self.now c.next_slot.new.self c.self.invariant c.self.view_is c.in_err-index.ensures.entries c.in_err-index.ensures.vacant
+    (c.in_err-index.ensures.kept c.self.invariant.room)).sound
 
 pub invariant_of-self-2 : goal.invariant_of-self-2
 invariant_of-self-2 c =
-    let room = c.in_ok-place.ensures in
-    (made_with_room c.self.inside c.args.self.now c.next_place.new.self c.put_in.new.self c.in_ok-place.place c.args.pages _ c.self.invariant c.self.view_is
-    room.entries room.vacant (room.kept c.self.invariant.room) room.more (omega (arith, c.live.ensures, ap (λ (t : Table). t.limit) c.self.view_is)) (omega arith) (omega arith) room.place
+    let room = c.in_ok-index.ensures in
+    (made_with_room c.self.inside c.args.self.now c.next_slot.new.self c.put_in.new.self c.in_ok-index.index c.args.pages _ c.self.invariant c.self.view_is
+    room.entries room.vacant (room.kept c.self.invariant.room) room.more (omega (arith, c.live.ensures, ap (λ (t : BuffersState). t.limit) c.self.view_is)) (omega arith) (omega arith) room.index
     c.put_in.ensures.was_vacant c.put_in.ensures.updates c.put_in.ensures.count c.put_in.ensures.vacant c.put_in.ensures.rest c.put_in.ensures.room c.put_in.ensures.length
     c.put_in.ensures.same_length (rw (c.new.ensures, c.new-2.ensures.items) refl)).sound
 
 pub returns-clause-ok : goal.returns-clause-ok
 returns-clause-ok c =
-    let room = c.in_ok-place.ensures in
-    rw c.new-3.ensures (made_with_room c.self.inside c.args.self.now c.next_place.new.self c.put_in.new.self c.in_ok-place.place c.args.pages _ c.self.invariant c.self.view_is
-    room.entries room.vacant (room.kept c.self.invariant.room) room.more (omega (arith, c.live.ensures, ap (λ (t : Table). t.limit) c.self.view_is)) (omega arith) (omega arith) room.place
+    let room = c.in_ok-index.ensures in
+    rw c.new-3.ensures (made_with_room c.self.inside c.args.self.now c.next_slot.new.self c.put_in.new.self c.in_ok-index.index c.args.pages _ c.self.invariant c.self.view_is
+    room.entries room.vacant (room.kept c.self.invariant.room) room.more (omega (arith, c.live.ensures, ap (λ (t : BuffersState). t.limit) c.self.view_is)) (omega arith) (omega arith) room.index
     c.put_in.ensures.was_vacant c.put_in.ensures.updates c.put_in.ensures.count c.put_in.ensures.vacant c.put_in.ensures.rest c.put_in.ensures.room c.put_in.ensures.length
     c.put_in.ensures.same_length (rw (c.new.ensures, c.new-2.ensures.items) refl)).created
 
 pub returns-clause-table : goal.returns-clause-table
 returns-clause-table c =
-    let room = c.in_ok-place.ensures in
-    is_table _ _ (made_with_room c.self.inside c.args.self.now c.next_place.new.self c.put_in.new.self c.in_ok-place.place c.args.pages _ c.self.invariant c.self.view_is
-    room.entries room.vacant (room.kept c.self.invariant.room) room.more (omega (arith, c.live.ensures, ap (λ (t : Table). t.limit) c.self.view_is)) (omega arith) (omega arith) room.place
+    let room = c.in_ok-index.ensures in
+    is_table _ _ (made_with_room c.self.inside c.args.self.now c.next_slot.new.self c.put_in.new.self c.in_ok-index.index c.args.pages _ c.self.invariant c.self.view_is
+    room.entries room.vacant (room.kept c.self.invariant.room) room.more (omega (arith, c.live.ensures, ap (λ (t : BuffersState). t.limit) c.self.view_is)) (omega arith) (omega arith) room.index
     c.put_in.ensures.was_vacant c.put_in.ensures.updates c.put_in.ensures.count c.put_in.ensures.vacant c.put_in.ensures.rest c.put_in.ensures.room c.put_in.ensures.length
     c.put_in.ensures.same_length (rw (c.new.ensures, c.new-2.ensures.items) refl)).sound refl

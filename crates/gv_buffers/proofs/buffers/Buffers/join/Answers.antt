@@ -3,7 +3,7 @@ use Rattle.std.specs.Option.{option_map}
 use Rattle.std.proofs.lemmas.Result.{err_from_is_err_and}
 use Rattle.gv_buffers.specs.Users.{conflict}
 use Rattle.gv_buffers.specs.Slots.{buffer_at, live_at}
-use Rattle.gv_buffers.specs.Table.{join_fault_of, joined_by}
+use Rattle.gv_buffers.specs.Buffers.{join_fault_of, joined_by}
 use Rattle.gv_buffers.proofs.Tables.{is_table, found_buffer, missed_buffer}
 use Rattle.gv_buffers.proofs.Using.{unchanged, joined_table}
 use Rattle.gv_buffers.proofs.buffers.Buffers.join.Goals as goal
@@ -23,7 +23,7 @@ returns-in-Some-conflict-clause-fault c =
 
 pub invariant_of-self : goal.invariant_of-self
 invariant_of-self c =
-    (unchanged c.self.inside c.args.self.now c.make_room.new.self c.make_room.new.places c.self.invariant c.self.view_is c.in_err-make_room.ensures.vacant c.in_err-make_room.ensures.length
+    (unchanged c.self.inside c.args.self.now c.make_room.new.self c.make_room.new.indices c.self.invariant c.self.view_is c.in_err-make_room.ensures.vacant c.in_err-make_room.ensures.length
     c.in_err-make_room.ensures.same c.in_err-make_room.ensures.keeps).sound
 
 pub returns-in_err-make_room-clause-fault : goal.returns-in_err-make_room-clause-fault
@@ -38,7 +38,7 @@ returns-in_err-make_room-clause-fault c =
 pub returns-in_err-make_room-clause-err : goal.returns-in_err-make_room-clause-err
 returns-in_err-make_room-clause-err c =
     let p = err_from_is_err_and c.from_residual.result c.from_residual.ensures.1 in
-    rw p.1 (unchanged c.self.inside c.args.self.now c.make_room.new.self c.make_room.new.places c.self.invariant c.self.view_is c.in_err-make_room.ensures.vacant c.in_err-make_room.ensures.length
+    rw p.1 (unchanged c.self.inside c.args.self.now c.make_room.new.self c.make_room.new.indices c.self.invariant c.self.view_is c.in_err-make_room.ensures.vacant c.in_err-make_room.ensures.length
     c.in_err-make_room.ensures.same c.in_err-make_room.ensures.keeps).table
 
 pub invariant_of-self-2 : goal.invariant_of-self-2
@@ -48,9 +48,9 @@ invariant_of-self-2 c =
     let meets_none : conflict c.args.job c.args.usage slot.users.items ≡ None =
     ap (conflict c.args.job c.args.usage) (sym c.deref.ensures.value) ∙ sym c.conflict.ensures ∙ c.in_default-conflict.is in
     let room = c.in_ok-make_room.ensures in
-    (joined_table c.self.inside c.args.self.now c.join.new.self c.make_room.new.places c.args.id slot c.args.job c.args.usage c.self.invariant c.self.view_is (c.join.ensures.vacant ∙ room.vacant) (c.join.ensures.length ∙ room.length) found meets_none
+    (joined_table c.self.inside c.args.self.now c.join.new.self c.make_room.new.indices c.args.id slot c.args.job c.args.usage c.self.invariant c.self.view_is (c.join.ensures.vacant ∙ room.vacant) (c.join.ensures.length ∙ room.length) found meets_none
     (c.join.ensures.here ∙ ap (option_map (joined_by c.args.job c.args.usage)) (room.same c.args.id.index))
-    (λ (place : ℕ) (apart : place ≢ c.args.id.index). ap (option_map (buffer_at place)) (c.join.ensures.others place apart) ∙ room.same place)
+    (λ (index : ℕ) (apart : index ≢ c.args.id.index). ap (option_map (buffer_at index)) (c.join.ensures.others index apart) ∙ room.same index)
     room.keeps room.noted).sound
 
 pub returns-clause-fault : goal.returns-clause-fault
@@ -68,9 +68,9 @@ returns-clause-ok c =
     let meets_none : conflict c.args.job c.args.usage slot.users.items ≡ None =
     ap (conflict c.args.job c.args.usage) (sym c.deref.ensures.value) ∙ sym c.conflict.ensures ∙ c.in_default-conflict.is in
     let room = c.in_ok-make_room.ensures in
-    (joined_table c.self.inside c.args.self.now c.join.new.self c.make_room.new.places c.args.id slot c.args.job c.args.usage c.self.invariant c.self.view_is (c.join.ensures.vacant ∙ room.vacant) (c.join.ensures.length ∙ room.length) found meets_none
+    (joined_table c.self.inside c.args.self.now c.join.new.self c.make_room.new.indices c.args.id slot c.args.job c.args.usage c.self.invariant c.self.view_is (c.join.ensures.vacant ∙ room.vacant) (c.join.ensures.length ∙ room.length) found meets_none
     (c.join.ensures.here ∙ ap (option_map (joined_by c.args.job c.args.usage)) (room.same c.args.id.index))
-    (λ (place : ℕ) (apart : place ≢ c.args.id.index). ap (option_map (buffer_at place)) (c.join.ensures.others place apart) ∙ room.same place)
+    (λ (index : ℕ) (apart : index ≢ c.args.id.index). ap (option_map (buffer_at index)) (c.join.ensures.others index apart) ∙ room.same index)
     room.keeps room.noted).table
 
 pub returns-in_default-clause-table : goal.returns-in_default-clause-table
@@ -82,7 +82,7 @@ returns-in-Some-conflict-clause-table c = is_table c.self.inside c.args.self.now
 pub returns-in_err-make_room-clause-table : goal.returns-in_err-make_room-clause-table
 returns-in_err-make_room-clause-table c =
     is_table _ _
-    (unchanged c.self.inside c.args.self.now c.make_room.new.self c.make_room.new.places c.self.invariant c.self.view_is c.in_err-make_room.ensures.vacant c.in_err-make_room.ensures.length
+    (unchanged c.self.inside c.args.self.now c.make_room.new.self c.make_room.new.indices c.self.invariant c.self.view_is c.in_err-make_room.ensures.vacant c.in_err-make_room.ensures.length
     c.in_err-make_room.ensures.same c.in_err-make_room.ensures.keeps).sound refl
 
 pub returns-clause-table : goal.returns-clause-table
@@ -93,7 +93,7 @@ returns-clause-table c =
     ap (conflict c.args.job c.args.usage) (sym c.deref.ensures.value) ∙ sym c.conflict.ensures ∙ c.in_default-conflict.is in
     let room = c.in_ok-make_room.ensures in
     is_table _ _
-    (joined_table c.self.inside c.args.self.now c.join.new.self c.make_room.new.places c.args.id slot c.args.job c.args.usage c.self.invariant c.self.view_is (c.join.ensures.vacant ∙ room.vacant) (c.join.ensures.length ∙ room.length) found meets_none
+    (joined_table c.self.inside c.args.self.now c.join.new.self c.make_room.new.indices c.args.id slot c.args.job c.args.usage c.self.invariant c.self.view_is (c.join.ensures.vacant ∙ room.vacant) (c.join.ensures.length ∙ room.length) found meets_none
     (c.join.ensures.here ∙ ap (option_map (joined_by c.args.job c.args.usage)) (room.same c.args.id.index))
-    (λ (place : ℕ) (apart : place ≢ c.args.id.index). ap (option_map (buffer_at place)) (c.join.ensures.others place apart) ∙ room.same place)
+    (λ (index : ℕ) (apart : index ≢ c.args.id.index). ap (option_map (buffer_at index)) (c.join.ensures.others index apart) ∙ room.same index)
     room.keeps room.noted).sound refl

@@ -1,5 +1,5 @@
 use Rattle.std.proofs.Common.{◌-◌, ◌<◌}
-use Rattle.gv_buffers.specs.Table.{count, lowered}
+use Rattle.gv_buffers.specs.Buffers.{count, lowered}
 use Rattle.gv_buffers.proofs.Counters.{IsBuffer-with_count, users-with_count}
 use Rattle.gv_buffers.proofs.Tables.{moved, count_in_place}
 use Rattle.gv_buffers.proofs.FoundLemmas.{counted_lives}

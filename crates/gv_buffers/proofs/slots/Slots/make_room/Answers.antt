@@ -8,6 +8,6 @@ use Rattle.gv_buffers.proofs.slots.Slots.make_room.Goals as goal
 
 pub returns-else-branch-clause-noted : goal.returns-else-branch-clause-noted
 returns-else-branch-clause-noted c =
-    noted_in_slot c.args.places.now c.args.place c.args.job c.index_mut.result.now (c.in_ok-make_room_in.ensures.user c.if-branch.false)
-    (subst (λ (o : Option LiveBuffer). AreNoted c.args.places.now c.args.place (option_map (buffer_at c.args.place) o))
-    (slot_at c.args.self.now.entries.items c.args.place c.index_mut.result.now c.requires.lives c.index_mut.ensures.value) c.requires.noted)
+    noted_in_slot c.args.indices.now c.args.index c.args.job c.index_mut.result.now (c.in_ok-make_room_in.ensures.user c.if-branch.false)
+    (subst (λ (o : Option LiveBuffer). AreNoted c.args.indices.now c.args.index (option_map (buffer_at c.args.index) o))
+    (slot_at c.args.self.now.entries.items c.args.index c.index_mut.result.now c.requires.lives c.index_mut.ensures.value) c.requires.noted)

@@ -9,8 +9,8 @@ pub returns-clause-some : goal.returns-clause-some
 returns-clause-some c inside =
     let p = c.self.inside.parts in
     let list = c.self.invariant.list in
-    let below : c.args.place < length (items_of p) = omega (arith, c.if-place-self.false, list.held) in
-    let some : 0 < length p.chunks.items = list.some (omega (arith, c.if-place-self.false, list.fits)) in
+    let below : c.args.index < length (items_of p) = omega (arith, c.if-index-self.false, list.held) in
+    let some : 0 < length p.chunks.items = list.some (omega (arith, c.if-index-self.false, list.fits)) in
     let d : Vec Mapping = some_of p.chunks.items some in
-    let len : (v : Vec Mapping) → length c.piece_of.result.now + (c.args.place - c.spot-chunk.result.1) ≡ vec_len (slice_index_or p.chunks.items c.spot-chunk.result.0 v) = rw c.deref.ensures.value at c.piece_of.ensures.len in
+    let len : (v : Vec Mapping) → length c.piece_of.result.now + (c.args.index - c.spot-chunk.result.1) ≡ vec_len (slice_index_or p.chunks.items c.spot-chunk.result.0 v) = rw c.deref.ensures.value at c.piece_of.ensures.len in
     omega (arith, len d, c.spot-chunk.ensures.later d below, c.spot-chunk.ensures.begun)

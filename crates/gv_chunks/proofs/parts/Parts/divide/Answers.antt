@@ -1,6 +1,6 @@
 use Rattle.std.proofs.Common.{◌≡◌, ◌+◌, ◌/◌, ◌<◌, ◌∙◌, ◌++◌, ap, length, take, drop, vec_len, arith}
 use Rattle.std.proofs.lemmas.List.{take_at, get_or_default}
-use Rattle.gv_chunks.specs.Chunks.{joined}
+use Rattle.gv_chunks.specs.Chunks.{chunks_joined}
 use Rattle.gv_chunks.specs.Inside.{IsChunkList}
 use Rattle.gv_chunks.proofs.PackedLemmas.{joined_front}
 use Rattle.gv_chunks.proofs.PartsLemmas.{opened_list, opened_firsts, index_written}
@@ -19,7 +19,7 @@ write_index-requires-clause-filled c =
     let front : take c.args.chunk zs ≡ take c.args.chunk xs = c.open.ensures.front ∙ ap (take c.args.chunk) c.deref_mut.ensures.value in
     let left = c.len.result / 2 + 1 in
     let now : IsChunkList zs (s + 1) p.len p.room = opened_list xs zs s c.args.chunk left p.len p.room list e.standing more same front
-    (c.open.ensures.items ∙ ap joined c.deref_mut.ensures.value) (rw c.deref_mut.ensures.value at c.open.ensures.first) (rw c.deref_mut.ensures.value at c.open.ensures.second) (rw c.deref_mut.ensures.value at c.open.ensures.later)
+    (c.open.ensures.items ∙ ap chunks_joined c.deref_mut.ensures.value) (rw c.deref_mut.ensures.value at c.open.ensures.first) (rw c.deref_mut.ensures.value at c.open.ensures.second) (rw c.deref_mut.ensures.value at c.open.ensures.later)
     c.open.ensures.spare (omega arith) (λ d. omega (arith, c.len.ensures, ap vec_len (c.index.ensures ∙ get_or_default xs c.args.chunk c.index.result.now d (omega (arith, e.standing, more))), e.holds d)) c.open.ensures.chunks e.few e.long in
     let back : take p.chunks.len (zs ++ drop (length zs) xs) ≡ zs = take_at zs (drop (length zs) xs) p.chunks.len (omega (arith, same, p.chunks.ok)) in
     let read : c.deref.result.now ≡ zs = c.deref.ensures.value ∙ back in
@@ -38,7 +38,7 @@ write_index-requires-clause-few c =
     let front : take c.args.chunk zs ≡ take c.args.chunk xs = c.open.ensures.front ∙ ap (take c.args.chunk) c.deref_mut.ensures.value in
     let left = c.len.result / 2 + 1 in
     let now : IsChunkList zs (s + 1) p.len p.room = opened_list xs zs s c.args.chunk left p.len p.room list e.standing more same front
-    (c.open.ensures.items ∙ ap joined c.deref_mut.ensures.value) (rw c.deref_mut.ensures.value at c.open.ensures.first) (rw c.deref_mut.ensures.value at c.open.ensures.second) (rw c.deref_mut.ensures.value at c.open.ensures.later)
+    (c.open.ensures.items ∙ ap chunks_joined c.deref_mut.ensures.value) (rw c.deref_mut.ensures.value at c.open.ensures.first) (rw c.deref_mut.ensures.value at c.open.ensures.second) (rw c.deref_mut.ensures.value at c.open.ensures.later)
     c.open.ensures.spare (omega arith) (λ d. omega (arith, c.len.ensures, ap vec_len (c.index.ensures ∙ get_or_default xs c.args.chunk c.index.result.now d (omega (arith, e.standing, more))), e.holds d)) c.open.ensures.chunks e.few e.long in
     let back : take p.chunks.len (zs ++ drop (length zs) xs) ≡ zs = take_at zs (drop (length zs) xs) p.chunks.len (omega (arith, same, p.chunks.ok)) in
     let read : c.deref.result.now ≡ zs = c.deref.ensures.value ∙ back in
@@ -72,7 +72,7 @@ returns-clause-parts c =
     let front : take c.args.chunk zs ≡ take c.args.chunk xs = c.open.ensures.front ∙ ap (take c.args.chunk) c.deref_mut.ensures.value in
     let left = c.len.result / 2 + 1 in
     let now : IsChunkList zs (s + 1) p.len p.room = opened_list xs zs s c.args.chunk left p.len p.room list e.standing more same front
-    (c.open.ensures.items ∙ ap joined c.deref_mut.ensures.value) (rw c.deref_mut.ensures.value at c.open.ensures.first) (rw c.deref_mut.ensures.value at c.open.ensures.second) (rw c.deref_mut.ensures.value at c.open.ensures.later)
+    (c.open.ensures.items ∙ ap chunks_joined c.deref_mut.ensures.value) (rw c.deref_mut.ensures.value at c.open.ensures.first) (rw c.deref_mut.ensures.value at c.open.ensures.second) (rw c.deref_mut.ensures.value at c.open.ensures.later)
     c.open.ensures.spare (omega arith) (λ d. omega (arith, c.len.ensures, ap vec_len (c.index.ensures ∙ get_or_default xs c.args.chunk c.index.result.now d (omega (arith, e.standing, more))), e.holds d)) c.open.ensures.chunks e.few e.long in
     let back : take p.chunks.len (zs ++ drop (length zs) xs) ≡ zs = take_at zs (drop (length zs) xs) p.chunks.len (omega (arith, same, p.chunks.ok)) in
     let read : c.deref.result.now ≡ zs = c.deref.ensures.value ∙ back in

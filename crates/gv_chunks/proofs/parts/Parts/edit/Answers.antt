@@ -60,15 +60,15 @@ shift-requires-clause-fits c = λ k e behind below.
 
 -- what the chunk holds now
 pub now_holds : (c : goal.After-self-6-1) → c.replace_run.new.items.items
-    ≡ splice (slice_index_or c.args.self.now.chunks.items c.args.chunk c.index_mut.result.now).items (c.args.place - c.args.start) (c.args.place - c.args.start + c.args.out_count) c.args.pieces.now
+    ≡ splice (slice_index_or c.args.self.now.chunks.items c.args.chunk c.index_mut.result.now).items (c.args.index - c.args.start) (c.args.index - c.args.start + c.args.out_count) c.args.pieces.now
 now_holds c =
-    c.replace_run.ensures.items ∙ ap (λ (v : Vec Mapping). splice v.items (c.args.place - c.args.start) (c.args.place - c.args.start + c.args.out_count) c.args.pieces.now) c.index_mut.ensures.value
+    c.replace_run.ensures.items ∙ ap (λ (v : Vec Mapping). splice v.items (c.args.index - c.args.start) (c.args.index - c.args.start + c.args.out_count) c.args.pieces.now) c.index_mut.ensures.value
 
 pub returns-clause-items : goal.returns-clause-items
 returns-clause-items c =
     let p = c.args.self.now in
     let e = c.requires.editable in
-    edited_items p.chunks.items p.standing c.args.chunk c.args.start c.args.place c.args.out_count c.index_mut.result.now c.replace_run.new.items c.args.pieces.now e.some e.standing c.requires.parts.list.within
+    edited_items p.chunks.items p.standing c.args.chunk c.args.start c.args.index c.args.out_count c.index_mut.result.now c.replace_run.new.items c.args.pieces.now e.some e.standing c.requires.parts.list.within
     e.start_is e.begun (e.within c.index_mut.result.now) (now_holds c)
 
 pub returns-clause-parts : goal.returns-clause-parts
@@ -83,7 +83,7 @@ returns-clause-parts c =
     let room : c.args.chunk < length p.starts.items = omega (arith, inside, c.requires.parts.index.starts_within) in
     let kept : vec_capacity w ≡ vec_capacity (slice_index_or p.chunks.items c.args.chunk v) = c.replace_run.ensures.room ∙ ap vec_capacity c.index_mut.ensures.value in
     let grown : vec_len w + c.args.out_count ≡ vec_len (slice_index_or p.chunks.items c.args.chunk v) + length c.args.pieces.now =
-    edited_len p.chunks.items p.standing c.args.chunk c.args.start c.args.place c.args.out_count v w c.args.pieces.now e.some e.standing within e.start_is e.begun (e.within v) (now_holds c) in
+    edited_len p.chunks.items p.standing c.args.chunk c.args.start c.args.index c.args.out_count v w c.args.pieces.now e.some e.standing within e.start_is e.begun (e.within v) (now_holds c) in
     let full : 0 < length w.items = omega (arith, grown, w.ok, e.holds v) in
     let again : c.index.result.now ≡ w = c.index.ensures ∙ get_or-set_same p.chunks.items c.args.chunk w c.index.result.now inside in
     let first : x ≡ slice_index_or w.items 0 x = c.index-2.ensures ∙ ap (λ (u : Vec Mapping). slice_index_or u.items 0 x) again in
@@ -104,9 +104,9 @@ returns-clause-parts c =
     let back : take p.starts.len (c.shift.new.starts ++ drop (length c.shift.new.starts) (slice_set p.starts.items c.args.chunk c.args.start)) ≡ c.shift.new.starts =
     take_at c.shift.new.starts (drop (length c.shift.new.starts) (slice_set p.starts.items c.args.chunk c.args.start)) p.starts.len (omega (arith, size, p.starts.ok)) in
     record {
-      list = rw c.max-self.ensures (edited_list p.chunks.items p.standing c.args.chunk c.args.start c.args.place c.args.out_count v w c.args.pieces.now e.some e.standing within e.start_is e.begun (e.within v) (now_holds c)
+      list = rw c.max-self.ensures (edited_list p.chunks.items p.standing c.args.chunk c.args.start c.args.index c.args.out_count v w c.args.pieces.now e.some e.standing within e.start_is e.begun (e.within v) (now_holds c)
           p.len p.room c.requires.parts.list kept (e.holds v) e.few c.requires.room);
-      index = rw (c.max-self.ensures, back) (edited_index p.chunks.items p.standing c.args.chunk c.args.start c.args.place c.args.out_count v w c.args.pieces.now e.some e.standing within e.start_is e.begun (e.within v) (now_holds c)
+      index = rw (c.max-self.ensures, back) (edited_index p.chunks.items p.standing c.args.chunk c.args.start c.args.index c.args.out_count v w c.args.pieces.now e.some e.standing within e.start_is e.begun (e.within v) (now_holds c)
           p.starts.items p.firsts.items c.shift.new.starts c.first.result c.requires.parts.index size before at behind
           (λ m. c.first.ensures.value ∙ (ap (λ (n : Mapping). n.range.first) first ∙ ap (λ (n : Mapping). n.range.first) (get_or_default w.items 0 x m full))));
     }

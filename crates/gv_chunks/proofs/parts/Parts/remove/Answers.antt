@@ -2,7 +2,7 @@ use Rattle.std.proofs.Common.{◌≡◌, ◌+◌, ◌-◌, ◌<◌, ◌∙◌, �
 use Rattle.std.proofs.lemmas.List.{take_at, length-take-le}
 use Rattle.std.specs.Global.{Vec}
 use Rattle.gv_types.specs.declared.mapping.Mapping.{Mapping}
-use Rattle.gv_chunks.specs.Chunks.{joined}
+use Rattle.gv_chunks.specs.Chunks.{chunks_joined}
 use Rattle.gv_chunks.proofs.PackedLemmas.{joined_front}
 use Rattle.gv_chunks.proofs.PartsLemmas.{some_of, chunk_within, closed_items, closed_list, closed_starts, closed_firsts, index_written}
 use Rattle.gv_chunks.proofs.parts.Parts.remove.Goals as goal
@@ -27,7 +27,7 @@ write_index-requires-clause-from c =
     let same : length zs ≡ length xs = omega (arith, ap length c.deref_mut.ensures.value) in
     let front : take (s - 1) zs ≡ take c.args.chunk (take s xs) ++ drop (c.args.chunk + 1) (take s xs) =
     c.close.ensures.standing ∙ ap (λ ys. take c.args.chunk (take s ys) ++ drop (c.args.chunk + 1) (take s ys)) c.deref_mut.ensures.value in
-    let none : joined (drop (s - 1) zs) ≡ [] = c.close.ensures.spare in
+    let none : chunks_joined (drop (s - 1) zs) ≡ [] = c.close.ensures.spare in
     let back : take p.chunks.len (zs ++ drop (length zs) xs) ≡ zs = take_at zs (drop (length zs) xs) p.chunks.len (omega (arith, same, p.chunks.ok)) in
     let read : c.deref.result.now ≡ zs = c.deref.ensures.value ∙ back in
     rw read (omega (arith, e.standing, length-take-le (s - 1) zs (omega (arith, same, list.within))))
@@ -44,7 +44,7 @@ write_index-requires-clause-filled c =
     let same : length zs ≡ length xs = omega (arith, ap length c.deref_mut.ensures.value) in
     let front : take (s - 1) zs ≡ take c.args.chunk (take s xs) ++ drop (c.args.chunk + 1) (take s xs) =
     c.close.ensures.standing ∙ ap (λ ys. take c.args.chunk (take s ys) ++ drop (c.args.chunk + 1) (take s ys)) c.deref_mut.ensures.value in
-    let none : joined (drop (s - 1) zs) ≡ [] = c.close.ensures.spare in
+    let none : chunks_joined (drop (s - 1) zs) ≡ [] = c.close.ensures.spare in
     let back : take p.chunks.len (zs ++ drop (length zs) xs) ≡ zs = take_at zs (drop (length zs) xs) p.chunks.len (omega (arith, same, p.chunks.ok)) in
     let read : c.deref.result.now ≡ zs = c.deref.ensures.value ∙ back in
     rw read (closed_list xs zs s c.args.chunk c.args.start c.args.out_count p.len p.room d list e.standing same front none e.start_is (e.all d) c.close.ensures.chunks e.few).filled
@@ -61,7 +61,7 @@ write_index-requires-clause-few c =
     let same : length zs ≡ length xs = omega (arith, ap length c.deref_mut.ensures.value) in
     let front : take (s - 1) zs ≡ take c.args.chunk (take s xs) ++ drop (c.args.chunk + 1) (take s xs) =
     c.close.ensures.standing ∙ ap (λ ys. take c.args.chunk (take s ys) ++ drop (c.args.chunk + 1) (take s ys)) c.deref_mut.ensures.value in
-    let none : joined (drop (s - 1) zs) ≡ [] = c.close.ensures.spare in
+    let none : chunks_joined (drop (s - 1) zs) ≡ [] = c.close.ensures.spare in
     let back : take p.chunks.len (zs ++ drop (length zs) xs) ≡ zs = take_at zs (drop (length zs) xs) p.chunks.len (omega (arith, same, p.chunks.ok)) in
     let read : c.deref.result.now ≡ zs = c.deref.ensures.value ∙ back in
     rw read (omega (arith, ap length (joined_front zs (s - 1) none), (closed_list xs zs s c.args.chunk c.args.start c.args.out_count p.len p.room d list e.standing same front none e.start_is (e.all d) c.close.ensures.chunks e.few).held))
@@ -78,7 +78,7 @@ write_index-requires-clause-starts c =
     let same : length zs ≡ length xs = omega (arith, ap length c.deref_mut.ensures.value) in
     let front : take (s - 1) zs ≡ take c.args.chunk (take s xs) ++ drop (c.args.chunk + 1) (take s xs) =
     c.close.ensures.standing ∙ ap (λ ys. take c.args.chunk (take s ys) ++ drop (c.args.chunk + 1) (take s ys)) c.deref_mut.ensures.value in
-    let none : joined (drop (s - 1) zs) ≡ [] = c.close.ensures.spare in
+    let none : chunks_joined (drop (s - 1) zs) ≡ [] = c.close.ensures.spare in
     let back : take p.chunks.len (zs ++ drop (length zs) xs) ≡ zs = take_at zs (drop (length zs) xs) p.chunks.len (omega (arith, same, p.chunks.ok)) in
     let read : c.deref.result.now ≡ zs = c.deref.ensures.value ∙ back in
     rw (read, c.deref_mut-2.ensures.value) (closed_starts xs zs s c.args.chunk c.args.start c.args.out_count p.len p.room d list e.standing same front none e.start_is (e.all d) p.starts.items c.requires.parts.index.are_starts)
@@ -95,7 +95,7 @@ write_index-requires-clause-firsts c =
     let same : length zs ≡ length xs = omega (arith, ap length c.deref_mut.ensures.value) in
     let front : take (s - 1) zs ≡ take c.args.chunk (take s xs) ++ drop (c.args.chunk + 1) (take s xs) =
     c.close.ensures.standing ∙ ap (λ ys. take c.args.chunk (take s ys) ++ drop (c.args.chunk + 1) (take s ys)) c.deref_mut.ensures.value in
-    let none : joined (drop (s - 1) zs) ≡ [] = c.close.ensures.spare in
+    let none : chunks_joined (drop (s - 1) zs) ≡ [] = c.close.ensures.spare in
     let back : take p.chunks.len (zs ++ drop (length zs) xs) ≡ zs = take_at zs (drop (length zs) xs) p.chunks.len (omega (arith, same, p.chunks.ok)) in
     let read : c.deref.result.now ≡ zs = c.deref.ensures.value ∙ back in
     rw (read, c.deref_mut-3.ensures.value) (closed_firsts xs zs s c.args.chunk c.args.start c.args.out_count p.len p.room d list e.standing same front none e.start_is (e.all d) p.firsts.items c.requires.parts.index.are_firsts)
@@ -112,7 +112,7 @@ returns-clause-items c =
     let same : length zs ≡ length xs = omega (arith, ap length c.deref_mut.ensures.value) in
     let front : take (s - 1) zs ≡ take c.args.chunk (take s xs) ++ drop (c.args.chunk + 1) (take s xs) =
     c.close.ensures.standing ∙ ap (λ ys. take c.args.chunk (take s ys) ++ drop (c.args.chunk + 1) (take s ys)) c.deref_mut.ensures.value in
-    let none : joined (drop (s - 1) zs) ≡ [] = c.close.ensures.spare in
+    let none : chunks_joined (drop (s - 1) zs) ≡ [] = c.close.ensures.spare in
     let back : take p.chunks.len (zs ++ drop (length zs) xs) ≡ zs = take_at zs (drop (length zs) xs) p.chunks.len (omega (arith, same, p.chunks.ok)) in
     let read : c.deref.result.now ≡ zs = c.deref.ensures.value ∙ back in
     rw (back, e.at) (closed_items xs zs s c.args.chunk c.args.start c.args.out_count p.len p.room d list e.standing same front none e.start_is (e.all d))
@@ -129,7 +129,7 @@ returns-clause-parts c =
     let same : length zs ≡ length xs = omega (arith, ap length c.deref_mut.ensures.value) in
     let front : take (s - 1) zs ≡ take c.args.chunk (take s xs) ++ drop (c.args.chunk + 1) (take s xs) =
     c.close.ensures.standing ∙ ap (λ ys. take c.args.chunk (take s ys) ++ drop (c.args.chunk + 1) (take s ys)) c.deref_mut.ensures.value in
-    let none : joined (drop (s - 1) zs) ≡ [] = c.close.ensures.spare in
+    let none : chunks_joined (drop (s - 1) zs) ≡ [] = c.close.ensures.spare in
     let back : take p.chunks.len (zs ++ drop (length zs) xs) ≡ zs = take_at zs (drop (length zs) xs) p.chunks.len (omega (arith, same, p.chunks.ok)) in
     let read : c.deref.result.now ≡ zs = c.deref.ensures.value ∙ back in
     let starts = c.write_index.new.starts in

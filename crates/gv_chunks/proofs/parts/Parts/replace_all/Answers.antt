@@ -1,7 +1,7 @@
 use Rattle.std.proofs.Common.{◌≡◌, ◌+◌, ◌-◌, ◌<◌, ◌∙◌, ◌++◌, ◌⊎◌, inl, inr, ap, length, take, drop, arith}
 use Rattle.std.proofs.lemmas.List.{take_at}
 use Rattle.std.specs.List.{splice}
-use Rattle.gv_chunks.specs.Chunks.{joined}
+use Rattle.gv_chunks.specs.Chunks.{chunks_joined}
 use Rattle.gv_chunks.specs.Inside.{IsChunkList}
 use Rattle.gv_chunks.proofs.HeldLemmas.{replaced_list}
 use Rattle.gv_chunks.proofs.PackedLemmas.{joined_front}
@@ -23,8 +23,8 @@ write_index-requires-clause-filled c =
       | else-self-eq0 w ↦ inr (w.self-is, omega (arith, w.if-self-eq0.false))
     ] in
     let list : IsChunkList zs c.if-self-eq0.self after p.room =
-    replaced_list xs zs p.standing c.replace_anywhere-used.result c.if-self-eq0.self p.len p.room c.args.place c.args.out_count c.args.pieces.now c.requires.parts.list c.requires.long c.requires.within c.requires.room
-    same (c.replace_anywhere-used.ensures.items ∙ ap (λ ys. splice (joined ys) c.args.place (c.args.place + c.args.out_count) c.args.pieces.now) c.deref_mut.ensures.value) c.replace_anywhere-used.ensures.within
+    replaced_list xs zs p.standing c.replace_anywhere-used.result c.if-self-eq0.self p.len p.room c.args.index c.args.out_count c.args.pieces.now c.requires.parts.list c.requires.long c.requires.within c.requires.room
+    same (c.replace_anywhere-used.ensures.items ∙ ap (λ ys. splice (chunks_joined ys) c.args.index (c.args.index + c.args.out_count) c.args.pieces.now) c.deref_mut.ensures.value) c.replace_anywhere-used.ensures.within
     c.replace_anywhere-used.ensures.spare c.replace_anywhere-used.ensures.chunks c.replace_anywhere-used.ensures.packed c.replace_anywhere-used.ensures.few which in
     rw read list.filled
 
@@ -42,8 +42,8 @@ write_index-requires-clause-few c =
       | else-self-eq0 w ↦ inr (w.self-is, omega (arith, w.if-self-eq0.false))
     ] in
     let list : IsChunkList zs c.if-self-eq0.self after p.room =
-    replaced_list xs zs p.standing c.replace_anywhere-used.result c.if-self-eq0.self p.len p.room c.args.place c.args.out_count c.args.pieces.now c.requires.parts.list c.requires.long c.requires.within c.requires.room
-    same (c.replace_anywhere-used.ensures.items ∙ ap (λ ys. splice (joined ys) c.args.place (c.args.place + c.args.out_count) c.args.pieces.now) c.deref_mut.ensures.value) c.replace_anywhere-used.ensures.within
+    replaced_list xs zs p.standing c.replace_anywhere-used.result c.if-self-eq0.self p.len p.room c.args.index c.args.out_count c.args.pieces.now c.requires.parts.list c.requires.long c.requires.within c.requires.room
+    same (c.replace_anywhere-used.ensures.items ∙ ap (λ ys. splice (chunks_joined ys) c.args.index (c.args.index + c.args.out_count) c.args.pieces.now) c.deref_mut.ensures.value) c.replace_anywhere-used.ensures.within
     c.replace_anywhere-used.ensures.spare c.replace_anywhere-used.ensures.chunks c.replace_anywhere-used.ensures.packed c.replace_anywhere-used.ensures.few which in
     rw read (omega (arith, ap length (joined_front zs c.if-self-eq0.self list.spare), list.held, list.fits, c.fits-self))
 
@@ -61,8 +61,8 @@ returns-clause-parts c =
       | else-self-eq0 w ↦ inr (w.self-is, omega (arith, w.if-self-eq0.false))
     ] in
     let list : IsChunkList zs c.if-self-eq0.self after p.room =
-    replaced_list xs zs p.standing c.replace_anywhere-used.result c.if-self-eq0.self p.len p.room c.args.place c.args.out_count c.args.pieces.now c.requires.parts.list c.requires.long c.requires.within c.requires.room
-    same (c.replace_anywhere-used.ensures.items ∙ ap (λ ys. splice (joined ys) c.args.place (c.args.place + c.args.out_count) c.args.pieces.now) c.deref_mut.ensures.value) c.replace_anywhere-used.ensures.within
+    replaced_list xs zs p.standing c.replace_anywhere-used.result c.if-self-eq0.self p.len p.room c.args.index c.args.out_count c.args.pieces.now c.requires.parts.list c.requires.long c.requires.within c.requires.room
+    same (c.replace_anywhere-used.ensures.items ∙ ap (λ ys. splice (chunks_joined ys) c.args.index (c.args.index + c.args.out_count) c.args.pieces.now) c.deref_mut.ensures.value) c.replace_anywhere-used.ensures.within
     c.replace_anywhere-used.ensures.spare c.replace_anywhere-used.ensures.chunks c.replace_anywhere-used.ensures.packed c.replace_anywhere-used.ensures.few which in
     let starts = c.write_index.new.starts in
     let firsts = c.write_index.new.firsts in

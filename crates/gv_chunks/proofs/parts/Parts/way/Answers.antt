@@ -6,4 +6,4 @@ pub overflow_add-now : goal.overflow_add-now
 overflow_add-now c =
     let p = c.args.self.now in
     let inside : c.args.chunk < length p.chunks.items = omega (arith, c.requires.spot.standing) in
-    omega (arith, chunk_within p.chunks.items c.args.chunk c.index.result.now inside, ap vec_len c.index.ensures, c.requires.parts.list.held, c.requires.room, c.requires.within, c.if-place-start.false, c.len-held.ensures)
+    omega (arith, chunk_within p.chunks.items c.args.chunk c.index.result.now inside, ap vec_len c.index.ensures, c.requires.parts.list.held, c.requires.room, c.requires.within, c.if-index-start.false, c.len-held.ensures)

@@ -1,14 +1,14 @@
 use Rattle.std.proofs.Common.{◌≡◌, List, [], ◌∷◌, ◌++◌, Option, None, length, reverse, arith, rules, sym, ◌∙◌, ap, subst, refl}
 use Rattle.gv_types.specs.declared.operation.Op.{Op}
 use Rattle.gv_types.specs.declared.operation.PageOp.{PageOp}
-use Rattle.gv_journal.specs.Items.{Journaled}
+use Rattle.gv_journal.specs.Items.{JournalState}
 use Rattle.gv_journal.specs.State.{FitsSpace}
 use Rattle.gv_journal.specs.Applying.{after_all, all_do}
-use Rattle.gv_types.specs.Span.{Span}
+use Rattle.gv_types.specs.PageRange.{PageRangeState}
 use Rattle.gv_journal.specs.Inside.{NameOlder, NameOnce}
-use Rattle.gv_journal.specs.Notes.{notes_of, reach_of}
+use Rattle.gv_journal.specs.Notes.{notes_of, extent_of}
 use Rattle.gv_journal.specs.Verdict.{full_fault}
-use Rattle.gv_journal.specs.Note.{Note}
+use Rattle.gv_journal.specs.Note.{NoteState}
 use Rattle.gv_journal.proofs.Lists.{last_first}
 use Rattle.gv_journal.proofs.Noted.{fresh}
 use Rattle.gv_journal.proofs.Noting.{notes_bound}
@@ -25,7 +25,7 @@ item_of c = bound c.args.queue c.args.number c.args.request c.args.seen c.in-Ok.
 journal_is : (c : goal.After-push) →
     journaled c.self.inside.limit c.self.inside.first (reverse c.push.new.self.items) ≡ record c.args.self.now { items = item_of c ∷ c.args.self.now.items }
 journal_is c =
-    one_more c.self.inside.limit c.self.inside.first c.self.inside.shelf.items c.make_room.new.self.items c.push.new.self.items c.args.self.now (item_of c)
+    one_more c.self.inside.limit c.self.inside.first c.self.inside.item_store.items c.make_room.new.self.items c.push.new.self.items c.args.self.now (item_of c)
     c.self.view_is c.make_room.ensures.items c.push.ensures.items
 
 did : (c : goal.After-push) → c.in-Ok.work.ops.items ≡ all_do c.args.space.now.mappings c.args.request.ops.items
@@ -45,37 +45,37 @@ returns-clause-space c =
 pub returns-clause-back : goal.returns-clause-back
 returns-clause-back c = λ n.
     back_one_more c.apply_all.new.space.mappings (reverse c.push.new.self.items) c.args.self.now.items (item_of c) c.args.space.now.mappings n
-    (ap (λ (j : Journaled). j.items) (journal_is c)) c.in-Ok.ensures.applied.changes.list
+    (ap (λ (j : JournalState). j.items) (journal_is c)) c.in-Ok.ensures.applied.changes.list
 
 pub returns-clause-fits : goal.returns-clause-fits
 returns-clause-fits c =
-    subst (λ (j : Journaled). FitsSpace c.apply_all.new.space j) (sym (journal_is c))
+    subst (λ (j : JournalState). FitsSpace c.apply_all.new.space j) (sym (journal_is c))
     (fits_bound c.args.space.now c.apply_all.new.space c.args.self.now c.args.queue c.args.number c.args.request c.args.seen c.in-Ok.work.ops c.in-Ok.work.undos
-    c.in-Ok.ensures.applied (subst (λ (j : Journaled). NameOlder (entries j)) c.self.view_is c.self.invariant.name_older) c.requires)
+    c.in-Ok.ensures.applied (subst (λ (j : JournalState). NameOlder (entries j)) c.self.view_is c.self.invariant.name_older) c.requires)
 
 pub returns-in-Err-clause-fits : goal.returns-in-Err-clause-fits
 returns-in-Err-clause-fits c =
     let same : journaled c.self.inside.limit c.self.inside.first (reverse c.make_room.new.self.items) ≡ c.args.self.now =
     ap (λ (xs : List Item). journaled c.self.inside.limit c.self.inside.first (reverse xs)) c.make_room.ensures.items ∙ c.self.view_is in
-    subst (λ (j : Journaled). FitsSpace c.apply_all.new.space j) (sym same)
+    subst (λ (j : JournalState). FitsSpace c.apply_all.new.space j) (sym same)
     (fits_room c.args.space.now c.apply_all.new.space c.args.self.now c.in-Err.ensures.unchanged c.requires)
 
 pub invariant_of-self-3 : goal.invariant_of-self-3
 invariant_of-self-3 c =
-    let all = c.self.inside.shelf.items in
+    let all = c.self.inside.item_store.items in
     let first = c.self.inside.first in
     let grown : c.push.new.self.items ≡ all ++ item_of c ∷ [] = c.push.ensures.items ∙ ap (λ (xs : List Item). xs ++ item_of c ∷ []) c.make_room.ensures.items in
     let turned : reverse c.push.new.self.items ≡ item_of c ∷ reverse all = last_first c.push.new.self.items all (item_of c) grown in
-    let first_is : first ≡ c.args.self.now.first = ap (λ (j : Journaled). j.first) c.self.view_is in
-    let size : length (reverse all) ≡ length c.args.self.now.items = ap (λ (j : Journaled). length j.items) c.self.view_is in
+    let first_is : first ≡ c.args.self.now.first = ap (λ (j : JournalState). j.first) c.self.view_is in
+    let size : length (reverse all) ≡ length c.args.self.now.items = ap (λ (j : JournalState). length j.items) c.self.view_is in
     let room : full_fault c.args.self.now ≡ None = search rules in
     record {
       numbered_below = omega (arith, number_left c.args.self.now room, ap (λ (xs : List Item). length xs) turned, size, first_is);
       name_older = subst (λ (xs : List Item). NameOlder (numbered first xs)) (sym turned) (tt, c.self.invariant.name_older);
       name_once = subst (λ (xs : List Item). NameOnce first (numbered first xs)) (sym turned) (tt, c.self.invariant.name_once);
-      notes = c.push.ensures.notes ∙ ap (λ (n : Note). c.make_room.new.self.notes ++ n ∷ []) (fresh c.new-note.result c.reach_of.result c.new-note.ensures.withdrawal c.new-note.ensures.reach)
-          ∙ ap (λ (ms : List Note). ms ++ record { withdrawal = None; reach = c.reach_of.result } ∷ []) (c.make_room.ensures.notes ∙ c.self.invariant.notes)
-          ∙ ap (λ (r : Option Span). notes_of (numbered first (reverse all)) ++ record { withdrawal = None; reach = r } ∷ []) (c.reach_of.ensures ∙ ap reach_of c.deref-2.ensures.value)
+      notes = c.push.ensures.notes ∙ ap (λ (n : NoteState). c.make_room.new.self.notes ++ n ∷ []) (fresh c.new-note.result c.extent_of.result c.new-note.ensures.withdrawal c.new-note.ensures.extent)
+          ∙ ap (λ (ms : List NoteState). ms ++ record { withdrawal = None; extent = c.extent_of.result } ∷ []) (c.make_room.ensures.notes ∙ c.self.invariant.notes)
+          ∙ ap (λ (r : Option PageRangeState). notes_of (numbered first (reverse all)) ++ record { withdrawal = None; extent = r } ∷ []) (c.extent_of.ensures ∙ ap extent_of c.deref-2.ensures.value)
           ∙ sym (notes_bound first (reverse all) c.args.queue c.args.number c.args.request c.args.seen c.in-Ok.work.ops c.in-Ok.work.undos c.self.invariant.name_older)
           ∙ ap (λ (xs : List Item). notes_of (numbered first xs)) (sym turned);
     }

@@ -1,7 +1,7 @@
 use Rattle.std.proofs.Common.{◌+◌, ◌∙◌, sym, subst}
-use Rattle.gv_ranges.specs.List.{AreEnded, Ranges}
+use Rattle.gv_ranges.specs.List.{AreEnded, RangeListState}
 use Rattle.gv_table.proofs.LikenessLemmas.{tables-gained}
-use Rattle.gv_ranges.proofs.PlaceLemmas.{ended-spliced}
+use Rattle.gv_ranges.proofs.IndexLemmas.{ended-spliced}
 use Rattle.gv_space.proofs.list_with_table.ListWithTable.replace.Goals as goal
 
 pub returns-clause-tables : goal.returns-clause-tables
@@ -13,5 +13,5 @@ returns-clause-tables c =
 pub paint-lost-requires-clause-ended : goal.paint-lost-requires-clause-ended
 paint-lost-requires-clause-ended c =
     rw c.splice.ensures.mappings
-    (ended-spliced c.self.inside.list.mappings c.args.pieces.now c.args.range.first c.args.place (c.args.place + c.args.out_count)
-    (subst (λ (l : Ranges). AreEnded l.mappings c.args.range.first c.args.place) (sym c.self.view_is) c.requires.ended))
+    (ended-spliced c.self.inside.list.mappings c.args.pieces.now c.args.range.first c.args.index (c.args.index + c.args.out_count)
+    (subst (λ (l : RangeListState). AreEnded l.mappings c.args.range.first c.args.index) (sym c.self.view_is) c.requires.ended))

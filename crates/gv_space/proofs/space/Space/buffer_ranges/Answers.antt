@@ -1,27 +1,27 @@
 use Rattle.std.proofs.Common.{◌≡◌, ℕ, ◌<◌, List, sym, ◌∙◌, ap, subst}
 use Rattle.gv_types.specs.declared.mapping.Mapping.{Mapping}
 use Rattle.std.specs.List.{All}
-use Rattle.gv_types.specs.Span.{IsInSpace}
+use Rattle.gv_types.specs.PageRange.{IsInSpace}
 use Rattle.gv_space.specs.Counts.{count_of, ranges_of}
 use Rattle.gv_space.proofs.BufferRanges.{ranges_in_space}
 use Rattle.gv_space.specs.Inside.{space_of}
-use Rattle.gv_space.specs.State.{AddressSpace}
+use Rattle.gv_space.specs.State.{SpaceState}
 use Rattle.gv_space.proofs.UsesFound.{uses_found}
 use Rattle.gv_space.proofs.space.Space.buffer_ranges.Goals as goal
 
 pub ranges_of-requires : goal.ranges_of-requires
 ranges_of-requires c =
-    let s : AddressSpace = space_of c.self.inside in
+    let s : SpaceState = space_of c.self.inside in
     uses_found s.buffers c.args.id s.mappings c.in-Some.count c.self.invariant.used (sym c.uses.ensures.value ∙ c.in-Some.is)
-    ∙ ap (λ (t : AddressSpace). count_of c.args.id t.mappings) c.self.view_is
+    ∙ ap (λ (t : SpaceState). count_of c.args.id t.mappings) c.self.view_is
     ∙ ap (λ (ms : List Mapping). count_of c.args.id ms) (sym c.list.ensures.value)
 
 pub returns-in_err-ranges_of-clause-some : goal.returns-in_err-ranges_of-clause-some
 returns-in_err-ranges_of-clause-some c = λ _.
-    let s : AddressSpace = space_of c.self.inside in
+    let s : SpaceState = space_of c.self.inside in
     let counted : c.in-Some.count ≡ count_of c.args.id c.args.self.now.mappings =
     uses_found s.buffers c.args.id s.mappings c.in-Some.count c.self.invariant.used (sym c.uses.ensures.value ∙ c.in-Some.is)
-    ∙ ap (λ (t : AddressSpace). count_of c.args.id t.mappings) c.self.view_is in
+    ∙ ap (λ (t : SpaceState). count_of c.args.id t.mappings) c.self.view_is in
     subst (λ (n : ℕ). 0 < n) counted c.in_err-ranges_of.ensures.some
 
 pub returns-clause-in_space : goal.returns-clause-in_space

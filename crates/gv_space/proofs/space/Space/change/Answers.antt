@@ -1,8 +1,8 @@
 use Rattle.std.proofs.Common.{◌≡◌, List, length, arith, refl, sym, subst, ap, ◌∙◌}
 use Rattle.gv_types.specs.declared.mapping.Mapping.{Mapping}
-use Rattle.gv_ranges.specs.List.{IsLaidOut, Ranges}
+use Rattle.gv_ranges.specs.List.{IsLaidOut, RangeListState}
 use Rattle.gv_ranges.specs.Edit.{restored}
-use Rattle.gv_space.specs.State.{AddressSpace}
+use Rattle.gv_space.specs.State.{SpaceState}
 use Rattle.gv_space.specs.Change.{IsChanged}
 use Rattle.gv_space.specs.Ready.{IsReady}
 use Rattle.gv_space.specs.Inside.{space_of}
@@ -22,7 +22,7 @@ spare-requires c =
 
 pub run-requires : goal.run-requires
 run-requires c =
-    rw (ap (λ (l : List Mapping). length l) (c.list-2.ensures.value ∙ ap (λ (t : AddressSpace). t.mappings) (sym c.self.view_is) ∙ ap (λ (l : Ranges). l.mappings) (sym c.list.ensures))) c.of-overlap.ensures.met.within
+    rw (ap (λ (l : List Mapping). length l) (c.list-2.ensures.value ∙ ap (λ (t : SpaceState). t.mappings) (sym c.self.view_is) ∙ ap (λ (l : RangeListState). l.mappings) (sym c.list.ensures))) c.of-overlap.ensures.met.within
 
 pub commit-requires : goal.commit-requires
 commit-requires c = (
@@ -36,19 +36,19 @@ commit-requires c = (
 
 pub returns-clause-changed : goal.returns-clause-changed
 returns-clause-changed c =
-    let s : AddressSpace = space_of c.self.inside in
+    let s : SpaceState = space_of c.self.inside in
     let within : List Mapping = inside s c.args.range c.args.saved.now c.self.invariant c.requires.laid_out in
-    let list : Ranges = c.reserve.new.self in
-    let ready : IsReady within (record s { mappings = list.mappings; room = list.room }) c.args.range c.of-overlap.result.place c.in_ok-taken.taken.items c.as_slice-pieces.result.now c.in_ok-spares.spares =
+    let list : RangeListState = c.reserve.new.self in
+    let ready : IsReady within (record s { mappings = list.mappings; room = list.room }) c.args.range c.of-overlap.result.index c.in_ok-taken.taken.items c.as_slice-pieces.result.now c.in_ok-spares.spares =
     made_ready c.self.inside c.args.self.now c.args.range c.args.saved.now c.self.invariant c.requires.laid_out c.list.result.now list c.of-overlap.result
     c.list-2.result.now.mappings c.in_ok-taken.taken.items c.as_slice-pieces.result.now c.between_rests-inside.result.now c.in_ok-spares.spares c.saturating_sub.result
     c.self.view_is c.list.ensures c.of-overlap.ensures c.list-2.ensures.value (c.in_ok-taken.ensures ∙ c.run.ensures) (c.as_slice-pieces.ensures ∙ c.in_ok-pieces.ensures) c.between_rests-inside.ensures
     c.requires.placed (no_fault _ c.check_limits.result _ c.check_limits.ensures c.in_ok-check_limits.was)
     c.reserve.ensures.unchanged.mappings c.in_ok-reserve.ensures.ok (omega (arith, c.len.ensures.value, c.saturating_sub.ensures)) c.in_ok-spares.ensures.enough in
     let is : IsChanged s c.commit.new.self (restored s.mappings c.args.range c.args.saved.now) c.commit.result =
-    changed_before s list c.commit.new.self within c.args.range c.of-overlap.result.place c.in_ok-taken.taken.items c.as_slice-pieces.result.now c.in_ok-spares.spares c.commit.result
+    changed_before s list c.commit.new.self within c.args.range c.of-overlap.result.index c.in_ok-taken.taken.items c.as_slice-pieces.result.now c.in_ok-spares.spares c.commit.result
     c.self.invariant c.reserve.ensures.unchanged.mappings c.reserve.ensures.unchanged.room ready c.commit.ensures.changed in
-    subst (λ (t : AddressSpace). IsChanged t c.commit.new.self (restored t.mappings c.args.range c.args.saved.now) c.commit.result) c.self.view_is is
+    subst (λ (t : SpaceState). IsChanged t c.commit.new.self (restored t.mappings c.args.range c.args.saved.now) c.commit.result) c.self.view_is is
 
 pub returns-in_err-reserve-clause-room : goal.returns-in_err-reserve-clause-room
 returns-in_err-reserve-clause-room c =

@@ -2,32 +2,32 @@ use Rattle.std.proofs.Common.{◌≡◌, Result, Ok, Err, refl, sym, subst, List
 use Rattle.std.specs.Prelude.{IsOk, MatchOption}
 use Rattle.gv_types.specs.declared.fault.Fault.{Fault}
 use Rattle.gv_types.specs.declared.mapping.BufferId.{BufferId}
-use Rattle.gv_buffers.specs.Table.{Table, without, destroy_fault}
+use Rattle.gv_buffers.specs.Buffers.{BuffersState, without, destroy_fault}
 use Rattle.gv_types.specs.declared.mapping.Mapping.{Mapping}
-use Rattle.gv_space.specs.State.{AddressSpace, AreKept, IsSpace}
+use Rattle.gv_space.specs.State.{SpaceState, AreKept, IsSpace}
 use Rattle.gv_space.specs.Inside.{space_of}
 use Rattle.gv_space.proofs.FaultLemmas.{no_fault}
 use Rattle.gv_space.proofs.LivesLemmas.{AreKept-destroyed}
 use Rattle.gv_space.proofs.Spaces.{IsSpace-destroyed}
 use Rattle.gv_space.proofs.space.Space.destroy.Goals as goal
 
-after : {X : Type 0} (r : Result X Fault) (s : AddressSpace) (new : Table) (id : BufferId) → IsSpace s → MatchOption (destroy_fault s.buffers id) (IsOk r) (λ f. r ≡ Err f) →
+after : {X : Type 0} (r : Result X Fault) (s : SpaceState) (new : BuffersState) (id : BufferId) → IsSpace s → MatchOption (destroy_fault s.buffers id) (IsOk r) (λ f. r ≡ Err f) →
     OnOk r (new ≡ without id s.buffers) → OnErr r (new ≡ s.buffers) → IsSpace (record s { buffers = new })
 after (Ok x) s new id space fault ok same =
-    subst (λ (t : Table). IsSpace (record s { buffers = t })) (sym ok) (IsSpace-destroyed s id (no_fault (destroy_fault s.buffers id) (Ok x) x fault refl) space)
-after (Err f) s new id space fault ok same = subst (λ (t : Table). IsSpace (record s { buffers = t })) (sym same) space
+    subst (λ (t : BuffersState). IsSpace (record s { buffers = t })) (sym ok) (IsSpace-destroyed s id (no_fault (destroy_fault s.buffers id) (Ok x) x fault refl) space)
+after (Err f) s new id space fault ok same = subst (λ (t : BuffersState). IsSpace (record s { buffers = t })) (sym same) space
 
 pub invariant_of-self : goal.invariant_of-self
 invariant_of-self c =
     after c.destroy.result (space_of c.self.inside) c.destroy.new.self c.args.id c.self.invariant c.destroy.ensures.fault c.destroy.ensures.ok c.destroy.ensures.err
 
-saves : {X : Type 0} (r : Result X Fault) (s : AddressSpace) (new : Table) (id : BufferId) → MatchOption (destroy_fault s.buffers id) (IsOk r) (λ f. r ≡ Err f) →
+saves : {X : Type 0} (r : Result X Fault) (s : SpaceState) (new : BuffersState) (id : BufferId) → MatchOption (destroy_fault s.buffers id) (IsOk r) (λ f. r ≡ Err f) →
     OnOk r (new ≡ without id s.buffers) → OnErr r (new ≡ s.buffers) → (kept : List Mapping) → AreKept s kept → AreKept (record s { buffers = new }) kept
 saves (Ok x) s new id fault ok same kept are_kept =
-    subst (λ (t : Table). AreKept (record s { buffers = t }) kept) (sym ok) (AreKept-destroyed s id kept (no_fault (destroy_fault s.buffers id) (Ok x) x fault refl) are_kept)
-saves (Err f) s new id fault ok same kept are_kept = subst (λ (t : Table). AreKept (record s { buffers = t }) kept) (sym same) are_kept
+    subst (λ (t : BuffersState). AreKept (record s { buffers = t }) kept) (sym ok) (AreKept-destroyed s id kept (no_fault (destroy_fault s.buffers id) (Ok x) x fault refl) are_kept)
+saves (Err f) s new id fault ok same kept are_kept = subst (λ (t : BuffersState). AreKept (record s { buffers = t }) kept) (sym same) are_kept
 
 pub returns-clause-kept : goal.returns-clause-kept
 returns-clause-kept c = λ kept are_kept.
     saves c.destroy.result (space_of c.self.inside) c.destroy.new.self c.args.id c.destroy.ensures.fault c.destroy.ensures.ok c.destroy.ensures.err kept
-    (subst (λ (t : AddressSpace). AreKept t kept) (sym c.self.view_is) are_kept)
+    (subst (λ (t : SpaceState). AreKept t kept) (sym c.self.view_is) are_kept)

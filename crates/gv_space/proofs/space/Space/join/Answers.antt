@@ -2,30 +2,30 @@ use Rattle.std.proofs.Common.{◌≡◌, ℕ, Result, Ok, Err, sym, subst, List,
 use Rattle.gv_types.specs.declared.fault.Fault.{Fault}
 use Rattle.gv_types.specs.declared.mapping.BufferId.{BufferId}
 use Rattle.gv_buffers.specs.declared.usage.Usage.{Usage}
-use Rattle.gv_buffers.specs.Table.{Table, changed, joined_by, IsTable}
+use Rattle.gv_buffers.specs.Buffers.{BuffersState, changed, joined_by, IsTable}
 use Rattle.gv_types.specs.declared.mapping.Mapping.{Mapping}
-use Rattle.gv_space.specs.State.{AddressSpace, AreKept, IsSpace}
+use Rattle.gv_space.specs.State.{SpaceState, AreKept, IsSpace}
 use Rattle.gv_space.specs.Inside.{space_of}
 use Rattle.gv_space.proofs.Jobs.{AreKept-joined}
 use Rattle.gv_space.proofs.Spaces.{IsSpace-joined}
 use Rattle.gv_space.proofs.space.Space.join.Goals as goal
 
-after : {X : Type 0} (r : Result X Fault) (s : AddressSpace) (new : Table) (id : BufferId) (job : ℕ) (usage : Usage) → IsSpace s → IsTable new →
+after : {X : Type 0} (r : Result X Fault) (s : SpaceState) (new : BuffersState) (id : BufferId) (job : ℕ) (usage : Usage) → IsSpace s → IsTable new →
     OnOk r (new ≡ changed id (joined_by job usage) s.buffers) → OnErr r (new ≡ s.buffers) → IsSpace (record s { buffers = new })
 after (Ok x) s new id job usage space table ok same =
-    subst (λ (t : Table). IsSpace (record s { buffers = t })) (sym ok) (IsSpace-joined s id job usage (subst IsTable ok table) space)
-after (Err f) s new id job usage space table ok same = subst (λ (t : Table). IsSpace (record s { buffers = t })) (sym same) space
+    subst (λ (t : BuffersState). IsSpace (record s { buffers = t })) (sym ok) (IsSpace-joined s id job usage (subst IsTable ok table) space)
+after (Err f) s new id job usage space table ok same = subst (λ (t : BuffersState). IsSpace (record s { buffers = t })) (sym same) space
 
 pub invariant_of-self : goal.invariant_of-self
 invariant_of-self c =
     after c.join.result (space_of c.self.inside) c.join.new.self c.args.id c.args.job c.args.usage c.self.invariant c.join.ensures.table c.join.ensures.ok c.join.ensures.err
 
-saves : {X : Type 0} (r : Result X Fault) (s : AddressSpace) (new : Table) (id : BufferId) (job : ℕ) (usage : Usage) →
+saves : {X : Type 0} (r : Result X Fault) (s : SpaceState) (new : BuffersState) (id : BufferId) (job : ℕ) (usage : Usage) →
     OnOk r (new ≡ changed id (joined_by job usage) s.buffers) → OnErr r (new ≡ s.buffers) → (kept : List Mapping) → AreKept s kept → AreKept (record s { buffers = new }) kept
-saves (Ok x) s new id job usage ok same kept are_kept = subst (λ (t : Table). AreKept (record s { buffers = t }) kept) (sym ok) (AreKept-joined s id job usage kept are_kept)
-saves (Err f) s new id job usage ok same kept are_kept = subst (λ (t : Table). AreKept (record s { buffers = t }) kept) (sym same) are_kept
+saves (Ok x) s new id job usage ok same kept are_kept = subst (λ (t : BuffersState). AreKept (record s { buffers = t }) kept) (sym ok) (AreKept-joined s id job usage kept are_kept)
+saves (Err f) s new id job usage ok same kept are_kept = subst (λ (t : BuffersState). AreKept (record s { buffers = t }) kept) (sym same) are_kept
 
 pub returns-clause-kept : goal.returns-clause-kept
 returns-clause-kept c = λ kept are_kept.
     saves c.join.result (space_of c.self.inside) c.join.new.self c.args.id c.args.job c.args.usage c.join.ensures.ok c.join.ensures.err kept
-    (subst (λ (t : AddressSpace). AreKept t kept) (sym c.self.view_is) are_kept)
+    (subst (λ (t : SpaceState). AreKept t kept) (sym c.self.view_is) are_kept)

@@ -1,6 +1,6 @@
 use Rattle.std.proofs.Common.{sym, subst}
-use Rattle.gv_buffers.specs.Table.{Table, IsTable}
-use Rattle.gv_space.specs.State.{AddressSpace, AreKept, IsSpace}
+use Rattle.gv_buffers.specs.Buffers.{BuffersState, IsTable}
+use Rattle.gv_space.specs.State.{SpaceState, AreKept, IsSpace}
 use Rattle.gv_space.specs.Inside.{space_of}
 use Rattle.gv_space.proofs.Jobs.{AreKept-left}
 use Rattle.gv_space.proofs.Spaces.{IsSpace-left}
@@ -8,12 +8,12 @@ use Rattle.gv_space.proofs.space.Space.leave.Goals as goal
 
 pub invariant_of-self : goal.invariant_of-self
 invariant_of-self c =
-    let s : AddressSpace = space_of c.self.inside in
-    subst (λ (t : Table). IsSpace (record s { buffers = t })) (sym c.leave.ensures.value)
+    let s : SpaceState = space_of c.self.inside in
+    subst (λ (t : BuffersState). IsSpace (record s { buffers = t })) (sym c.leave.ensures.value)
     (IsSpace-left s c.args.job (subst IsTable c.leave.ensures.value c.leave.ensures.table) c.self.invariant)
 
 pub returns-clause-kept : goal.returns-clause-kept
 returns-clause-kept c = λ kept are_kept.
-    let s : AddressSpace = space_of c.self.inside in
-    subst (λ (t : Table). AreKept (record s { buffers = t }) kept) (sym c.leave.ensures.value)
-    (AreKept-left s c.args.job kept (subst (λ (t : AddressSpace). AreKept t kept) (sym c.self.view_is) are_kept))
+    let s : SpaceState = space_of c.self.inside in
+    subst (λ (t : BuffersState). AreKept (record s { buffers = t }) kept) (sym c.leave.ensures.value)
+    (AreKept-left s c.args.job kept (subst (λ (t : SpaceState). AreKept t kept) (sym c.self.view_is) are_kept))

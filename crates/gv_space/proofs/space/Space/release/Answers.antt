@@ -1,7 +1,7 @@
 use Rattle.std.proofs.Common.{◌≡◌, ◌-◌, refl, sym, subst, ap, ◌∙◌, List, ◌++◌}
 use Rattle.gv_types.specs.declared.mapping.Mapping.{Mapping}
-use Rattle.gv_space.specs.State.{AddressSpace, IsSpace, AreKept}
-use Rattle.gv_space.specs.Undo.{UndoValue, released}
+use Rattle.gv_space.specs.State.{SpaceState, IsSpace, AreKept}
+use Rattle.gv_space.specs.Undo.{OpUndoState, released}
 use Rattle.gv_space.specs.Inside.{space_of}
 use Rattle.gv_space.proofs.Spaces.{IsSpace-released}
 use Rattle.gv_space.proofs.KeptLemmas.{AreKept-released}
@@ -10,38 +10,38 @@ use Rattle.gv_space.proofs.space.Space.release.Goals as goal
 
 pub unkeep-requires-clause-counted : goal.unkeep-requires-clause-counted
 unkeep-requires-clause-counted c =
-    let s : AddressSpace = space_of c.self.inside in
+    let s : SpaceState = space_of c.self.inside in
     let taken : List Mapping = c.args.undo.change.taken in
-    let taken_is : c.undo.inside.taken.items ≡ taken = ap (λ (u : UndoValue). u.change.taken) c.undo.view_is in
-    let saved : AreKept s (taken ++ c.requires.others) = subst (λ (t : AddressSpace). AreKept t (taken ++ c.requires.others)) (sym c.self.view_is) c.requires.are_kept in
+    let taken_is : c.undo.inside.taken.items ≡ taken = ap (λ (u : OpUndoState). u.change.taken) c.undo.view_is in
+    let saved : AreKept s (taken ++ c.requires.others) = subst (λ (t : SpaceState). AreKept t (taken ++ c.requires.others)) (sym c.self.view_is) c.requires.are_kept in
     rw (c.as_slice.ensures, taken_is) (saved_are_kept s taken c.requires.others saved)
 
 pub invariant_of-self : goal.invariant_of-self
 invariant_of-self c =
-    let s : AddressSpace = space_of c.self.inside in
+    let s : SpaceState = space_of c.self.inside in
     let taken : List Mapping = c.args.undo.change.taken in
-    let taken_is : c.undo.inside.taken.items ≡ taken = ap (λ (u : UndoValue). u.change.taken) c.undo.view_is in
-    let saved : AreKept s (taken ++ c.requires.others) = subst (λ (t : AddressSpace). AreKept t (taken ++ c.requires.others)) (sym c.self.view_is) c.requires.are_kept in
-    let new : AddressSpace = record s { buffers = c.unkeep.new.buffers; kept_count = s.kept_count - c.len.result } in
+    let taken_is : c.undo.inside.taken.items ≡ taken = ap (λ (u : OpUndoState). u.change.taken) c.undo.view_is in
+    let saved : AreKept s (taken ++ c.requires.others) = subst (λ (t : SpaceState). AreKept t (taken ++ c.requires.others)) (sym c.self.view_is) c.requires.are_kept in
+    let new : SpaceState = record s { buffers = c.unkeep.new.buffers; kept_count = s.kept_count - c.len.result } in
     let state : new ≡ released s taken = rw (c.unkeep.ensures, c.len.ensures.value, c.as_slice.ensures, taken_is) refl in
     subst IsSpace (sym state) (IsSpace-released s taken c.requires.others c.self.invariant saved)
 
 pub returns-clause-state : goal.returns-clause-state
 returns-clause-state c =
-    let s : AddressSpace = space_of c.self.inside in
+    let s : SpaceState = space_of c.self.inside in
     let taken : List Mapping = c.args.undo.change.taken in
-    let taken_is : c.undo.inside.taken.items ≡ taken = ap (λ (u : UndoValue). u.change.taken) c.undo.view_is in
-    let new : AddressSpace = record s { buffers = c.unkeep.new.buffers; kept_count = s.kept_count - c.len.result } in
+    let taken_is : c.undo.inside.taken.items ≡ taken = ap (λ (u : OpUndoState). u.change.taken) c.undo.view_is in
+    let new : SpaceState = record s { buffers = c.unkeep.new.buffers; kept_count = s.kept_count - c.len.result } in
     let state : new ≡ released s taken = rw (c.unkeep.ensures, c.len.ensures.value, c.as_slice.ensures, taken_is) refl in
-    state ∙ ap (λ (t : AddressSpace). released t taken) c.self.view_is
+    state ∙ ap (λ (t : SpaceState). released t taken) c.self.view_is
 
 pub returns-clause-kept : goal.returns-clause-kept
 returns-clause-kept c =
-    let s : AddressSpace = space_of c.self.inside in
+    let s : SpaceState = space_of c.self.inside in
     let taken : List Mapping = c.args.undo.change.taken in
-    let taken_is : c.undo.inside.taken.items ≡ taken = ap (λ (u : UndoValue). u.change.taken) c.undo.view_is in
-    let new : AddressSpace = record s { buffers = c.unkeep.new.buffers; kept_count = s.kept_count - c.len.result } in
+    let taken_is : c.undo.inside.taken.items ≡ taken = ap (λ (u : OpUndoState). u.change.taken) c.undo.view_is in
+    let new : SpaceState = record s { buffers = c.unkeep.new.buffers; kept_count = s.kept_count - c.len.result } in
     let state : new ≡ released s taken = rw (c.unkeep.ensures, c.len.ensures.value, c.as_slice.ensures, taken_is) refl in
     λ others are_kept.
-    subst (λ (t : AddressSpace). AreKept t others) (sym state)
-    (AreKept-released s taken others (subst (λ (t : AddressSpace). AreKept t (taken ++ others)) (sym c.self.view_is) are_kept))
+    subst (λ (t : SpaceState). AreKept t others) (sym state)
+    (AreKept-released s taken others (subst (λ (t : SpaceState). AreKept t (taken ++ others)) (sym c.self.view_is) are_kept))

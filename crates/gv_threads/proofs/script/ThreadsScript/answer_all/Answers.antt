@@ -2,7 +2,7 @@ use Rattle.std.proofs.Common.{Err, ◌≡◌, ◌<◌, ◌∙◌, ◌++◌, List
 use Rattle.std.specs.Io.KnownBytes.{Appends, append_known}
 use Rattle.std.proofs.KnownBytes.{Appends-trans}
 use Rattle.gv_lines.specs.declared.line.Line.{Line}
-use Rattle.gv_text.specs.State.{Register}
+use Rattle.gv_text.specs.State.{NamesState}
 use Rattle.gv_text.specs.declared.fault.LineFault.{LineFault}
 use Rattle.gv_text.specs.declared.fault.ScriptFault.TheVariants.{BadLine}
 use Rattle.gv_threads.specs.Naming.{HasNames, IsFirstBad}
@@ -29,10 +29,10 @@ loop-number-preserved g c =
     let is : item ≡ get_or questions k item = search rules in
     let found = c.in_default.ensures.done in
     let names : c.self.inside.timelines.names ≡ c.args.self.now.timelines = search rules in
-    let inside : IsAnswered c.args.ground.now.buffers.entries c.self.inside.timelines.names c.args.ground.now.vm item.1 found.0 =
-    same_answer item.1 c.loop-number.ground.buffers c.args.ground.now.buffers c.self.inside.timelines.names c.loop-number.ground.vm c.args.ground.now.vm found.0 inv.buffers inv.vm found.1 in
-    let here : IsAnswered c.args.ground.now.buffers.entries c.args.self.now.timelines c.args.ground.now.vm item.1 found.0 =
-    subst (λ (ns : List (List ℕ)). IsAnswered c.args.ground.now.buffers.entries ns c.args.ground.now.vm item.1 found.0) names inside in
+    let inside : IsAnswered c.args.harness.now.buffers.entries c.self.inside.timelines.names c.args.harness.now.vm item.1 found.0 =
+    same_answer item.1 c.loop-number.harness.buffers c.args.harness.now.buffers c.self.inside.timelines.names c.loop-number.harness.vm c.args.harness.now.vm found.0 inv.buffers inv.vm found.1 in
+    let here : IsAnswered c.args.harness.now.buffers.entries c.args.self.now.timelines c.args.harness.now.vm item.1 found.0 =
+    subst (λ (ns : List (List ℕ)). IsAnswered c.args.harness.now.buffers.entries ns c.args.harness.now.vm item.1 found.0) names inside in
     let bytes : c.as_bytes.result.now ≡ found.0 = c.as_bytes.ensures.value ∙ found.2 ∙ ap (λ (front : List ℕ). front ++ found.0) c.clear.ensures.bytes in
     let pushed : Appends (append_known (g.W.Sink.written c.loop-number.writer) c.loop-number.output) (append_known (g.W.Sink.written c.push.new.sink) c.push.new.self) found.0 =
     subst (λ (t : List ℕ). Appends (append_known (g.W.Sink.written c.loop-number.writer) c.loop-number.output) (append_known (g.W.Sink.written c.push.new.sink) c.push.new.self) t) bytes c.in_ok-push.ensures.ok in
@@ -41,12 +41,12 @@ loop-number-preserved g c =
       timelines = c.ask-done.ensures.timelines ∙ inv.timelines;
       vm = c.ask-done.ensures.vm ∙ inv.vm;
       buffers = c.ask-done.ensures.buffers ∙ inv.buffers;
-      good = good_next (HasNames c.args.ground.now.buffers.entries c.args.self.now.timelines) questions k item below is inv.good
-          (answered_has item.1 c.args.ground.now.buffers.entries c.args.self.now.timelines c.args.ground.now.vm found.0 here);
+      good = good_next (HasNames c.args.harness.now.buffers.entries c.args.self.now.timelines) questions k item below is inv.good
+          (answered_has item.1 c.args.harness.now.buffers.entries c.args.self.now.timelines c.args.harness.now.vm found.0 here);
       text = inv.text ++ found.0;
-      ran = subst (λ (qs : List Line). AreAnswered c.args.ground.now.buffers.entries c.args.self.now.timelines c.args.ground.now.vm qs (inv.text ++ found.0))
+      ran = subst (λ (qs : List Line). AreAnswered c.args.harness.now.buffers.entries c.args.self.now.timelines c.args.harness.now.vm qs (inv.text ++ found.0))
           (sym (unnumbered_next questions k item below is))
-          (answered_more c.args.ground.now.buffers.entries c.args.self.now.timelines c.args.ground.now.vm (unnumbered (take k questions)) item.1 inv.text found.0 inv.ran here);
+          (answered_more c.args.harness.now.buffers.entries c.args.self.now.timelines c.args.harness.now.vm (unnumbered (take k questions)) item.1 inv.text found.0 inv.ran here);
       wrote = Appends-trans _ _ _ _ _ inv.wrote pushed;
       flag = c.in_ok-push.ensures.unset ∙ inv.flag;
     }
@@ -57,7 +57,7 @@ returns-clause-answered g c =
     let questions : List (ℕ × Line) = c.args.self.now.questions in
     let all : take c.loop-number.number-index questions ≡ questions = take_all c.loop-number.number-index questions (search rules) in (
       inv.text,
-      subst (λ (qs : List (ℕ × Line)). AreAnswered c.args.ground.now.buffers.entries c.args.self.now.timelines c.args.ground.now.vm (unnumbered qs) inv.text) all inv.ran,
+      subst (λ (qs : List (ℕ × Line)). AreAnswered c.args.harness.now.buffers.entries c.args.self.now.timelines c.args.harness.now.vm (unnumbered qs) inv.text) all inv.ran,
       inv.wrote,
     )
 
@@ -72,9 +72,9 @@ returns-in-Err-clause-bad_line g c = λ line same.
     let told : c.at.result ≡ BadLine line = cc in
     let bad = bad_at item.0 line c.in-Err.fault c.at.result c.at.ensures told in
     let names : c.self.inside.timelines.names ≡ c.args.self.now.timelines = search rules in
-    let lacks : ¬ HasNames c.loop-number.ground.buffers.entries c.self.inside.timelines.names item.1 = c.ask-done.ensures.bad (c.in-Err.is ∙ ap (λ (f : LineFault). Err f) bad.0) in
-    let same_names : ¬ HasNames c.args.ground.now.buffers.entries c.args.self.now.timelines item.1 =
-    subst (λ (ns : List (List ℕ)). ¬ HasNames c.args.ground.now.buffers.entries ns item.1) names
-    (subst (λ (b : Register). ¬ HasNames b.entries c.self.inside.timelines.names item.1) inv.buffers lacks) in
-    subst (λ (n : ℕ). IsFirstBad (HasNames c.args.ground.now.buffers.entries c.args.self.now.timelines) questions n) bad.1
-    (first_bad (HasNames c.args.ground.now.buffers.entries c.args.self.now.timelines) questions k item below is inv.good same_names)
+    let lacks : ¬ HasNames c.loop-number.harness.buffers.entries c.self.inside.timelines.names item.1 = c.ask-done.ensures.bad (c.in-Err.is ∙ ap (λ (f : LineFault). Err f) bad.0) in
+    let same_names : ¬ HasNames c.args.harness.now.buffers.entries c.args.self.now.timelines item.1 =
+    subst (λ (ns : List (List ℕ)). ¬ HasNames c.args.harness.now.buffers.entries ns item.1) names
+    (subst (λ (b : NamesState). ¬ HasNames b.entries c.self.inside.timelines.names item.1) inv.buffers lacks) in
+    subst (λ (n : ℕ). IsFirstBad (HasNames c.args.harness.now.buffers.entries c.args.self.now.timelines) questions n) bad.1
+    (first_bad (HasNames c.args.harness.now.buffers.entries c.args.self.now.timelines) questions k item below is inv.good same_names)

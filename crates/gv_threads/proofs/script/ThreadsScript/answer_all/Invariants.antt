@@ -9,13 +9,13 @@ use Rattle.gv_threads.proofs.script.ThreadsScript.answer_all.Given as goal
 
 abbrev pub invariant-loop-number : goal.invariant-loop-number
 invariant-loop-number g l = record {
-  own : IsSeatOf l.ground.timelines l.ground.seat;
-  timelines : l.ground.timelines ≡ l.initial.ground.timelines;
-  vm : l.ground.vm ≡ l.initial.ground.vm;
-  buffers : l.ground.buffers ≡ l.initial.ground.buffers;
-  good : All (HasNames l.initial.ground.buffers.entries l.self.timelines) (unnumbered (take l.number-index l.self.questions));
+  own : IsSeatOf l.harness.timelines l.harness.seat;
+  timelines : l.harness.timelines ≡ l.initial.harness.timelines;
+  vm : l.harness.vm ≡ l.initial.harness.vm;
+  buffers : l.harness.buffers ≡ l.initial.harness.buffers;
+  good : All (HasNames l.initial.harness.buffers.entries l.self.timelines) (unnumbered (take l.number-index l.self.questions));
   text : List ℕ;
-  ran : AreAnswered l.initial.ground.buffers.entries l.self.timelines l.initial.ground.vm (unnumbered (take l.number-index l.self.questions)) text;
+  ran : AreAnswered l.initial.harness.buffers.entries l.self.timelines l.initial.harness.vm (unnumbered (take l.number-index l.self.questions)) text;
   wrote : Appends (g.W.Sink.written l.initial.writer) (append_known (g.W.Sink.written l.writer) l.output) text;
   flag : g.W.Sink.failed l.writer ≡ g.W.Sink.failed l.initial.writer;
 }

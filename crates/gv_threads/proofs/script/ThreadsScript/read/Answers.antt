@@ -1,7 +1,7 @@
 use Rattle.std.proofs.Common.{◌∙◌, ◌++◌, ◌∷◌, [], List, ℕ, ap, sym, refl, append_assoc, arith, rules}
 use Rattle.std.proofs.lemmas.List.{length-append}
 use Rattle.gv_lines.specs.Words.{parts}
-use Rattle.gv_threads.proofs.Kept.{keeps_more, place_more, read_more, stand_all_more}
+use Rattle.gv_threads.proofs.Kept.{keeps_more, standing_more, read_more, stand_all_more}
 use Rattle.gv_threads.proofs.script.ThreadsScript.read.Goals as goal
 
 pub loop-line-init : goal.loop-line-init
@@ -13,7 +13,7 @@ loop-line-init c = record {
   cut = refl;
   read = refl;
   kept = λ whole. c.new-script.ensures.none;
-  place = c.new-script.ensures.place;
+  standing = c.new-script.ensures.standing;
   stand = tt;
   counted = refl;
 }
@@ -31,7 +31,7 @@ loop-line-preserved c =
       cut = inv.cut ∙ ap (λ (ps : List (List ℕ)). inv.texts ++ ps) c.in-Some.ensures.parts ∙ sym (append_assoc inv.texts (line ∷ []) (parts 10 c.in-Some.after.now));
       read = read_more inv.texts inv.lines line adds.line inv.read adds.read;
       kept = keeps_more line inv.lines c.loop-line.script c.read_line.new.self adds inv.kept;
-      place = place_more line inv.lines c.loop-line.script c.read_line.new.self adds inv.place;
-      stand = stand_all_more c.args.count inv.lines c.loop-line.script adds.line inv.place inv.queues inv.stand adds.may;
+      standing = standing_more line inv.lines c.loop-line.script c.read_line.new.self adds inv.standing;
+      stand = stand_all_more c.args.count inv.lines c.loop-line.script adds.line inv.standing inv.queues inv.stand adds.may;
       counted = let long = length-append inv.texts (line ∷ []) in omega (arith, inv.counted, long);
     }

@@ -3,7 +3,7 @@ use Rattle.gv_lines.specs.Grammar.{parsed}
 use Rattle.gv_lines.specs.Words.{parts}
 use Rattle.gv_lines.specs.declared.line.Line.{Line}
 use Rattle.gv_threads.specs.Parts.{Keeps}
-use Rattle.gv_threads.specs.Places.{MayStandAll, place_behind, place_of}
+use Rattle.gv_threads.specs.Standing.{MayStandAll, standing_behind, standing_of}
 use Rattle.gv_threads.proofs.script.ThreadsScript.read.Given as goal
 
 abbrev pub invariant-loop-line : goal.invariant-loop-line
@@ -15,7 +15,7 @@ invariant-loop-line l = record {
   cut : parts 10 l.text ≡ texts ++ parts 10 l.rest;
   read : map parsed texts ≡ map Some lines;
   kept : l.script.whole ≡ true → Keeps lines l.script;
-  place : place_of l.script ≡ place_behind lines;
+  standing : standing_of l.script ≡ standing_behind lines;
   stand : MayStandAll l.count lines;
   counted : l.number ≡ length texts + 1;
 }

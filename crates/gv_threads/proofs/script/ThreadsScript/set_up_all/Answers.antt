@@ -26,7 +26,7 @@ loop-number-preserved g c =
       text = inv.text ++ found.0;
       split = append_assoc inv.done (setting ∷ []) (unnumbered (into_iter_items c.next.new.self))
           ∙ ap (λ (l : List (ℕ × Setting)). inv.done ++ unnumbered l) (sym step.0) ∙ inv.split;
-      ran = set_up_more c.self.inside.timelines.names inv.done setting (ready_of c.args.ground.now) (ready_of c.loop-number.ground) (ready_of c.set_up-done.new.ground) inv.text found.0 inv.ran found.1;
+      ran = set_up_more c.self.inside.timelines.names inv.done setting (ready_of c.args.harness.now) (ready_of c.loop-number.harness) (ready_of c.set_up-done.new.harness) inv.text found.0 inv.ran found.1;
       wrote = Appends-trans _ _ _ _ _ inv.wrote pushed;
       flag = c.in_ok-push.ensures.unset ∙ inv.flag;
     }

@@ -9,14 +9,14 @@ use Rattle.gv_threads.proofs.script.ThreadsScript.set_up_all.Given as goal
 
 abbrev pub invariant-loop-number : goal.invariant-loop-number
 invariant-loop-number g l = record {
-  own : IsSeatOf l.ground.timelines l.ground.seat;
-  timelines : l.ground.timelines ≡ l.initial.ground.timelines;
-  told : l.ground.vm.told ≡ l.initial.ground.vm.told;
-  first : IsFirst l.ground.seat;
+  own : IsSeatOf l.harness.timelines l.harness.seat;
+  timelines : l.harness.timelines ≡ l.initial.harness.timelines;
+  told : l.harness.vm.told ≡ l.initial.harness.vm.told;
+  first : IsFirst l.harness.seat;
   done : List Setting;
   text : List ℕ;
   split : done ++ unnumbered (into_iter_items l.number-iterator) ≡ unnumbered (into_iter_items l.initial.number-iterator);
-  ran : SetUpAll l.self-inside.timelines.names done (ready_of l.initial.ground) text (ready_of l.ground);
+  ran : SetUpAll l.self-inside.timelines.names done (ready_of l.initial.harness) text (ready_of l.harness);
   wrote : Appends (g.W.Sink.written l.initial.writer) (append_known (g.W.Sink.written l.writer) l.output) text;
   flag : g.W.Sink.failed l.writer ≡ g.W.Sink.failed l.initial.writer;
 }

@@ -2,7 +2,7 @@ use Rattle.std.proofs.Common.{◌≡◌, ◌<◌, List, ◌∷◌, [], arith, le
 use Rattle.std.proofs.lemmas.Bool.{eqb-true}
 use Rattle.gv_types.specs.declared.request.Point.{Point}
 use Rattle.gv_sync.specs.Sights.{Sight}
-use Rattle.gv_vm.specs.World.{Queue}
+use Rattle.gv_vm.specs.World.{QueueState}
 use Rattle.gv_vm.specs.Turns.{TookFront}
 use Rattle.gv_vm.proofs.queue.Queue.take.Goals as goal
 
@@ -21,11 +21,11 @@ returns-clause-took c = λ _.
     let items : c.self.inside.waiting.items ≡ c.in-Some.request ∷ c.pop_front.new.self.items = c.in-Some.ensures.items in
     let count : 0 < length c.self.inside.waiting.items = omega (arith, ap length items) in
     let free : c.self.inside.hand ≡ None = none_there c.self.inside.hand (grind arith) in
-    subst (λ (q : Queue). TookFront q (record { put = c.self.inside.put; waiting = c.pop_front.new.self.items; hand = Some (record { request = c.in-Some.request; reached = c.new.result.items; lacked = None }); owed = reverse c.self.inside.owed.items })) c.self.view_is
+    subst (λ (q : QueueState). TookFront q (record { put = c.self.inside.put; waiting = c.pop_front.new.self.items; hand = Some (record { request = c.in-Some.request; reached = c.new.result.items; lacked = None }); owed = reverse c.self.inside.owed.items })) c.self.view_is
     (record {
       may = record { waits = count; free = free; paid = ap (λ (ps : List Point). reverse ps) (none_left c.self.inside.owed.items none) };
       request = c.in-Some.request;
       later = c.pop_front.new.self.items;
       front = items;
-      state = ap (λ (ss : List Sight). (let q : Queue = record { put = c.self.inside.put; waiting = c.pop_front.new.self.items; hand = Some (record { request = c.in-Some.request; reached = ss; lacked = None }); owed = reverse c.self.inside.owed.items } in q)) c.new.ensures.items;
+      state = ap (λ (ss : List Sight). (let q : QueueState = record { put = c.self.inside.put; waiting = c.pop_front.new.self.items; hand = Some (record { request = c.in-Some.request; reached = ss; lacked = None }); owed = reverse c.self.inside.owed.items } in q)) c.new.ensures.items;
     })

@@ -5,7 +5,7 @@ use Rattle.gv_vm.specs.Telling.{lists_of}
 use Rattle.gv_vm.specs.Told.{CameTo, seen_by}
 use Rattle.gv_vm.specs.Outcomes.{with_outcome, tell_fault}
 use Rattle.gv_vm.specs.declared.outcome.Outcome.{Outcome}
-use Rattle.gv_vm.proofs.Carried.{IsMachine-carried_out, none_if_prepared}
+use Rattle.gv_vm.proofs.Carried.{IsVm-carried_out, none_if_prepared}
 use Rattle.gv_vm.proofs.vm.Vm.bind.Goals as goal
 
 pub invariant_of-self-2 : goal.invariant_of-self-2
@@ -13,9 +13,9 @@ invariant_of-self-2 c =
     let limit : c.told-limit.result ≡ c.self.inside.space.limits.told = c.told-limit.ensures.value ∙ ap (λ l. l.told) c.limits.ensures in
     let none : tell_fault c.self.inside.space.limits.told (lists_of c.self.inside.told) c.args.queue c.args.number ≡ None =
     subst (λ (n : ℕ). tell_fault n (lists_of c.self.inside.told) c.args.queue c.args.number ≡ None) limit (none_if_prepared _ c.in_default.field-0 c.in_default.ensures.fault) in
-    let came : CameTo (roomless c.self.inside.space) (roomless c.carry_out-outcome.new.space) c.self.inside.journal c.carry_out-outcome.new.journal c.args.queue c.args.number c.args.request (seen_by c.args.reached.now) c.carry_out-outcome.result =
-    subst (λ (seen : List ℕ). CameTo (roomless c.self.inside.space) (roomless c.carry_out-outcome.new.space) c.self.inside.journal c.carry_out-outcome.new.journal c.args.queue c.args.number c.args.request seen c.carry_out-outcome.result)
-    c.in-Ok.ensures.seen c.carry_out-outcome.ensures.came in
-    IsMachine-carried_out (parts_of c.self.inside) c.carry_out-outcome.new.space c.carry_out-outcome.new.journal c.args.queue c.args.number c.args.request c.args.reached.now c.carry_out-outcome.result (lists_of c.tell.new.told)
-    c.self.invariant c.carry_out-outcome.ensures.fits c.list-list.ensures.space came c.requires.queue none c.requires.reached c.in-Ok.ensures.reached
-    (c.tell.ensures ∙ ap (λ (ls : List (List Outcome)). with_outcome ls c.args.queue c.carry_out-outcome.result) c.prepare.ensures.same)
+    let came : CameTo (roomless c.self.inside.space) (roomless c.dispatch-outcome.new.space) c.self.inside.journal c.dispatch-outcome.new.journal c.args.queue c.args.number c.args.request (seen_by c.args.reached.now) c.dispatch-outcome.result =
+    subst (λ (seen : List ℕ). CameTo (roomless c.self.inside.space) (roomless c.dispatch-outcome.new.space) c.self.inside.journal c.dispatch-outcome.new.journal c.args.queue c.args.number c.args.request seen c.dispatch-outcome.result)
+    c.in-Ok.ensures.seen c.dispatch-outcome.ensures.came in
+    IsVm-carried_out (parts_of c.self.inside) c.dispatch-outcome.new.space c.dispatch-outcome.new.journal c.args.queue c.args.number c.args.request c.args.reached.now c.dispatch-outcome.result (lists_of c.tell.new.told)
+    c.self.invariant c.dispatch-outcome.ensures.fits c.list-list.ensures.space came c.requires.queue none c.requires.reached c.in-Ok.ensures.reached
+    (c.tell.ensures ∙ ap (λ (ls : List (List Outcome)). with_outcome ls c.args.queue c.dispatch-outcome.result) c.prepare.ensures.same)

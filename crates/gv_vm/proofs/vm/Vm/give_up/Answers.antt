@@ -4,11 +4,11 @@ use Rattle.gv_vm.specs.Telling.{lists_of}
 use Rattle.gv_vm.specs.Outcomes.{with_outcome}
 use Rattle.gv_vm.specs.declared.outcome.Outcome.{Outcome}
 use Rattle.gv_vm.specs.declared.outcome.Outcome.TheVariants.{NotReady}
-use Rattle.gv_vm.proofs.Carried.{IsMachine-told}
+use Rattle.gv_vm.proofs.Carried.{IsVm-told}
 use Rattle.gv_vm.proofs.vm.Vm.give_up.Goals as goal
 
 pub invariant_of-self-2 : goal.invariant_of-self-2
 invariant_of-self-2 c =
     let outcome : Outcome = NotReady c.point.result c.have.result in
-    IsMachine-told (parts_of c.self.inside) c.args.queue outcome (lists_of c.tell.new.told) c.self.invariant c.requires.queue
+    IsVm-told (parts_of c.self.inside) c.args.queue outcome (lists_of c.tell.new.told) c.self.invariant c.requires.queue
     (c.tell.ensures ∙ ap (λ (ls : List (List Outcome)). with_outcome ls c.args.queue outcome) c.prepare.ensures.same)

@@ -1,8 +1,8 @@
 use Rattle.std.proofs.Common.{subst}
-use Rattle.gv_vm.specs.State.{IsMachine}
+use Rattle.gv_vm.specs.State.{IsVm}
 use Rattle.gv_vm.specs.VmInside.{parts_of}
-use Rattle.gv_vm.proofs.Roomless.{IsMachine-roomless}
+use Rattle.gv_vm.proofs.Roomless.{IsVm-roomless}
 use Rattle.gv_vm.proofs.vm.Vm.space.Goals as goal
 
 pub returns-clause-holds : goal.returns-clause-holds
-returns-clause-holds c = subst IsMachine c.self.view_is (IsMachine-roomless (parts_of c.self.inside) c.self.invariant)
+returns-clause-holds c = subst IsVm c.self.view_is (IsVm-roomless (parts_of c.self.inside) c.self.invariant)

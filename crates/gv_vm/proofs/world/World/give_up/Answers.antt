@@ -1,5 +1,5 @@
 use Rattle.std.proofs.Common.{◌≡◌, ◌<◌, ℕ, ◌∙◌, arith, ap, subst, sym, length, List, Some}
-use Rattle.gv_vm.specs.World.{World, Queue, InHand, queue_at, with_queue, next_number}
+use Rattle.gv_vm.specs.World.{WorldState, QueueState, HandState, queue_at, with_queue, next_number}
 use Rattle.gv_vm.specs.WorldInside.{world_of}
 use Rattle.gv_vm.specs.Queues.{AreQueues}
 use Rattle.gv_vm.specs.Turns.{IsLacking, without_hand}
@@ -12,65 +12,65 @@ use Rattle.gv_vm.proofs.world.World.give_up.Goals as goal
 
 pub returns-in_default : goal.returns-in_default
 returns-in_default c =
-    let w : World = world_of c.self.inside in
+    let w : WorldState = world_of c.self.inside in
     let n : ℕ = c.args.queue in
     let less : n < length w.queues = omega arith in
     let read : c.index_mut-place.result.now ≡ queue_at w n = queue_read w n c.index_mut-place.result.now less c.index_mut-place.ensures.value in
-    let never : IsLacking (queue_at w n) → ⊥ = subst (λ (q : Queue). IsLacking q → ⊥) read c.in_default.ensures.not in
-    subst (λ (v : World). step v (GiveUp n) Idle (with_queue w n c.lacking.new.self)) c.self.view_is
+    let never : IsLacking (queue_at w n) → ⊥ = subst (λ (q : QueueState). IsLacking q → ⊥) read c.in_default.ensures.not in
+    subst (λ (v : WorldState). step v (GiveUp n) Idle (with_queue w n c.lacking.new.self)) c.self.view_is
     (not_given_up w n never, same_world w n c.lacking.new.self (c.in_default.ensures.same ∙ read))
 
 pub invariant_of-self-in-Err : goal.invariant_of-self-in-Err
 invariant_of-self-in-Err c =
-    let w : World = world_of c.self.inside in
+    let w : WorldState = world_of c.self.inside in
     let n : ℕ = c.args.queue in
     let less : n < length w.queues = omega arith in
     let read : c.index_mut-place.result.now ≡ queue_at w n = queue_read w n c.index_mut-place.result.now less c.index_mut-place.ensures.value in
-    let hand : InHand = c.in-Some.hand in
-    let is : (queue_at w n).hand ≡ Some hand = subst (λ (q : Queue). q.hand ≡ Some hand) read c.in-Some.ensures.hand in
+    let hand : HandState = c.in-Some.hand in
+    let is : (queue_at w n).hand ≡ Some hand = subst (λ (q : QueueState). q.hand ≡ Some hand) read c.in-Some.ensures.hand in
     let same : c.hold.new.self ≡ queue_at w n =
-    c.hold.ensures ∙ ap (λ (q : Queue). record q { hand = Some c.in-Err.hand }) c.in-Some.ensures.gone
-    ∙ ap (λ (h : InHand). record c.index_mut-place.result.now { hand = Some h }) c.in-Err.ensures.hand
-    ∙ ap (λ (q : Queue). record q { hand = Some hand }) read ∙ ap (λ o. record (queue_at w n) { hand = o }) (sym is) in
-    subst AreQueues (sym (ap (λ v. with_queue (record w { machine = v }) n c.hold.new.self) c.in-Err.ensures.err ∙ same_world w n c.hold.new.self same)) c.self.invariant
+    c.hold.ensures ∙ ap (λ (q : QueueState). record q { hand = Some c.in-Err.hand }) c.in-Some.ensures.gone
+    ∙ ap (λ (h : HandState). record c.index_mut-place.result.now { hand = Some h }) c.in-Err.ensures.hand
+    ∙ ap (λ (q : QueueState). record q { hand = Some hand }) read ∙ ap (λ o. record (queue_at w n) { hand = o }) (sym is) in
+    subst AreQueues (sym (ap (λ v. with_queue (record w { vm = v }) n c.hold.new.self) c.in-Err.ensures.err ∙ same_world w n c.hold.new.self same)) c.self.invariant
 
 pub returns-in-Err : goal.returns-in-Err
 returns-in-Err c =
-    let w : World = world_of c.self.inside in
+    let w : WorldState = world_of c.self.inside in
     let n : ℕ = c.args.queue in
     let less : n < length w.queues = omega arith in
     let read : c.index_mut-place.result.now ≡ queue_at w n = queue_read w n c.index_mut-place.result.now less c.index_mut-place.ensures.value in
-    let hand : InHand = c.in-Some.hand in
-    let is : (queue_at w n).hand ≡ Some hand = subst (λ (q : Queue). q.hand ≡ Some hand) read c.in-Some.ensures.hand in
+    let hand : HandState = c.in-Some.hand in
+    let is : (queue_at w n).hand ≡ Some hand = subst (λ (q : QueueState). q.hand ≡ Some hand) read c.in-Some.ensures.hand in
     let same : c.hold.new.self ≡ queue_at w n =
-    c.hold.ensures ∙ ap (λ (q : Queue). record q { hand = Some c.in-Err.hand }) c.in-Some.ensures.gone
-    ∙ ap (λ (h : InHand). record c.index_mut-place.result.now { hand = Some h }) c.in-Err.ensures.hand
-    ∙ ap (λ (q : Queue). record q { hand = Some hand }) read ∙ ap (λ o. record (queue_at w n) { hand = o }) (sym is) in
-    subst (λ (v : World). CanGiveUp v n × (with_queue (record w { machine = c.give_up_hand.new.vm }) n c.hold.new.self ≡ v)) c.self.view_is
+    c.hold.ensures ∙ ap (λ (q : QueueState). record q { hand = Some c.in-Err.hand }) c.in-Some.ensures.gone
+    ∙ ap (λ (h : HandState). record c.index_mut-place.result.now { hand = Some h }) c.in-Err.ensures.hand
+    ∙ ap (λ (q : QueueState). record q { hand = Some hand }) read ∙ ap (λ o. record (queue_at w n) { hand = o }) (sym is) in
+    subst (λ (v : WorldState). CanGiveUp v n × (with_queue (record w { vm = c.give_up_hand.new.vm }) n c.hold.new.self ≡ v)) c.self.view_is
     (may_give_up w n hand less is c.in-Some.ensures.lacked, came_back w c.give_up_hand.new.vm n c.hold.new.self same c.in-Err.ensures.err)
 
 pub invariant_of-self-2 : goal.invariant_of-self-2
 invariant_of-self-2 c =
-    let w : World = world_of c.self.inside in
+    let w : WorldState = world_of c.self.inside in
     let n : ℕ = c.args.queue in
     let less : n < length w.queues = omega arith in
     let read : c.index_mut-place.result.now ≡ queue_at w n = queue_read w n c.index_mut-place.result.now less c.index_mut-place.ensures.value in
-    let hand : InHand = c.in-Some.hand in
-    let is : (queue_at w n).hand ≡ Some hand = subst (λ (q : Queue). q.hand ≡ Some hand) read c.in-Some.ensures.hand in
-    let new : c.lacking.new.self ≡ without_hand (queue_at w n) = c.in-Some.ensures.gone ∙ ap (λ (q : Queue). without_hand q) read in
-    subst (λ (q : Queue). AreQueues (with_queue (record w { machine = c.give_up_hand.new.vm }) n q)) (sym new)
+    let hand : HandState = c.in-Some.hand in
+    let is : (queue_at w n).hand ≡ Some hand = subst (λ (q : QueueState). q.hand ≡ Some hand) read c.in-Some.ensures.hand in
+    let new : c.lacking.new.self ≡ without_hand (queue_at w n) = c.in-Some.ensures.gone ∙ ap (λ (q : QueueState). without_hand q) read in
+    subst (λ (q : QueueState). AreQueues (with_queue (record w { vm = c.give_up_hand.new.vm }) n q)) (sym new)
     (given_up_keeps w c.give_up_hand.new.vm n hand c.in-Ok.outcome c.self.invariant less is c.in-Ok.ensures.told)
 
 pub returns : goal.returns
 returns c =
-    let w : World = world_of c.self.inside in
+    let w : WorldState = world_of c.self.inside in
     let n : ℕ = c.args.queue in
     let less : n < length w.queues = omega arith in
     let read : c.index_mut-place.result.now ≡ queue_at w n = queue_read w n c.index_mut-place.result.now less c.index_mut-place.ensures.value in
-    let hand : InHand = c.in-Some.hand in
-    let is : (queue_at w n).hand ≡ Some hand = subst (λ (q : Queue). q.hand ≡ Some hand) read c.in-Some.ensures.hand in
-    let new : c.lacking.new.self ≡ without_hand (queue_at w n) = c.in-Some.ensures.gone ∙ ap (λ (q : Queue). without_hand q) read in
+    let hand : HandState = c.in-Some.hand in
+    let is : (queue_at w n).hand ≡ Some hand = subst (λ (q : QueueState). q.hand ≡ Some hand) read c.in-Some.ensures.hand in
+    let new : c.lacking.new.self ≡ without_hand (queue_at w n) = c.in-Some.ensures.gone ∙ ap (λ (q : QueueState). without_hand q) read in
     let number : length c.told.result.now ≡ next_number w n = ap (λ (ls : List Outcome). length ls) c.told.ensures in
-    subst (λ (v : World). step v (GiveUp n) (Told (length c.told.result.now) c.in-Ok.outcome) (with_queue (record w { machine = c.give_up_hand.new.vm }) n c.lacking.new.self)) c.self.view_is
-    (subst (λ (k : ℕ). step w (GiveUp n) (Told k c.in-Ok.outcome) (with_queue (record w { machine = c.give_up_hand.new.vm }) n c.lacking.new.self)) (sym number)
+    subst (λ (v : WorldState). step v (GiveUp n) (Told (length c.told.result.now) c.in-Ok.outcome) (with_queue (record w { vm = c.give_up_hand.new.vm }) n c.lacking.new.self)) c.self.view_is
+    (subst (λ (k : ℕ). step w (GiveUp n) (Told k c.in-Ok.outcome) (with_queue (record w { vm = c.give_up_hand.new.vm }) n c.lacking.new.self)) (sym number)
     (given_up w c.give_up_hand.new.vm n hand c.in-Ok.outcome c.lacking.new.self less is c.in-Ok.ensures.told new))

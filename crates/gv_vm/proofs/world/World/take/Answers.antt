@@ -1,5 +1,5 @@
 use Rattle.std.proofs.Common.{◌≡◌, ◌<◌, ◌∙◌, arith, ap, subst, sym, length, List}
-use Rattle.gv_vm.specs.World.{World, Queue, queue_at, with_queue, next_number}
+use Rattle.gv_vm.specs.World.{WorldState, QueueState, queue_at, with_queue, next_number}
 use Rattle.gv_vm.specs.WorldInside.{world_of}
 use Rattle.gv_vm.specs.Queues.{AreQueues}
 use Rattle.gv_vm.specs.Step.{step}
@@ -16,12 +16,12 @@ use Rattle.gv_vm.proofs.world.World.take.Goals.{then-take, else-take}
 
 pub invariant_of-self : goal.invariant_of-self
 invariant_of-self c =
-    let w : World = world_of c.self.inside in
+    let w : WorldState = world_of c.self.inside in
     let less : c.args.queue < length w.queues = omega arith in
     let read : c.index_mut.result.now ≡ queue_at w c.args.queue = queue_read w c.args.queue c.index_mut.result.now less c.index_mut.ensures.value in
     elim c.if-take.branch [
       | then-take x ↦
-          let front : TookFront (queue_at w c.args.queue) c.take.new.self = subst (λ (q : Queue). TookFront q c.take.new.self) read (c.take.ensures.took x.if-take.true) in
+          let front : TookFront (queue_at w c.args.queue) c.take.new.self = subst (λ (q : QueueState). TookFront q c.take.new.self) read (c.take.ensures.took x.if-take.true) in
           AreQueues-with_queue w c.args.queue c.take.new.self c.self.invariant less
           (IsQueueOf-took _ _ _ (queue_at w c.args.queue) c.take.new.self front (c.self.invariant.each c.args.queue less))
       | else-take x ↦
@@ -30,18 +30,18 @@ invariant_of-self c =
 
 pub returns : goal.returns
 returns c =
-    let w : World = world_of c.self.inside in
+    let w : WorldState = world_of c.self.inside in
     let less : c.args.queue < length w.queues = omega arith in
     let read : c.index_mut.result.now ≡ queue_at w c.args.queue = queue_read w c.args.queue c.index_mut.result.now less c.index_mut.ensures.value in
-    subst (λ (v : World). step v (Take c.args.queue) c.if-take.result (with_queue w c.args.queue c.take.new.self)) c.self.view_is
+    subst (λ (v : WorldState). step v (Take c.args.queue) c.if-take.result (with_queue w c.args.queue c.take.new.self)) c.self.view_is
     (elim c.if-take.branch [
       | then-take x ↦
-          let front : TookFront (queue_at w c.args.queue) c.take.new.self = subst (λ (q : Queue). TookFront q c.take.new.self) read (c.take.ensures.took x.if-take.true) in
+          let front : TookFront (queue_at w c.args.queue) c.take.new.self = subst (λ (q : QueueState). TookFront q c.take.new.self) read (c.take.ensures.took x.if-take.true) in
           let number : c.if-take.result ≡ Taken (next_number w c.args.queue) = x.result-is ∙ ap (λ (ls : List Outcome). Taken (length ls)) c.told.ensures in
           subst (λ (r : Reply). step w (Take c.args.queue) r (with_queue w c.args.queue c.take.new.self)) (sym number)
           (took w c.args.queue c.take.new.self less front)
       | else-take x ↦
-          let never : MayTake (queue_at w c.args.queue) → ⊥ = subst (λ (q : Queue). MayTake q → ⊥) read (c.take.ensures.not x.if-take.false) in
+          let never : MayTake (queue_at w c.args.queue) → ⊥ = subst (λ (q : QueueState). MayTake q → ⊥) read (c.take.ensures.not x.if-take.false) in
           subst (λ (r : Reply). step w (Take c.args.queue) r (with_queue w c.args.queue c.take.new.self)) (sym x.result-is)
           (not_taken w c.args.queue never, same_world w c.args.queue c.take.new.self (c.take.ensures.same x.if-take.false ∙ read))
     ])
