@@ -12,6 +12,7 @@ pub mod parts;
 pub mod piece;
 pub mod put;
 pub mod replace;
+pub mod replacing;
 pub mod run;
 pub mod settle;
 pub mod walk;
