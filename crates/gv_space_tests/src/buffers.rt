@@ -1,5 +1,5 @@
 //! Buffers, and the jobs that use them.
-use crate::desk::Step;
+use crate::harness::Step;
 use crate::query::{Query, Reply};
 use crate::steps::{DONE, changed, counted, create, created, destroy, expect, map, refused, unmap};
 use gv_buffers::Usage;

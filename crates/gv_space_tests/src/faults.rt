@@ -1,5 +1,5 @@
 //! The faults of operations, in their order.
-use crate::desk::Step;
+use crate::harness::Step;
 use crate::query::{Change, Query};
 use crate::sight::Part;
 use crate::steps::{

@@ -1,6 +1,6 @@
 //! Tests of the journal, on a space of its own in each.
 mod counts;
-mod desk;
+mod harness;
 mod older;
 mod rounds;
 mod rows;

@@ -8,9 +8,9 @@ mod changes;
 #[cfg(test)]
 mod course;
 #[cfg(test)]
-mod desk;
-#[cfg(test)]
 mod faults;
+#[cfg(test)]
+mod harness;
 #[cfg(test)]
 mod journal;
 #[cfg(test)]

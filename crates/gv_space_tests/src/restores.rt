@@ -1,5 +1,5 @@
 //! Older mappings that come back to a range.
-use crate::desk::Step;
+use crate::harness::Step;
 use crate::query::{Change, Query};
 use crate::steps::{
     DONE, changed, create, created, expect, look, looked, map, of_buffer, of_zero, refused, unmap,

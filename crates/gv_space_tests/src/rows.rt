@@ -1,6 +1,6 @@
 //! Changes, and the way back.
 use crate::changes::Stay;
-use crate::desk::Step;
+use crate::harness::Step;
 use crate::query::{Change, Query, Reply};
 use crate::steps::{changed, create, created, expect, look, looked, map, of_buffer, unmap};
 use std::test::Fail;

@@ -1,5 +1,5 @@
 //! Steps and replies in short.
-use crate::desk::{Step, run};
+use crate::harness::{Step, run};
 use crate::query::{Change, Query, Reply};
 use crate::sight::{MOST, Part, Piece, Pieces};
 use gv_types::{Bounds, Fault, Limits, PAGE_BYTES};

@@ -1,6 +1,6 @@
 //! How many tables stand at the levels 4, 3, 2, 1 and 0. A slot of 512 or of 262,144 pages is a leaf where one mapping
 //! covers it.
-use crate::desk::Step;
+use crate::harness::Step;
 use crate::query::Query;
 use crate::steps::{changed, create, created, expect, look, looked, map, of_buffer, tables, unmap};
 use std::test::Fail;

@@ -1,5 +1,5 @@
 //! An unmap of a whole buffer: its steps, and the ranges that it unmaps. And what a space tells of what it was given.
-use crate::desk::Step;
+use crate::harness::Step;
 use crate::query::{Change, Query, Reply};
 use crate::sight::Part;
 use crate::steps::{

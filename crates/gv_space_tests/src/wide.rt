@@ -1,5 +1,5 @@
 //! The whole width of addresses: 57 bits.
-use crate::desk::Step;
+use crate::harness::Step;
 use crate::query::{Change, Query, Reply};
 use crate::sight::Piece;
 use crate::steps::{changed, expect, list_of, look, of_zero, refused, tables};

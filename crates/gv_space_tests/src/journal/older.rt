@@ -1,5 +1,5 @@
 //! Worked rows of older requests, withdrawn and settled.
-use crate::journal::desk::Step;
+use crate::journal::harness::Step;
 use crate::journal::rows::{DONE, MANY, expect};
 use crate::journal::sight::{of_buffer, of_zero};
 use crate::journal::steps::{

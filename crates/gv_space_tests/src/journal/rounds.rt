@@ -3,7 +3,7 @@
 ghost use Rattle.gv_journal.specs.State.{FitsSpace};
 
 use crate::journal::counts::{Counts, counts_of, kept_is_counted, uses_are_counted, without_kept};
-use crate::journal::desk::{Desk, Reply, Step, play};
+use crate::journal::harness::{Harness, Reply, Step, play};
 use gv_journal::{Item, ItemKind, Journal};
 use gv_reference::{Random, given};
 use gv_space::Space;
@@ -155,7 +155,7 @@ fn turn(
     alloc: Global,
     space: &mut Space,
     journal: &mut Journal,
-    desk: &mut Desk,
+    harness: &mut Harness,
     past: &mut Past,
     step: Step,
 ) -> Result<bool, Fail>
@@ -164,14 +164,14 @@ fn turn(
 {
     let held = journal.items().len();
     let list: Vec<Mapping> = space.list().iter().map(|mapping| *mapping).collect(alloc)?;
-    let before = counts_of(space, desk.buffers.as_slice());
+    let before = counts_of(space, harness.buffers.as_slice());
     let gone = match step {
         Step::Settle { to } => to.saturating_sub(journal.first()) as usize,
         _ => 0,
     };
     let base = settled(alloc, journal, past, gone)?;
-    let reply = play(alloc, space, journal, desk, step)?;
-    let buffers = desk.buffers.as_slice();
+    let reply = play(alloc, space, journal, harness, step)?;
+    let buffers = harness.buffers.as_slice();
     let counts = counts_of(space, buffers);
     let same = match (step, reply) {
         (Step::Settle { .. }, Some(Reply::Number { .. })) => {
@@ -210,7 +210,7 @@ fn round(
     requires { FitsSpace space.old journal.old }
     ensures { FitsSpace space.new journal.new }
 {
-    let mut desk = Desk {
+    let mut harness = Harness {
         buffers: Vec::new(alloc),
         ops: Vec::new(alloc),
         number: 0,
@@ -221,13 +221,13 @@ fn round(
         counts: Vec::new(alloc),
     };
     let make = Step::Create { pages: 6 };
-    let _first = play(alloc, space, journal, &mut desk, make)?;
-    let _second = play(alloc, space, journal, &mut desk, make)?;
-    let _third = play(alloc, space, journal, &mut desk, make)?;
+    let _first = play(alloc, space, journal, &mut harness, make)?;
+    let _second = play(alloc, space, journal, &mut harness, make)?;
+    let _third = play(alloc, space, journal, &mut harness, make)?;
     let mut random = Random::new(seed);
     for turn_number in 0..steps {
         let step = step_of(&mut random, journal);
-        if !turn(alloc, space, journal, &mut desk, &mut past, step)? {
+        if !turn(alloc, space, journal, &mut harness, &mut past, step)? {
             return Ok(false);
         }
     }

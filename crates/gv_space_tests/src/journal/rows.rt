@@ -1,5 +1,5 @@
 //! Worked rows: steps, and what they answer.
-use crate::journal::desk::{Reply, Step, run};
+use crate::journal::harness::{Reply, Step, run};
 use crate::journal::sight::{of_buffer, of_zero};
 use crate::journal::steps::{
     accepted, count, counted, create, destroy, map, number, refused, refused_at, seen, settle,

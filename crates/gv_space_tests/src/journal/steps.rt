@@ -1,5 +1,5 @@
 //! Steps and replies in short.
-use crate::journal::desk::{Reply, Step};
+use crate::journal::harness::{Reply, Step};
 use crate::journal::sight::{Piece, list_of};
 use gv_types::Fault;
 

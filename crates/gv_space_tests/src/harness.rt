@@ -57,13 +57,13 @@ pub enum Step {
 
 /// The buffers made so far, what was answered, and what is asked at each look.
 #[derive(Drop)]
-pub struct Desk {
+pub struct Harness {
     buffers: Vec<BufferId>,
     replies: Vec<Reply>,
     query: Option<Query>,
 }
 
-impl Desk {
+impl Harness {
     fn id(&self, buffer: usize) -> BufferId {
         id_of(self.buffers.as_slice(), buffer)
     }
@@ -77,7 +77,7 @@ impl Desk {
     }
 }
 
-impl Watch for Desk {
+impl Watch for Harness {
     fn see(&mut self, alloc: Global, space: &Space) -> Result<(), Fault> {
         if let Some(query) = self.query {
             let reply = ask(alloc, space, self.buffers.as_slice(), query);
@@ -115,11 +115,16 @@ fn done(outcome: Result<(), Fault>) -> Reply {
 }
 
 /// Makes a buffer.
-fn create(alloc: Global, space: &mut Space, desk: &mut Desk, pages: u64) -> Result<Reply, Fault> {
+fn create(
+    alloc: Global,
+    space: &mut Space,
+    harness: &mut Harness,
+    pages: u64,
+) -> Result<Reply, Fault> {
     match space.create(alloc, pages) {
         Ok(id) => {
             let index = id.index;
-            push(&mut desk.buffers, id)?;
+            push(&mut harness.buffers, id)?;
             Ok(Reply::Created { index })
         }
         Err(fault) => Ok(Reply::Refused { fault }),
@@ -140,78 +145,84 @@ fn ranges_of(alloc: Global, numbers: &[(u64, u64)]) -> Result<Vec<PageRange>, Fa
 fn restore(
     alloc: Global,
     space: &mut Space,
-    desk: &mut Desk,
+    harness: &mut Harness,
     changes: [Change; 2],
     numbers: &[(u64, u64)],
     stays: bool,
 ) -> Result<(), Fault> {
-    let ops = desk.ops(changes);
+    let ops = harness.ops(changes);
     let ranges = ranges_of(alloc, numbers)?;
-    bring_back(alloc, space, desk, &ops, ranges.as_slice(), stays)
+    bring_back(alloc, space, harness, &ops, ranges.as_slice(), stays)
 }
 
 /// Tries to destroy a buffer that the undo value of an operation keeps.
 fn destroy_kept(
     alloc: Global,
     space: &mut Space,
-    desk: &Desk,
+    harness: &Harness,
     buffer: usize,
     change: Change,
     stays: bool,
 ) -> Reply {
-    match refused_there(alloc, space, &desk.op(change), &desk.id(buffer), stays) {
+    match refused_there(
+        alloc,
+        space,
+        &harness.op(change),
+        &harness.id(buffer),
+        stays,
+    ) {
         Ok(Some(fault)) | Err(fault) => Reply::Refused { fault },
         Ok(None) => Reply::Done,
     }
 }
 
 /// Plays a step that applies operations.
-fn play_change(alloc: Global, space: &mut Space, desk: &mut Desk, step: Step) -> Reply {
+fn play_change(alloc: Global, space: &mut Space, harness: &mut Harness, step: Step) -> Reply {
     match step {
         Step::Bind(change) => {
-            let op = desk.op(change);
-            changed(there(alloc, space, desk, &op))
+            let op = harness.op(change);
+            changed(there(alloc, space, harness, &op))
         }
         Step::Back { change, .. } => {
-            let op = desk.op(change);
-            changed(there_and_back(alloc, space, desk, &op))
+            let op = harness.op(change);
+            changed(there_and_back(alloc, space, harness, &op))
         }
         Step::DestroyKept {
             buffer,
             change,
             stays,
-        } => destroy_kept(alloc, space, desk, buffer, change, stays),
+        } => destroy_kept(alloc, space, harness, buffer, change, stays),
         Step::Nested { changes, stay, .. } => {
-            let ops = desk.ops(changes);
-            changed(nested(alloc, space, desk, &ops, stay))
+            let ops = harness.ops(changes);
+            changed(nested(alloc, space, harness, &ops, stay))
         }
         Step::Restore {
             changes,
             ranges,
             stays,
             ..
-        } => done(restore(alloc, space, desk, changes, ranges, stays)),
+        } => done(restore(alloc, space, harness, changes, ranges, stays)),
         _ => Reply::Done,
     }
 }
 
 /// Plays a step.
-fn play(alloc: Global, space: &mut Space, desk: &mut Desk, step: Step) -> Result<(), Fault> {
-    desk.query = query_of(step);
+fn play(alloc: Global, space: &mut Space, harness: &mut Harness, step: Step) -> Result<(), Fault> {
+    harness.query = query_of(step);
     let reply = match step {
-        Step::Create { pages } => create(alloc, space, desk, pages)?,
-        Step::Destroy { buffer } => done(space.destroy(desk.id(buffer))),
+        Step::Create { pages } => create(alloc, space, harness, pages)?,
+        Step::Destroy { buffer } => done(space.destroy(harness.id(buffer))),
         Step::Join { buffer, job, usage } => {
-            done(space.join(alloc, desk.id(buffer), job, usage))
+            done(space.join(alloc, harness.id(buffer), job, usage))
         }
         Step::Leave { job } => {
             space.leave(job);
             Reply::Done
         }
-        Step::Ask(query) => ask(alloc, space, desk.buffers.as_slice(), query),
-        _ => play_change(alloc, space, desk, step),
+        Step::Ask(query) => ask(alloc, space, harness.buffers.as_slice(), query),
+        _ => play_change(alloc, space, harness, step),
     };
-    Ok(push(&mut desk.replies, reply)?)
+    Ok(push(&mut harness.replies, reply)?)
 }
 
 /// Plays steps in turn on a new space, and answers what they answered.
@@ -222,13 +233,13 @@ pub fn run(
     steps: &[Step],
 ) -> Result<Vec<Reply>, Fault> {
     let mut space = Space::new(alloc, bounds, limits)?;
-    let mut desk = Desk {
+    let mut harness = Harness {
         buffers: Vec::new(alloc),
         replies: Vec::new(alloc),
         query: None,
     };
     for step in steps {
-        play(alloc, &mut space, &mut desk, *step)?;
+        play(alloc, &mut space, &mut harness, *step)?;
     }
-    Ok(desk.replies)
+    Ok(harness.replies)
 }

@@ -66,7 +66,7 @@ pub enum Reply {
 
 /// The buffers made so far, and the operations of the next request.
 #[derive(Drop)]
-pub struct Desk {
+pub struct Harness {
     pub buffers: Vec<BufferId>,
     pub ops: Vec<Op>,
     pub number: u64,
@@ -83,7 +83,7 @@ fn bytes(pages: u32) -> u64 {
     u64::from(pages) * PAGE_BYTES
 }
 
-impl Desk {
+impl Harness {
     fn id(&self, buffer: usize) -> Result<BufferId, Fail> {
         let id = self.buffers.get(buffer).copied();
         Ok(id.ok_or("no such buffer")?)
@@ -129,18 +129,18 @@ impl Desk {
 }
 
 /// Binds the operations that were gathered.
-fn bind(alloc: Global, space: &mut Space, journal: &mut Journal, desk: &mut Desk) -> Reply
+fn bind(alloc: Global, space: &mut Space, journal: &mut Journal, harness: &mut Harness) -> Reply
     requires { FitsSpace space.old journal.old }
     ensures { FitsSpace space.new journal.new }
 {
-    let ops = std::mem::replace(&mut desk.ops, Vec::new(alloc));
+    let ops = std::mem::replace(&mut harness.ops, Vec::new(alloc));
     let request = Request {
         ops,
         waits: Vec::new(alloc),
         signals: Vec::new(alloc),
     };
-    let number = desk.number;
-    desk.number = number.saturating_add(1);
+    let number = harness.number;
+    harness.number = number.saturating_add(1);
     match journal.bind(alloc, space, 0, number, request, Vec::new(alloc)) {
         Ok(entry) => Reply::Accepted { entry },
         Err(refusal) => Reply::RefusedAt {
@@ -155,7 +155,7 @@ fn play_journal(
     alloc: Global,
     space: &mut Space,
     journal: &mut Journal,
-    desk: &mut Desk,
+    harness: &mut Harness,
     step: Step,
 ) -> Reply
     requires { FitsSpace space.old journal.old }
@@ -165,7 +165,7 @@ fn play_journal(
         Step::Rewind => reply_of(journal.rewind(space)),
         Step::Withdraw { entry } => reply_of(journal.withdraw(alloc, space, entry)),
         Step::Settle { to } => reply_of(journal.settle(space, to)),
-        _ => bind(alloc, space, journal, desk),
+        _ => bind(alloc, space, journal, harness),
     }
 }
 
@@ -174,7 +174,7 @@ fn create(
     alloc: Global,
     space: &mut Space,
     journal: &Journal,
-    desk: &mut Desk,
+    harness: &mut Harness,
     pages: u64,
 ) -> Result<Reply, Fail>
     requires { FitsSpace space.old journal.now }
@@ -182,7 +182,7 @@ fn create(
 {
     match space.create(alloc, pages) {
         Ok(id) => {
-            desk.buffers.push(id)?;
+            harness.buffers.push(id)?;
             Ok(Reply::Done)
         }
         Err(fault) => Ok(Reply::Refused { fault }),
@@ -190,11 +190,16 @@ fn create(
 }
 
 /// Destroys a buffer.
-fn destroy(space: &mut Space, journal: &Journal, desk: &Desk, buffer: usize) -> Result<Reply, Fail>
+fn destroy(
+    space: &mut Space,
+    journal: &Journal,
+    harness: &Harness,
+    buffer: usize,
+) -> Result<Reply, Fail>
     requires { FitsSpace space.old journal.now }
     ensures { FitsSpace space.new journal.now }
 {
-    let id = desk.id(buffer)?;
+    let id = harness.id(buffer)?;
     match space.destroy(id) {
         Ok(()) => Ok(Reply::Done),
         Err(fault) => Ok(Reply::Refused { fault }),
@@ -202,8 +207,8 @@ fn destroy(space: &mut Space, journal: &Journal, desk: &Desk, buffer: usize) -> 
 }
 
 /// How many mappings of a buffer are in the list, and in undo values.
-fn count(space: &Space, desk: &Desk, buffer: usize) -> Result<Reply, Fail> {
-    let id = &desk.id(buffer)?;
+fn count(space: &Space, harness: &Harness, buffer: usize) -> Result<Reply, Fail> {
+    let id = &harness.id(buffer)?;
     let uses = space.uses(*id).ok_or("no uses")?;
     let kept = space.kept(*id).ok_or("none kept")?;
     Ok(Reply::Counted { uses, kept })
@@ -214,24 +219,24 @@ pub fn play(
     alloc: Global,
     space: &mut Space,
     journal: &mut Journal,
-    desk: &mut Desk,
+    harness: &mut Harness,
     step: Step,
 ) -> Result<Option<Reply>, Fail>
     requires { FitsSpace space.old journal.old }
     ensures { FitsSpace space.new journal.new }
 {
-    if let Some(op) = desk.op(step)? {
-        desk.ops.push(op)?;
+    if let Some(op) = harness.op(step)? {
+        harness.ops.push(op)?;
         return Ok(None);
     }
     let reply = match step {
-        Step::Create { pages } => create(alloc, space, journal, desk, pages)?,
-        Step::Destroy { buffer } => destroy(space, journal, desk, buffer)?,
+        Step::Create { pages } => create(alloc, space, journal, harness, pages)?,
+        Step::Destroy { buffer } => destroy(space, journal, harness, buffer)?,
         Step::See => Reply::Seen {
-            list: see(space, desk.buffers.as_slice()),
+            list: see(space, harness.buffers.as_slice()),
         },
-        Step::Count { buffer } => count(space, desk, buffer)?,
-        _ => play_journal(alloc, space, journal, desk, step),
+        Step::Count { buffer } => count(space, harness, buffer)?,
+        _ => play_journal(alloc, space, journal, harness, step),
     };
     Ok(Some(reply))
 }
@@ -246,14 +251,14 @@ pub fn play_all(
     requires { FitsSpace space.old journal.old }
     ensures { FitsSpace space.new journal.new }
 {
-    let mut desk = Desk {
+    let mut harness = Harness {
         buffers: Vec::new(alloc),
         ops: Vec::new(alloc),
         number: 0,
     };
     let mut replies = Vec::new(alloc);
     for step in steps {
-        match play(alloc, space, journal, &mut desk, *step) {
+        match play(alloc, space, journal, &mut harness, *step) {
             Ok(Some(reply)) => replies.push(reply)?,
             Ok(None) => {}
             Err(fail) => return Err(fail),
