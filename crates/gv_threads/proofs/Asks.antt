@@ -2,6 +2,7 @@
 use Rattle.std.proofs.Common.{◌≡◌, ℕ, ◌<◌, List, length, get_or, refl, sym, ap, ◌∙◌, subst}
 use Rattle.std.specs.List.{All}
 use Rattle.std.proofs.lemmas.List.{get_or-map, length-map}
+use Rattle.gv_sync.specs.Seats.{SeatState}
 use Rattle.gv_vm.specs.State.{VmState}
 use Rattle.gv_lines.specs.declared.line.Line.{Line}
 use Rattle.gv_lines.specs.declared.line.Line.TheVariants as line
@@ -15,10 +16,10 @@ pub is_question : (q : Line) → IsAsked q → ((name : List ℕ) → q ≡ line
 is_question (line.Value name) asked other = absurd (other name refl)
 is_question q asked other = asked
 
-pub is_answered : (q : Line) (buffers : Buffers) (timelines : List (List ℕ)) (m : VmState) (text : List ℕ) → ((name : List ℕ) → q ≡ line.Value name → ⊥) →
-    IsAnswer q buffers timelines m text → IsAnswered buffers timelines m q text
-is_answered (line.Value name) buffers timelines m text other answer = absurd (other name refl)
-is_answered q buffers timelines m text other answer = answer
+pub is_answered : (q : Line) (buffers : Buffers) (timelines : List (List ℕ)) (m : VmState) (seat : SeatState) (text : List ℕ) → ((name : List ℕ) → q ≡ line.Value name → ⊥) →
+    IsAnswer q buffers timelines m text → IsAnswered buffers timelines m seat q text seat
+is_answered (line.Value name) buffers timelines m seat text other answer = absurd (other name refl)
+is_answered q buffers timelines m seat text other answer = (answer, refl)
 
 pub asked_at : (entries : List (ℕ × Line)) (k : ℕ) (e : ℕ × Line) → k < length entries → e ≡ get_or entries k e → All IsAsked (unnumbered entries) → IsAsked e.1
 asked_at entries k e below is all =
@@ -26,7 +27,8 @@ asked_at entries k e below is all =
     (all k e.1 (subst (λ (n : ℕ). k < n) (sym (length-map entries (λ x. x.1))) below))
 
 -- the same is answered of the same names and the same address space
-pub same_answer : (q : Line) (b b' : NamesState) (timelines : List (List ℕ)) (m m' : VmState) (text : List ℕ) → b ≡ b' → m ≡ m' →
-    IsAnswered b.entries timelines m q text → IsAnswered b'.entries timelines m' q text
-same_answer q b b' timelines m m' text same_names same_vm answer =
-    subst (λ (x : VmState). IsAnswered b'.entries timelines x q text) same_vm (subst (λ (x : NamesState). IsAnswered x.entries timelines m q text) same_names answer)
+pub same_answer : (q : Line) (b b' : NamesState) (timelines : List (List ℕ)) (m m' : VmState) (old new : SeatState) (text : List ℕ) → b ≡ b' → m ≡ m' →
+    IsAnswered b.entries timelines m old q text new → IsAnswered b'.entries timelines m' old q text new
+same_answer q b b' timelines m m' old new text same_names same_vm answer =
+    subst (λ (x : VmState). IsAnswered b'.entries timelines x old q text new) same_vm
+    (subst (λ (x : NamesState). IsAnswered x.entries timelines m old q text new) same_names answer)

@@ -5,6 +5,7 @@ use Rattle.std.proofs.lemmas.List.Elements.{All-nil, All-cons, All-append}
 use Rattle.gv_types.specs.declared.mapping.BufferId.{BufferId}
 use Rattle.gv_lines.specs.declared.line.Line.{Line}
 use Rattle.gv_lines.specs.declared.line.Line.TheVariants as line
+use Rattle.gv_sync.specs.Seats.{SeatState}
 use Rattle.gv_vm.specs.State.{VmState}
 use Rattle.gv_text.specs.Asking.{op_named}
 use Rattle.gv_text.specs.Line.{IsGood, Of}
@@ -67,13 +68,13 @@ of_some None P h = absurd h
 of_some (Some x) P h = refl
 
 -- a question that was answered has its names
-pub answered_has : (q : Line) (buffers : Buffers) (timelines : List (List ℕ)) (m : VmState) (text : List ℕ) → IsAnswered buffers timelines m q text →
-    HasNames buffers timelines q
-answered_has (line.Value name) buffers timelines m text answer = of_some (timeline_named timelines name) _ answer
-answered_has (line.Uses name) buffers timelines m text answer = of_some (buffer_named buffers name) _ (answer start)
-answered_has (line.Plan operation) buffers timelines m text answer = of_some (op_named buffers operation) _ (answer start)
-answered_has (line.Told queue) buffers timelines m text answer = (answer start).0
-answered_has q buffers timelines m text answer = tt
+pub answered_has : (q : Line) (buffers : Buffers) (timelines : List (List ℕ)) (m : VmState) (old new : SeatState) (text : List ℕ) →
+    IsAnswered buffers timelines m old q text new → HasNames buffers timelines q
+answered_has (line.Value name) buffers timelines m old new text answer = of_some (timeline_named timelines name) _ answer
+answered_has (line.Uses name) buffers timelines m old new text answer = of_some (buffer_named buffers name) _ (answer.0 start)
+answered_has (line.Plan operation) buffers timelines m old new text answer = of_some (op_named buffers operation) _ (answer.0 start)
+answered_has (line.Told queue) buffers timelines m old new text answer = (answer.0 start).0
+answered_has q buffers timelines m old new text answer = tt
 
 -- a question that has its names isn't bad
 pub has_good : (q : Line) (buffers : Buffers) (timelines : List (List ℕ)) (m : VmState) (s : SessionState) → IsAsked q → ((name : List ℕ) → q ≡ line.Value name → ⊥) →

@@ -4,6 +4,7 @@ use Rattle.gv_types.specs.Bounds.{BoundsState}
 use Rattle.gv_types.specs.Limits.{LimitsState}
 use Rattle.gv_types.specs.declared.request.Point.{Point}
 use Rattle.gv_types.specs.declared.request.Request.{Request}
+use Rattle.gv_sync.specs.Seats.{SeatState}
 use Rattle.gv_vm.specs.State.{VmState, new_vm}
 use Rattle.gv_lines.specs.declared.clause.Clause.{Clause}
 use Rattle.gv_lines.specs.declared.line.Line.{Line}
@@ -11,6 +12,8 @@ use Rattle.gv_text.specs.State.{Buffers}
 use Rattle.gv_queues.specs.declared.finishing.QueueEnd.{QueueEnd}
 use Rattle.gv_queues.specs.Driving.{AreSomeOf, requests_on}
 use Rattle.gv_queues.specs.Ending.{AreCountedEnds}
+use Rattle.gv_queues.specs.Sharing.{ComesBack, after_splits}
+use Rattle.gv_queues.specs.declared.finishing.QueuesFault.{QueuesFault}
 use Rattle.gv_threads.specs.Parts.{Keeps, area_of, limits_of, questions_of, requests_of, settings_of, timelines_of, unnumbered}
 use Rattle.gv_threads.specs.Running.{AreEndsOn, AreNamed, IsServed, IsTextOf, Ready, SetUpAll, begun_by}
 use Rattle.gv_threads.specs.Script.{ThreadsScriptState}
@@ -30,11 +33,16 @@ ends_on m count asked requests ends same counted = λ queue d below.
       many = h.many;
     }
 
+-- the seat that was lent comes back after the splits, and a driver that takes no step took none
+pub seat_back : {T : Type 0} (r : Result T QueuesFault) (ends : T) (count : ℕ) (steps : SeatState → SeatState → Type 0) (old new : SeatState) → r ≡ Ok ends →
+    ComesBack count steps old new r → steps (after_splits old count) new
+seat_back r ends count steps old new is back = subst (λ (x : Result _ QueuesFault). ComesBack count steps old new x) is back
+
 -- the parts of a script's text are those of its lines
 pub text_of : (lines : List Line) (s after : ThreadsScriptState) (begins ready : Ready) (requests : List (ℕ × Request)) (count : ℕ) (first rest : List ℕ) →
     Keeps lines s → after ≡ record s { settings = [] } → SetUpAll s.timelines (unnumbered s.settings) begins first ready →
     AreNamed ready.buffers s.timelines (unnumbered s.requests) requests →
-    IsServed ready.buffers after.timelines requests (unnumbered after.questions) count rest → IsTextOf lines begins count (first ++ rest)
+    IsServed ready after.timelines requests (unnumbered after.questions) count rest → IsTextOf lines begins count (first ++ rest)
 text_of lines s after begins ready requests count first rest keeps same sets_up named served =
     let timelines : after.timelines ≡ timelines_of lines = ap (λ (a : ThreadsScriptState). a.timelines) same ∙ keeps.timelines in
     let questions : unnumbered after.questions ≡ questions_of lines = ap (λ (a : ThreadsScriptState). unnumbered a.questions) same ∙ keeps.questions in
@@ -47,8 +55,8 @@ text_of lines s after begins ready requests count first rest keeps same sets_up 
       named = subst (λ (ts : List (List ℕ)). AreNamed ready.buffers ts (requests_of lines) requests) keeps.timelines
           (subst (λ (xs : List (List Clause)). AreNamed ready.buffers s.timelines xs requests) keeps.requests named);
       rest = rest;
-      served = subst (λ (ts : List (List ℕ)). IsServed ready.buffers ts requests (questions_of lines) count rest) timelines
-          (subst (λ (xs : List Line). IsServed ready.buffers after.timelines requests xs count rest) questions served);
+      served = subst (λ (ts : List (List ℕ)). IsServed ready ts requests (questions_of lines) count rest) timelines
+          (subst (λ (xs : List Line). IsServed ready after.timelines requests xs count rest) questions served);
       text_is = refl;
     }
 

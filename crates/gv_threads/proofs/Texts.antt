@@ -2,6 +2,7 @@
 use Rattle.std.proofs.Common.{◌≡◌, ℕ, ◌+◌, ◌<◌, List, [], ◌∷◌, ◌++◌, length, take, get_or, refl, sym, ap, ◌∙◌, subst, append_assoc, append-nil}
 use Rattle.std.proofs.lemmas.List.{take_more, map-append}
 use Rattle.gv_types.specs.declared.request.Request.{Request}
+use Rattle.gv_sync.specs.Seats.{SeatState}
 use Rattle.gv_vm.specs.State.{VmState}
 use Rattle.gv_lines.specs.declared.clause.Clause.{Clause}
 use Rattle.gv_lines.specs.declared.line.Line.{Line}
@@ -32,17 +33,24 @@ set_up_more timelines (first ∷ settings) setting old mid new text here before 
 )
 
 -- one line more was answered
-pub answered_more : (buffers : Buffers) (timelines : List (List ℕ)) (m : VmState) (questions : List Line) (question : Line) (text here : List ℕ) →
-    AreAnswered buffers timelines m questions text → IsAnswered buffers timelines m question here →
-    AreAnswered buffers timelines m (questions ++ question ∷ []) (text ++ here)
-answered_more buffers timelines m [] question text here before answer =
-    (here, [], answer, refl, ap (λ (bytes : List ℕ). bytes ++ here) before ∙ sym (append-nil here))
-answered_more buffers timelines m (first ∷ questions) question text here before answer = (
+pub answered_more : (buffers : Buffers) (timelines : List (List ℕ)) (m : VmState) (old mid new : SeatState) (questions : List Line) (question : Line) (text here : List ℕ) →
+    AreAnswered buffers timelines m old questions text mid → IsAnswered buffers timelines m mid question here new →
+    AreAnswered buffers timelines m old (questions ++ question ∷ []) (text ++ here) new
+answered_more buffers timelines m old mid new [] question text here before answer = (
+  here,
+  [],
+  new,
+  subst (λ (s : SeatState). IsAnswered buffers timelines m s question here new) before.1 answer,
+  (refl, refl),
+  ap (λ (bytes : List ℕ). bytes ++ here) before.0 ∙ sym (append-nil here),
+)
+answered_more buffers timelines m old mid new (first ∷ questions) question text here before answer = (
   before.0,
   before.1 ++ here,
   before.2,
-  answered_more buffers timelines m questions question before.1 here before.3 answer,
-  ap (λ (bytes : List ℕ). bytes ++ here) before.4 ∙ append_assoc before.0 before.1 here,
+  before.3,
+  answered_more buffers timelines m before.2 mid new questions question before.1 here before.4 answer,
+  ap (λ (bytes : List ℕ). bytes ++ here) before.5 ∙ append_assoc before.0 before.1 here,
 )
 
 -- one request more was made

@@ -4,7 +4,8 @@ use Rattle.std.specs.Prelude.{◌≡◌, ℕ, ◌+◌, ◌<◌, ◌≤◌, List,
 use Rattle.gv_types.specs.declared.request.Point.{Point}
 use Rattle.gv_types.specs.declared.request.Request.{Request}
 use Rattle.gv_sync.specs.Raises.{raised, values_on}
-use Rattle.gv_sync.specs.Seats.{SeatState, first_seat}
+use Rattle.gv_sync.specs.Marks.{IsNoLess}
+use Rattle.gv_sync.specs.Seats.{SeatState, after_load, first_seat, mark_of}
 use Rattle.gv_sync.specs.Turns.{HasRaised}
 use Rattle.gv_vm.specs.Outcomes.{told_to}
 use Rattle.gv_vm.specs.State.{VmState, IsVm, new_vm}
@@ -24,6 +25,7 @@ use Rattle.gv_text.specs.Reply.{ok_reply, number_reply}
 use Rattle.gv_text.specs.Said.{said}
 use Rattle.gv_text.specs.State.{Buffers, buffer_named, start, names_alone, timeline_named}
 use Rattle.gv_queues.specs.Driving.{AreSomeOf, requests_on}
+use Rattle.gv_queues.specs.Sharing.{after_splits}
 use Rattle.gv_queues.specs.declared.finishing.QueueEnd.{QueueEnd}
 use Rattle.gv_threads.specs.Ending.{end_lines}
 use Rattle.gv_threads.specs.Parts.{AreLinesOf, area_of, limits_of, questions_of, requests_of, settings_of, timelines_of}
@@ -87,18 +89,20 @@ AreNamed buffers timelines (clauses ∷ more) (entry ∷ entries) = IsNamed buff
 AreNamed buffers timelines [] (entry ∷ entries) = ⊥
 AreNamed buffers timelines (clauses ∷ more) [] = ⊥
 
--- What a line of the last part is answered: the number that a timeline has when it is looked at, or what the address space holds.
-abbrev pub IsAnswered : Buffers → List (List ℕ) → VmState → Line → List ℕ → Type 0
-IsAnswered buffers timelines m (line.Value name) text =
-    Of (timeline_named timelines name) (λ place. (number : ℕ) × (text ≡ number_reply timelines place number))
-IsAnswered buffers timelines m question text = IsAnswer question buffers timelines m text
+-- What a line of the last part is answered: the number that one look at a timeline found, no less than what the seat saw and raised
+-- before; or what the address space holds. A seat is given before the line and behind it.
+abbrev pub IsAnswered : Buffers → List (List ℕ) → VmState → SeatState → Line → List ℕ → SeatState → Type 0
+IsAnswered buffers timelines m old (line.Value name) text new =
+    Of (timeline_named timelines name) (λ t. (number : ℕ)
+    × IsNoLess (mark_of old t) number × (new ≡ after_load old t number) × (text ≡ number_reply timelines t number))
+IsAnswered buffers timelines m old question text new = IsAnswer question buffers timelines m text × (new ≡ old)
 
 -- these lines, one after another
-abbrev pub AreAnswered : Buffers → List (List ℕ) → VmState → List Line → List ℕ → Type 0
-AreAnswered buffers timelines m [] text = text ≡ []
-AreAnswered buffers timelines m (question ∷ questions) text =
-    (here after : List ℕ)
-    × IsAnswered buffers timelines m question here × AreAnswered buffers timelines m questions after × (text ≡ here ++ after)
+abbrev pub AreAnswered : Buffers → List (List ℕ) → VmState → SeatState → List Line → List ℕ → SeatState → Type 0
+AreAnswered buffers timelines m old [] text new = (text ≡ []) × (new ≡ old)
+AreAnswered buffers timelines m old (question ∷ questions) text new =
+    (here after : List ℕ) × (mid : SeatState)
+    × IsAnswered buffers timelines m old question here mid × AreAnswered buffers timelines m mid questions after new × (text ≡ here ++ after)
 
 -- Of each queue, as many requests were put as are told and left, and so many outcomes does the address space tell. What was put are
 -- some of the requests for this queue, in order: where they are as many, all.
@@ -117,15 +121,20 @@ abbrev pub begun_by : List Line → Ready
 begun_by lines = record { vm = new_vm (area_of lines) (limits_of lines); buffers = []; raises = [] }
 
 -- What is written behind the first part, where these requests were to be put: a line for each of so many queues, and the answers of
--- the last part on the address space that comes back.
-pub record IsServed (buffers : Buffers) (timelines : List (List ℕ)) (requests : List (ℕ × Request)) (questions : List Line) (count : ℕ) (text : List ℕ) : Type 0 where
+-- the last part on the address space that comes back. The seat that looks is the one that raised in the first part, from which one
+-- was split off for each queue: it took no other step.
+pub record IsServed (ready : Ready) (timelines : List (List ℕ)) (requests : List (ℕ × Request)) (questions : List Line) (count : ℕ) (text : List ℕ) : Type 0 where
   pub back : VmState
   pub sound : IsVm back
   pub ends : List QueueEnd
   pub each : length ends ≡ count
   pub counted : AreEndsOn back requests ends
+  pub seat : SeatState
+  pub first_part : IsFirst seat
+  pub raised_in_it : seat.raises ≡ ready.raises
   pub last : List ℕ
-  pub answered : AreAnswered buffers timelines back questions last
+  pub after : SeatState
+  pub answered : AreAnswered ready.buffers timelines back (after_splits seat count) questions last after
   pub text_is : text ≡ end_lines ends ++ last
 
 -- The text of a script of these lines, run on so many queues: the replies of its first part, from which come the address space, the
@@ -137,7 +146,7 @@ pub record IsTextOf (lines : List Line) (begins : Ready) (count : ℕ) (text : L
   pub requests : List (ℕ × Request)
   pub named : AreNamed ready.buffers (timelines_of lines) (requests_of lines) requests
   pub rest : List ℕ
-  pub served : IsServed ready.buffers (timelines_of lines) requests (questions_of lines) count rest
+  pub served : IsServed ready (timelines_of lines) requests (questions_of lines) count rest
   pub text_is : text ≡ first ++ rest
 
 -- The text is that of a run of the script on so many queues.

@@ -31,7 +31,8 @@ fn ask(
     ensures vm { harness.new.vm ≡ harness.old.vm }
     ensures buffers { harness.new.buffers ≡ harness.old.buffers }
     ensures done { OnOk result ((text : List ℕ)
-        × IsAnswered harness.old.buffers.entries names.now.names harness.old.vm question.now text
+        × IsAnswered harness.old.buffers.entries names.now.names harness.old.vm harness.old.seat question.now text
+        harness.new.seat
         × (string_bytes out.new ≡ string_bytes out.old ++ text)) }
     ensures bad { result ≡ Err LineFault.Bad → ¬ HasNames harness.old.buffers.entries names.now.names question.now }
 {
@@ -58,7 +59,8 @@ impl ThreadsScript<'_> {
         requires all { timeline_count harness.old.timelines ≡ most_timelines }
         requires asked { All IsAsked (unnumbered self.now.questions) }
         ensures answered { OnOk result ((text : List ℕ)
-            × AreAnswered harness.old.buffers.entries self.now.timelines harness.old.vm (unnumbered self.now.questions) text
+            × AreAnswered harness.old.buffers.entries self.now.timelines harness.old.vm harness.old.seat
+            (unnumbered self.now.questions) text harness.new.seat
             × Appends (W.written writer.old) (W.written writer.new) text) }
         ensures bad_line { (line : ℕ) → result ≡ Err (ScriptFault.BadLine line)
             → IsFirstBad (HasNames harness.old.buffers.entries self.now.timelines) self.now.questions line }
@@ -87,7 +89,8 @@ impl ThreadsScript<'_> {
         requires asked { All IsAsked (unnumbered self.now.questions) }
         requires fresh { output.old ≡ [] }
         ensures answered { OnOk result ((text : List ℕ)
-            × AreAnswered harness.old.buffers.entries self.now.timelines harness.old.vm (unnumbered self.now.questions) text
+            × AreAnswered harness.old.buffers.entries self.now.timelines harness.old.vm harness.old.seat
+            (unnumbered self.now.questions) text harness.new.seat
             × Appends (W.written writer.old) (append_known (W.written writer.new) output.new) text) }
         ensures bad_line { (line : ℕ) → result ≡ Err (ScriptFault.BadLine line)
             → IsFirstBad (HasNames harness.old.buffers.entries self.now.timelines) self.now.questions line }

@@ -133,10 +133,11 @@ fn serve<R: Threads + Wait + Sync, K: Sink>(
     requires asked { All IsAsked (unnumbered script.now.questions) }
     requires own { IsSeatOf harness.timelines harness.seat }
     requires all { timeline_count harness.timelines ≡ most_timelines }
+    requires first { IsFirst harness.seat }
     requires untold { IsUntold harness.vm }
     requires depth { IsFromOneTo most_waiting script.now.depth }
     ensures served { OnOk result ((text : List ℕ)
-        × IsServed harness.buffers.entries script.now.timelines requests.items (unnumbered script.now.questions) count text
+        × IsServed (ready_of harness) script.now.timelines requests.items (unnumbered script.now.questions) count text
         × Appends (K.written writer.old) (K.written writer.new) text) }
     ensures ends { (read : Bool) → RunsAs read read (K.failed writer.old) (K.failed writer.new) count result }
     ensures begun { IfErr result (λ fault. HasNotBegun fault → ⊥) }
@@ -185,7 +186,8 @@ fn end<K: Sink>(
     requires asked { All IsAsked (unnumbered script.now.questions) }
     requires queue { IfErr ran (IsOfQueueBelow script.now.queues) }
     ensures text { OnOk result ((ends : Vec TheEnd TheGlobal) × (last : List ℕ) × (ran ≡ Ok ends)
-        × AreAnswered harness.old.buffers.entries script.now.timelines harness.old.vm (unnumbered script.now.questions) last
+        × AreAnswered harness.old.buffers.entries script.now.timelines harness.old.vm harness.old.seat
+        (unnumbered script.now.questions) last harness.new.seat
         × Appends (K.written writer.old) (K.written writer.new) (end_lines ends.items ++ last)) }
     ensures ran { IfErr ran (λ fault. result ≡ Err (ThreadsFault.Queues fault)) }
     ensures ends { (read : Bool) → RunsAs read read (K.failed writer.old) (K.failed writer.new) script.now.queues result }

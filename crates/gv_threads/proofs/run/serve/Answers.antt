@@ -4,7 +4,10 @@ use Rattle.gv_queues.specs.declared.finishing.QueueEnd.{QueueEnd}
 use Rattle.gv_queues.specs.Ending.{AreCountedEnds}
 use Rattle.gv_text.proofs.AnswerLemmas.{then_ok}
 use Rattle.gv_threads.specs.Ending.{RunsAs, end_lines}
-use Rattle.gv_threads.proofs.Served.{of_ok, ends_on}
+use Rattle.gv_sync.specs.Seats.{SeatState}
+use Rattle.gv_threads.specs.Parts.{unnumbered}
+use Rattle.gv_threads.specs.Running.{AreAnswered}
+use Rattle.gv_threads.proofs.Served.{of_ok, ends_on, seat_back}
 use Rattle.gv_threads.proofs.run.serve.Goals as goal
 
 pub returns-clause-served : goal.returns-clause-served
@@ -20,8 +23,13 @@ returns-clause-served g c =
         ends = ends.items;
         each = search rules;
         counted = ends_on c.run_queues-vm.result.0 _ c.new-driver.result.asked c.args.requests.items ends.items c.new-driver.ensures (of_ok c.run_queues-vm.result.1 ends (λ (e : Vec QueueEnd Global). AreCountedEnds c.run_queues-vm.result.0 _ _ e.items) found.2 c.run_queues-vm.ensures.counted);
+        seat = c.args.harness.seat;
+        first_part = c.requires.first;
+        raised_in_it = refl;
         last = found.1;
-        answered = found.3;
+        after = c.end-ended.new.harness.seat;
+        answered = subst (λ (s : SeatState). AreAnswered c.args.harness.buffers.entries c.args.script.now.timelines c.run_queues-vm.result.0 s (unnumbered c.args.script.now.questions) found.1 c.end-ended.new.harness.seat)
+            (seat_back c.run_queues-vm.result.1 ends c.args.count (λ (before after : SeatState). after ≡ before) c.args.harness.seat c.run_queues-vm.new.seat found.2 c.run_queues-vm.ensures.lent) found.3;
         text_is = refl;
       },
       found.4,

@@ -1,6 +1,7 @@
 use Rattle.std.proofs.Common.{Err, ◌≡◌, ◌<◌, ◌∙◌, ◌++◌, List, ℕ, length, get_or, take, ap, sym, subst, take_all, rules}
 use Rattle.std.specs.Io.KnownBytes.{Appends, append_known}
 use Rattle.std.proofs.KnownBytes.{Appends-trans}
+use Rattle.gv_sync.specs.Seats.{SeatState}
 use Rattle.gv_lines.specs.declared.line.Line.{Line}
 use Rattle.gv_text.specs.State.{NamesState}
 use Rattle.gv_text.specs.declared.fault.LineFault.{LineFault}
@@ -28,11 +29,14 @@ loop-number-preserved g c =
     let below : k < length questions = search rules in
     let is : item ≡ get_or questions k item = search rules in
     let found = c.in_default.ensures.done in
+    let first : SeatState = c.args.harness.now.seat in
+    let old : SeatState = c.loop-number.harness.seat in
+    let new : SeatState = c.ask-done.new.harness.seat in
     let names : c.self.inside.timelines.names ≡ c.args.self.now.timelines = search rules in
-    let inside : IsAnswered c.args.harness.now.buffers.entries c.self.inside.timelines.names c.args.harness.now.vm item.1 found.0 =
-    same_answer item.1 c.loop-number.harness.buffers c.args.harness.now.buffers c.self.inside.timelines.names c.loop-number.harness.vm c.args.harness.now.vm found.0 inv.buffers inv.vm found.1 in
-    let here : IsAnswered c.args.harness.now.buffers.entries c.args.self.now.timelines c.args.harness.now.vm item.1 found.0 =
-    subst (λ (ns : List (List ℕ)). IsAnswered c.args.harness.now.buffers.entries ns c.args.harness.now.vm item.1 found.0) names inside in
+    let inside : IsAnswered c.args.harness.now.buffers.entries c.self.inside.timelines.names c.args.harness.now.vm old item.1 found.0 new =
+    same_answer item.1 c.loop-number.harness.buffers c.args.harness.now.buffers c.self.inside.timelines.names c.loop-number.harness.vm c.args.harness.now.vm old new found.0 inv.buffers inv.vm found.1 in
+    let here : IsAnswered c.args.harness.now.buffers.entries c.args.self.now.timelines c.args.harness.now.vm old item.1 found.0 new =
+    subst (λ (ns : List (List ℕ)). IsAnswered c.args.harness.now.buffers.entries ns c.args.harness.now.vm old item.1 found.0 new) names inside in
     let bytes : c.as_bytes.result.now ≡ found.0 = c.as_bytes.ensures.value ∙ found.2 ∙ ap (λ (front : List ℕ). front ++ found.0) c.clear.ensures.bytes in
     let pushed : Appends (append_known (g.W.Sink.written c.loop-number.writer) c.loop-number.output) (append_known (g.W.Sink.written c.push.new.sink) c.push.new.self) found.0 =
     subst (λ (t : List ℕ). Appends (append_known (g.W.Sink.written c.loop-number.writer) c.loop-number.output) (append_known (g.W.Sink.written c.push.new.sink) c.push.new.self) t) bytes c.in_ok-push.ensures.ok in
@@ -42,11 +46,11 @@ loop-number-preserved g c =
       vm = c.ask-done.ensures.vm ∙ inv.vm;
       buffers = c.ask-done.ensures.buffers ∙ inv.buffers;
       good = good_next (HasNames c.args.harness.now.buffers.entries c.args.self.now.timelines) questions k item below is inv.good
-          (answered_has item.1 c.args.harness.now.buffers.entries c.args.self.now.timelines c.args.harness.now.vm found.0 here);
+          (answered_has item.1 c.args.harness.now.buffers.entries c.args.self.now.timelines c.args.harness.now.vm old new found.0 here);
       text = inv.text ++ found.0;
-      ran = subst (λ (qs : List Line). AreAnswered c.args.harness.now.buffers.entries c.args.self.now.timelines c.args.harness.now.vm qs (inv.text ++ found.0))
+      ran = subst (λ (qs : List Line). AreAnswered c.args.harness.now.buffers.entries c.args.self.now.timelines c.args.harness.now.vm first qs (inv.text ++ found.0) new)
           (sym (unnumbered_next questions k item below is))
-          (answered_more c.args.harness.now.buffers.entries c.args.self.now.timelines c.args.harness.now.vm (unnumbered (take k questions)) item.1 inv.text found.0 inv.ran here);
+          (answered_more c.args.harness.now.buffers.entries c.args.self.now.timelines c.args.harness.now.vm first old new (unnumbered (take k questions)) item.1 inv.text found.0 inv.ran here);
       wrote = Appends-trans _ _ _ _ _ inv.wrote pushed;
       flag = c.in_ok-push.ensures.unset ∙ inv.flag;
     }
@@ -57,7 +61,7 @@ returns-clause-answered g c =
     let questions : List (ℕ × Line) = c.args.self.now.questions in
     let all : take c.loop-number.number-index questions ≡ questions = take_all c.loop-number.number-index questions (search rules) in (
       inv.text,
-      subst (λ (qs : List (ℕ × Line)). AreAnswered c.args.harness.now.buffers.entries c.args.self.now.timelines c.args.harness.now.vm (unnumbered qs) inv.text) all inv.ran,
+      subst (λ (qs : List (ℕ × Line)). AreAnswered c.args.harness.now.buffers.entries c.args.self.now.timelines c.args.harness.now.vm c.args.harness.now.seat (unnumbered qs) inv.text c.loop-number.harness.seat) all inv.ran,
       inv.wrote,
     )
 

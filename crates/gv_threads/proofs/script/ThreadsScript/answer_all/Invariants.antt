@@ -15,7 +15,7 @@ invariant-loop-number g l = record {
   buffers : l.harness.buffers ≡ l.initial.harness.buffers;
   good : All (HasNames l.initial.harness.buffers.entries l.self.timelines) (unnumbered (take l.number-index l.self.questions));
   text : List ℕ;
-  ran : AreAnswered l.initial.harness.buffers.entries l.self.timelines l.initial.harness.vm (unnumbered (take l.number-index l.self.questions)) text;
+  ran : AreAnswered l.initial.harness.buffers.entries l.self.timelines l.initial.harness.vm l.initial.harness.seat (unnumbered (take l.number-index l.self.questions)) text l.harness.seat;
   wrote : Appends (g.W.Sink.written l.initial.writer) (append_known (g.W.Sink.written l.writer) l.output) text;
   flag : g.W.Sink.failed l.writer ≡ g.W.Sink.failed l.initial.writer;
 }
