@@ -1,5 +1,5 @@
 use Rattle.std.proofs.Common.{◌≡◌, ◌≤◌, sym, subst, List}
-use Rattle.gv_types.specs.PageRange.{Span}
+use Rattle.gv_types.specs.PageRange.{PageRangeState}
 use Rattle.gv_types.specs.Operation.{range_of}
 use Rattle.gv_types.specs.declared.mapping.Mapping.{Mapping}
 use Rattle.gv_ranges.specs.List.{IsLaidOut}
@@ -23,7 +23,7 @@ sway-requires-clause-alike c =
     let after : c.edit.new.list.mappings ≡ edited before op = c.in_ok-edit.ensures.ok in
     let alike = edited-alike before op c.edit.ensures.laid_out in
     subst (λ (ms : List Mapping). AreAlikeOutside c.range.result ms c.edit.new.list.mappings) (sym c.requires.twins)
-    (subst (λ (s : Span). AreAlikeOutside s before c.edit.new.list.mappings) (sym c.range.ensures)
+    (subst (λ (s : PageRangeState). AreAlikeOutside s before c.edit.new.list.mappings) (sym c.range.ensures)
     (subst (λ (ms : List Mapping). AreAlikeOutside (range_of op) before ms) (sym after) alike))
 
 pub sway-requires-clause-enough : goal.sway-requires-clause-enough
