@@ -16,6 +16,9 @@ pub mod Turns
 pub mod Step
 pub mod Run
 pub mod Headline
+pub mod Plans
+pub mod QueueTurns
+pub mod TurnInside
 pub mod Alike
 pub mod Past
 pub mod Laws

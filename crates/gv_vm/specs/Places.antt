@@ -1,7 +1,8 @@
 -- Where addresses lead.
-use Rattle.std.specs.Prelude.{ℕ, ◌+◌, ◌*◌, ◌/◌, ◌%◌, ◌<◌, List, Option}
+use Rattle.std.specs.Prelude.{ℕ, ◌+◌, ◌-◌, ◌*◌, ◌/◌, ◌%◌, ◌<◌, nat_lt, if◌then◌else◌, List, [], ◌∷◌, Option}
 use Rattle.std.specs.Option.{option_map}
-use Rattle.gv_types.specs.Page.{bytes_per_page, pages_per_buffer}
+use Rattle.gv_types.specs.Page.{PAGES, bytes_per_page, pages_per_buffer}
+use Rattle.gv_types.specs.PageRange.{end_of}
 use Rattle.gv_types.specs.declared.mapping.Backing.{Backing}
 use Rattle.gv_types.specs.declared.mapping.Backing.TheVariants.{Buffer as BufferPages, Zero as ZeroPages}
 use Rattle.gv_types.specs.declared.mapping.Entry.{Entry}
@@ -28,3 +29,18 @@ place_at ms addr = option_map (λ e. place_of e (addr % bytes_per_page)) (at ms 
 abbrev pub HasBytes : Backing → Type 0
 HasBytes (BufferPages id page) = page < pages_per_buffer
 HasBytes ZeroPages = Unit {0}
+
+-- the first page behind a page that no longer belongs to it: where its mapping ends, or where it has none the next one begins, or
+-- the space ends
+abbrev pub stretch_end : List Mapping → ℕ → ℕ
+stretch_end [] page = PAGES
+stretch_end (m ∷ ms) page =
+    if nat_lt page m.range.first then m.range.first
+    else if nat_lt page (end_of m.range) then end_of m.range
+    else stretch_end ms page
+
+-- how many bytes from an address on lead on as it does: to the end of its mapping, or to nothing up to the next one
+abbrev pub run_of : List Mapping → ℕ → ℕ
+run_of ms addr =
+    if nat_lt (addr / bytes_per_page) PAGES then stretch_end ms (addr / bytes_per_page) * bytes_per_page - addr
+    else 0

@@ -1,4 +1,7 @@
 //! What happens to a world, and what it answers.
+ghost use Rattle.std.specs.Prelude.{◌≡◌};
+ghost use Rattle.gv_vm.specs.Plans.{is_put, is_taken, is_accepted, is_raised, looked_of};
+
 use crate::jobs::Access;
 use crate::outcome::Outcome;
 use crate::places::Place;
@@ -51,4 +54,69 @@ pub enum Reply {
     Ended { job: u64 },
     Found { place: Option<Place> },
     Refused { fault: Fault },
+}
+
+/// What a look came to, or all looks of a request.
+#[derive(Clone, Copy, Debug, PartialEq, Eq)]
+pub enum Looked {
+    AllReached,
+    Lacked,
+    /// The world answered otherwise: there is no more to do.
+    Other,
+}
+
+impl Reply {
+    /// Whether a request was put.
+    pub fn is_put(&self) -> bool
+        ensures { result ≡ is_put self.now }
+    {
+        match self {
+            Reply::Put { .. } => true,
+            _ => false,
+        }
+    }
+
+    /// Whether a request came in hand.
+    pub fn is_taken(&self) -> bool
+        ensures { result ≡ is_taken self.now }
+    {
+        match self {
+            Reply::Taken { .. } => true,
+            _ => false,
+        }
+    }
+
+    /// Whether a request was accepted.
+    pub fn is_accepted(&self) -> bool
+        ensures { result ≡ is_accepted self.now }
+    {
+        match self {
+            Reply::Told {
+                outcome: Outcome::Accepted { .. },
+                ..
+            } => true,
+            _ => false,
+        }
+    }
+
+    /// Whether a timeline was raised.
+    pub fn is_raised(&self) -> bool
+        ensures { result ≡ is_raised self.now }
+    {
+        match self {
+            Reply::Raised { .. } => true,
+            _ => false,
+        }
+    }
+
+    /// What a look came to.
+    pub fn looked(&self) -> Looked
+        ensures { result ≡ looked_of self.now }
+    {
+        match self {
+            Reply::Reached { .. } => Looked::AllReached,
+            Reply::Lacking { .. } => Looked::Lacked,
+            _ => Looked::Other,
+        }
+    }
 }

@@ -24,10 +24,10 @@ mod told;
 mod vm;
 mod world;
 
-pub use event::{Event, Reply};
+pub use event::{Event, Looked, Reply};
 pub use jobs::{Access, Job, MAX_ACCESSES, MAX_RUNNING};
 pub use outcome::{NotTold, Outcome};
 pub use places::{Place, Target};
 pub use told::QUEUES;
 pub use vm::Vm;
-pub use world::{Stopped, World};
+pub use world::{Stopped, Turn, World};

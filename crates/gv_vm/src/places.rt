@@ -1,10 +1,12 @@
 //! What an address reaches.
-ghost use Rattle.std.specs.Prelude.{◌≡◌, ◌<◌};
-ghost use Rattle.gv_types.specs.Page.{bytes_per_page};
-ghost use Rattle.gv_vm.specs.Places.{place_at, place_of, target_of, HasBytes};
+ghost use Rattle.std.specs.Prelude.{◌≡◌, ◌<◌, ◌≤◌, nat_lt, if◌then◌else◌};
+ghost use Rattle.gv_types.specs.Page.{PAGES, bytes_per_page};
+ghost use Rattle.gv_types.specs.PageRange.{end_of};
+ghost use Rattle.gv_vm.specs.Places.{place_at, place_of, run_of, stretch_end, target_of, HasBytes};
 
+use gv_ranges::RangeList;
 use gv_space::Space;
-use gv_types::{Backing, BufferId, Entry, Flags, PAGE_BYTES};
+use gv_types::{Backing, BufferId, Entry, Flags, Mapping, PAGE_BYTES, PageRange, SPACE_PAGES};
 
 /// What stands behind one byte of the address space: a byte of a buffer, or a zero.
 #[derive(Clone, Copy, Debug, PartialEq, Eq)]
@@ -62,4 +64,45 @@ pub fn translate(space: &Space, addr: u64) -> Option<Place>
     let _backing = Backing::Zero;
     let entry = space.walk(addr / PAGE_BYTES)?;
     Some(Place::of(entry, addr % PAGE_BYTES))
+}
+
+/// How many bytes from an address on lead on as it does: to the end of its mapping, or where none holds its page, to nothing up to
+/// the next mapping or the end of the address space. 0 past that end. One search in the list.
+pub fn run_at(space: &Space, addr: u64) -> u64
+    ensures { result ≡ run_of space.now.mappings addr }
+{
+    let page = addr / PAGE_BYTES;
+    if page >= SPACE_PAGES {
+        return 0;
+    }
+    stretch_end(space.list(), page) * PAGE_BYTES - addr
+}
+
+/// Where the stretch of a page ends.
+fn stretch_end(list: &RangeList, page: u64) -> u64
+    requires { page < PAGES }
+    ensures end { result ≡ stretch_end list.now.mappings page }
+    ensures behind { page < result }
+    ensures in_space { result ≤ PAGES }
+{
+    let (index, _) = list.overlapping(PageRange::between(page, page + 1));
+    if index < list.len() {
+        behind(list.get(index), page)
+    } else {
+        SPACE_PAGES
+    }
+}
+
+/// Where the stretch of a page ends, if this is the first mapping that doesn't end before it.
+fn behind(mapping: &Mapping, page: u64) -> u64
+    ensures end { result ≡ (if nat_lt page mapping.now.range.first then mapping.now.range.first else end_of mapping.now.range) }
+    ensures behind { page < end_of mapping.now.range → page < result }
+    ensures in_space { result ≤ PAGES }
+{
+    let first = mapping.range.first();
+    if page < first {
+        first
+    } else {
+        mapping.range.end()
+    }
 }

@@ -1,5 +1,5 @@
 //! One queue of requests: those that wait, the one in hand, and the signals owed.
-ghost use Rattle.std.specs.Prelude.{◌≡◌, ◌≢◌, ◌≤◌, ◌+◌, ◌*◌, ◌++◌, ◌∷◌, [], true, false, Some, None, IfOk, IsOk, IfErr, IsErrAnd, OnOk, OnErr, IfSome, IfNone, MatchOption, length, map, max, reverse};
+ghost use Rattle.std.specs.Prelude.{◌≡◌, ◌≢◌, ◌≤◌, ◌+◌, ◌*◌, ◌++◌, ◌∷◌, [], true, false, Some, None, IfOk, IsOk, IfErr, IsErrAnd, OnOk, OnErr, IfSome, IfNone, MatchOption, length, drop, map, max, reverse};
 ghost use Rattle.std.specs.VecDeque.{deque_len, deque_capacity};
 ghost use Rattle.gv_types.specs.declared.request.Point.{Point};
 ghost use Rattle.gv_vm.specs.World.{new_queue, taken, put_fault_of, next_wait};
@@ -33,6 +33,22 @@ impl Model for Hand {
     ghost invariant = { IsSoundHand };
 }
 
+/// What is left of a request: so many of its waits, and its signals.
+#[derive(Clone, Copy)]
+pub struct Left {
+    /// Whether it is in hand, or else the first that waits.
+    pub in_hand: bool,
+    pub waits: usize,
+    pub signals: usize,
+}
+
+/// What a turn of a queue has before it.
+pub struct Ahead {
+    /// So many signals owed.
+    pub owed: usize,
+    pub left: Option<Left>,
+}
+
 /// So many places the first request makes.
 const FIRST_PLACES: usize = 4;
 
@@ -59,11 +75,24 @@ impl Model for Queue {
 }
 
 impl Hand {
+    ghost use Rattle.gv_vm.specs.TurnInside.{AreLeft};
+
     /// The first wait that is not reached yet.
     pub fn wait(&self) -> Option<Point>
         ensures { result ≡ next_wait self.now }
     {
         self.request.waits.get(self.reached.len()).copied()
+    }
+
+    /// What is left of its request.
+    fn left(&self) -> Left
+        ensures { (result.in_hand ≡ true) × AreLeft (drop (length self.now.reached) self.now.request.waits.items) self.now.request.signals.items result }
+    {
+        Left {
+            in_hand: true,
+            waits: self.request.waits.len().saturating_sub(self.reached.len()),
+            signals: self.request.signals.len(),
+        }
     }
 
     /// One wait more is reached. `OutOfMemory` leaves all as it was.
@@ -89,6 +118,8 @@ impl Hand {
 }
 
 impl Queue {
+    ghost use Rattle.gv_vm.specs.TurnInside.{IsLeftIn};
+
     /// A queue on which nothing was put. It takes no memory.
     pub fn new(alloc: Global) -> Queue
         ensures { result ≡ new_queue }
@@ -233,6 +264,28 @@ impl Queue {
         ensures { self.new ≡ record self.old { owed = reverse signals.items } }
     {
         self.owed = signals;
+    }
+
+    /// What its next turn has before it.
+    pub fn ahead(&self) -> Ahead
+        ensures owed { length self.now.owed ≡ result.owed }
+        ensures left { IsLeftIn self.now.hand self.now.waiting result.left }
+    {
+        let left = match &self.hand {
+            Some(hand) => Some(hand.left()),
+            None => match self.waiting.front() {
+                Some(request) => Some(Left {
+                    in_hand: false,
+                    waits: request.waits.len(),
+                    signals: request.signals.len(),
+                }),
+                None => None,
+            },
+        };
+        Ahead {
+            owed: self.owed.len(),
+            left,
+        }
     }
 
     /// Takes the first signal off those owed.

@@ -6,14 +6,14 @@ ghost use Rattle.gv_split.specs.Steps.{steps};
 ghost use Rattle.gv_split.specs.CarriedOut.{carried_out, ArePresent, list_after};
 ghost use Rattle.gv_space.specs.Refusal.{operation_fault};
 ghost use Rattle.gv_space.specs.State.{TableMatchesList};
-ghost use Rattle.gv_vm.specs.Places.{place_at};
+ghost use Rattle.gv_vm.specs.Places.{place_at, run_of};
 ghost use Rattle.gv_vm.specs.Outcomes.{queues, told_to, with_outcome, tell_fault};
 ghost use Rattle.gv_vm.specs.Told.{IsBoundAndTold, seen_by};
 
 use crate::dispatch::{dispatch, seen_of};
 use crate::jobs::{Access, Job, Jobs};
 use crate::outcome::{NotTold, Outcome};
-use crate::places::{Place, translate};
+use crate::places::{Place, run_at, translate};
 use crate::told::{Told, nothing_told, prepare, tell};
 use gv_journal::{Item, Journal};
 use gv_space::Space;
@@ -130,6 +130,14 @@ impl Vm {
         ensures { result ≡ place_at self.now.space.mappings addr }
     {
         translate(&self.space, addr)
+    }
+
+    /// How many bytes from an address on lead on as it does: to the end of its mapping, or where none holds its page, to nothing
+    /// up to the next mapping or the end of the address space. 0 past that end.
+    pub fn run_at(&self, addr: u64) -> u64
+        ensures { result ≡ run_of self.now.space.mappings addr }
+    {
+        run_at(&self.space, addr)
     }
 
     /// The split steps of an operation, as `Space::plan` gives them; nothing changes.

@@ -16,8 +16,10 @@ use std::marker::Model;
 mod calls;
 mod requests;
 mod run;
+mod turn;
 
 pub use run::Stopped;
+pub use turn::Turn;
 
 /// One address space with the requests that wait for it. It owns a `Vm`, so it is not `Drop`: a program that lets one go
 /// without closing it is refused.
