@@ -8,6 +8,7 @@ mod levels;
 mod page_table;
 mod pages;
 mod paint;
+mod place;
 mod position;
 mod release;
 mod slot;

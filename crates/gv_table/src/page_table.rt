@@ -10,6 +10,7 @@ ghost use Rattle.gv_table.specs.Counts.{tables_at, count_at};
 
 use crate::levels::TOP_LEVEL;
 use crate::paint::paint_slot;
+use crate::place::{Excerpt, Place};
 use crate::position::advance;
 use crate::slot::Slot;
 use crate::spare::needed_in_tree;
@@ -113,15 +114,15 @@ impl PageTable {
     {
         let mappings = Reader::of_list(list, position);
         let position = advance(&mappings, position, range.first());
-        paint_slot(
-            &mut self.root,
-            TOP_LEVEL,
-            0,
-            &mappings,
+        let place = Place {
+            level: TOP_LEVEL,
+            first: 0,
+        };
+        let excerpt = Excerpt {
+            mappings: &mappings,
             range,
             position,
-            spares,
-            &mut self.counts,
-        )
+        };
+        paint_slot(&mut self.root, place, &excerpt, spares, &mut self.counts)
     }
 }

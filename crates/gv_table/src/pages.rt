@@ -9,35 +9,39 @@ ghost use Rattle.gv_table.specs.Tree.{IsTreeOf, IsTreeOutside};
 
 use crate::fill::{empty, fill};
 use crate::levels::{SLOTS, slots_met};
+use crate::place::Excerpt;
 use crate::position::advance;
 use crate::slot::Slot;
 use gv_ranges::Reader;
-use gv_types::PageRange;
+use std::ops::Range;
 
-/// Makes the slots from `low` on those of the list's tree, as far as one mapping or one gap goes, and at most up to `high`:
-/// where it ends. The position is that of the first mapping which ends past the first slot's page.
+/// Makes the slots of a run those of the list's tree, as far as one mapping or one gap goes, and at most up to the run's
+/// end: where it ends. The position is that of the first mapping which ends past the page of the run's first slot.
 fn paint_run(
     slots: &mut [Slot; SLOTS],
     first: u64,
-    low: usize,
-    high: usize,
+    run: Range<usize>,
     mappings: &Reader<'_>,
     position: usize,
 ) -> usize
     requires in_space { first + slots_per_table ≤ PAGES }
-    requires some { low < high }
-    requires within { high ≤ slots_per_table }
+    requires some { run.start < run.end }
+    requires within { run.end ≤ slots_per_table }
     requires laid_out { IsLaidOut mappings.now }
-    requires position { IsIndexOfPage mappings.now (first + low) position }
-    ensures further { low < result }
-    ensures within { result ≤ high }
-    ensures painted { (k : ℕ) → low ≤ k → k < result
+    requires position { IsIndexOfPage mappings.now (first + run.start) position }
+    ensures further { run.start < result }
+    ensures within { result ≤ run.end }
+    ensures painted { (k : ℕ) → run.start ≤ k → k < result
         → IsTreeOf mappings.now 0 (first + k) (slice_index_or slots.new k Empty) }
-    ensures before { (k : ℕ) → k < low
+    ensures before { (k : ℕ) → k < run.start
         → slice_index_or slots.new k Empty ≡ slice_index_or slots.old k Empty }
     ensures behind { (k : ℕ) → result ≤ k
         → slice_index_or slots.new k Empty ≡ slice_index_or slots.old k Empty }
 {
+    let Range {
+        start: low,
+        end: high,
+    } = run;
     if position == mappings.len() {
         empty(slots, low, high);
         return high;
@@ -56,27 +60,26 @@ fn paint_run(
 
 /// Makes the slots of a table of pages those of the list's tree, given that they fit outside the range. Those are visited
 /// that meet it; none is or becomes a table, so nothing is counted.
-pub fn paint_pages(
-    slots: &mut [Slot; SLOTS],
-    first: u64,
-    mappings: &Reader<'_>,
-    range: PageRange,
-    position: usize,
-)
+pub fn paint_pages(slots: &mut [Slot; SLOTS], first: u64, excerpt: &Excerpt<'_, '_>)
     requires in_space { first + slots_per_table * pages_of 0 ≤ PAGES }
-    requires laid_out { IsLaidOut mappings.now }
-    requires position { AreEnded mappings.now (first_within range first) position }
-    requires met { IsTrue (meets (span first (slots_per_table * pages_of 0)) range) }
+    requires laid_out { IsLaidOut excerpt.now.mappings.now }
+    requires position { AreEnded excerpt.now.mappings.now (first_within excerpt.now.range first) excerpt.now.position }
+    requires met { IsTrue (meets (span first (slots_per_table * pages_of 0)) excerpt.now.range) }
     requires outside { (k : ℕ) → k < slots_per_table
-        → IsTreeOutside mappings.now range 0 (first + k * pages_of 0) (slice_index_or slots.old k Empty) }
-    ensures { (k : ℕ) → k < slots_per_table → IsTreeOf mappings.now 0
+        → IsTreeOutside excerpt.now.mappings.now excerpt.now.range 0 (first + k * pages_of 0)
+        (slice_index_or slots.old k Empty) }
+    ensures { (k : ℕ) → k < slots_per_table → IsTreeOf excerpt.now.mappings.now 0
         (first + k * pages_of 0) (slice_index_or slots.new k Empty) }
 {
+    let Excerpt {
+        mappings,
+        range,
+        mut position,
+    } = *excerpt;
     let (low, high) = slots_met(0, first, range);
-    let mut position = position;
     let mut index = low;
     while index < high {
         position = advance(mappings, position, first + index as u64);
-        index = paint_run(slots, first, index, high, mappings, position);
+        index = paint_run(slots, first, index..high, mappings, position);
     }
 }

@@ -18,14 +18,14 @@ ghost use Rattle.gv_types.specs.Mapping.{entry_advanced, HasSmallPages};
 
 use crate::levels::{SLOTS, pages_of, slots_met};
 use crate::pages::paint_pages;
+use crate::place::{Excerpt, Place};
 use crate::position::advance;
 use crate::release::clear;
 use crate::slot::{Slot, overwrite};
 use crate::spares::Spares;
 use crate::table_counts::TableCounts;
 use crate::wanted::{Wanted, slot_wanted};
-use gv_ranges::Reader;
-use gv_types::{Entry, PageRange};
+use gv_types::Entry;
 
 /// Makes the slots the parts of a leaf, each of `pages` pages.
 fn spread(slots: &mut [Slot; SLOTS], entry: &Entry, pages: u64)
@@ -103,30 +103,29 @@ fn make_table(slot: &mut Slot, level: usize, spares: &mut Spares, counts: &mut T
 #[inline(always)]
 pub fn paint_slot(
     slot: &mut Slot,
-    level: usize,
-    first: u64,
-    mappings: &Reader<'_>,
-    range: PageRange,
-    position: usize,
+    place: Place,
+    excerpt: &Excerpt<'_, '_>,
     spares: &mut Spares,
     counts: &mut TableCounts,
 ) -> u64
-    requires known { level ≤ top_level }
-    requires in_space { end_of (slot_pages level first) ≤ PAGES }
-    requires laid_out { IsLaidOut mappings.now }
-    requires position { IsIndexOfPage mappings.now (first_within range first) position }
-    requires met { IsTrue (meets (slot_pages level first) range) }
-    requires outside { IsTreeOutside mappings.now range level first slot.old }
-    requires enough { gained mappings.now level first slot.old ≤ spares.old }
-    requires part { IsPartOf counts.old level slot.old }
-    ensures lost { result ≡ lost mappings.now level first slot.old }
-    ensures tree { IsTreeOf mappings.now level first slot.new }
-    ensures exchanged { spares.new + gained mappings.now level first slot.old
-        ≡ spares.old + lost mappings.now level first slot.old }
-    ensures counted { (target : ℕ) → count_at counts.new target + tables_at target level slot.old
-        ≡ count_at counts.old target + tables_at target level slot.new }
+    requires known { place.level ≤ top_level }
+    requires in_space { end_of (slot_pages place.level place.first) ≤ PAGES }
+    requires laid_out { IsLaidOut excerpt.now.mappings.now }
+    requires position { IsIndexOfPage excerpt.now.mappings.now (first_within excerpt.now.range place.first)
+        excerpt.now.position }
+    requires met { IsTrue (meets (slot_pages place.level place.first) excerpt.now.range) }
+    requires outside { IsTreeOutside excerpt.now.mappings.now excerpt.now.range place.level place.first slot.old }
+    requires enough { gained excerpt.now.mappings.now place.level place.first slot.old ≤ spares.old }
+    requires part { IsPartOf counts.old place.level slot.old }
+    ensures lost { result ≡ lost excerpt.now.mappings.now place.level place.first slot.old }
+    ensures tree { IsTreeOf excerpt.now.mappings.now place.level place.first slot.new }
+    ensures exchanged { spares.new + gained excerpt.now.mappings.now place.level place.first slot.old
+        ≡ spares.old + lost excerpt.now.mappings.now place.level place.first slot.old }
+    ensures counted { (target : ℕ) → count_at counts.new target + tables_at target place.level slot.old
+        ≡ count_at counts.old target + tables_at target place.level slot.new }
 {
-    match slot_wanted(mappings, range, position, level, first) {
+    let Place { level, first } = place;
+    match slot_wanted(excerpt, place) {
         Wanted::Nothing => clear(slot, level, spares, counts),
         Wanted::Entry(entry) => {
             let lost = clear(slot, level, spares, counts);
@@ -135,17 +134,18 @@ pub fn paint_slot(
         }
         Wanted::Table => {
             make_table(slot, level, spares, counts);
+            let mappings = excerpt.mappings.near(excerpt.position);
+            let excerpt = Excerpt {
+                mappings: &mappings,
+                range: excerpt.range,
+                position: excerpt.position,
+            };
+            let place = Place {
+                level: level - 1,
+                first,
+            };
             match slot {
-                Slot::Table(slots) => paint_row(
-                    slots,
-                    level - 1,
-                    first,
-                    &mappings.near(position),
-                    range,
-                    position,
-                    spares,
-                    counts,
-                ),
+                Slot::Table(slots) => paint_row(slots, place, &excerpt, spares, counts),
                 Slot::Empty | Slot::Zero { .. } | Slot::Buffer { .. } => unreachable!(),
             }
         }
@@ -156,53 +156,56 @@ pub fn paint_slot(
 #[cycle(paint)]
 fn paint_row(
     slots: &mut [Slot; SLOTS],
-    level: usize,
-    first: u64,
-    mappings: &Reader<'_>,
-    range: PageRange,
-    position: usize,
+    place: Place,
+    excerpt: &Excerpt<'_, '_>,
     spares: &mut Spares,
     counts: &mut TableCounts,
 ) -> u64
-    requires known { level ≤ root_level }
-    requires in_space { first + slots_per_table * pages_of level ≤ PAGES }
-    requires laid_out { IsLaidOut mappings.now }
-    requires position { AreEnded mappings.now (first_within range first) position }
-    requires met { IsTrue (meets (span first (slots_per_table * pages_of level)) range) }
+    requires known { place.level ≤ root_level }
+    requires in_space { place.first + slots_per_table * pages_of place.level ≤ PAGES }
+    requires laid_out { IsLaidOut excerpt.now.mappings.now }
+    requires position { AreEnded excerpt.now.mappings.now (first_within excerpt.now.range place.first)
+        excerpt.now.position }
+    requires met { IsTrue (meets (span place.first (slots_per_table * pages_of place.level)) excerpt.now.range) }
     requires outside { (k : ℕ) → k < slots_per_table
-        → IsTreeOutside mappings.now range level (first + k * pages_of level)
-        (slice_index_or slots.old k Empty) }
-    requires enough { row_gained mappings.now level first slots.old ≤ spares.old }
-    requires part { IsRowOf counts.old level slots.old }
-    ensures lost { result ≡ row_lost mappings.now level first slots.old }
-    ensures tree { (k : ℕ) → k < slots_per_table → IsTreeOf mappings.now level
-        (first + k * pages_of level) (slice_index_or slots.new k Empty) }
-    ensures exchanged { spares.new + row_gained mappings.now level first slots.old
-        ≡ spares.old + row_lost mappings.now level first slots.old }
-    ensures counted { (target : ℕ) → count_at counts.new target + row_tables_at target level slots.old
-        ≡ count_at counts.old target + row_tables_at target level slots.new }
+        → IsTreeOutside excerpt.now.mappings.now excerpt.now.range place.level
+        (place.first + k * pages_of place.level) (slice_index_or slots.old k Empty) }
+    requires enough { row_gained excerpt.now.mappings.now place.level place.first slots.old ≤ spares.old }
+    requires part { IsRowOf counts.old place.level slots.old }
+    ensures lost { result ≡ row_lost excerpt.now.mappings.now place.level place.first slots.old }
+    ensures tree { (k : ℕ) → k < slots_per_table → IsTreeOf excerpt.now.mappings.now place.level
+        (place.first + k * pages_of place.level) (slice_index_or slots.new k Empty) }
+    ensures exchanged { spares.new + row_gained excerpt.now.mappings.now place.level place.first slots.old
+        ≡ spares.old + row_lost excerpt.now.mappings.now place.level place.first slots.old }
+    ensures counted { (target : ℕ) → count_at counts.new target + row_tables_at target place.level slots.old
+        ≡ count_at counts.old target + row_tables_at target place.level slots.new }
 {
+    let Place { level, first } = place;
     if level == 0 {
-        paint_pages(slots, first, mappings, range, position);
+        paint_pages(slots, first, excerpt);
         return 0;
     }
+    let Excerpt {
+        mappings,
+        range,
+        mut position,
+    } = *excerpt;
     let pages = pages_of(level);
     let (low, high) = slots_met(level, first, range);
-    let mut position = position;
     let mut lost = 0;
     for index in low..high {
         let start = first + index as u64 * pages;
         position = advance(mappings, position, start.max(range.first()));
-        lost += paint_slot(
-            &mut slots[index],
+        let place = Place {
             level,
-            start,
+            first: start,
+        };
+        let excerpt = Excerpt {
             mappings,
             range,
             position,
-            spares,
-            counts,
-        );
+        };
+        lost += paint_slot(&mut slots[index], place, &excerpt, spares, counts);
     }
     lost
 }

@@ -7,8 +7,9 @@ ghost use Rattle.gv_table.specs.Levels.{top_level, slot_pages, first_within};
 ghost use Rattle.gv_table.specs.Reads.{IsReadBy, EndsBefore, IsNeighbour};
 
 use crate::levels::pages_of;
+use crate::place::{Excerpt, Place};
 use gv_ranges::Reader;
-use gv_types::{Mapping, PageRange};
+use gv_types::Mapping;
 
 /// The position of the first mapping that ends past the page, given a position that is not behind it. It looks at the mappings
 /// from there on, one after another.
@@ -26,20 +27,15 @@ pub fn advance(mappings: &Reader<'_>, position: usize, page: u64) -> usize
 
 /// The mapping before the position, where it reaches into a slot that begins before the range.
 #[inline(always)]
-fn neighbour<'a>(
-    mappings: &Reader<'a>,
-    range: PageRange,
-    position: usize,
-    first: u64,
-) -> Option<&'a Mapping>
-    requires { position ≤ length mappings.now }
-    ensures { MatchOption result (EndsBefore mappings.now range position first)
-        (λ m. IsNeighbour mappings.now range position first m.now) }
+fn neighbour<'l>(excerpt: &Excerpt<'_, 'l>, first: u64) -> Option<&'l Mapping>
+    requires { excerpt.now.position ≤ length excerpt.now.mappings.now }
+    ensures { MatchOption result (EndsBefore excerpt.now.mappings.now excerpt.now.range excerpt.now.position first)
+        (λ m. IsNeighbour excerpt.now.mappings.now excerpt.now.range excerpt.now.position first m.now) }
 {
-    if position == 0 || range.first() <= first {
+    if excerpt.position == 0 || excerpt.range.first() <= first {
         return None;
     }
-    let m = mappings.get(position - 1);
+    let m = excerpt.mappings.get(excerpt.position - 1);
     if m.range.end() <= first {
         return None;
     }
@@ -49,29 +45,24 @@ fn neighbour<'a>(
 /// A mapping that meets the pages of a slot which meets the range, if one does: it decides what the list says of them.
 /// The position is that of the first mapping which ends past the slot's first page in the range.
 #[inline(always)]
-pub fn met_by<'a>(
-    mappings: &Reader<'a>,
-    range: PageRange,
-    position: usize,
-    level: usize,
-    first: u64,
-) -> Option<&'a Mapping>
-    requires known { level ≤ top_level }
-    requires in_space { end_of (slot_pages level first) ≤ PAGES }
-    requires laid_out { IsLaidOut mappings.now }
-    requires position { IsIndexOfPage mappings.now (first_within range first) position }
-    requires met { IsTrue (meets (slot_pages level first) range) }
-    ensures { MatchOption result (IsReadBy mappings.now (slot_pages level first) None)
-        (λ m. IsReadBy mappings.now (slot_pages level first) (Some m.now)) }
+pub fn met_by<'l>(excerpt: &Excerpt<'_, 'l>, place: Place) -> Option<&'l Mapping>
+    requires known { place.level ≤ top_level }
+    requires in_space { end_of (slot_pages place.level place.first) ≤ PAGES }
+    requires laid_out { IsLaidOut excerpt.now.mappings.now }
+    requires position { IsIndexOfPage excerpt.now.mappings.now (first_within excerpt.now.range place.first)
+        excerpt.now.position }
+    requires met { IsTrue (meets (slot_pages place.level place.first) excerpt.now.range) }
+    ensures { MatchOption result (IsReadBy excerpt.now.mappings.now (slot_pages place.level place.first) None)
+        (λ m. IsReadBy excerpt.now.mappings.now (slot_pages place.level place.first) (Some m.now)) }
 {
-    if let Some(m) = neighbour(mappings, range, position, first) {
+    if let Some(m) = neighbour(excerpt, place.first) {
         return Some(m);
     }
-    if position == mappings.len() {
+    if excerpt.position == excerpt.mappings.len() {
         return None;
     }
-    let m = mappings.get(position);
-    if first + pages_of(level) <= m.range.first() {
+    let m = excerpt.mappings.get(excerpt.position);
+    if place.first + pages_of(place.level) <= m.range.first() {
         return None;
     }
     Some(m)

@@ -11,6 +11,7 @@ ghost use Rattle.gv_table.specs.Tree.{is_table, child};
 ghost use Rattle.gv_table.specs.Counts.{needed, may_divide, one_if_not};
 
 use crate::levels::{TOP_LEVEL, pages_of, slots_in, slots_met};
+use crate::place::{Excerpt, Place};
 use crate::position::advance;
 use crate::slot::Slot;
 use crate::wanted::{Wanted, slot_wanted};
@@ -40,29 +41,24 @@ fn one_if_not_table(slot: &Slot) -> u64
 }
 
 /// Whether a slot may have to be a table, where a list will have the pieces in the range.
-fn may_be_table(
-    pieces: &Reader<'_>,
-    range: PageRange,
-    position: usize,
-    level: usize,
-    first: u64,
-) -> bool
-    requires known { level ≤ top_level }
-    requires in_space { end_of (slot_pages level first) ≤ PAGES }
-    requires laid_out { IsLaidOut pieces.now }
-    requires position { IsIndexOfPage pieces.now (first_within range first) position }
-    ensures { result ≡ may_divide pieces.now range level first }
+fn may_be_table(excerpt: &Excerpt<'_, '_>, place: Place) -> bool
+    requires known { place.level ≤ top_level }
+    requires in_space { end_of (slot_pages place.level place.first) ≤ PAGES }
+    requires laid_out { IsLaidOut excerpt.now.mappings.now }
+    requires position { IsIndexOfPage excerpt.now.mappings.now (first_within excerpt.now.range place.first)
+        excerpt.now.position }
+    ensures { result ≡ may_divide excerpt.now.mappings.now excerpt.now.range place.level place.first }
 {
-    let Some(pages) = PageRange::new(first, pages_of(level)) else {
+    let Some(pages) = PageRange::new(place.first, pages_of(place.level)) else {
         return false;
     };
-    if !pages.meets(range) {
+    if !pages.meets(excerpt.range) {
         return false;
     }
-    if !pages.lies_in(range) {
+    if !pages.lies_in(excerpt.range) {
         return true;
     }
-    match slot_wanted(pieces, range, position, level, first) {
+    match slot_wanted(excerpt, place) {
         Wanted::Table => true,
         Wanted::Nothing | Wanted::Entry(_) => false,
     }
@@ -71,60 +67,68 @@ fn may_be_table(
 /// How many positions of a slot may need a table where it has none.
 #[cycle(spare)]
 #[inline(always)]
-fn needed_in(
-    slot: &Slot,
-    level: usize,
-    first: u64,
-    pieces: &Reader<'_>,
-    range: PageRange,
-    position: usize,
-) -> u64
-    requires known { level ≤ top_level }
-    requires in_space { end_of (slot_pages level first) ≤ PAGES }
-    requires laid_out { IsLaidOut pieces.now }
-    requires position { IsIndexOfPage pieces.now (first_within range first) position }
-    ensures count { result ≡ needed pieces.now range level first slot.now }
-    ensures bound { result + 1 ≤ pages_of level }
+fn needed_in(slot: &Slot, place: Place, excerpt: &Excerpt<'_, '_>) -> u64
+    requires known { place.level ≤ top_level }
+    requires in_space { end_of (slot_pages place.level place.first) ≤ PAGES }
+    requires laid_out { IsLaidOut excerpt.now.mappings.now }
+    requires position { IsIndexOfPage excerpt.now.mappings.now (first_within excerpt.now.range place.first)
+        excerpt.now.position }
+    ensures count { result ≡ needed excerpt.now.mappings.now excerpt.now.range place.level place.first slot.now }
+    ensures bound { result + 1 ≤ pages_of place.level }
 {
-    if level == 0 || !may_be_table(pieces, range, position, level, first) {
+    let Place { level, first } = place;
+    if level == 0 || !may_be_table(excerpt, place) {
         return 0;
     }
     let one = one_if_not_table(slot);
     if level == 1 {
         return one;
     }
-    one + needed_below(slot, level - 1, first, pieces, range, position)
+    let place = Place {
+        level: level - 1,
+        first,
+    };
+    one + needed_below(slot, place, excerpt)
 }
 
 /// The same for the slots of its table, which are at the level.
 #[cycle(spare)]
-fn needed_below(
-    slot: &Slot,
-    level: usize,
-    first: u64,
-    pieces: &Reader<'_>,
-    range: PageRange,
-    position: usize,
-) -> u64
-    requires known { level ≤ root_level }
-    requires in_space { first + slots_per_table * pages_of level ≤ PAGES }
-    requires laid_out { IsLaidOut pieces.now }
-    requires position { AreEnded pieces.now (first_within range first) position }
-    requires met { IsTrue (meets (span first (slots_per_table * pages_of level)) range) }
+fn needed_below(slot: &Slot, place: Place, excerpt: &Excerpt<'_, '_>) -> u64
+    requires known { place.level ≤ root_level }
+    requires in_space { place.first + slots_per_table * pages_of place.level ≤ PAGES }
+    requires laid_out { IsLaidOut excerpt.now.mappings.now }
+    requires position { AreEnded excerpt.now.mappings.now (first_within excerpt.now.range place.first)
+        excerpt.now.position }
+    requires met { IsTrue (meets (span place.first (slots_per_table * pages_of place.level)) excerpt.now.range) }
     ensures count { result ≡ sum_below slots_per_table
-        (λ k. needed pieces.now range level (first + k * pages_of level) (child slot.now k)) }
-    ensures bound { result + slots_per_table ≤ slots_per_table * pages_of level }
+        (λ k. needed excerpt.now.mappings.now excerpt.now.range place.level
+        (place.first + k * pages_of place.level) (child slot.now k)) }
+    ensures bound { result + slots_per_table ≤ slots_per_table * pages_of place.level }
 {
+    let Place { level, first } = place;
+    let Excerpt {
+        mappings: pieces,
+        range,
+        mut position,
+    } = *excerpt;
     let pages = pages_of(level);
     let empty = Slot::Empty;
-    let mut position = position;
     let mut total = 0;
     let (low, high) = slots_met(level, first, range);
     for index in low..high {
         let part = child_of(slot, index, &empty);
         let start = first + index as u64 * pages;
         position = advance(pieces, position, start.max(range.first()));
-        total += needed_in(part, level, start, pieces, range, position);
+        let place = Place {
+            level,
+            first: start,
+        };
+        let excerpt = Excerpt {
+            mappings: pieces,
+            range,
+            position,
+        };
+        total += needed_in(part, place, &excerpt);
     }
     total
 }
@@ -166,5 +170,10 @@ pub fn needed_in_tree(root: &Slot, pieces: &Reader<'_>, range: PageRange) -> u64
         level -= 1;
         first += index as u64 * pages_of(level);
     }
-    count + needed_in(slot, level, first, pieces, range, position)
+    let excerpt = Excerpt {
+        mappings: pieces,
+        range,
+        position,
+    };
+    count + needed_in(slot, Place { level, first }, &excerpt)
 }

@@ -7,9 +7,9 @@ ghost use Rattle.gv_table.specs.Levels.{top_level, slot_pages, first_within};
 ghost use Rattle.gv_table.specs.Wanted.{wanted};
 
 use crate::levels::{GREATEST_LEAF_LEVEL, pages_of};
+use crate::place::{Excerpt, Place};
 use crate::position::met_by;
-use gv_ranges::Reader;
-use gv_types::{Entry, PageRange};
+use gv_types::Entry;
 
 /// What a slot is to hold.
 pub enum Wanted {
@@ -21,23 +21,19 @@ pub enum Wanted {
 /// What the list wants of a slot that meets the range. The position is that of the first mapping which ends past the slot's
 /// first page in the range.
 #[inline(always)]
-pub fn slot_wanted(
-    mappings: &Reader<'_>,
-    range: PageRange,
-    position: usize,
-    level: usize,
-    first: u64,
-) -> Wanted
-    requires known { level ≤ top_level }
-    requires in_space { end_of (slot_pages level first) ≤ PAGES }
-    requires laid_out { IsLaidOut mappings.now }
-    requires position { IsIndexOfPage mappings.now (first_within range first) position }
-    requires met { IsTrue (meets (slot_pages level first) range) }
-    ensures { result ≡ wanted mappings.now level first }
+pub fn slot_wanted(excerpt: &Excerpt<'_, '_>, place: Place) -> Wanted
+    requires known { place.level ≤ top_level }
+    requires in_space { end_of (slot_pages place.level place.first) ≤ PAGES }
+    requires laid_out { IsLaidOut excerpt.now.mappings.now }
+    requires position { IsIndexOfPage excerpt.now.mappings.now (first_within excerpt.now.range place.first)
+        excerpt.now.position }
+    requires met { IsTrue (meets (slot_pages place.level place.first) excerpt.now.range) }
+    ensures { result ≡ wanted excerpt.now.mappings.now place.level place.first }
 {
-    let Some(m) = met_by(mappings, range, position, level, first) else {
+    let Some(m) = met_by(excerpt, place) else {
         return Wanted::Nothing;
     };
+    let Place { level, first } = place;
     let end = first + pages_of(level);
     if level <= GREATEST_LEAF_LEVEL && m.range.first() <= first && end <= m.range.end() {
         Wanted::Entry(m.part(first))

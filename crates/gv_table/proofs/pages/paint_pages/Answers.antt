@@ -15,11 +15,11 @@ pub loop-index-init : goal.loop-index-init
 loop-index-init c = record {
   from = omega arith;
   upto = c.slots_met-low.ensures.ordered;
-  position = ended-later c.args.mappings.now (first_within c.args.range c.args.first) _ c.args.position (omega (arith, pages_of-zero)) c.requires.position;
+  position = ended-later c.args.excerpt.now.mappings.now (first_within c.args.excerpt.now.range c.args.first) _ c.args.excerpt.now.position (omega (arith, pages_of-zero)) c.requires.position;
   painted = λ k below.
       let fits = part-within k (512 * pages_of 0) (pages_of 0) (omega (arith, c.slots_met-low.ensures.ordered, c.slots_met-low.ensures.within)) refl in
-      let apart = meets-before (slot_pages 0 (c.args.first + k * pages_of 0)) c.args.range (c.slots_met-low.ensures.before k below) in
-      outside-apart c.args.mappings.now c.args.range 0 (c.args.first + k * pages_of 0) (slice_index_or c.args.slots.now k Empty)
+      let apart = meets-before (slot_pages 0 (c.args.first + k * pages_of 0)) c.args.excerpt.now.range (c.slots_met-low.ensures.before k below) in
+      outside-apart c.args.excerpt.now.mappings.now c.args.excerpt.now.range 0 (c.args.first + k * pages_of 0) (slice_index_or c.args.slots.now k Empty)
       c.requires.laid_out (c.requires.outside k (omega (arith, c.slots_met-low.ensures.ordered, c.slots_met-low.ensures.within)))
       (omega (arith, fits, c.requires.in_space)) apart;
   untouched = λ k above. refl;
@@ -28,8 +28,8 @@ loop-index-init c = record {
 pub advance-position-requires-clause-ended : goal.advance-position-requires-clause-ended
 advance-position-requires-clause-ended c =
     let from : c.slots_met-low.result.0 ≤ c.loop-index.index = c.loop-index.invariant.from in
-    let in_range = meets-bounds (slot_pages 0 (c.args.first + c.loop-index.index * pages_of 0)) c.args.range (c.slots_met-low.ensures.met c.loop-index.index from c.loop-index-test.true) in
-    ended-later c.args.mappings.now _ (c.args.first + c.loop-index.index) c.loop-index.position (omega (arith, in_range, slots-of-one-page c.loop-index.index, pages_of-zero)) c.loop-index.invariant.position
+    let in_range = meets-bounds (slot_pages 0 (c.args.first + c.loop-index.index * pages_of 0)) c.args.excerpt.now.range (c.slots_met-low.ensures.met c.loop-index.index from c.loop-index-test.true) in
+    ended-later c.args.excerpt.now.mappings.now _ (c.args.first + c.loop-index.index) c.loop-index.position (omega (arith, in_range, slots-of-one-page c.loop-index.index, pages_of-zero)) c.loop-index.invariant.position
 
 pub paint_run-index-requires-clause-in_space : goal.paint_run-index-requires-clause-in_space
 paint_run-index-requires-clause-in_space c = omega (arith, pages_of-zero, c.requires.in_space)
@@ -37,7 +37,7 @@ paint_run-index-requires-clause-in_space c = omega (arith, pages_of-zero, c.requ
 pub loop-index-preserved : goal.loop-index-preserved
 loop-index-preserved c =
     let inv = c.loop-index.invariant in
-    let ms = c.args.mappings.now in
+    let ms = c.args.excerpt.now.mappings.now in
     let first : ℕ = c.args.first in
     let i : ℕ = c.loop-index.index in
     let run = c.paint_run-index.ensures in
@@ -57,6 +57,6 @@ loop-index-preserved c =
 
 pub returns : goal.returns
 returns c =
-    row-tree c.args.mappings.now c.args.range 0 c.args.first c.loop-index.index c.args.slots.now c.loop-index.slots c.requires.laid_out c.requires.in_space
+    row-tree c.args.excerpt.now.mappings.now c.args.excerpt.now.range 0 c.args.first c.loop-index.index c.args.slots.now c.loop-index.slots c.requires.laid_out c.requires.in_space
     c.loop-index.invariant.painted c.loop-index.invariant.untouched c.requires.outside
     (λ k from below. c.slots_met-low.ensures.beyond k (omega (arith, c.loop-index-test.false)) below)

@@ -9,7 +9,7 @@ abbrev pub invariant-loop-index : goal.invariant-loop-index
 invariant-loop-index l = record {
   from : l.initial.index ≤ l.index;
   upto : l.index ≤ l.high;
-  position : AreEnded l.mappings (first_within l.fn.range (l.first + l.index * pages_of 0)) l.position;
+  position : AreEnded l.mappings (first_within l.excerpt.range (l.first + l.index * pages_of 0)) l.position;
   painted : (k : ℕ) → k < l.index → IsTreeOf l.mappings 0 (l.first + k * pages_of 0) (slice_index_or l.slots k Empty);
   untouched : (k : ℕ) → l.index ≤ k → slice_index_or l.slots k Empty ≡ slice_index_or l.initial.slots k Empty;
 }

@@ -14,7 +14,7 @@ use Rattle.gv_table.proofs.pages.paint_run.Goals as goal
 pub returns-then-position-len-clause-painted : goal.returns-then-position-len-clause-painted
 returns-then-position-len-clause-painted c = λ k up less.
     IsTreeOf-page c.args.mappings.now (c.args.first + k) None _
-    (run-past c.args.mappings.now (c.args.first + c.args.low) (c.args.first + k) c.args.position c.requires.position (omega arith) (omega arith))
+    (run-past c.args.mappings.now (c.args.first + c.args.run.start) (c.args.first + k) c.args.position c.requires.position (omega arith) (omega arith))
     (c.empty.ensures.emptied k up less)
 
 pub returns-then-page-first-clause-painted : goal.returns-then-page-first-clause-painted
@@ -24,7 +24,7 @@ returns-then-page-first-clause-painted c = λ k up less.
     let inside : c.args.position < length ms = (let within = c.requires.position.within in omega (arith, within)) in
     let before : c.args.first + k < m.range.first = omega arith in
     IsTreeOf-page ms (c.args.first + k) None _
-    (run-gap ms (c.args.first + c.args.low) (c.args.first + k) c.args.position c.requires.position (omega arith) m c.requires.laid_out inside
+    (run-gap ms (c.args.first + c.args.run.start) (c.args.first + k) c.args.position c.requires.position (omega arith) m c.requires.laid_out inside
     (rw (← c.get-m.ensures m) before))
     (c.empty-then-page-first.ensures.emptied k up less)
 
@@ -33,8 +33,8 @@ overflow_sub-end c =
     let ms = c.args.mappings.now in
     let m = c.get-m.result.now in
     let inside : c.args.position < length ms = (let within = c.requires.position.within in omega (arith, within)) in
-    let past = All-drop_at (λ (n : Mapping). c.args.first + c.args.low < end_of n.range) ms c.args.position m inside c.requires.position.not_ended in
-    let past' : c.args.first + c.args.low < end_of m.range = rw (← c.get-m.ensures m) at past in
+    let past = All-drop_at (λ (n : Mapping). c.args.first + c.args.run.start < end_of n.range) ms c.args.position m inside c.requires.position.not_ended in
+    let past' : c.args.first + c.args.run.start < end_of m.range = rw (← c.get-m.ensures m) at past in
     omega (arith, past')
 
 pub part-requires-clause-mapping : goal.part-requires-clause-mapping
@@ -49,16 +49,16 @@ part-requires-clause-covered c =
     let ms = c.args.mappings.now in
     let m = c.get-m.result.now in
     let inside : c.args.position < length ms = (let within = c.requires.position.within in omega (arith, within)) in
-    let past = All-drop_at (λ (n : Mapping). c.args.first + c.args.low < end_of n.range) ms c.args.position m inside c.requires.position.not_ended in
-    covers-from m.range (c.args.first + c.args.low) (omega arith) (rw (← c.get-m.ensures m) at past)
+    let past = All-drop_at (λ (n : Mapping). c.args.first + c.args.run.start < end_of n.range) ms c.args.position m inside c.requires.position.not_ended in
+    covers-from m.range (c.args.first + c.args.run.start) (omega arith) (rw (← c.get-m.ensures m) at past)
 
 pub fill-requires-clause-ordered : goal.fill-requires-clause-ordered
 fill-requires-clause-ordered c =
     let ms = c.args.mappings.now in
     let m = c.get-m.result.now in
     let inside : c.args.position < length ms = (let within = c.requires.position.within in omega (arith, within)) in
-    let past = All-drop_at (λ (n : Mapping). c.args.first + c.args.low < end_of n.range) ms c.args.position m inside c.requires.position.not_ended in
-    let past' : c.args.first + c.args.low < end_of m.range = rw (← c.get-m.ensures m) at past in
+    let past = All-drop_at (λ (n : Mapping). c.args.first + c.args.run.start < end_of n.range) ms c.args.position m inside c.requires.position.not_ended in
+    let past' : c.args.first + c.args.run.start < end_of m.range = rw (← c.get-m.ensures m) at past in
     omega (arith, past')
 
 pub fill-requires-clause-small : goal.fill-requires-clause-small
@@ -67,11 +67,11 @@ fill-requires-clause-small c =
     let m = c.get-m.result.now in
     let inside : c.args.position < length ms = (let within = c.requires.position.within in omega (arith, within)) in
     let is : IsMapping m = rw (c.get-m.ensures m) (is_mapping ms 0 c.args.position m c.requires.laid_out inside) in
-    let past = All-drop_at (λ (n : Mapping). c.args.first + c.args.low < end_of n.range) ms c.args.position m inside c.requires.position.not_ended in
-    let past' : c.args.first + c.args.low < end_of m.range = rw (← c.get-m.ensures m) at past in
-    let n : ℕ = c.min-end-2.result - c.args.low in
-    let within : c.args.first + c.args.low + n ≤ end_of m.range = omega (arith, past') in
-    let small = part-small m (c.args.first + c.args.low) n is (omega arith) within in
+    let past = All-drop_at (λ (n : Mapping). c.args.first + c.args.run.start < end_of n.range) ms c.args.position m inside c.requires.position.not_ended in
+    let past' : c.args.first + c.args.run.start < end_of m.range = rw (← c.get-m.ensures m) at past in
+    let n : ℕ = c.min-end-2.result - c.args.run.start in
+    let within : c.args.first + c.args.run.start + n ≤ end_of m.range = omega (arith, past') in
+    let small = part-small m (c.args.first + c.args.run.start) n is (omega arith) within in
     rw c.part.ensures small
 
 pub returns-clause-further : goal.returns-clause-further
@@ -79,22 +79,22 @@ returns-clause-further c =
     let ms = c.args.mappings.now in
     let m = c.get-m.result.now in
     let inside : c.args.position < length ms = (let within = c.requires.position.within in omega (arith, within)) in
-    let past = All-drop_at (λ (n : Mapping). c.args.first + c.args.low < end_of n.range) ms c.args.position m inside c.requires.position.not_ended in
-    let past' : c.args.first + c.args.low < end_of m.range = rw (← c.get-m.ensures m) at past in
+    let past = All-drop_at (λ (n : Mapping). c.args.first + c.args.run.start < end_of n.range) ms c.args.position m inside c.requires.position.not_ended in
+    let past' : c.args.first + c.args.run.start < end_of m.range = rw (← c.get-m.ensures m) at past in
     omega (arith, past')
 
 pub returns-clause-painted : goal.returns-clause-painted
 returns-clause-painted c = λ k up less.
     let ms = c.args.mappings.now in
     let m = c.get-m.result.now in
-    let page : ℕ = c.args.first + c.args.low in
+    let page : ℕ = c.args.first + c.args.run.start in
     let later : ℕ = c.args.first + k in
     let inside : c.args.position < length ms = (let within = c.requires.position.within in omega (arith, within)) in
     let begun : m.range.first ≤ page = omega arith in
     let begun' : m.range.first ≤ later = omega arith in
     let before : later < end_of m.range = omega arith in
     let found = run-mapping ms page later c.args.position c.requires.position (omega arith) m inside (rw (← c.get-m.ensures m) begun') (rw (← c.get-m.ensures m) before) in
-    let more : page + (k - c.args.low) ≡ later = omega arith in
-    let entry : entry_advanced c.part.result (k - c.args.low) ≡ part m later =
-    ap (λ (e : Entry). entry_advanced e (k - c.args.low)) c.part.ensures ∙ part-further m page (k - c.args.low) begun ∙ ap (λ (n : ℕ). part m n) more in
+    let more : page + (k - c.args.run.start) ≡ later = omega arith in
+    let entry : entry_advanced c.part.result (k - c.args.run.start) ≡ part m later =
+    ap (λ (e : Entry). entry_advanced e (k - c.args.run.start)) c.part.ensures ∙ part-further m page (k - c.args.run.start) begun ∙ ap (λ (n : ℕ). part m n) more in
     IsTreeOf-page ms later (Some (part m later)) _ (rw (← c.get-m.ensures m) at found) (c.fill.ensures.filled k up less ∙ ap leaf entry)

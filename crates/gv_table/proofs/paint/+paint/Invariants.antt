@@ -8,10 +8,10 @@ use Rattle.gv_table.specs.Counts.{gained, lost, row_tables_at, count_at}
 use Rattle.gv_table.proofs.paint.+paint.Given as goal
 
 abbrev pub decreases-paint_slot : goal.decreases-paint_slot
-decreases-paint_slot l = 2 * l.level
+decreases-paint_slot l = 2 * l.place.level
 
 abbrev pub decreases-paint_row : goal.decreases-paint_row
-decreases-paint_row l = 2 * l.level + 1
+decreases-paint_row l = 2 * l.place.level + 1
 
 abbrev pub invariant-paint_row-loop-index : goal.invariant-paint_row-loop-index
 invariant-paint_row-loop-index l = record {

@@ -7,30 +7,30 @@ use Rattle.gv_table.proofs.position.met_by.Goals as goal
 
 pub returns-in-Some : goal.returns-in-Some
 returns-in-Some c =
-    neighbour-read c.args.mappings.now c.args.range (slot_pages c.args.level c.args.first) c.args.position c.requires.laid_out c.requires.position
-    c.in-Some.m.now (pages_of-some c.args.level) c.requires.met c.in-Some.ensures
+    neighbour-read c.args.excerpt.now.mappings.now c.args.excerpt.now.range (slot_pages c.args.place.level c.args.place.first) c.args.excerpt.now.position c.requires.laid_out c.requires.position
+    c.in-Some.m.now (pages_of-some c.args.place.level) c.requires.met c.in-Some.ensures
 
-pub returns-then-position-len : goal.returns-then-position-len
-returns-then-position-len c =
-    none-met c.args.mappings.now c.args.range (slot_pages c.args.level c.args.first) c.args.position c.requires.laid_out c.requires.position
+pub returns-then-excerpt-len : goal.returns-then-excerpt-len
+returns-then-excerpt-len c =
+    none-met c.args.excerpt.now.mappings.now c.args.excerpt.now.range (slot_pages c.args.place.level c.args.place.first) c.args.excerpt.now.position c.requires.laid_out c.requires.position
     c.in_default.ensures (λ inside d. absurd (omega arith))
 
-pub returns-then-first-pages_of : goal.returns-then-first-pages_of
-returns-then-first-pages_of c =
-    let ms = c.args.mappings.now in
+pub returns-then-place-pages_of : goal.returns-then-place-pages_of
+returns-then-place-pages_of c =
+    let ms = c.args.excerpt.now.mappings.now in
     let m = c.get-m.result.now in
-    let later : end_of (slot_pages c.args.level c.args.first) ≤ m.range.first = omega arith in
-    none-met ms c.args.range (slot_pages c.args.level c.args.first) c.args.position c.requires.laid_out c.requires.position
+    let later : end_of (slot_pages c.args.place.level c.args.place.first) ≤ m.range.first = omega arith in
+    none-met ms c.args.excerpt.now.range (slot_pages c.args.place.level c.args.place.first) c.args.excerpt.now.position c.requires.laid_out c.requires.position
     c.in_default.ensures
     (λ inside d.
-    let same : get_or ms c.args.position d ≡ m = sym (c.get-m.ensures d) in
+    let same : get_or ms c.args.excerpt.now.position d ≡ m = sym (c.get-m.ensures d) in
     rw same later)
 
 pub returns : goal.returns
 returns c =
-    let ms = c.args.mappings.now in
+    let ms = c.args.excerpt.now.mappings.now in
     let m = c.get-m.result.now in
-    let inside : c.args.position < length ms = (let within = c.requires.position.within in omega (arith, within)) in
-    let begun : m.range.first < end_of (slot_pages c.args.level c.args.first) = omega arith in
-    next-read ms c.args.range (slot_pages c.args.level c.args.first) c.args.position c.requires.laid_out c.requires.position
-    m (pages_of-some c.args.level) inside (c.get-m.ensures m) begun
+    let inside : c.args.excerpt.now.position < length ms = (let within = c.requires.position.within in omega (arith, within)) in
+    let begun : m.range.first < end_of (slot_pages c.args.place.level c.args.place.first) = omega arith in
+    next-read ms c.args.excerpt.now.range (slot_pages c.args.place.level c.args.place.first) c.args.excerpt.now.position c.requires.laid_out c.requires.position
+    m (pages_of-some c.args.place.level) inside (c.get-m.ensures m) begun

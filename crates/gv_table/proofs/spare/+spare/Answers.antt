@@ -16,36 +16,36 @@ pub needed_in-returns-then-level-eq0-clause-count : goal.needed_in-returns-then-
 needed_in-returns-then-level-eq0-clause-count t c =
     elim c.then-level-eq0.branch [
       | needed_in-then-level-eq0-via-then-level-eq0 w ↦
-          sym (ap (λ (n : ℕ). needed c.args.pieces.now c.args.range n c.args.first c.args.slot.now) w.if-level-eq0.true ∙ needed-zero c.args.pieces.now c.args.range c.args.first c.args.slot.now)
+          sym (ap (λ (n : ℕ). needed c.args.excerpt.now.mappings.now c.args.excerpt.now.range n c.args.place.first c.args.slot.now) w.if-level-eq0.true ∙ needed-zero c.args.excerpt.now.mappings.now c.args.excerpt.now.range c.args.place.first c.args.slot.now)
       | needed_in-then-level-eq0-via-else-level-eq0+then-not-may_be_table w ↦
-          sym (needed-none c.args.pieces.now c.args.range c.args.level c.args.first c.args.slot.now (sym w.may_be_table.ensures ∙ w.if-not-may_be_table.true))
+          sym (needed-none c.args.excerpt.now.mappings.now c.args.excerpt.now.range c.args.place.level c.args.place.first c.args.slot.now (sym w.may_be_table.ensures ∙ w.if-not-may_be_table.true))
     ]
 
 pub needed_in-returns-then-level-eq0-clause-bound : goal.needed_in-returns-then-level-eq0-clause-bound
-needed_in-returns-then-level-eq0-clause-bound t c = pages_of-some c.args.level
+needed_in-returns-then-level-eq0-clause-bound t c = pages_of-some c.args.place.level
 
 pub needed_in-returns-then-level-eq1-clause-count : goal.needed_in-returns-then-level-eq1-clause-count
 needed_in-returns-then-level-eq1-clause-count t c =
-    let f = λ (k : ℕ). needed c.args.pieces.now c.args.range (c.args.level - 1) (c.args.first + k * pages_of (c.args.level - 1)) (child c.args.slot.now k) in
-    let low : c.args.level - 1 ≡ 0 = omega arith in
-    let may : may_divide c.args.pieces.now c.args.range c.args.level c.args.first ≡ true = sym c.may_be_table.ensures ∙ c.if-not-may_be_table.false in
-    let whole = needed-parts c.args.pieces.now c.args.range c.args.level c.args.first c.args.slot.now (omega arith) may in
+    let f = λ (k : ℕ). needed c.args.excerpt.now.mappings.now c.args.excerpt.now.range (c.args.place.level - 1) (c.args.place.first + k * pages_of (c.args.place.level - 1)) (child c.args.slot.now k) in
+    let low : c.args.place.level - 1 ≡ 0 = omega arith in
+    let may : may_divide c.args.excerpt.now.mappings.now c.args.excerpt.now.range c.args.place.level c.args.place.first ≡ true = sym c.may_be_table.ensures ∙ c.if-not-may_be_table.false in
+    let whole = needed-parts c.args.excerpt.now.mappings.now c.args.excerpt.now.range c.args.place.level c.args.place.first c.args.slot.now (omega arith) may in
     let none = sum_below-zeros 512 f (λ k below.
-    ap (λ (n : ℕ). needed c.args.pieces.now c.args.range n (c.args.first + k * pages_of (c.args.level - 1)) (child c.args.slot.now k)) low ∙
-    needed-zero c.args.pieces.now c.args.range (c.args.first + k * pages_of (c.args.level - 1)) (child c.args.slot.now k)) in
+    ap (λ (n : ℕ). needed c.args.excerpt.now.mappings.now c.args.excerpt.now.range n (c.args.place.first + k * pages_of (c.args.place.level - 1)) (child c.args.slot.now k)) low ∙
+    needed-zero c.args.excerpt.now.mappings.now c.args.excerpt.now.range (c.args.place.first + k * pages_of (c.args.place.level - 1)) (child c.args.slot.now k)) in
     omega (arith, whole, none, c.one_if_not_table-one.ensures)
 
 pub needed_in-returns-then-level-eq1-clause-bound : goal.needed_in-returns-then-level-eq1-clause-bound
 needed_in-returns-then-level-eq1-clause-bound t c =
     let small = one_if_not-small (is_table c.args.slot.now) in
-    let below-of = pages_of-below c.args.level (omega arith) in
-    let some = pages_of-some (c.args.level - 1) in
+    let below-of = pages_of-below c.args.place.level (omega arith) in
+    let some = pages_of-some (c.args.place.level - 1) in
     omega (arith, small, below-of, some, c.one_if_not_table-one.ensures)
 
 pub needed_in-needed_below-requires : goal.needed_in-needed_below-requires
 needed_in-needed_below-requires t c =
-    let below-of = pages_of-below c.args.level (omega arith) in
-    let may : may_divide c.args.pieces.now c.args.range c.args.level c.args.first ≡ true = sym c.may_be_table.ensures ∙ c.if-not-may_be_table.false in (
+    let below-of = pages_of-below c.args.place.level (omega arith) in
+    let may : may_divide c.args.excerpt.now.mappings.now c.args.excerpt.now.range c.args.place.level c.args.place.first ≡ true = sym c.may_be_table.ensures ∙ c.if-not-may_be_table.false in (
       omega arith,
       (
         omega (arith, c.requires.known),
@@ -54,8 +54,8 @@ needed_in-needed_below-requires t c =
           (
             c.requires.laid_out,
             (
-              position-ended c.args.pieces.now _ _ c.args.position (omega arith) c.requires.position,
-              subst (λ (n : ℕ). meets (span c.args.first n) c.args.range ≡ true) below-of (may-met c.args.pieces.now c.args.range c.args.level c.args.first may),
+              position-ended c.args.excerpt.now.mappings.now _ _ c.args.excerpt.now.position (omega arith) c.requires.position,
+              subst (λ (n : ℕ). meets (span c.args.place.first n) c.args.excerpt.now.range ≡ true) below-of (may-met c.args.excerpt.now.mappings.now c.args.excerpt.now.range c.args.place.level c.args.place.first may),
             ),
           ),
         ),
@@ -65,63 +65,63 @@ needed_in-needed_below-requires t c =
 pub needed_in-overflow_add-result : goal.needed_in-overflow_add-result
 needed_in-overflow_add-result t c =
     let small = one_if_not-small (is_table c.args.slot.now) in
-    let below-of = pages_of-below c.args.level (omega arith) in
-    let all = pages_of-bound c.args.level c.requires.known in
+    let below-of = pages_of-below c.args.place.level (omega arith) in
+    let all = pages_of-bound c.args.place.level c.requires.known in
     omega (arith, small, below-of, all, c.one_if_not_table-one.ensures, c.needed_below.ensures.bound)
 
 pub needed_in-returns-clause-count : goal.needed_in-returns-clause-count
 needed_in-returns-clause-count t c =
-    let may : may_divide c.args.pieces.now c.args.range c.args.level c.args.first ≡ true = sym c.may_be_table.ensures ∙ c.if-not-may_be_table.false in
-    let whole = needed-parts c.args.pieces.now c.args.range c.args.level c.args.first c.args.slot.now (omega arith) may in
+    let may : may_divide c.args.excerpt.now.mappings.now c.args.excerpt.now.range c.args.place.level c.args.place.first ≡ true = sym c.may_be_table.ensures ∙ c.if-not-may_be_table.false in
+    let whole = needed-parts c.args.excerpt.now.mappings.now c.args.excerpt.now.range c.args.place.level c.args.place.first c.args.slot.now (omega arith) may in
     omega (arith, whole, c.one_if_not_table-one.ensures, c.needed_below.ensures.count)
 
 pub needed_in-returns-clause-bound : goal.needed_in-returns-clause-bound
 needed_in-returns-clause-bound t c =
     let small = one_if_not-small (is_table c.args.slot.now) in
-    let below-of = pages_of-below c.args.level (omega arith) in
+    let below-of = pages_of-below c.args.place.level (omega arith) in
     omega (arith, small, below-of, c.one_if_not_table-one.ensures, c.needed_below.ensures.bound)
 
 pub needed_below-loop-index-init : goal.needed_below-loop-index-init
 needed_below-loop-index-init t c =
-    let f = λ (k : ℕ). needed c.args.pieces.now c.args.range c.args.level (c.args.first + k * pages_of c.args.level) (child c.args.slot.now k) in
+    let f = λ (k : ℕ). needed c.args.excerpt.now.mappings.now c.args.excerpt.now.range c.args.place.level (c.args.place.first + k * pages_of c.args.place.level) (child c.args.slot.now k) in
     let z = sum_below-zeros c.slots_met-low.result.0 f (λ k below.
-    needed-apart c.args.pieces.now c.args.range c.args.level (c.args.first + k * pages_of c.args.level) (child c.args.slot.now k)
-    (meets-before (slot_pages c.args.level (c.args.first + k * pages_of c.args.level)) c.args.range (c.slots_met-low.ensures.before k below))) in
-    let up = product-up c.slots_met-low.result.0 (pages_of c.args.level) (pages_of-some c.args.level) in
+    needed-apart c.args.excerpt.now.mappings.now c.args.excerpt.now.range c.args.place.level (c.args.place.first + k * pages_of c.args.place.level) (child c.args.slot.now k)
+    (meets-before (slot_pages c.args.place.level (c.args.place.first + k * pages_of c.args.place.level)) c.args.excerpt.now.range (c.slots_met-low.ensures.before k below))) in
+    let up = product-up c.slots_met-low.result.0 (pages_of c.args.place.level) (pages_of-some c.args.place.level) in
     record {
-      position = ended-later c.args.pieces.now _ _ c.args.position (omega arith) c.requires.position;
+      position = ended-later c.args.excerpt.now.mappings.now _ _ c.args.excerpt.now.position (omega arith) c.requires.position;
       counted = omega (arith, z);
       bound = omega (arith, up);
     }
 
 pub needed_below-loop-index-preserved : goal.needed_below-loop-index-preserved
 needed_below-loop-index-preserved t c =
-    let f = λ (k : ℕ). needed c.args.pieces.now c.args.range c.args.level (c.args.first + k * pages_of c.args.level) (child c.args.slot.now k) in
+    let f = λ (k : ℕ). needed c.args.excerpt.now.mappings.now c.args.excerpt.now.range c.args.place.level (c.args.place.first + k * pages_of c.args.place.level) (child c.args.slot.now k) in
     let more = sum_below-more c.loop-index.index f in
-    let start : c.args.first + c.loop-index.index * c.pages_of-pages.result ≡ c.args.first + c.loop-index.index * pages_of c.args.level =
-    ap (λ (n : ℕ). c.args.first + c.loop-index.index * n) c.pages_of-pages.ensures.pages in
+    let start : c.args.place.first + c.loop-index.index * c.pages_of-pages.result ≡ c.args.place.first + c.loop-index.index * pages_of c.args.place.level =
+    ap (λ (n : ℕ). c.args.place.first + c.loop-index.index * n) c.pages_of-pages.ensures.pages in
     let here : c.needed_in-total.result ≡ f c.loop-index.index =
     c.needed_in-total.ensures.count ∙
-    ap (λ (n : ℕ). needed c.args.pieces.now c.args.range c.args.level n c.child_of-part.result.now) start ∙
-    ap (λ (s : Slot). needed c.args.pieces.now c.args.range c.args.level (c.args.first + c.loop-index.index * pages_of c.args.level) s) c.child_of-part.ensures in
-    let product = one-more-part c.loop-index.index (pages_of c.args.level) in
+    ap (λ (n : ℕ). needed c.args.excerpt.now.mappings.now c.args.excerpt.now.range c.args.place.level n c.child_of-part.result.now) start ∙
+    ap (λ (s : Slot). needed c.args.excerpt.now.mappings.now c.args.excerpt.now.range c.args.place.level (c.args.place.first + c.loop-index.index * pages_of c.args.place.level) s) c.child_of-part.ensures in
+    let product = one-more-part c.loop-index.index (pages_of c.args.place.level) in
     record {
-      position = position-ended c.args.pieces.now c.max.result _ c.advance-position.result (omega (arith, start, product)) c.advance-position.ensures;
+      position = position-ended c.args.excerpt.now.mappings.now c.max.result _ c.advance-position.result (omega (arith, start, product)) c.advance-position.ensures;
       counted = omega (arith, more, here, c.loop-index.invariant.counted);
       bound = omega (arith, product, c.loop-index.invariant.bound, c.needed_in-total.ensures.bound);
     }
 
 pub needed_below-returns-clause-count : goal.needed_below-returns-clause-count
 needed_below-returns-clause-count t c =
-    let f = λ (k : ℕ). needed c.args.pieces.now c.args.range c.args.level (c.args.first + k * pages_of c.args.level) (child c.args.slot.now k) in
+    let f = λ (k : ℕ). needed c.args.excerpt.now.mappings.now c.args.excerpt.now.range c.args.place.level (c.args.place.first + k * pages_of c.args.place.level) (child c.args.slot.now k) in
     let last : c.loop-index.index ≤ c.slots_met-low.result.1 = c.loop-index.auto.index-end c.slots_met-low.ensures.ordered in
     let rest = sum_below-rest 512 f c.loop-index.index (omega (arith, last, c.slots_met-low.ensures.within)) (λ k from below.
-    needed-apart c.args.pieces.now c.args.range c.args.level (c.args.first + k * pages_of c.args.level) (child c.args.slot.now k)
-    (meets-after (slot_pages c.args.level (c.args.first + k * pages_of c.args.level)) c.args.range
+    needed-apart c.args.excerpt.now.mappings.now c.args.excerpt.now.range c.args.place.level (c.args.place.first + k * pages_of c.args.place.level) (child c.args.slot.now k)
+    (meets-after (slot_pages c.args.place.level (c.args.place.first + k * pages_of c.args.place.level)) c.args.excerpt.now.range
     (c.slots_met-low.ensures.beyond k (omega (arith, c.loop-index-test.false)) below))) in
     omega (arith, rest, c.loop-index.invariant.counted)
 
 pub needed_below-returns-clause-bound : goal.needed_below-returns-clause-bound
 needed_below-returns-clause-bound t c =
     let last : c.loop-index.index ≤ c.slots_met-low.result.1 = c.loop-index.auto.index-end c.slots_met-low.ensures.ordered in
-    rest-bound c.loop-index.total c.loop-index.index (pages_of c.args.level) c.loop-index.invariant.bound (omega (arith, last, c.slots_met-low.ensures.within)) (pages_of-some c.args.level)
+    rest-bound c.loop-index.total c.loop-index.index (pages_of c.args.place.level) c.loop-index.invariant.bound (omega (arith, last, c.slots_met-low.ensures.within)) (pages_of-some c.args.place.level)

@@ -7,10 +7,10 @@ use Rattle.gv_table.specs.Counts.{needed}
 use Rattle.gv_table.proofs.spare.+spare.Given as goal
 
 abbrev pub decreases-needed_in : goal.decreases-needed_in
-decreases-needed_in l = 2 * l.level
+decreases-needed_in l = 2 * l.place.level
 
 abbrev pub decreases-needed_below : goal.decreases-needed_below
-decreases-needed_below l = 2 * l.level + 1
+decreases-needed_below l = 2 * l.place.level + 1
 
 abbrev pub invariant-needed_below-loop-index : goal.invariant-needed_below-loop-index
 invariant-needed_below-loop-index l = record {
