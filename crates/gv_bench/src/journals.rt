@@ -4,7 +4,7 @@ ghost use Rattle.gv_journal.specs.State.{FitsSpace};
 use crate::edit::Edit;
 use crate::edits::there_and_back;
 use crate::failure::Failure;
-use gv_journal::Journal;
+use gv_journal::{Journal, ReadyRequest};
 use gv_space::Space;
 use gv_types::Request;
 use std::alloc::{AllocError, Global};
@@ -37,7 +37,13 @@ fn bind(
     requires { FitsSpace space.old journal.old }
     ensures { FitsSpace space.new journal.new }
 {
-    match journal.bind(alloc, space, 0, 0, request, Vec::new(alloc)) {
+    let ready = ReadyRequest {
+        queue: 0,
+        number: 0,
+        request,
+        seen: Vec::new(alloc),
+    };
+    match journal.bind(alloc, space, ready) {
         Ok(entry) => Ok(entry),
         Err(refusal) => Err(Failure::Refused(refusal.fault)),
     }

@@ -6,13 +6,14 @@ use crate::applying::{Work, apply_all};
 use crate::item::{Item, ItemKind};
 use crate::item_store::ItemStore;
 use crate::note::{Note, extent_of};
+use crate::ready::ReadyRequest;
 use crate::refusal::{Refusal, whole};
 use crate::restoring::restore_all;
 use crate::settling::first_crossing;
 use crate::touching::first_touched;
 use crate::undoing::revert_all;
 use gv_space::Space;
-use gv_types::{Fault, Request};
+use gv_types::Fault;
 use std::alloc::Global;
 use std::marker::Model;
 
@@ -103,25 +104,23 @@ impl Journal {
         &mut self,
         alloc: Global,
         space: &mut Space,
-        queue: u64,
-        number: u64,
-        request: Request,
-        seen: Vec<u64>,
+        ready: ReadyRequest,
     ) -> Result<u64, Refusal>
         requires { FitsSpace space.old self.old }
-        ensures accepted { OnOk result (verdict space.old self.old request.ops.items ≡ None) }
-        ensures refused { IfErr result (IsRefused space.old self.old request.ops.items) }
+        ensures accepted { OnOk result (verdict space.old self.old ready.request.ops.items ≡ None) }
+        ensures refused { IfErr result (IsRefused space.old self.old ready.request.ops.items) }
         ensures number { IfOk result (λ n. n ≡ next self.old) }
-        ensures item { OnOk result (IsBound space.old self.old self.new queue number request seen) }
-        ensures space { OnOk result (IsApplied space.old space.new request) }
+        ensures item { OnOk result
+            (IsBound space.old self.old self.new ready.queue ready.number ready.request ready.seen) }
+        ensures space { OnOk result (IsApplied space.old space.new ready.request) }
         ensures back { OnOk result ((n : ℕ)
             → back space.new.mappings self.new.items (n + 1) ≡ back space.old.mappings self.old.items n) }
         ensures fits { FitsSpace space.new self.new }
         ensures space_unchanged { OnErr result (IsUnchanged space.old space.new) }
         ensures unchanged { OnErr result (self.new ≡ self.old) }
-        ensures grown { GrowsFor (all_do space.old.mappings request.ops.items) space.old space.new }
+        ensures grown { GrowsFor (all_do space.old.mappings ready.request.ops.items) space.old space.new }
     {
-        if request.ops.len() > MAX_OPS {
+        if ready.request.ops.len() > MAX_OPS {
             return Err(whole(Fault::TooManyOps));
         }
         if self.is_full() {
@@ -130,17 +129,17 @@ impl Journal {
         if self.item_store.make_room().is_err() {
             return Err(whole(Fault::OutOfMemory));
         }
-        let Work { ops: done, undos } = match apply_all(alloc, space, &request.ops) {
+        let Work { ops: done, undos } = match apply_all(alloc, space, &ready.request.ops) {
             Ok(work) => work,
             Err(refusal) => return Err(refusal),
         };
         let entry = self.next();
         let note = Note::new(extent_of(&done));
         let kind = ItemKind::Bind {
-            queue,
-            number,
-            request,
-            seen,
+            queue: ready.queue,
+            number: ready.number,
+            request: ready.request,
+            seen: ready.seen,
             done,
         };
         self.item_store.push(Item { kind, undos }, note);

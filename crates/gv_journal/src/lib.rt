@@ -22,6 +22,7 @@ mod item_store;
 mod journal;
 pub mod laws;
 mod note;
+mod ready;
 mod refusal;
 mod restoring;
 mod settling;
@@ -30,4 +31,5 @@ mod undoing;
 
 pub use item::{Item, ItemKind};
 pub use journal::{Journal, MAX_OPS};
+pub use ready::ReadyRequest;
 pub use refusal::Refusal;

@@ -10,7 +10,7 @@ use crate::fold::Fold;
 use crate::play::Wrong;
 use crate::sight::{fold_of, list_of};
 use crate::watch::Watch;
-use gv_journal::Journal;
+use gv_journal::{Journal, ReadyRequest};
 use gv_space::Space;
 use gv_types::{Bounds, Fault, Limits, Op, Request};
 use std::alloc::{AllocError, Global};
@@ -76,16 +76,22 @@ fn ops_of(alloc: Global, ids: &Ids, changes: &[Change]) -> Result<Vec<Op>, Alloc
     Ok(ops)
 }
 
-/// A request of these changes. Where memory is refused, it is made again.
-fn request_at_last(alloc: Global, ids: &Ids, changes: &[Change]) -> Result<Request, AllocError> {
+/// A request of these changes, the first of its queue. Where memory is refused, it is made again.
+fn ready_at_last(alloc: Global, ids: &Ids, changes: &[Change]) -> Result<ReadyRequest, AllocError> {
     let ops = match ops_of(alloc, ids, changes) {
         Ok(ops) => ops,
         Err(_) => ops_of(alloc, ids, changes)?,
     };
-    Ok(Request {
+    let request = Request {
         ops,
         waits: Vec::new(alloc),
         signals: Vec::new(alloc),
+    };
+    Ok(ReadyRequest {
+        queue: 0,
+        number: 0,
+        request,
+        seen: Vec::new(alloc),
     })
 }
 
@@ -102,8 +108,8 @@ fn bind_at_last(
     ensures { FitsSpace space.new journal.new }
 {
     let before = sight_of(space, journal, ids);
-    let request = request_at_last(alloc, ids, changes)?;
-    match journal.bind(alloc, space, 0, 0, request, Vec::new(alloc)) {
+    let ready = ready_at_last(alloc, ids, changes)?;
+    match journal.bind(alloc, space, ready) {
         Ok(entry) => {
             watch.expect(entry == before.next);
             return Ok(());
@@ -111,8 +117,8 @@ fn bind_at_last(
         Err(refusal) => watch.expect(refusal.fault == Fault::OutOfMemory),
     }
     watch.expect(sight_of(space, journal, ids) == before);
-    let request = request_at_last(alloc, ids, changes)?;
-    let bound = journal.bind(alloc, space, 0, 0, request, Vec::new(alloc));
+    let ready = ready_at_last(alloc, ids, changes)?;
+    let bound = journal.bind(alloc, space, ready);
     watch.expect(bound.is_ok());
     Ok(())
 }

@@ -6,7 +6,7 @@ ghost use Rattle.gv_vm.specs.State.{roomless};
 ghost use Rattle.gv_vm.specs.Told.{CameTo, seen_by};
 
 use crate::outcome::Outcome;
-use gv_journal::{Journal, Refusal};
+use gv_journal::{Journal, ReadyRequest, Refusal};
 use gv_space::Space;
 use gv_sync::Reached;
 use gv_types::{OutOfMemory, Request};
@@ -39,7 +39,13 @@ pub fn dispatch(
         seen.items result }
     ensures fits { FitsSpace space.new journal.new }
 {
-    match journal.bind(alloc, space, queue, number, request, seen) {
+    let ready = ReadyRequest {
+        queue,
+        number,
+        request,
+        seen,
+    };
+    match journal.bind(alloc, space, ready) {
         Ok(entry) => Outcome::Accepted { entry },
         Err(Refusal { op, fault }) => Outcome::Refused { op, fault },
     }

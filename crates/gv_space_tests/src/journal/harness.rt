@@ -2,7 +2,7 @@
 ghost use Rattle.gv_journal.specs.State.{FitsSpace};
 
 use crate::journal::sight::{List, see};
-use gv_journal::Journal;
+use gv_journal::{Journal, ReadyRequest};
 use gv_space::Space;
 use gv_types::{Bounds, BufferId, Fault, Flags, Limits, Op, PAGE_BYTES, Request};
 use std::alloc::Global;
@@ -141,7 +141,13 @@ fn bind(alloc: Global, space: &mut Space, journal: &mut Journal, harness: &mut H
     };
     let number = harness.number;
     harness.number = number.saturating_add(1);
-    match journal.bind(alloc, space, 0, number, request, Vec::new(alloc)) {
+    let ready = ReadyRequest {
+        queue: 0,
+        number,
+        request,
+        seen: Vec::new(alloc),
+    };
+    match journal.bind(alloc, space, ready) {
         Ok(entry) => Reply::Accepted { entry },
         Err(refusal) => Reply::RefusedAt {
             op: refusal.op,

@@ -20,7 +20,7 @@ use Rattle.gv_journal.proofs.Held.{journaled, one_more, back_one_more, fits_room
 use Rattle.gv_journal.proofs.journal.Journal.bind.Goals as goal
 
 abbrev item_of : goal.After-push → Item
-item_of c = bound c.args.queue c.args.number c.args.request c.args.seen c.in-Ok.work.ops c.in-Ok.work.undos
+item_of c = bound c.args.ready.queue c.args.ready.number c.args.ready.request c.args.ready.seen c.in-Ok.work.ops c.in-Ok.work.undos
 
 journal_is : (c : goal.After-push) →
     journaled c.self.inside.limit c.self.inside.first (reverse c.push.new.self.items) ≡ record c.args.self.now { items = item_of c ∷ c.args.self.now.items }
@@ -28,7 +28,7 @@ journal_is c =
     one_more c.self.inside.limit c.self.inside.first c.self.inside.item_store.items c.make_room.new.self.items c.push.new.self.items c.args.self.now (item_of c)
     c.self.view_is c.make_room.ensures.items c.push.ensures.items
 
-did : (c : goal.After-push) → c.in-Ok.work.ops.items ≡ all_do c.args.space.now.mappings c.args.request.ops.items
+did : (c : goal.After-push) → c.in-Ok.work.ops.items ≡ all_do c.args.space.now.mappings c.args.ready.request.ops.items
 did c = c.in-Ok.ensures.ops ∙ ap (λ (ops : List Op). all_do c.args.space.now.mappings ops) c.deref.ensures.value
 
 pub returns-clause-item : goal.returns-clause-item
@@ -38,9 +38,9 @@ pub returns-clause-space : goal.returns-clause-space
 returns-clause-space c =
     let old = c.args.space.now in
     let new = c.apply_all.new.space in
-    let state : new ≡ record (after_all (reverse (all_do old.mappings c.args.request.ops.items)) old) { room = new.room } =
+    let state : new ≡ record (after_all (reverse (all_do old.mappings c.args.ready.request.ops.items)) old) { room = new.room } =
     c.in-Ok.ensures.applied.state ∙ ap (λ (ops : List PageOp). record (after_all (reverse ops) old) { room = new.room }) (did c) in
-    record { list = list_applied old new (reverse (all_do old.mappings c.args.request.ops.items)) state; state = state }
+    record { list = list_applied old new (reverse (all_do old.mappings c.args.ready.request.ops.items)) state; state = state }
 
 pub returns-clause-back : goal.returns-clause-back
 returns-clause-back c = λ n.
@@ -50,7 +50,7 @@ returns-clause-back c = λ n.
 pub returns-clause-fits : goal.returns-clause-fits
 returns-clause-fits c =
     subst (λ (j : JournalState). FitsSpace c.apply_all.new.space j) (sym (journal_is c))
-    (fits_bound c.args.space.now c.apply_all.new.space c.args.self.now c.args.queue c.args.number c.args.request c.args.seen c.in-Ok.work.ops c.in-Ok.work.undos
+    (fits_bound c.args.space.now c.apply_all.new.space c.args.self.now c.args.ready.queue c.args.ready.number c.args.ready.request c.args.ready.seen c.in-Ok.work.ops c.in-Ok.work.undos
     c.in-Ok.ensures.applied (subst (λ (j : JournalState). NameOlder (entries j)) c.self.view_is c.self.invariant.name_older) c.requires)
 
 pub returns-in-Err-clause-fits : goal.returns-in-Err-clause-fits
@@ -76,6 +76,6 @@ invariant_of-self-3 c =
       notes = c.push.ensures.notes ∙ ap (λ (n : NoteState). c.make_room.new.self.notes ++ n ∷ []) (fresh c.new-note.result c.extent_of.result c.new-note.ensures.withdrawal c.new-note.ensures.extent)
           ∙ ap (λ (ms : List NoteState). ms ++ record { withdrawal = None; extent = c.extent_of.result } ∷ []) (c.make_room.ensures.notes ∙ c.self.invariant.notes)
           ∙ ap (λ (r : Option PageRangeState). notes_of (numbered first (reverse all)) ++ record { withdrawal = None; extent = r } ∷ []) (c.extent_of.ensures ∙ ap extent_of c.deref-2.ensures.value)
-          ∙ sym (notes_bound first (reverse all) c.args.queue c.args.number c.args.request c.args.seen c.in-Ok.work.ops c.in-Ok.work.undos c.self.invariant.name_older)
+          ∙ sym (notes_bound first (reverse all) c.args.ready.queue c.args.ready.number c.args.ready.request c.args.ready.seen c.in-Ok.work.ops c.in-Ok.work.undos c.self.invariant.name_older)
           ∙ ap (λ (xs : List Item). notes_of (numbered first xs)) (sym turned);
     }
