@@ -9,7 +9,7 @@ use crate::outcome::Outcome;
 use gv_journal::{Journal, ReadyRequest, Refusal};
 use gv_space::Space;
 use gv_sync::Reached;
-use gv_types::{OutOfMemory, Request};
+use gv_types::OutOfMemory;
 use std::alloc::Global;
 
 /// The numbers that reached points had.
@@ -29,22 +29,13 @@ pub fn dispatch(
     alloc: Global,
     space: &mut Space,
     journal: &mut Journal,
-    queue: u64,
-    number: u64,
-    request: Request,
-    seen: Vec<u64>,
+    ready: ReadyRequest,
 ) -> Outcome
     requires { FitsSpace space.old journal.old }
-    ensures came { CameTo (roomless space.old) (roomless space.new) journal.old journal.new queue number request
-        seen.items result }
+    ensures came { CameTo (roomless space.old) (roomless space.new) journal.old journal.new
+        ready.queue ready.number ready.request ready.seen.items result }
     ensures fits { FitsSpace space.new journal.new }
 {
-    let ready = ReadyRequest {
-        queue,
-        number,
-        request,
-        seen,
-    };
     match journal.bind(alloc, space, ready) {
         Ok(entry) => Outcome::Accepted { entry },
         Err(Refusal { op, fault }) => Outcome::Refused { op, fault },

@@ -15,7 +15,7 @@ use crate::jobs::{Access, Job, Jobs};
 use crate::outcome::{NotTold, Outcome};
 use crate::places::{Place, run_at, translate};
 use crate::told::{Told, nothing_told, prepare, tell};
-use gv_journal::{Item, Journal};
+use gv_journal::{Item, Journal, ReadyRequest};
 use gv_space::Space;
 use gv_split::Step;
 use gv_sync::{Lacking, Reached};
@@ -229,15 +229,13 @@ impl Vm {
                 });
             }
         };
-        let outcome = dispatch(
-            alloc,
-            &mut self.space,
-            &mut self.journal,
+        let ready = ReadyRequest {
             queue,
             number,
             request,
             seen,
-        );
+        };
+        let outcome = dispatch(alloc, &mut self.space, &mut self.journal, ready);
         // For the prover: what always holds of the space.
         let _list = self.space.list();
         tell(&mut self.told, queue, outcome);
