@@ -10,7 +10,7 @@ use crate::workload::{Plan, Workload};
 use gv_journal::Journal;
 use gv_space::Space;
 use gv_types::{BUFFER_PAGES, Backing, Bounds, Entry, Limits, PAGE_BYTES};
-use gv_vm::{Place, Target, Vm, World};
+use gv_vm::{Place, Sizes, Target, Vm, World};
 use std::alloc::Global;
 use std::time::CpuClock;
 
@@ -209,7 +209,12 @@ fn measure_jobs<R: CpuClock + Eprint + AllocGlobal>(rt: &R, vm: &mut Vm) -> Resu
 
 /// The time of running so many times five events on a world of its own.
 fn time_events<R: CpuClock + AllocGlobal>(rt: &R, turns: u64) -> Result<Least, Failure> {
-    let mut world = World::new(rt.alloc(), Bounds::whole(), Limits::full(), 1, 4, 1)?;
+    let sizes = Sizes {
+        queues: 1,
+        depth: 4,
+        timelines: 1,
+    };
+    let mut world = World::new(rt.alloc(), Bounds::whole(), Limits::full(), sizes)?;
     let ran = run_turns(rt, rt.alloc(), &mut world, turns);
     world.close();
     let mut least = Least::new(turns.saturating_mul(5));

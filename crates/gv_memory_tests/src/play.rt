@@ -4,7 +4,7 @@ use crate::fold::Fold;
 use crate::sight::{Sight, sight_of, take_reply};
 use gv_sync::SyncFault;
 use gv_types::{Bounds, Fault, Limits, OutOfMemory};
-use gv_vm::{Event, Outcome, Reply, World};
+use gv_vm::{Event, Outcome, Reply, Sizes, World};
 use std::alloc::{AllocError, Global};
 
 /// What went wrong at a refusal.
@@ -69,7 +69,12 @@ pub fn play(alloc: Global, acts: &[Act]) -> Result<Course, Wrong> {
 
 /// A world of two queues of depth 1 and one timeline.
 fn new_world(alloc: Global) -> Option<World> {
-    World::new(alloc, Bounds::whole(), Limits::full(), 2, 1, 1).ok()
+    let sizes = Sizes {
+        queues: 2,
+        depth: 1,
+        timelines: 1,
+    };
+    World::new(alloc, Bounds::whole(), Limits::full(), sizes).ok()
 }
 
 fn play_on(alloc: Global, world: &mut World, acts: &[Act]) -> Result<Course, Wrong> {

@@ -13,7 +13,7 @@ use crate::stage::Stage;
 use crate::timeline_names::{TIMELINES, TimelineNames};
 use gv_lines::Name;
 use gv_types::{Bounds, BufferId, Limits, OutOfMemory};
-use gv_vm::{Event, QUEUES, Reply, World};
+use gv_vm::{Event, QUEUES, Reply, Sizes, World};
 use std::alloc::Global;
 use std::marker::Model;
 use std::mem;
@@ -185,5 +185,10 @@ impl Session {
 fn empty_world(alloc: Global, bounds: Bounds, limits: Limits) -> Result<World, OutOfMemory>
     ensures { IfOk result (λ world. world ≡ empty_world bounds limits) }
 {
-    World::new(alloc, bounds, limits, QUEUES as u64, DEPTH, TIMELINES)
+    let sizes = Sizes {
+        queues: QUEUES as u64,
+        depth: DEPTH,
+        timelines: TIMELINES,
+    };
+    World::new(alloc, bounds, limits, sizes)
 }

@@ -7,6 +7,7 @@ ghost use Rattle.gv_vm.specs.World.{new_queue};
 
 use crate::event::{Event, Reply};
 use crate::queue::Queue;
+use crate::sizes::Sizes;
 use crate::vm::Vm;
 use gv_sync::Clock;
 use gv_types::{Bounds, Limits, OutOfMemory};
@@ -48,24 +49,22 @@ impl World {
     ghost use Rattle.gv_vm.specs.Step.{IsStep, NoneFalls};
     ghost use Rattle.gv_vm.specs.Headline.{Says};
 
-    /// A world that holds nothing, in which nothing was put and every timeline is at 0. `queues` from 1 to 16, `depth`
-    /// places each for requests that wait, from 1 to 65,536, and `timelines` from 1 to 64. It asks for room for the first
-    /// things alone, and for none that grows with `depth`.
+    /// A world that holds nothing, in which nothing was put and every timeline is at 0. It asks for room for the first
+    /// things alone, and for none that grows with the depth.
     pub fn new(
         alloc: Global,
         bounds: Bounds,
         limits: Limits,
-        queues: u64,
-        depth: u64,
-        timelines: u64,
+        sizes: Sizes,
     ) -> Result<World, OutOfMemory>
-        requires queues { IsFromOneTo most_queues queues }
-        requires depth { IsFromOneTo 65536 depth }
-        requires timelines { IsFromOneTo most_timelines timelines }
-        ensures { IfOk result (λ w. w ≡ new_world bounds limits queues depth timelines) }
+        requires queues { IsFromOneTo most_queues sizes.queues }
+        requires depth { IsFromOneTo 65536 sizes.depth }
+        requires timelines { IsFromOneTo most_timelines sizes.timelines }
+        ensures { IfOk result
+            (λ w. w ≡ new_world bounds limits sizes.queues sizes.depth sizes.timelines) }
     {
-        let clock = Clock::new(alloc, timelines)?;
-        let queues = no_requests(alloc, queues)?;
+        let clock = Clock::new(alloc, sizes.timelines)?;
+        let queues = no_requests(alloc, sizes.queues)?;
         let vm = match Vm::new(alloc, bounds, limits) {
             Ok(vm) => vm,
             Err(_) => return Err(OutOfMemory),
@@ -73,7 +72,7 @@ impl World {
         Ok(World {
             vm,
             clock,
-            depth,
+            depth: sizes.depth,
             queues,
         })
     }

@@ -1,14 +1,19 @@
 //! Rows of calls on a world: entries withdrawn and settled, jobs, and what was told.
 use crate::fixtures::{empty, map_run, read, request, write, zero};
 use gv_types::{Bounds, BufferId, Fault, Flags, Limits, Op};
-use gv_vm::{Event, Outcome, Place, Reply, Stopped, Target, World};
+use gv_vm::{Event, Outcome, Place, Reply, Sizes, Stopped, Target, World};
 use std::alloc::Global;
 use std::process::Abort;
 use std::test::Fail;
 
 /// A world with 16 queues of depth 1 and one timeline.
 pub fn wide(alloc: Global) -> Result<World, Fail> {
-    match World::new(alloc, Bounds::whole(), Limits::full(), 16, 1, 1) {
+    let sizes = Sizes {
+        queues: 16,
+        depth: 1,
+        timelines: 1,
+    };
+    match World::new(alloc, Bounds::whole(), Limits::full(), sizes) {
         Ok(world) => Ok(world),
         Err(_) => Err("memory".into()),
     }

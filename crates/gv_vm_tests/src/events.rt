@@ -1,7 +1,7 @@
 //! Rows of events, each with the replies that a world gives.
 use crate::fixtures::{empty, map_run, read, request, timed, write, zero};
 use gv_types::{Bounds, BufferId, Fault, Flags, Limits, Op, Point};
-use gv_vm::{Event, Outcome, Place, Reply, Stopped, Target, World};
+use gv_vm::{Event, Outcome, Place, Reply, Sizes, Stopped, Target, World};
 use std::alloc::{AllocError, Global};
 use std::process::Abort;
 use std::test::Fail;
@@ -27,7 +27,12 @@ fn play(
 
 /// A world with two queues of depth 1 and one timeline.
 fn small(alloc: Global) -> Result<World, Fail> {
-    match World::new(alloc, Bounds::whole(), Limits::full(), 2, 1, 1) {
+    let sizes = Sizes {
+        queues: 2,
+        depth: 1,
+        timelines: 1,
+    };
+    match World::new(alloc, Bounds::whole(), Limits::full(), sizes) {
         Ok(world) => Ok(world),
         Err(_) => Err("memory".into()),
     }

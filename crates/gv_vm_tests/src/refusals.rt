@@ -1,15 +1,20 @@
 //! Requests for memory that are refused. In a run where none is, each step is answered at once.
 use crate::events::{turn_events, turn_replies};
 use gv_types::{Bounds, Fault, Limits};
-use gv_vm::{Event, Outcome, Reply, World};
+use gv_vm::{Event, Outcome, Reply, Sizes, World};
 use std::alloc::{AllocError, Global};
 use std::process::Abort;
 use std::test::Fail;
 
 /// A world with two queues of depth 1 and one timeline. Where memory is refused, it is made again.
 fn small_at_last(alloc: Global) -> Result<World, Fail> {
+    let sizes = Sizes {
+        queues: 2,
+        depth: 1,
+        timelines: 1,
+    };
     for _ in 0..2 {
-        if let Ok(world) = World::new(alloc, Bounds::whole(), Limits::full(), 2, 1, 1) {
+        if let Ok(world) = World::new(alloc, Bounds::whole(), Limits::full(), sizes) {
             return Ok(world);
         }
     }

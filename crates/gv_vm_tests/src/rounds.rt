@@ -5,7 +5,7 @@ use crate::tally::Tally;
 use gv_journal::{Item, ItemKind};
 use gv_reference::{Kind, Model, Past, Setting};
 use gv_types::{Bounds, Fault, Limits, OutOfMemory};
-use gv_vm::{Event, QUEUES, Reply, World};
+use gv_vm::{Event, QUEUES, Reply, Sizes, World};
 use std::alloc::Global;
 use std::process::Abort;
 use std::test::Fail;
@@ -192,14 +192,12 @@ fn play(
     tally: &mut Tally,
 ) -> Result<(), Fail> {
     let setting = setting_of(limits)?;
-    let made = World::new(
-        alloc,
-        setting.bounds,
-        limits,
-        2,
-        setting.depth.clamp(1, 9),
-        2,
-    );
+    let sizes = Sizes {
+        queues: 2,
+        depth: setting.depth.clamp(1, 9),
+        timelines: 2,
+    };
+    let made = World::new(alloc, setting.bounds, limits, sizes);
     let Ok(mut world) = made else {
         return Err("world".into());
     };

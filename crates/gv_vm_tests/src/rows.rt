@@ -3,7 +3,7 @@ ghost use Rattle.std.specs.Prelude.{◌≡◌, [], IfOk};
 
 use gv_buffers::Usage;
 use gv_types::{Bounds, BufferId, Fault, Flags, Limits, Mapping, Op, PAGE_BYTES, Point, Request};
-use gv_vm::{Access, Event, NotTold, Outcome, Place, Reply, Stopped, Target, Vm, World};
+use gv_vm::{Access, Event, NotTold, Outcome, Place, Reply, Sizes, Stopped, Target, Vm, World};
 use std::alloc::{AllocError, Global};
 use std::process::Abort;
 use std::test::Fail;
@@ -65,7 +65,12 @@ fn begun(alloc: Global, job: u64, place: Place) -> Result<Reply, AllocError> {
 
 #[test]
 fn refused_job_holds_nothing(rt: HostRuntime) -> Result<(), Fail> {
-    let made = World::new(rt.alloc(), Bounds::whole(), Limits::full(), 1, 1, 1);
+    let sizes = Sizes {
+        queues: 1,
+        depth: 1,
+        timelines: 1,
+    };
+    let made = World::new(rt.alloc(), Bounds::whole(), Limits::full(), sizes);
     let Ok(mut world) = made else {
         return Err("world".into());
     };
