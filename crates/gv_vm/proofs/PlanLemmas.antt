@@ -12,9 +12,9 @@ use Rattle.gv_vm.specs.declared.event.Event.TheVariants.{Put, Take, Look, Bind, 
 use Rattle.gv_vm.specs.declared.event.Reply.{Reply}
 use Rattle.gv_vm.specs.declared.event.Reply.TheVariants.{Put as IsPut, Taken, Reached, Lacking, Told, Raised}
 use Rattle.gv_vm.specs.declared.event.Looked.{Looked}
-use Rattle.gv_vm.specs.declared.event.Looked.TheVariants.{AllReached, Lacked}
+use Rattle.gv_vm.specs.declared.event.Looked.TheVariants.{AllReached}
 use Rattle.gv_vm.specs.declared.outcome.Outcome.TheVariants.{Accepted, Refused, NotReady}
-use Rattle.gv_vm.specs.Plans.{Plan, nothing, once, serving, taking, looks, lacking, carrying_out, paying, payments, AreAsked, IsCarriedOut, IsStopped, Steps, GoesOn, Goes, is_put, is_taken, is_accepted, is_raised, looked_of, after_looks}
+use Rattle.gv_vm.specs.Plans.{Plan, nothing, once, serving, taking, looks, carrying_out, paying, payments, AreAsked, IsCarriedOut, IsStopped, Steps, GoesOn, Goes, is_put, is_taken, is_accepted, is_raised, looked_of, after_looks}
 
 -- nothing was asked yet
 pub goes_nil : (plan : Plan) (w : WorldState) → Goes plan w [] w plan

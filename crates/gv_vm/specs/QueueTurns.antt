@@ -7,7 +7,6 @@ use Rattle.gv_vm.specs.Plans.{Plan, nothing, paying, looks, taking, IsCarriedOut
 use Rattle.gv_vm.specs.World.{WorldState, HandState, QueueState, queue_at, next_number}
 use Rattle.gv_vm.specs.declared.event.Reply.{Reply}
 use Rattle.gv_vm.specs.declared.event.Reply.TheVariants.{Told, Lacking}
-use Rattle.gv_vm.specs.declared.outcome.Outcome.{Outcome}
 use Rattle.gv_vm.specs.declared.world.turn.Turn.{Turn}
 use Rattle.gv_vm.specs.declared.world.turn.Turn.TheVariants.{Told as IsTold, Waits, Idle}
 

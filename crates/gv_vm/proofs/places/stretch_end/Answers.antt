@@ -1,4 +1,4 @@
-use Rattle.std.proofs.Common.{◌≡◌, ◌<◌, ℕ, arith, sym, ◌∙◌}
+use Rattle.std.proofs.Common.{arith}
 use Rattle.gv_vm.proofs.Runs.{end_at, end_past, not_ended, read_first}
 use Rattle.gv_vm.proofs.places.stretch_end.Goals as goal
 

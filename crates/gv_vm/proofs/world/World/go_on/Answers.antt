@@ -1,6 +1,5 @@
-use Rattle.std.proofs.Common.{◌≡◌, ◌++◌, ◌∷◌, [], sym, ◌∙◌, rules, true, false, refl}
-use Rattle.gv_vm.specs.declared.event.Event.TheVariants.{Take}
-use Rattle.gv_vm.specs.Plans.{nothing, taking, looks, is_taken}
+use Rattle.std.proofs.Common.{◌≡◌, ◌∷◌, [], sym, ◌∙◌, rules, true, false, refl}
+use Rattle.gv_vm.specs.Plans.{nothing, taking, looks}
 use Rattle.gv_vm.specs.QueueTurns.{going_on}
 use Rattle.gv_vm.proofs.PlanLemmas.{carried_out, carried_out_behind, stopped_behind, taken_goes_on, taken_stops}
 use Rattle.gv_vm.proofs.QueueTurns.{then_if_ok, then_on_err, in_hand_goes, taken_is, out_as, stopped_as, take_quiet, quiet_idle, behind_quiet}

@@ -1,8 +1,6 @@
-use Rattle.std.proofs.Common.{◌≡◌, ◌++◌, ◌∷◌, [], sym, ap, subst, ◌∙◌, arith, rules, refl}
-use Rattle.gv_vm.specs.declared.event.Looked.{Looked}
+use Rattle.std.proofs.Common.{◌≡◌, ◌++◌, ◌∷◌, [], sym, ap, ◌∙◌, arith}
 use Rattle.gv_vm.specs.declared.event.Looked.TheVariants.{AllReached, Lacked, Other}
-use Rattle.gv_vm.specs.declared.world.turn.Seen.{Seen}
-use Rattle.gv_vm.specs.TurnInside.{seen_as, seen_of}
+use Rattle.gv_vm.specs.TurnInside.{seen_as}
 use Rattle.gv_vm.specs.Plans.{looked_of, carrying_out}
 use Rattle.gv_vm.proofs.PlanLemmas.{goes_nil, goes_trans, goes_as, look_goes_on, look_stops, looks_done, stopped_behind, wants_look}
 use Rattle.gv_vm.proofs.QueueTurns.{quiet_nil, quiet-append, look_quiet, seen_looked, lacks_is, on_err}

@@ -1,4 +1,4 @@
-use Rattle.std.proofs.Common.{◌≡◌, ◌-◌, ◌+◌, sym, ◌∙◌, rules, true, false, refl, arith, subst, ℕ}
+use Rattle.std.proofs.Common.{◌≡◌, ◌-◌, ◌+◌, sym, ◌∙◌, rules, true, false, arith, subst, ℕ}
 use Rattle.gv_vm.specs.QueueTurns.{AreTurns}
 use Rattle.gv_vm.proofs.QueueTurns.{turned_last, turned_on, served_before, served_now}
 use Rattle.gv_vm.proofs.world.World.serve_up_to.Goals as goal

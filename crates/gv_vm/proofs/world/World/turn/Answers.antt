@@ -1,5 +1,5 @@
-use Rattle.std.proofs.Common.{◌≡◌, ◌++◌, [], sym, ◌∙◌, rules, true, false, refl}
-use Rattle.gv_vm.specs.Plans.{nothing, paying}
+use Rattle.std.proofs.Common.{◌≡◌, sym, rules, true, false, refl}
+use Rattle.gv_vm.specs.Plans.{nothing}
 use Rattle.gv_vm.specs.QueueTurns.{going_on, turning}
 use Rattle.gv_vm.specs.World.{queue_at}
 use Rattle.gv_vm.proofs.PlanLemmas.{carried_out}
