@@ -26,7 +26,7 @@ use Rattle.gv_lines.specs.declared.operation.Operation.{Operation}
 use Rattle.gv_lines.specs.declared.point.NamedPoint.{NamedPoint}
 use Rattle.gv_text.specs.AlikePlans.{AreAllAlike, AreAmple, StayAlike}
 use Rattle.gv_text.specs.Asking.{op_named, point_named, access_named}
-use Rattle.gv_text.specs.Events.{once, serving, IsCarriedOut}
+use Rattle.gv_vm.specs.Plans.{once, serving, IsCarriedOut}
 use Rattle.gv_text.specs.Line.{Written, DoesOnce, Withdraws, Answers, Of, SetsBounds, Makes, declared, BeginsJob, HasTooMany, Serves, caps_of, Runs}
 use Rattle.gv_text.specs.Reply.{refused_reply, lines_reply, mapping_text, place_reply, tables_reply, number_reply, journal_reply, told_reply}
 use Rattle.gv_text.specs.Said.{said, said_of_withdrawal, told, uses_said, plan_said}

@@ -13,11 +13,10 @@ use Rattle.gv_vm.specs.declared.event.Reply.{Reply}
 use Rattle.gv_vm.specs.declared.event.Reply.TheVariants.{NotPut, Begun}
 use Rattle.gv_vm.proofs.AlikeStepLemmas.{step_alike}
 use Rattle.gv_text.specs.AlikePlans.{AreAskedAlike, AskAlike, AreAmple, StayAlike}
-use Rattle.gv_text.specs.Events.{Plan, once, serving, taking, looks, carrying_out, payments, AreAsked, IsCarriedOut}
-use Rattle.gv_text.specs.Serving.{is_put, is_taken, is_accepted, is_raised, looked_of, after_looks}
-use Rattle.gv_text.specs.declared.serve.Looked.{Looked}
-use Rattle.gv_text.specs.declared.serve.Looked.TheVariants.{AllReached, Lacked, Other}
-use Rattle.gv_text.proofs.Servings.{put_goes, not_put, taken_goes, not_taken, reached_goes, look_ends, raised_goes, not_raised, accepted_goes, not_accepted}
+use Rattle.gv_vm.specs.Plans.{Plan, once, serving, taking, looks, carrying_out, payments, AreAsked, IsCarriedOut, nothing, is_put, is_taken, is_accepted, is_raised, looked_of, after_looks}
+use Rattle.gv_vm.specs.declared.event.Looked.{Looked}
+use Rattle.gv_vm.specs.declared.event.Looked.TheVariants.{AllReached, Lacked, Other}
+use Rattle.gv_vm.proofs.PlanLemmas.{put_goes, not_put, taken_goes, not_taken, reached_goes, look_ends, raised_goes, not_raised, accepted_goes, not_accepted}
 
 -- What a served request goes on by is the same of the same replies.
 
@@ -63,10 +62,10 @@ payments_alike queue (signal ∷ signals) (r ∷ rs) (r' ∷ rs') all =
     let plan = payments queue (signal ∷ signals) in
     (elim (is_raised r) as (λ b. is_raised r ≡ b → AreAskedAlike (plan (r ∷ rs)) (plan (r' ∷ rs'))) [
       | true ↦ λ is. asked_as (plan (r ∷ rs)) (plan (r' ∷ rs')) (payments queue signals rs) (payments queue signals rs')
-          (raised_goes queue signal signals r is rs) (raised_goes queue signal signals r' (sym (raised_alike r r' all.0) ∙ is) rs')
+          (raised_goes queue signal signals nothing r is rs) (raised_goes queue signal signals nothing r' (sym (raised_alike r r' all.0) ∙ is) rs')
           (payments_alike queue signals rs rs' all.1)
       | false ↦ λ is. asked_as (plan (r ∷ rs)) (plan (r' ∷ rs')) None None
-          (not_raised queue signal signals r is rs) (not_raised queue signal signals r' (sym (raised_alike r r' all.0) ∙ is) rs') tt
+          (not_raised queue signal signals nothing r is rs) (not_raised queue signal signals nothing r' (sym (raised_alike r r' all.0) ∙ is) rs') tt
     ]) refl
 payments_alike queue (signal ∷ signals) [] (r' ∷ rs') all = absurd all
 payments_alike queue (signal ∷ signals) (r ∷ rs) [] all = absurd all
@@ -85,25 +84,25 @@ carrying_alike queue signals (r ∷ rs) (r' ∷ rs') all =
 carrying_alike queue signals [] (r' ∷ rs') all = absurd all
 carrying_alike queue signals (r ∷ rs) [] all = absurd all
 
-stopped_alike : (queue : ℕ) (signals : List Point) (came : Looked) → AskAlike (after_looks queue signals came) (after_looks queue signals came)
+stopped_alike : (queue : ℕ) (signals : List Point) (came : Looked) → AskAlike (after_looks true queue signals came) (after_looks true queue signals came)
 stopped_alike queue signals AllReached rs rs' all = carrying_alike queue signals rs rs' all
 stopped_alike queue signals Lacked rs rs' all = once_alike (GiveUp queue) (GiveUp queue) refl rs rs' all
 stopped_alike queue signals Other rs rs' all = tt
 
-looks_alike : (queue : ℕ) (waits signals : List Point) → AskAlike (looks queue waits signals) (looks queue waits signals)
+looks_alike : (queue : ℕ) (waits signals : List Point) → AskAlike (looks true queue waits signals) (looks true queue waits signals)
 looks_alike queue [] signals rs rs' all = carrying_alike queue signals rs rs' all
 looks_alike queue (wait ∷ waits) signals [] [] all = refl
 looks_alike queue (wait ∷ waits) signals (r ∷ rs) (r' ∷ rs') all =
-    let plan = looks queue (wait ∷ waits) signals in
+    let plan = looks true queue (wait ∷ waits) signals in
     let same = looked_alike r r' all.0 in
     let stops = λ (came : Looked) (is : looked_of r ≡ came) (ends : came ≢ AllReached).
-    asked_as (plan (r ∷ rs)) (plan (r' ∷ rs')) (after_looks queue signals came rs) (after_looks queue signals came rs')
-    (look_ends queue wait waits signals r (λ e. ends (sym is ∙ e)) rs ∙ ap (λ (c : Looked). after_looks queue signals c rs) is)
-    (look_ends queue wait waits signals r' (λ e. ends (sym is ∙ same ∙ e)) rs' ∙ ap (λ (c : Looked). after_looks queue signals c rs') (sym same ∙ is))
+    asked_as (plan (r ∷ rs)) (plan (r' ∷ rs')) (after_looks true queue signals came rs) (after_looks true queue signals came rs')
+    (look_ends true queue wait waits signals r (λ e. ends (sym is ∙ e)) rs ∙ ap (λ (c : Looked). after_looks true queue signals c rs) is)
+    (look_ends true queue wait waits signals r' (λ e. ends (sym is ∙ same ∙ e)) rs' ∙ ap (λ (c : Looked). after_looks true queue signals c rs') (sym same ∙ is))
     (stopped_alike queue signals came rs rs' all.1) in
     (elim (looked_of r) as (λ came. looked_of r ≡ came → AreAskedAlike (plan (r ∷ rs)) (plan (r' ∷ rs'))) [
-      | AllReached ↦ λ is. asked_as (plan (r ∷ rs)) (plan (r' ∷ rs')) (looks queue waits signals rs) (looks queue waits signals rs')
-          (reached_goes queue wait waits signals r is rs) (reached_goes queue wait waits signals r' (sym same ∙ is) rs')
+      | AllReached ↦ λ is. asked_as (plan (r ∷ rs)) (plan (r' ∷ rs')) (looks true queue waits signals rs) (looks true queue waits signals rs')
+          (reached_goes true queue wait waits signals r is rs) (reached_goes true queue wait waits signals r' (sym same ∙ is) rs')
           (looks_alike queue waits signals rs rs' all.1)
       | Lacked ↦ λ is. stops Lacked is (λ e. cc)
       | Other ↦ λ is. stops Other is (λ e. cc)
@@ -113,24 +112,24 @@ looks_alike queue (wait ∷ waits) signals (r ∷ rs) [] all = absurd all
 
 -- the same requests have the same waits and signals
 looks_of_alike : (queue : ℕ) (request request' : Request) → bare_request request ≡ bare_request request' →
-    AskAlike (looks queue request.waits.items request.signals.items) (looks queue request'.waits.items request'.signals.items)
+    AskAlike (looks true queue request.waits.items request.signals.items) (looks true queue request'.waits.items request'.signals.items)
 looks_of_alike queue request request' seen =
     let waits : request.waits.items ≡ request'.waits.items = ap (λ (s : BareRequest). s.waits) seen in
     let signals : request.signals.items ≡ request'.signals.items = ap (λ (s : BareRequest). s.signals) seen in
     rw (waits, signals) (looks_alike queue request'.waits.items request'.signals.items)
 
 taking_alike : (queue : ℕ) (request request' : Request) → bare_request request ≡ bare_request request' →
-    AskAlike (taking queue request) (taking queue request')
+    AskAlike (taking true queue request) (taking true queue request')
 taking_alike queue request request' seen [] [] all = refl
 taking_alike queue request request' seen (r ∷ rs) (r' ∷ rs') all =
-    let plan = taking queue request in
-    let plan' = taking queue request' in
+    let plan = taking true queue request in
+    let plan' = taking true queue request' in
     (elim (is_taken r) as (λ b. is_taken r ≡ b → AreAskedAlike (plan (r ∷ rs)) (plan' (r' ∷ rs'))) [
-      | true ↦ λ is. asked_as (plan (r ∷ rs)) (plan' (r' ∷ rs')) (looks queue request.waits.items request.signals.items rs) (looks queue request'.waits.items request'.signals.items rs')
-          (taken_goes queue request r is rs) (taken_goes queue request' r' (sym (taken_alike r r' all.0) ∙ is) rs')
+      | true ↦ λ is. asked_as (plan (r ∷ rs)) (plan' (r' ∷ rs')) (looks true queue request.waits.items request.signals.items rs) (looks true queue request'.waits.items request'.signals.items rs')
+          (taken_goes true queue request r is rs) (taken_goes true queue request' r' (sym (taken_alike r r' all.0) ∙ is) rs')
           (looks_of_alike queue request request' seen rs rs' all.1)
       | false ↦ λ is. asked_as (plan (r ∷ rs)) (plan' (r' ∷ rs')) None None
-          (not_taken queue request r is rs) (not_taken queue request' r' (sym (taken_alike r r' all.0) ∙ is) rs') tt
+          (not_taken true queue request r is rs) (not_taken true queue request' r' (sym (taken_alike r r' all.0) ∙ is) rs') tt
     ]) refl
 taking_alike queue request request' seen [] (r' ∷ rs') all = absurd all
 taking_alike queue request request' seen (r ∷ rs) [] all = absurd all
@@ -142,7 +141,7 @@ serving_alike queue request request' seen (r ∷ rs) (r' ∷ rs') all =
     let plan = serving queue request in
     let plan' = serving queue request' in
     (elim (is_put r) as (λ b. is_put r ≡ b → AreAskedAlike (plan (r ∷ rs)) (plan' (r' ∷ rs'))) [
-      | true ↦ λ is. asked_as (plan (r ∷ rs)) (plan' (r' ∷ rs')) (taking queue request rs) (taking queue request' rs')
+      | true ↦ λ is. asked_as (plan (r ∷ rs)) (plan' (r' ∷ rs')) (taking true queue request rs) (taking true queue request' rs')
           (put_goes queue request r is rs) (put_goes queue request' r' (sym (put_alike r r' all.0) ∙ is) rs')
           (taking_alike queue request request' seen rs rs' all.1)
       | false ↦ λ is. asked_as (plan (r ∷ rs)) (plan' (r' ∷ rs')) None None

@@ -16,13 +16,13 @@ use Rattle.gv_lines.specs.declared.line.Line.{Line}
 use Rattle.gv_text.specs.declared.fault.LineFault.{LineFault}
 use Rattle.gv_text.specs.declared.fault.LineFault.TheVariants.{Bad, OutOfMemory as NoMemory}
 use Rattle.gv_text.specs.State.{SessionState, Buffers, begun}
-use Rattle.gv_text.specs.Events.{once, IsCarriedOut, Steps}
+use Rattle.gv_vm.specs.Plans.{once, IsCarriedOut, Steps, nothing}
 use Rattle.gv_text.specs.Reply.{reply}
 use Rattle.gv_text.specs.Said.{is_lacking}
 use Rattle.gv_text.specs.Line.{Written, plain, Does, Of, Runs}
 use Rattle.gv_text.specs.Question.{IsAnswer, with_vm}
-use Rattle.gv_text.specs.Serving.{nothing, Wrote}
-use Rattle.gv_text.proofs.Servings.{goes_first, carried_out}
+use Rattle.gv_text.specs.Serving.{Wrote}
+use Rattle.gv_vm.proofs.PlanLemmas.{goes_first, carried_out}
 
 -- one event was asked, and no more is
 pub once_done : (event : Event) (reply : Reply) (w v : WorldState) → Steps w event reply v → IsCarriedOut (once event) w (reply ∷ []) v

@@ -4,7 +4,7 @@ use Rattle.gv_vm.specs.Alike.{AreAlikeWorlds, AreAlikeEvents, AreAlikeReplies, I
 use Rattle.gv_vm.specs.World.{WorldState}
 use Rattle.gv_vm.specs.declared.event.Event.{Event}
 use Rattle.gv_vm.specs.declared.event.Reply.{Reply}
-use Rattle.gv_text.specs.Events.{Plan}
+use Rattle.gv_vm.specs.Plans.{Plan}
 
 -- as many replies, each the same
 abbrev pub AreAllAlike : List Reply → List Reply → Type 0

@@ -1,6 +1,5 @@
 pub mod State
 pub mod Asking
-pub mod Events
 pub mod Reply
 pub mod Said
 pub mod Line

@@ -26,7 +26,7 @@ use Rattle.gv_text.specs.declared.stage.Stage.{Stage}
 use Rattle.gv_text.specs.declared.stage.Stage.TheVariants.{Fresh, Bounded, Begun}
 use Rattle.gv_text.specs.State.{SessionState, Buffers, names_alone, buffer_named, timeline_named, empty_world, begun}
 use Rattle.gv_text.specs.Asking.{op_named, point_named, access_named, IsRequest}
-use Rattle.gv_text.specs.Events.{Plan, once, serving, IsCarriedOut}
+use Rattle.gv_vm.specs.Plans.{Plan, once, serving, IsCarriedOut}
 use Rattle.gv_text.specs.Reply.{ok_reply, refused_reply, lines_reply, mapping_text, place_reply, tables_reply, number_reply, journal_reply, told_reply}
 use Rattle.gv_text.specs.Said.{said, said_of_withdrawal, told, is_lacking, uses_said, plan_said}
 

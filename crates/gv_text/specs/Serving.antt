@@ -1,67 +1,20 @@
 -- How far a line has come with its events. No public clause cites this module.
-use Rattle.std.specs.Prelude.{◌≡◌, ℕ, Bool, true, false, List, ◌∷◌, ◌++◌, Some, None, IsSome, unwrap_or, String, string_bytes}
+use Rattle.std.specs.Prelude.{◌≡◌, ℕ, List, ◌∷◌, ◌++◌, Some, None, IsSome, unwrap_or, String, string_bytes}
 use Rattle.std.specs.List.{flat_map}
 use Rattle.std.specs.declared.alloc.Global.{Global}
 use Rattle.gv_types.specs.declared.operation.Op.{Op}
 use Rattle.gv_types.specs.declared.request.Point.{Point}
 use Rattle.gv_vm.specs.World.{WorldState}
-use Rattle.gv_vm.specs.declared.event.Event.TheVariants.{GiveUp}
 use Rattle.gv_vm.specs.declared.event.Reply.{Reply}
-use Rattle.gv_vm.specs.declared.event.Reply.TheVariants.{Put, Taken, Reached, Lacking, Told, Raised}
-use Rattle.gv_vm.specs.declared.outcome.Outcome.TheVariants.{Accepted}
 use Rattle.gv_text.specs.State.{SessionState, Buffers, begun}
-use Rattle.gv_text.specs.Events.{Plan, once, carrying_out, IsUnderWay}
 use Rattle.gv_text.specs.Said.{told}
 use Rattle.gv_text.specs.Line.{Written}
 use Rattle.gv_text.specs.Asking.{op_named, point_named}
-use Rattle.gv_text.specs.declared.serve.Looked.{Looked}
-use Rattle.gv_text.specs.declared.serve.Looked.TheVariants.{AllReached, Lacked, Other}
 use Rattle.gv_text.specs.declared.request.Asked.{Asked}
 use Rattle.gv_lines.specs.Chain.{all_read}
 use Rattle.gv_lines.specs.Clause.{queue_asked, operations_of, waits_of, signals_of}
 use Rattle.gv_lines.specs.declared.clause.Clause.{Clause}
 use Rattle.gv_lines.specs.declared.clause.Clause.TheVariants.{Change, Wait, Signal, Queue}
-
--- no more events
-abbrev pub nothing : Plan
-nothing replies = None
-
--- with these replies a plan goes on as another
-abbrev pub GoesOn : Plan → List Reply → Plan → Type 0
-GoesOn plan replies next = (later : List Reply) → plan (replies ++ later) ≡ next later
-
--- the world has come from the one to the other by a plan, which goes on as another
-pub record Goes (plan : Plan) (old : WorldState) (replies : List Reply) (new : WorldState) (next : Plan) : Type 0 where
-  pub under_way : IsUnderWay plan old replies new
-  pub goes_on : GoesOn plan replies next
-
-abbrev pub is_put : Reply → Bool
-is_put (Put number) = true
-is_put reply = false
-
-abbrev pub is_taken : Reply → Bool
-is_taken (Taken number) = true
-is_taken reply = false
-
-abbrev pub is_accepted : Reply → Bool
-is_accepted (Told number (Accepted entry)) = true
-is_accepted reply = false
-
-abbrev pub is_raised : Reply → Bool
-is_raised (Raised point now) = true
-is_raised reply = false
-
--- what a look came to
-abbrev pub looked_of : Reply → Looked
-looked_of (Reached point seen) = AllReached
-looked_of (Lacking point have) = Lacked
-looked_of reply = Other
-
--- how a request goes on after its looks
-abbrev pub after_looks : ℕ → List Point → Looked → Plan
-after_looks queue signals AllReached = carrying_out queue signals
-after_looks queue signals Lacked = once (GiveUp queue)
-after_looks queue signals Other = nothing
 
 -- A state came from another by replies of the world, and what a request is told was written.
 pub record Tells (s t : SessionState) (replies : List Reply) (old out : String Global) : Type 0 where

@@ -1,74 +1,16 @@
 //! A request from its place on a queue to the payment of its signals.
-ghost use Rattle.std.specs.Prelude.{◌≡◌, ◌≢◌, ◌∷◌, [], List, IfOk, OnOk, length};
+ghost use Rattle.std.specs.Prelude.{◌≡◌, ◌≢◌, ◌∷◌, [], true, List, IfOk, OnOk, length};
 ghost use Rattle.gv_types.specs.declared.request.Point.{Point};
 ghost use Rattle.gv_vm.specs.declared.event.Reply.{Reply as Answer};
-ghost use Rattle.gv_text.specs.Events.{serving, looks, carrying_out, payments, IsCarriedOut, Steps};
-ghost use Rattle.gv_text.specs.Serving.{nothing, Goes, Tells, is_put, is_taken, is_accepted, is_raised, looked_of, after_looks};
+ghost use Rattle.gv_vm.specs.Plans.{serving, looks, carrying_out, payments, IsCarriedOut, Steps, nothing, Goes, after_looks};
+ghost use Rattle.gv_text.specs.Serving.{Tells};
 
 use crate::fault::LineFault;
 use crate::said::write_request;
 use crate::session::Session;
 use gv_types::Request;
-use gv_vm::{Event, Outcome, Reply};
+use gv_vm::{Event, Looked, Reply};
 use std::alloc::Global;
-
-/// What a look came to, or all looks of a request.
-#[derive(Clone, Copy, Debug, PartialEq, Eq)]
-enum Looked {
-    AllReached,
-    Lacked,
-    /// The world answered otherwise: there is no more to do.
-    Other,
-}
-
-fn is_put(reply: &Reply) -> bool
-    ensures { result ≡ is_put reply.now }
-{
-    match reply {
-        Reply::Put { .. } => true,
-        _ => false,
-    }
-}
-
-fn is_taken(reply: &Reply) -> bool
-    ensures { result ≡ is_taken reply.now }
-{
-    match reply {
-        Reply::Taken { .. } => true,
-        _ => false,
-    }
-}
-
-fn is_accepted(reply: &Reply) -> bool
-    ensures { result ≡ is_accepted reply.now }
-{
-    match reply {
-        Reply::Told {
-            outcome: Outcome::Accepted { .. },
-            ..
-        } => true,
-        _ => false,
-    }
-}
-
-fn is_raised(reply: &Reply) -> bool
-    ensures { result ≡ is_raised reply.now }
-{
-    match reply {
-        Reply::Raised { .. } => true,
-        _ => false,
-    }
-}
-
-fn looked_at(reply: &Reply) -> Looked
-    ensures { result ≡ looked_of reply.now }
-{
-    match reply {
-        Reply::Reached { .. } => Looked::AllReached,
-        Reply::Lacking { .. } => Looked::Lacked,
-        _ => Looked::Other,
-    }
-}
 
 /// One event on the way of a request, and what it is told of it.
 fn ask(
@@ -96,13 +38,13 @@ fn look_at_all(
 ) -> Result<Looked, LineFault>
     ensures goes { IfOk result (λ looked. (replies : List Answer) × Tells session.old session.new replies out.old out.new
         × ((points signals : List Point) → length points ≡ waits
-        → Goes (looks queue points signals) session.old.world replies session.new.world (after_looks queue signals looked))) }
+        → Goes (looks true queue points signals) session.old.world replies session.new.world (after_looks true queue signals looked))) }
     ensures memory { result ≢ Err LineFault.Bad }
 {
     session.begin();
     for done in 0..waits {
         let reply = ask(alloc, session, Event::Look { queue }, out)?;
-        match looked_at(&reply) {
+        match reply.looked() {
             Looked::AllReached => {}
             Looked::Lacked => return Ok(Looked::Lacked),
             Looked::Other => return Ok(Looked::Other),
@@ -127,7 +69,7 @@ fn pay_all(
     session.begin();
     for done in 0..signals {
         let reply = ask(alloc, session, Event::Pay { queue }, out)?;
-        if !is_raised(&reply) {
+        if !reply.is_raised() {
             return Ok(());
         }
     }
@@ -148,7 +90,7 @@ fn carry_out(
     ensures memory { result ≢ Err LineFault.Bad }
 {
     let reply = ask(alloc, session, Event::Bind { queue }, out)?;
-    if is_accepted(&reply) {
+    if reply.is_accepted() {
         pay_all(alloc, session, queue, signals, out)
     } else {
         Ok(())
@@ -170,11 +112,11 @@ pub fn serve(
     let waits = request.waits.as_slice().len();
     let signals = request.signals.as_slice().len();
     let put = ask(alloc, session, Event::Put { queue, request }, out)?;
-    if !is_put(&put) {
+    if !put.is_put() {
         return Ok(());
     }
     let taken = ask(alloc, session, Event::Take { queue }, out)?;
-    if !is_taken(&taken) {
+    if !taken.is_taken() {
         return Ok(());
     }
     match look_at_all(alloc, session, queue, waits, out)? {

@@ -3,7 +3,7 @@ ghost use Rattle.std.specs.Prelude.{◌≡◌, ◌≢◌, ◌++◌, ◌∷◌, [
 ghost use Rattle.gv_sync.specs.Seats.{most_timelines};
 ghost use Rattle.gv_text.specs.Inside.{HasTimelines};
 ghost use Rattle.std.specs.Map.{lookup};
-ghost use Rattle.gv_text.specs.Events.{Steps};
+ghost use Rattle.gv_vm.specs.Plans.{Steps};
 ghost use Rattle.gv_text.specs.Line.{declared, MayDeclare};
 ghost use Rattle.gv_text.specs.State.{start, begun, empty_world};
 

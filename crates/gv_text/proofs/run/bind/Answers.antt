@@ -1,6 +1,6 @@
 use Rattle.std.proofs.Common.{subst, refl, ℕ}
 use Rattle.std.specs.List.{flat_map, list_any}
-use Rattle.gv_text.specs.Events.{serving, IsCarriedOut}
+use Rattle.gv_vm.specs.Plans.{serving, IsCarriedOut}
 use Rattle.gv_text.specs.Said.{told, is_lacking}
 use Rattle.gv_text.proofs.AnswerLemmas.{then_ok}
 use Rattle.gv_text.proofs.run.bind.Goals as goal

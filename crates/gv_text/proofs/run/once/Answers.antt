@@ -2,7 +2,7 @@ use Rattle.std.proofs.Common.{◌≡◌, ap, ◌∙◌}
 use Rattle.gv_text.specs.State.{SessionState, names_alone}
 use Rattle.gv_text.specs.Said.{said}
 use Rattle.std.specs.List.{flat_map}
-use Rattle.gv_text.specs.Events.{once}
+use Rattle.gv_vm.specs.Plans.{once}
 use Rattle.gv_text.specs.Line.{Does, DoesOnce}
 use Rattle.gv_text.proofs.Lines.{wrote_once, wrote_as}
 use Rattle.gv_text.proofs.run.once.Goals as goal

@@ -1,6 +1,7 @@
 use Rattle.std.proofs.Common.{◌∷◌, [], sym}
 use Rattle.gv_text.proofs.AnswerLemmas.{then_ok}
-use Rattle.gv_text.proofs.Servings.{goes_trans, tells_trans, bound_goes_on, bound_stops}
+use Rattle.gv_vm.proofs.PlanLemmas.{goes_trans, bound_goes_on, bound_stops}
+use Rattle.gv_text.proofs.Servings.{tells_trans}
 use Rattle.gv_text.proofs.serve.carry_out.Goals as goal
 
 pub returns-then-is_accepted-clause-goes : goal.returns-then-is_accepted-clause-goes

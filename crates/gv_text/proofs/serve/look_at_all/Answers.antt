@@ -1,14 +1,15 @@
-use Rattle.std.proofs.Common.{◌++◌, ◌∷◌, [], sym, arith}
-use Rattle.gv_text.specs.Events.{looks, carrying_out}
-use Rattle.gv_text.specs.declared.serve.Looked.TheVariants.{Lacked, Other}
-use Rattle.gv_text.proofs.Servings.{goes_nil, goes_trans, goes_as, tells_nil, tells_trans, look_goes_on, look_stops, looks_done}
+use Rattle.std.proofs.Common.{◌++◌, ◌∷◌, [], true, sym, arith}
+use Rattle.gv_vm.specs.Plans.{looks, carrying_out}
+use Rattle.gv_vm.specs.declared.event.Looked.TheVariants.{Lacked, Other}
+use Rattle.gv_vm.proofs.PlanLemmas.{goes_nil, goes_trans, goes_as, look_goes_on, look_stops, looks_done}
+use Rattle.gv_text.proofs.Servings.{tells_nil, tells_trans}
 use Rattle.gv_text.proofs.serve.look_at_all.Goals as goal
 
 pub loop-done-init : goal.loop-done-init
 loop-done-init c = record {
   replies = [];
   tells = tells_nil _ _ _ c.begin.ensures;
-  goes = λ points signals is. rw c.begin.ensures (goes_nil (looks c.args.queue points signals) c.args.session.now.world);
+  goes = λ points signals is. rw c.begin.ensures (goes_nil (looks true c.args.queue points signals) c.args.session.now.world);
 }
 
 pub loop-done-preserved : goal.loop-done-preserved
@@ -19,7 +20,7 @@ loop-done-preserved c =
       tells = tells_trans _ _ _ _ _ _ _ _ c.loop-done.invariant.tells ran.tells;
       goes = λ points signals is.
           goes_trans _ _ _ _ _ _ _ _ (c.loop-done.invariant.goes points signals is)
-          (look_goes_on c.args.queue c.loop-done.done points signals c.in_ok-reply.reply _ _ (omega arith) ran.step (sym c.in-AllReached.ensures));
+          (look_goes_on true c.args.queue c.loop-done.done points signals c.in_ok-reply.reply _ _ (omega arith) ran.step (sym c.in-AllReached.ensures));
     }
 
 pub returns-clause-goes : goal.returns-clause-goes
@@ -27,7 +28,7 @@ returns-clause-goes c = (
   c.loop-done.invariant.replies,
   c.loop-done.invariant.tells,
   λ points signals is.
-      goes_as _ _ (carrying_out c.args.queue signals) _ _ _ (λ later. looks_done c.args.queue c.loop-done.done points signals later (omega arith))
+      goes_as _ _ (carrying_out c.args.queue signals) _ _ _ (λ later. looks_done true c.args.queue c.loop-done.done points signals later (omega arith))
       (c.loop-done.invariant.goes points signals is),
 )
 
@@ -38,7 +39,7 @@ returns-in-Lacked-clause-goes c =
       tells_trans _ _ _ _ _ _ _ _ c.loop-done.invariant.tells ran.tells,
       λ points signals is.
           goes_trans _ _ _ _ _ _ _ _ (c.loop-done.invariant.goes points signals is)
-          (look_stops c.args.queue c.loop-done.done points signals c.in_ok-reply.reply Lacked _ _ (omega arith) ran.step (sym c.in-Lacked.ensures) (λ same. cc)),
+          (look_stops true c.args.queue c.loop-done.done points signals c.in_ok-reply.reply Lacked _ _ (omega arith) ran.step (sym c.in-Lacked.ensures) (λ same. cc)),
     )
 
 pub returns-in-Other-clause-goes : goal.returns-in-Other-clause-goes
@@ -48,5 +49,5 @@ returns-in-Other-clause-goes c =
       tells_trans _ _ _ _ _ _ _ _ c.loop-done.invariant.tells ran.tells,
       λ points signals is.
           goes_trans _ _ _ _ _ _ _ _ (c.loop-done.invariant.goes points signals is)
-          (look_stops c.args.queue c.loop-done.done points signals c.in_ok-reply.reply Other _ _ (omega arith) ran.step (sym c.in-Other.ensures) (λ same. cc)),
+          (look_stops true c.args.queue c.loop-done.done points signals c.in_ok-reply.reply Other _ _ (omega arith) ran.step (sym c.in-Other.ensures) (λ same. cc)),
     )

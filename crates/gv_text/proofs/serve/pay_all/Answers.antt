@@ -1,7 +1,7 @@
 use Rattle.std.proofs.Common.{◌≡◌, ◌++◌, ◌∷◌, [], sym, ◌∙◌, arith, rules, true, false}
-use Rattle.gv_text.specs.Events.{payments}
-use Rattle.gv_text.specs.Serving.{nothing}
-use Rattle.gv_text.proofs.Servings.{goes_nil, goes_trans, goes_as, tells_nil, tells_trans, pay_goes_on, pay_stops, payments_done}
+use Rattle.gv_vm.specs.Plans.{payments, nothing}
+use Rattle.gv_vm.proofs.PlanLemmas.{goes_nil, goes_trans, goes_as, pay_goes_on, pay_stops, paying_done}
+use Rattle.gv_text.proofs.Servings.{tells_nil, tells_trans}
 use Rattle.gv_text.proofs.serve.pay_all.Goals as goal
 
 pub loop-done-init : goal.loop-done-init
@@ -19,7 +19,7 @@ loop-done-preserved c =
       tells = tells_trans _ _ _ _ _ _ _ _ c.loop-done.invariant.tells ran.tells;
       goes = λ points is.
           goes_trans _ _ _ _ _ _ _ _ (c.loop-done.invariant.goes points is)
-          (pay_goes_on c.args.queue c.loop-done.done points c.in_ok-reply.reply _ _ (omega arith) ran.step (let e : c.is_raised.result ≡ true = search rules in sym c.is_raised.ensures ∙ e));
+          (pay_goes_on c.args.queue c.loop-done.done points nothing c.in_ok-reply.reply _ _ (omega arith) ran.step (let e : c.is_raised.result ≡ true = search rules in sym c.is_raised.ensures ∙ e));
     }
 
 pub returns-then-not-is_raised-clause-goes : goal.returns-then-not-is_raised-clause-goes
@@ -29,7 +29,7 @@ returns-then-not-is_raised-clause-goes c =
       tells_trans _ _ _ _ _ _ _ _ c.loop-done.invariant.tells ran.tells,
       λ points is.
           goes_trans _ _ _ _ _ _ _ _ (c.loop-done.invariant.goes points is)
-          (pay_stops c.args.queue c.loop-done.done points c.in_ok-reply.reply _ _ (omega arith) ran.step (let e : c.is_raised.result ≡ false = search rules in sym c.is_raised.ensures ∙ e)),
+          (pay_stops c.args.queue c.loop-done.done points nothing c.in_ok-reply.reply _ _ (omega arith) ran.step (let e : c.is_raised.result ≡ false = search rules in sym c.is_raised.ensures ∙ e)),
     )
 
 pub returns-clause-goes : goal.returns-clause-goes
@@ -37,6 +37,6 @@ returns-clause-goes c = (
   c.loop-done.invariant.replies,
   c.loop-done.invariant.tells,
   λ points is.
-      goes_as _ _ nothing _ _ _ (λ later. payments_done c.args.queue c.loop-done.done points later (omega arith))
+      goes_as _ _ nothing _ _ _ (λ later. paying_done c.args.queue c.loop-done.done points nothing later (omega arith))
       (c.loop-done.invariant.goes points is),
 )

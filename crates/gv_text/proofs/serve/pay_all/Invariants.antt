@@ -1,8 +1,8 @@
 use Rattle.std.proofs.Common.{◌≡◌, List, length, drop}
 use Rattle.gv_types.specs.declared.request.Point.{Point}
 use Rattle.gv_vm.specs.declared.event.Reply.{Reply}
-use Rattle.gv_text.specs.Events.{payments}
-use Rattle.gv_text.specs.Serving.{Goes, Tells}
+use Rattle.gv_vm.specs.Plans.{payments, Goes}
+use Rattle.gv_text.specs.Serving.{Tells}
 use Rattle.gv_text.proofs.serve.pay_all.Given as goal
 
 abbrev pub invariant-loop-done : goal.invariant-loop-done

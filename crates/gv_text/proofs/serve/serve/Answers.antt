@@ -1,8 +1,8 @@
 use Rattle.std.proofs.Common.{◌≡◌, ◌++◌, ◌∷◌, [], sym, refl, rules, true, false, ◌∙◌, length, ap}
-use Rattle.gv_text.specs.Events.{serving}
-use Rattle.gv_text.specs.Serving.{nothing}
+use Rattle.gv_vm.specs.Plans.{serving, nothing}
 use Rattle.gv_text.proofs.AnswerLemmas.{then_ok}
-use Rattle.gv_text.proofs.Servings.{goes_trans, tells_trans, carried_out, looked_goes, put_goes_on, put_stops, taken_stops, gives_up}
+use Rattle.gv_vm.proofs.PlanLemmas.{goes_trans, carried_out, looked_goes, put_goes_on, put_stops, taken_stops, gives_up}
+use Rattle.gv_text.proofs.Servings.{tells_trans}
 use Rattle.gv_text.proofs.serve.serve.Goals as goal
 
 pub returns-then-not-is_put-clause-goes : goal.returns-then-not-is_put-clause-goes
@@ -25,7 +25,7 @@ returns-then-not-is_taken-clause-goes c =
       carried_out (serving c.args.queue c.args.request) nothing _ _ _ refl
           (goes_trans _ _ _ _ _ _ (c.in_ok-put.put ∷ []) (c.in_ok-taken.taken ∷ [])
           (put_goes_on c.args.queue c.args.request c.in_ok-put.put _ _ put.step (sym c.is_put.ensures ∙ e))
-          (taken_stops c.args.queue c.args.request c.in_ok-taken.taken _ _ taken.step (sym c.is_taken.ensures ∙ f))),
+          (taken_stops true c.args.queue c.args.request c.in_ok-taken.taken _ _ taken.step (sym c.is_taken.ensures ∙ f))),
     )
 
 pub returns-in-AllReached-clause-goes : goal.returns-in-AllReached-clause-goes
