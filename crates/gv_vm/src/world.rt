@@ -1,5 +1,5 @@
 //! The world: one address space, the numbers of its timelines, and queues of requests. It runs events one at a time.
-ghost use Rattle.std.specs.Prelude.{◌≡◌, ◌<◌, ◌≤◌, IfOk, replicate};
+ghost use Rattle.std.specs.Prelude.{◌≡◌, ◌<◌, ◌≤◌, IfOk, length, replicate};
 ghost use Rattle.gv_types.specs.Limits.{IsFromOneTo};
 ghost use Rattle.gv_sync.specs.Seats.{most_timelines};
 ghost use Rattle.gv_vm.specs.Outcomes.{queues as most_queues};
@@ -82,6 +82,13 @@ impl World {
         ensures { result.now ≡ self.now.vm }
     {
         &self.vm
+    }
+
+    /// How many queues it has, which have the numbers below that.
+    pub fn queues(&self) -> u64
+        ensures { result ≡ length self.now.queues }
+    {
+        self.queues.len() as u64
     }
 
     /// The numbers of its timelines.
