@@ -47,7 +47,7 @@ front_more script text line here rest count refusals now new front ran = record 
   counted = simp length-append (omega (arith, front.counted));
 }
 
-keeps_pending : (known : Option (List ℕ)) (pending : List ℕ) → pending ≡ [] → Appends known (append_known known pending) []
+pub keeps_pending : (known : Option (List ℕ)) (pending : List ℕ) → pending ≡ [] → Appends known (append_known known pending) []
 keeps_pending None pending none = tt
 keeps_pending (Some bytes) pending none = ap (λ (rest : List ℕ). bytes ++ rest) none
 

@@ -2,6 +2,7 @@
 #![tactic(auto)]
 
 mod accesses;
+mod caps;
 mod device;
 mod fault;
 mod journal;
@@ -26,7 +27,7 @@ pub use fault::{LineFault, ScriptFault};
 pub use memory::{MemorySink, MemorySource};
 pub use names::Names;
 pub use output::Output;
-pub use question::answer;
+pub use question::{NamedVm, answer};
 pub use request::{asked_by, point_named};
 pub use said::{write_number, write_refused};
 pub use script::run_script;

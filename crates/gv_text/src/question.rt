@@ -20,38 +20,46 @@ use gv_vm::{QUEUES, Vm};
 use std::alloc::{AllocError, Global};
 use std::fmt::Write;
 
+/// An address space, and the names of its buffers and of the timelines.
+#[derive(Drop)]
+pub struct NamedVm<'a> {
+    pub vm: &'a Vm,
+    pub buffers: &'a Names,
+    pub timelines: &'a TimelineNames,
+}
+
 /// Writes the answer to a question, with these names. A line that asks nothing of an address space is let go.
 pub fn answer(
     alloc: Global,
     question: &Line<'_>,
-    names: &Names,
-    timelines: &TimelineNames,
-    vm: &Vm,
+    named: NamedVm<'_>,
     out: &mut String,
 ) -> Result<(), LineFault>
     ensures done { IsQuestion question.now → OnOk result ((text : List ℕ)
-        × IsAnswer question.now names.now.entries timelines.now.names vm.now text
+        × IsAnswer question.now named.entry.buffers.now.entries named.entry.timelines.now.names named.entry.vm.now text
         × (string_bytes out.new ≡ string_bytes out.old ++ text)) }
-    ensures bad { result ≡ Err LineFault.Bad
-        → (s : SessionState) → ¬ IsGood question.now (with_vm names.now.entries timelines.now.names vm.now s) }
-    ensures memory { IsQuestion question.now → result ≢ Err LineFault.Bad
-        → (s : SessionState) → IsGood question.now (with_vm names.now.entries timelines.now.names vm.now s) }
+    ensures bad { result ≡ Err LineFault.Bad → (s : SessionState) → ¬ IsGood question.now
+        (with_vm named.entry.buffers.now.entries named.entry.timelines.now.names named.entry.vm.now s) }
+    ensures memory { IsQuestion question.now → result ≢ Err LineFault.Bad → (s : SessionState) → IsGood question.now
+        (with_vm named.entry.buffers.now.entries named.entry.timelines.now.names named.entry.vm.now s) }
 {
+    let NamedVm {
+        vm,
+        buffers,
+        timelines,
+    } = named;
     match question {
         Line::Uses { name } => {
-            let id = names.id_of(name).ok_or(LineFault::Bad)?;
+            let id = buffers.id_of(name).ok_or(LineFault::Bad)?;
             Ok(write_uses(out, vm.space(), &id)?)
         }
         Line::Plan { operation } => {
-            let op = op_named(names, operation).ok_or(LineFault::Bad)?;
-            Ok(write_plan(alloc, out, names, vm, &op)?)
+            let op = op_named(buffers, operation).ok_or(LineFault::Bad)?;
+            Ok(write_plan(alloc, out, buffers, vm, &op)?)
         }
-        Line::Map => Ok(write_mappings(out, names, vm.space().list())?),
-        Line::At { addr } => Ok(write_place(out, names, &vm.translate(*addr))?),
-        Line::Tables => {
-            let [four, three, two, one, zero] = vm.space().tables();
-            Ok(write_tables(out, four, three, two, one, zero)?)
-        }
+        Line::Map => Ok(write_mappings(out, buffers, vm.space().list())?),
+        Line::At { addr } => Ok(write_place(out, buffers, &vm.translate(*addr))?),
+        Line::Tables => Ok(write_tables(out, vm.space().tables())?),
         Line::Journal => Ok(write_items(alloc, out, vm)?),
         Line::Told { queue } if *queue < QUEUES as u64 => {
             Ok(write_told(out, timelines, vm.told(*queue))?)

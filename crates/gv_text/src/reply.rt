@@ -1,5 +1,5 @@
 //! The texts of mappings, steps and places.
-ghost use Rattle.std.specs.Prelude.{◌≡◌, ◌+◌, ◌*◌, ◌≤◌, ◌<◌, ◌++◌, ◌∷◌, [], OnOk, codes, decimal, string_bytes};
+ghost use Rattle.std.specs.Prelude.{◌≡◌, ◌+◌, ◌*◌, ◌≤◌, ◌<◌, ◌++◌, OnOk, codes, decimal, string_bytes};
 ghost use Rattle.std.specs.List.{All};
 ghost use Rattle.gv_vm.specs.Places.{target_of};
 ghost use Rattle.gv_text.specs.State.{names_alone, HavePagesThatFit, HasBytesThatFit};
@@ -195,17 +195,10 @@ fn write_last_count(out: &mut String, count: u64) -> Result<(), AllocError>
 }
 
 /// Writes how many tables there are, by level from the top.
-pub fn write_tables(
-    out: &mut String,
-    four: u64,
-    three: u64,
-    two: u64,
-    one: u64,
-    zero: u64,
-) -> Result<(), AllocError>
-    ensures { OnOk result (string_bytes out.new
-        ≡ string_bytes out.old ++ tables_reply (four ∷ three ∷ two ∷ one ∷ zero ∷ [])) }
+pub fn write_tables(out: &mut String, tables: [u64; 5]) -> Result<(), AllocError>
+    ensures { OnOk result (string_bytes out.new ≡ string_bytes out.old ++ tables_reply tables) }
 {
+    let [four, three, two, one, zero] = tables;
     write_count(out, four)?;
     write_count(out, three)?;
     write_count(out, two)?;

@@ -8,8 +8,9 @@ ghost use Rattle.gv_text.specs.Question.{IsQuestion};
 ghost use Rattle.gv_text.specs.Serving.{Wrote};
 
 use crate::accesses::{accesses_of, are_too_many};
+use crate::caps::Caps;
 use crate::fault::LineFault;
-use crate::question::answer;
+use crate::question::{NamedVm, answer};
 use crate::request::{asked_by, point_named};
 use crate::said::{write_number, write_refused, write_said, write_withdrawn};
 use crate::serve::serve;
@@ -65,7 +66,7 @@ fn run(
             buffers,
             mappings,
             items,
-        } => limits(alloc, session, buffers, mappings, items, out),
+        } => limits(alloc, session, Caps::new(buffers, mappings, items), out),
         Line::Buffer { name, pages } => buffer(alloc, session, name, pages, out),
         Line::Destroy { name } => destroy(alloc, session, &name, out),
         Line::Timeline { name } => timeline(session, name, out),
@@ -107,20 +108,20 @@ fn space(
 fn limits(
     alloc: Global,
     session: &mut Session,
-    buffers: u64,
-    mappings: u64,
-    items: u64,
+    caps: Caps,
     out: &mut String,
 ) -> Result<(), LineFault>
     ensures done { OnOk result
-        (Wrote (Runs (line.Limits buffers mappings items)) session.old out.old out.new session.new) }
-    ensures bad { result ≡ Err LineFault.Bad → ¬ IsGood (line.Limits buffers mappings items) session.old }
-    ensures memory { result ≡ Err LineFault.OutOfMemory → IsGood (line.Limits buffers mappings items) session.old }
+        (Wrote (Runs (line.Limits caps.buffers caps.mappings caps.items)) session.old out.old out.new session.new) }
+    ensures bad { result ≡ Err LineFault.Bad
+        → ¬ IsGood (line.Limits caps.buffers caps.mappings caps.items) session.old }
+    ensures memory { result ≡ Err LineFault.OutOfMemory
+        → IsGood (line.Limits caps.buffers caps.mappings caps.items) session.old }
 {
     if session.stage() == Stage::Begun {
         return Err(LineFault::Bad);
     }
-    let Some(limits) = Limits::new(buffers, mappings, items, MAX_TOLD) else {
+    let Some(limits) = Limits::new(caps.buffers, caps.mappings, caps.items, MAX_TOLD) else {
         return Err(LineFault::Bad);
     };
     session.set_limits(alloc, limits)?;
@@ -211,15 +212,12 @@ fn ask(
     ensures memory { result ≡ Err LineFault.OutOfMemory → IsGood question.now session.old }
 {
     session.begin();
-    let vm = session.world().vm();
-    answer(
-        alloc,
-        question,
-        session.buffers(),
-        session.timelines(),
-        vm,
-        out,
-    )
+    let named = NamedVm {
+        vm: session.world().vm(),
+        buffers: session.buffers(),
+        timelines: session.timelines(),
+    };
+    answer(alloc, question, named, out)
 }
 
 /// Puts a request on its queue, and serves it.

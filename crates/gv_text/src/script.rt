@@ -71,59 +71,69 @@ fn run_lines<W: Sink>(
     ensures ends { Ends script.now (W.written writer.old) (append_known (W.written writer.new) output.new) result }
     ensures fault { TellsWrites (W.failed writer.old) (W.failed writer.new) result }
 {
-    let mut session = Session::new(alloc)?;
-    let outcome = run_each(alloc, &mut session, script, output, writer);
+    let mut run = ScriptRun {
+        session: Session::new(alloc)?,
+        reply: String::new(alloc),
+    };
+    let outcome = run.run_each(alloc, script, output, writer);
+    let ScriptRun { session, reply: _ } = run;
     session.close();
     outcome
 }
 
-/// Runs the lines of a script one after another.
-fn run_each<W: Sink>(
-    alloc: Global,
-    session: &mut Session,
-    script: &[u8],
-    output: &mut Output,
-    writer: &mut W,
-) -> Result<(), ScriptFault>
-    requires short { length script.now ≤ script_limit }
-    requires start { session.old ≡ start }
-    requires fresh { output.old ≡ [] }
-    ensures ends { Ends script.now (W.written writer.old) (append_known (W.written writer.new) output.new) result }
-    ensures fault { TellsWrites (W.failed writer.old) (W.failed writer.new) result }
-{
-    let mut reply = String::new(alloc);
-    let mut rest = script;
-    let mut done: u64 = 0;
-    while let Some((line, after)) = split_once(rest, b'\n') {
-        run_line(alloc, session, line, done + 1, &mut reply, output, writer)?;
-        rest = after;
-        done += 1;
-    }
-    if rest.is_empty() {
-        Ok(())
-    } else {
-        Err(ScriptFault::BadLine { line: done + 1 })
-    }
+/// The session of a script that runs, and the reply of its last line. The session has to be closed.
+struct ScriptRun {
+    session: Session,
+    reply: String,
 }
 
-/// Runs the line of this number, and sends its reply on its way.
-fn run_line<W: Sink>(
-    alloc: Global,
-    session: &mut Session,
-    line: &[u8],
-    number: u64,
-    reply: &mut String,
-    output: &mut Output,
-    writer: &mut W,
-) -> Result<(), ScriptFault>
-    ensures ends { LineEnds session.old line.now number session.new (append_known (W.written writer.old) output.old)
-        (append_known (W.written writer.new) output.new) result }
-    ensures fault { TellsWrites (W.failed writer.old) (W.failed writer.new) result }
-{
-    reply.clear();
-    match run_text(alloc, session, line, reply) {
-        Ok(()) => Ok(output.push(writer, reply.as_bytes())?),
-        Err(LineFault::Bad) => Err(ScriptFault::BadLine { line: number }),
-        Err(LineFault::OutOfMemory) => Err(ScriptFault::OutOfMemory),
+impl ScriptRun {
+    /// Runs the lines of a script one after another.
+    fn run_each<W: Sink>(
+        &mut self,
+        alloc: Global,
+        script: &[u8],
+        output: &mut Output,
+        writer: &mut W,
+    ) -> Result<(), ScriptFault>
+        requires short { length script.now ≤ script_limit }
+        requires start { self.old.session ≡ start }
+        requires fresh { output.old ≡ [] }
+        ensures ends { Ends script.now (W.written writer.old) (append_known (W.written writer.new) output.new) result }
+        ensures fault { TellsWrites (W.failed writer.old) (W.failed writer.new) result }
+    {
+        let mut rest = script;
+        let mut done: u64 = 0;
+        while let Some((line, after)) = split_once(rest, b'\n') {
+            self.run_line(alloc, line, done + 1, output, writer)?;
+            rest = after;
+            done += 1;
+        }
+        if rest.is_empty() {
+            Ok(())
+        } else {
+            Err(ScriptFault::BadLine { line: done + 1 })
+        }
+    }
+
+    /// Runs the line of this number, and sends its reply on its way.
+    fn run_line<W: Sink>(
+        &mut self,
+        alloc: Global,
+        line: &[u8],
+        number: u64,
+        output: &mut Output,
+        writer: &mut W,
+    ) -> Result<(), ScriptFault>
+        ensures ends { LineEnds self.old.session line.now number self.new.session
+            (append_known (W.written writer.old) output.old) (append_known (W.written writer.new) output.new) result }
+        ensures fault { TellsWrites (W.failed writer.old) (W.failed writer.new) result }
+    {
+        self.reply.clear();
+        match run_text(alloc, &mut self.session, line, &mut self.reply) {
+            Ok(()) => Ok(output.push(writer, self.reply.as_bytes())?),
+            Err(LineFault::Bad) => Err(ScriptFault::BadLine { line: number }),
+            Err(LineFault::OutOfMemory) => Err(ScriptFault::OutOfMemory),
+        }
     }
 }

@@ -12,7 +12,7 @@ ghost use Rattle.gv_threads.specs.Script.{EndsByLine};
 use crate::harness::Harness;
 use crate::script::ThreadsScript;
 use gv_lines::Line;
-use gv_text::{LineFault, Output, ScriptFault, Sink, TimelineNames, answer, write_number};
+use gv_text::{LineFault, NamedVm, Output, ScriptFault, Sink, TimelineNames, answer, write_number};
 use std::alloc::Global;
 
 /// Writes what a line of the last part asks for.
@@ -42,7 +42,14 @@ fn ask(
             let number = harness.timelines.value(&mut harness.seat, timeline);
             Ok(write_number(out, names, timeline, number)?)
         }
-        _ => answer(alloc, question, &harness.buffers, names, &harness.vm, out),
+        _ => {
+            let named = NamedVm {
+                vm: &harness.vm,
+                buffers: &harness.buffers,
+                timelines: names,
+            };
+            answer(alloc, question, named, out)
+        }
     }
 }
 
