@@ -16,6 +16,14 @@ struct Phase {
     at_end: bool,
 }
 
+/// A list in chunks, the same mappings in one block, and how many were made for them so far.
+#[derive(Drop)]
+struct Lists {
+    list: ChunkList,
+    block: Vec<Mapping>,
+    made: u64,
+}
+
 /// How many changes, the most taken out and put in, and whether at the end: lists that grow at their end, grow anywhere, stay as long as
 /// they are, change by runs longer than chunks, and shrink until they hold little.
 const PHASES: [(u32, u64, u64, bool); 6] = [
@@ -56,38 +64,33 @@ fn fresh(alloc: Global, count: u64, made: &mut u64) -> Result<Vec<Mapping>, Fail
     Ok(pieces)
 }
 
-/// A run of both replaced.
-fn replace(
-    alloc: Global,
-    list: &mut ChunkList,
-    block: &mut Vec<Mapping>,
-    place: usize,
-    out_count: usize,
-    pieces: &[Mapping],
-) -> Result<(), Fail> {
-    if list.len() != block.len() || place > block.len() || out_count > block.len() - place {
-        return Err("a run that is not there".into());
+impl Lists {
+    /// A run of both replaced.
+    fn replace(
+        &mut self,
+        alloc: Global,
+        place: usize,
+        out_count: usize,
+        pieces: &[Mapping],
+    ) -> Result<(), Fail> {
+        let len = self.block.len();
+        if self.list.len() != len || place > len || out_count > len - place {
+            return Err("a run that is not there".into());
+        }
+        let mut changed = Vec::from_slice(alloc, &self.block[..place])?;
+        changed.extend_from_slice(pieces)?;
+        changed.extend_from_slice(&self.block[place + out_count..])?;
+        self.block = changed;
+        self.list.reserve(pieces.len())?;
+        self.list.splice(place, out_count, pieces);
+        Ok(())
     }
-    let mut changed = Vec::from_slice(alloc, &block[..place])?;
-    changed.extend_from_slice(pieces)?;
-    changed.extend_from_slice(&block[place + out_count..])?;
-    *block = changed;
-    list.reserve(pieces.len())?;
-    list.splice(place, out_count, pieces);
-    Ok(())
 }
 
 /// The changes of a phase, with a look at the whole list behind each twentieth.
-fn play(
-    rt: &HostRuntime,
-    list: &mut ChunkList,
-    block: &mut Vec<Mapping>,
-    phase: &Phase,
-    random: &mut Random,
-    made: &mut u64,
-) -> Result<(), Fail> {
+fn play(alloc: Global, lists: &mut Lists, phase: &Phase, random: &mut Random) -> Result<(), Fail> {
     for round in 0..phase.rounds {
-        let len = block.len() as u64;
+        let len = lists.block.len() as u64;
         let out_count = random.below(phase.most_out.saturating_add(1)).min(len);
         let left = len - out_count;
         let place = if phase.at_end {
@@ -96,16 +99,9 @@ fn play(
             random.below(left.saturating_add(1))
         };
         let count = random.below(phase.most_in.saturating_add(1));
-        let pieces = fresh(rt.alloc(), count, made)?;
-        replace(
-            rt.alloc(),
-            list,
-            block,
-            place as usize,
-            out_count as usize,
-            &pieces,
-        )?;
-        if round % 20 == 0 && !holds(list, block) {
+        let pieces = fresh(alloc, count, &mut lists.made)?;
+        lists.replace(alloc, place as usize, out_count as usize, &pieces)?;
+        if round % 20 == 0 && !holds(&lists.list, &lists.block) {
             return Err("another list".into());
         }
     }
@@ -116,9 +112,11 @@ fn play(
 fn lists_in_chunks_are_as_in_one_block(rt: HostRuntime) -> Result<(), Fail> {
     for seed in 0..8u64 {
         let mut random = Random::new(seed);
-        let mut list = ChunkList::new(rt.alloc());
-        let mut block = Vec::new(rt.alloc());
-        let mut made = 0;
+        let mut lists = Lists {
+            list: ChunkList::new(rt.alloc()),
+            block: Vec::new(rt.alloc()),
+            made: 0,
+        };
         for (rounds, most_out, most_in, at_end) in PHASES {
             let phase = Phase {
                 rounds,
@@ -126,9 +124,9 @@ fn lists_in_chunks_are_as_in_one_block(rt: HostRuntime) -> Result<(), Fail> {
                 most_in,
                 at_end,
             };
-            play(&rt, &mut list, &mut block, &phase, &mut random, &mut made)?;
+            play(rt.alloc(), &mut lists, &phase, &mut random)?;
         }
-        assert!(rt; holds(&list, &block), "seed {seed}");
+        assert!(rt; holds(&lists.list, &lists.block), "seed {seed}");
     }
     Ok(())
 }

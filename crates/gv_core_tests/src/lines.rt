@@ -18,21 +18,33 @@ pub fn request(text: &[u8]) -> Result<ClauseList<'_>, &'static str> {
     }
 }
 
-/// Whether a line is a request on this queue, of these operations, waits and signals.
-pub fn says(
-    alloc: Global,
-    text: &[u8],
-    queue: u64,
-    operations: &[Operation],
-    waits: &[NamedPoint],
-    signals: &[NamedPoint],
-) -> Result<bool, Fail> {
+/// The queue of a request, its operations, waits and signals.
+#[derive(Clone, Copy)]
+pub struct Wanted<'a> {
+    pub queue: u64,
+    pub operations: &'a [Operation],
+    pub waits: &'a [NamedPoint],
+    pub signals: &'a [NamedPoint],
+}
+
+/// A request of nothing.
+pub fn nothing_on(queue: u64) -> Wanted<'static> {
+    Wanted {
+        queue,
+        operations: &[],
+        waits: &[],
+        signals: &[],
+    }
+}
+
+/// Whether a line is this request.
+pub fn says(alloc: Global, text: &[u8], wanted: &Wanted<'_>) -> Result<bool, Fail> {
     let clauses = request(text)?;
     Ok(
-        clauses.queue() == queue
-            && clauses.operations(alloc)?.as_slice() == operations
-            && clauses.waits(alloc)?.as_slice() == waits
-            && clauses.signals(alloc)?.as_slice() == signals,
+        clauses.queue() == wanted.queue
+            && clauses.operations(alloc)?.as_slice() == wanted.operations
+            && clauses.waits(alloc)?.as_slice() == wanted.waits
+            && clauses.signals(alloc)?.as_slice() == wanted.signals,
     )
 }
 
@@ -151,9 +163,12 @@ fn reads_operations(rt: HostRuntime) -> Result<(), Fail> {
         (b"bind unmap 0x1000 0x1000", [unmap(4096)]),
         (b"bind unmapall ring", [Operation::UnmapAll { buffer }]),
     ];
-    for (row, (text, want)) in rows.iter().enumerate() {
-        let is_so = says(rt.alloc(), text, 0, want, &[], &[])?;
-        assert!(rt; is_so, "row {row}");
+    for (row, (text, operations)) in rows.iter().enumerate() {
+        let wanted = Wanted {
+            operations,
+            ..nothing_on(0)
+        };
+        assert!(rt; says(rt.alloc(), text, &wanted)?, "row {row}");
     }
     Ok(())
 }

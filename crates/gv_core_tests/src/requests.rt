@@ -1,5 +1,5 @@
 //! Lines of any length: requests and jobs.
-use crate::lines::{name, request, says, unmap};
+use crate::lines::{Wanted, name, nothing_on, request, says, unmap};
 use gv_lines::{Access, Clause, Line, NamedPoint, parse_line};
 use std::alloc::Global;
 use std::test::Fail;
@@ -25,18 +25,21 @@ fn repeated(alloc: Global, first: &str, more: &str, count: usize) -> Result<Stri
 fn reads_clauses_in_any_order(rt: HostRuntime) -> Result<(), Fail> {
     let text =
         b"bind signal t 2 ; unmap 0x0 0x1000 ; wait t 1 ; queue 15 ; unmap 0x2000 0x1000 ; wait u 0x3 ; signal u 4 ; unmap 0x1000 0x1000";
-    let operations = [unmap(0), unmap(8192), unmap(4096)];
-    let waits = [point(b"t", 1)?, point(b"u", 3)?];
-    let signals = [point(b"t", 2)?, point(b"u", 4)?];
-    assert!(rt; says(rt.alloc(), text, 15, &operations, &waits, &signals)?);
+    let wanted = Wanted {
+        queue: 15,
+        operations: &[unmap(0), unmap(8192), unmap(4096)],
+        waits: &[point(b"t", 1)?, point(b"u", 3)?],
+        signals: &[point(b"t", 2)?, point(b"u", 4)?],
+    };
+    assert!(rt; says(rt.alloc(), text, &wanted)?);
     Ok(())
 }
 
 #[test]
 fn takes_clauses(rt: HostRuntime) -> Result<(), Fail> {
-    assert!(rt; says(rt.alloc(), b"bind", 0, &[], &[], &[])?);
+    assert!(rt; says(rt.alloc(), b"bind", &nothing_on(0))?);
     assert!(rt; request(b"bind")?.take().is_none());
-    assert!(rt; says(rt.alloc(), b"bind queue 3", 3, &[], &[], &[])?);
+    assert!(rt; says(rt.alloc(), b"bind queue 3", &nothing_on(3))?);
     let mut queue = request(b"bind queue 3")?;
     assert!(rt; matches!(queue.take(), Some(Clause::Queue { queue: 3 })));
     assert!(rt; queue.take().is_none());
