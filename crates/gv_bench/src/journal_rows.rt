@@ -127,8 +127,18 @@ fn measure_withdrawals<R: CpuClock + Eprint + AllocGlobal>(
     let edits = plan.edits(rt.alloc())?;
     let (own, others) = edits.split_at(edits.len().min(8));
     let others = &others[..others.len().min(ELSEWHERE)];
-    let newest = time_between(rt, space, journal, others, own, &[])?;
-    let under = time_between(rt, space, journal, &[], own, others)?;
+    let newest = Withdrawn {
+        before: others,
+        own,
+        after: &[],
+    };
+    let oldest = Withdrawn {
+        before: &[],
+        own,
+        after: others,
+    };
+    let newest = time_between(rt, space, journal, &newest)?;
+    let under = time_between(rt, space, journal, &oldest)?;
     let percent = under.percent_of(newest);
     let (newest, under, count) = (newest.each(), under.each(), others.len());
     eprintln!(rt;
@@ -137,19 +147,26 @@ fn measure_withdrawals<R: CpuClock + Eprint + AllocGlobal>(
     Ok(())
 }
 
-/// The least time of withdrawing a request of 8 operations, where requests of one operation are bound before it and after it.
-/// All are taken back.
+/// A request of at most 8 operations that is withdrawn, and the operations of the requests of one that are bound before it and
+/// after it.
+#[derive(Clone, Copy)]
+struct Withdrawn<'a> {
+    before: &'a [Edit],
+    own: &'a [Edit],
+    after: &'a [Edit],
+}
+
+/// The least time of withdrawing a request between others. All are taken back.
 fn time_between<R: CpuClock + AllocGlobal>(
     rt: &R,
     space: &mut Space,
     journal: &mut Journal,
-    before: &[Edit],
-    own: &[Edit],
-    after: &[Edit],
+    withdrawn: &Withdrawn<'_>,
 ) -> Result<Least, Failure>
     requires { FitsSpace space.old journal.old }
     ensures { FitsSpace space.new journal.new }
 {
+    let Withdrawn { before, own, after } = *withdrawn;
     let mut requests = requests_of(rt.alloc(), before, 1)?;
     let _before = bind_all(rt, rt.alloc(), space, journal, &mut requests)?;
     let entry = journal.next();
