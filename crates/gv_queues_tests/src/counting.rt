@@ -1,6 +1,6 @@
 //! How often a gate is asked.
 use crate::gates::Counting;
-use crate::row::{FIRST, FULL, SECOND, Sent, Setting, Step, Wanted};
+use crate::row::{FIRST, FULL, Put, SECOND, Sent, Setting, Step, Wanted};
 use crate::running::{TIMES, run};
 use gv_vm::Outcome;
 use std::alloc::Global;
@@ -16,7 +16,7 @@ const BOTH: Setting = Setting {
     count: 1,
     depth: 1,
     steps: &[
-        Step::Put(
+        Step::Put(Put(
             0,
             Sent {
                 zeros: &[0],
@@ -24,7 +24,7 @@ const BOTH: Setting = Setting {
                 signals: &[SECOND],
             },
             Ok(0),
-        ),
+        )),
         Step::AwaitAsked,
         Step::Raise { point: FIRST },
     ],

@@ -1,25 +1,12 @@
 //! Drivers that go past the limits, and one that takes entries back while queues run.
 use crate::gates::TURNS;
-use crate::row::{FIRST, FULL, Kept, NOTHING, NOUGHT, Sent, Setting, Step, WAITS, Wanted};
+use crate::row::{
+    FIRST, FULL, Kept, NOTHING, NOUGHT, ONE, Put, Sent, Setting, Step, THREE, TWO, WAITS, Wanted,
+};
 use crate::rows::{Row, play};
 use gv_types::{Fault, PAGE_BYTES};
 use gv_vm::Outcome;
 use std::test::Fail;
-
-const ONE: Sent = Sent {
-    zeros: &[PAGE_BYTES],
-    ..NOTHING
-};
-
-const TWO: Sent = Sent {
-    zeros: &[2 * PAGE_BYTES],
-    ..NOTHING
-};
-
-const THREE: Sent = Sent {
-    zeros: &[3 * PAGE_BYTES],
-    ..NOTHING
-};
 
 const FOUR: Sent = Sent {
     zeros: &[4 * PAGE_BYTES],
@@ -36,10 +23,10 @@ const FILLED: Row = Row {
         count: 1,
         depth: 1,
         steps: &[
-            Step::Put(0, WAITS, Ok(0)),
+            Step::Put(Put(0, WAITS, Ok(0))),
             Step::AwaitAsked,
-            Step::Put(0, ONE, Ok(1)),
-            Step::Put(0, TWO, Err(Fault::QueueFull)),
+            Step::Put(Put(0, ONE, Ok(1))),
+            Step::Put(Put(0, TWO, Err(Fault::QueueFull))),
             Step::Raise { point: FIRST },
         ],
     },
@@ -73,13 +60,13 @@ const FILLED_AGAIN: Row = Row {
         count: 1,
         depth: 1,
         steps: &[
-            Step::Put(0, WAITS, Ok(0)),
+            Step::Put(Put(0, WAITS, Ok(0))),
             Step::AwaitAsked,
-            Step::Put(0, ONE, Ok(1)),
-            Step::Put(0, TWO, Err(Fault::QueueFull)),
+            Step::Put(Put(0, ONE, Ok(1))),
+            Step::Put(Put(0, TWO, Err(Fault::QueueFull))),
             Step::Raise { point: FIRST },
             Step::AwaitTold { outcomes: 2 },
-            Step::Put(0, THREE, Ok(2)),
+            Step::Put(Put(0, THREE, Ok(2))),
         ],
     },
     wanted: Wanted {
@@ -113,9 +100,9 @@ const SPENT: Row = Row {
         count: 1,
         depth: 3,
         steps: &[
-            Step::Put(0, NOUGHT, Ok(0)),
-            Step::Put(0, ONE, Ok(1)),
-            Step::Put(0, TWO, Err(Fault::QueueSpent)),
+            Step::Put(Put(0, NOUGHT, Ok(0))),
+            Step::Put(Put(0, ONE, Ok(1))),
+            Step::Put(Put(0, TWO, Err(Fault::QueueSpent))),
         ],
     },
     wanted: Wanted {
@@ -151,8 +138,8 @@ const TAKEN_BACK: Row = Row {
         count: 1,
         depth: 2,
         steps: &[
-            Step::Put(0, NOUGHT, Ok(0)),
-            Step::Put(0, FOUR, Ok(1)),
+            Step::Put(Put(0, NOUGHT, Ok(0))),
+            Step::Put(Put(0, FOUR, Ok(1))),
             Step::AwaitTold { outcomes: 2 },
             Step::Withdraw {
                 entry: 0,

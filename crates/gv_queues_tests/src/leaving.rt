@@ -1,6 +1,6 @@
 //! What is left of a queue whose worker ends before its driver is done.
 use crate::gates::Patience;
-use crate::row::{FULL, Kept, NOTHING, NOUGHT, Sent, Setting, Step, Wanted};
+use crate::row::{FULL, Kept, NOUGHT, ONE, Put, Setting, Step, THREE, TWO, Wanted};
 use crate::running::{TIMES, run};
 use gv_types::PAGE_BYTES;
 use gv_vm::Outcome;
@@ -11,21 +11,6 @@ use std::sync::atomic::AtomicBool;
 use std::test::Fail;
 use std::thread::Threads;
 
-const ONE: Sent = Sent {
-    zeros: &[PAGE_BYTES],
-    ..NOTHING
-};
-
-const TWO: Sent = Sent {
-    zeros: &[2 * PAGE_BYTES],
-    ..NOTHING
-};
-
-const THREE: Sent = Sent {
-    zeros: &[3 * PAGE_BYTES],
-    ..NOTHING
-};
-
 /// The driver puts an address space in the place of the one under the lock of which each queue may be told one outcome. So
 /// the worker ends with the second request in hand, and the others still stand in the channel.
 const CUT_SHORT: Setting = Setting {
@@ -34,10 +19,10 @@ const CUT_SHORT: Setting = Setting {
     depth: 4,
     steps: &[
         Step::Replace { told: 1 },
-        Step::Put(0, NOUGHT, Ok(0)),
-        Step::Put(0, ONE, Ok(1)),
-        Step::Put(0, TWO, Ok(2)),
-        Step::Put(0, THREE, Ok(3)),
+        Step::Put(Put(0, NOUGHT, Ok(0))),
+        Step::Put(Put(0, ONE, Ok(1))),
+        Step::Put(Put(0, TWO, Ok(2))),
+        Step::Put(Put(0, THREE, Ok(3))),
     ],
 };
 

@@ -1,6 +1,6 @@
 //! Two workers that run at once.
 use crate::gates::Meeting;
-use crate::row::{FULL, NOTHING, Sent, Setting, Step};
+use crate::row::{FULL, NOTHING, Put, Sent, Setting, Step};
 use crate::running::{TIMES, run};
 use gv_types::PAGE_BYTES;
 use std::alloc::Global;
@@ -16,22 +16,22 @@ const BOTH: Setting = Setting {
     count: 2,
     depth: 1,
     steps: &[
-        Step::Put(
+        Step::Put(Put(
             0,
             Sent {
                 zeros: &[0],
                 ..NOTHING
             },
             Ok(0),
-        ),
-        Step::Put(
+        )),
+        Step::Put(Put(
             1,
             Sent {
                 zeros: &[PAGE_BYTES],
                 ..NOTHING
             },
             Ok(0),
-        ),
+        )),
     ],
 };
 

@@ -5,7 +5,7 @@ ghost use Rattle.gv_queues.specs.Counts.{count_of_queue};
 ghost use Rattle.gv_queues.specs.Submitting.{AreCounted, AreSameSubmitters};
 
 use crate::gates::{TURNS, await_flag};
-use crate::row::{Sent, Step};
+use crate::row::{Put, Sent, Step};
 use gv_queues::{Driver, PutFault, Submitter, VmLock};
 use gv_sync::{Seat, Timelines};
 use gv_types::{Bounds, Fault, Flags, Limits, MAX_ITEMS, MAX_MAPPINGS, Point};
@@ -54,7 +54,7 @@ impl<'a> Plan<'a> {
 /// Whether this is a put on that queue that is to be answered with a number.
 fn is_put_on(step: &Step, on: u64) -> bool {
     match step {
-        Step::Put(queue, _, number) => *queue == on && number.is_ok(),
+        Step::Put(Put(queue, _, number)) => *queue == on && number.is_ok(),
         _ => false,
     }
 }
@@ -122,9 +122,7 @@ impl Stage<'_> {
         let mut other = None;
         for (place, step) in steps.iter().enumerate() {
             let is_as_wanted = match step {
-                Step::Put(queue, sent, number) => self.put(
-                    rt, submitters, counts, *queue, sent, number,
-                ),
+                Step::Put(put) => self.put(rt, submitters, counts, put),
                 Step::Raise { point } => self.raise(seat, *point),
                 _ => self.look(rt, step),
             };
@@ -141,16 +139,15 @@ impl Stage<'_> {
         rt: &R,
         submitters: &mut [Submitter],
         counts: &mut [u64; QUEUES],
-        queue: u64,
-        sent: &Sent,
-        wanted: &Result<u64, Fault>,
+        put: &Put,
     ) -> bool
         requires counts { AreCounted (count_of_queue counts.old) submitters.old }
         ensures same { AreSameSubmitters submitters.old submitters.new }
         ensures counts { AreCounted (count_of_queue counts.new) submitters.new }
         ensures len { length submitters.new ≡ length submitters.old }
     {
-        let place = queue as usize;
+        let Put(queue, sent, wanted) = put;
+        let place = *queue as usize;
         if place >= submitters.len() || place >= QUEUES {
             return false;
         }
@@ -187,7 +184,7 @@ impl Stage<'_> {
             Step::Rewind { number } => self.lock.lock(rt).rewind() == *number,
             Step::Replace { told } => self.replace(rt, *told),
             Step::Look { addr, zeros } => { is_wanted(self.lock.lock(rt).translate(*addr), *zeros) }
-            Step::Put(..) | Step::Raise { .. } => false,
+            Step::Put(_) | Step::Raise { .. } => false,
         }
     }
 

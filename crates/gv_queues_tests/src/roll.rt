@@ -1,6 +1,6 @@
 //! What a gate is asked names the request by its queue and its number.
 use crate::gates::Roll;
-use crate::row::{FULL, NOTHING, Sent, Setting, Step, Wanted};
+use crate::row::{FULL, NOTHING, Put, Sent, Setting, Step, Wanted};
 use crate::running::{TIMES, run};
 use gv_types::Point;
 use gv_vm::Outcome;
@@ -17,7 +17,7 @@ const FOUR: Setting = Setting {
     count: 2,
     depth: 2,
     steps: &[
-        Step::Put(
+        Step::Put(Put(
             0,
             Sent {
                 waits: &[Point {
@@ -27,8 +27,8 @@ const FOUR: Setting = Setting {
                 ..NOTHING
             },
             Ok(0),
-        ),
-        Step::Put(
+        )),
+        Step::Put(Put(
             1,
             Sent {
                 waits: &[Point {
@@ -38,8 +38,8 @@ const FOUR: Setting = Setting {
                 ..NOTHING
             },
             Ok(0),
-        ),
-        Step::Put(
+        )),
+        Step::Put(Put(
             0,
             Sent {
                 waits: &[Point {
@@ -49,8 +49,8 @@ const FOUR: Setting = Setting {
                 ..NOTHING
             },
             Ok(1),
-        ),
-        Step::Put(
+        )),
+        Step::Put(Put(
             1,
             Sent {
                 waits: &[Point {
@@ -60,7 +60,7 @@ const FOUR: Setting = Setting {
                 ..NOTHING
             },
             Ok(1),
-        ),
+        )),
     ],
 };
 

@@ -47,10 +47,12 @@ fn zero(addr: u64) -> Op {
     }
 }
 
+/// A put of a request on this queue. It is to be answered with this number, or to come back as it was.
+pub struct Put(pub u64, pub Sent, pub Result<u64, Fault>);
+
 /// What a driver does at once, and what it is to be answered.
 pub enum Step {
-    /// Puts a request on this queue. It is to be answered with this number, or to come back as it was.
-    Put(u64, Sent, Result<u64, Fault>),
+    Put(Put),
     /// Raises a timeline.
     Raise {
         point: Point,
@@ -141,5 +143,21 @@ pub const NOUGHT: Sent = Sent {
 pub const WAITS: Sent = Sent {
     zeros: &[0],
     waits: &[FIRST],
+    ..NOTHING
+};
+
+/// A page of zeros one page, two and three pages further on.
+pub const ONE: Sent = Sent {
+    zeros: &[PAGE_BYTES],
+    ..NOTHING
+};
+
+pub const TWO: Sent = Sent {
+    zeros: &[2 * PAGE_BYTES],
+    ..NOTHING
+};
+
+pub const THREE: Sent = Sent {
+    zeros: &[3 * PAGE_BYTES],
     ..NOTHING
 };

@@ -1,6 +1,8 @@
 //! Queues that wait for one another, or for what doesn't come.
 use crate::gates::TURNS;
-use crate::row::{FIRST, FULL, Kept, NOTHING, NOUGHT, SECOND, Sent, Setting, Step, WAITS, Wanted};
+use crate::row::{
+    FIRST, FULL, Kept, NOTHING, NOUGHT, Put, SECOND, Sent, Setting, Step, WAITS, Wanted,
+};
 use crate::rows::{Row, play};
 use gv_types::{PAGE_BYTES, Point};
 use gv_vm::Outcome;
@@ -20,7 +22,10 @@ const IN_TURN: Row = Row {
         limits: FULL,
         count: 2,
         depth: 2,
-        steps: &[Step::Put(0, WAITS, Ok(0)), Step::Put(1, SIGNALS, Ok(0))],
+        steps: &[
+            Step::Put(Put(0, WAITS, Ok(0))),
+            Step::Put(Put(1, SIGNALS, Ok(0))),
+        ],
     },
     wanted: Wanted {
         told: [
@@ -49,7 +54,7 @@ const CROSSING: Row = Row {
         count: 2,
         depth: 1,
         steps: &[
-            Step::Put(
+            Step::Put(Put(
                 0,
                 Sent {
                     zeros: &[0],
@@ -57,8 +62,8 @@ const CROSSING: Row = Row {
                     signals: &[SECOND],
                 },
                 Ok(0),
-            ),
-            Step::Put(
+            )),
+            Step::Put(Put(
                 1,
                 Sent {
                     zeros: &[PAGE_BYTES],
@@ -66,7 +71,7 @@ const CROSSING: Row = Row {
                     signals: &[FIRST],
                 },
                 Ok(0),
-            ),
+            )),
         ],
     },
     wanted: Wanted {
@@ -108,15 +113,15 @@ const BEHIND: Row = Row {
         count: 1,
         depth: 2,
         steps: &[
-            Step::Put(
+            Step::Put(Put(
                 0,
                 Sent {
                     waits: &[NINE],
                     ..NOTHING
                 },
                 Ok(0),
-            ),
-            Step::Put(0, NOUGHT, Ok(1)),
+            )),
+            Step::Put(Put(0, NOUGHT, Ok(1))),
         ],
     },
     wanted: Wanted {
