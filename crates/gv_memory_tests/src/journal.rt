@@ -98,7 +98,6 @@ fn ready_at_last(alloc: Global, ids: &Ids, changes: &[Change]) -> Result<ReadyRe
 /// Binds a request. Where memory is refused, nothing has changed, and it is bound again.
 fn bind_at_last(
     watch: &mut Watch,
-    alloc: Global,
     space: &mut Space,
     journal: &mut Journal,
     ids: &Ids,
@@ -108,8 +107,8 @@ fn bind_at_last(
     ensures { FitsSpace space.new journal.new }
 {
     let before = sight_of(space, journal, ids);
-    let ready = ready_at_last(alloc, ids, changes)?;
-    match journal.bind(alloc, space, ready) {
+    let ready = ready_at_last(watch.alloc, ids, changes)?;
+    match journal.bind(watch.alloc, space, ready) {
         Ok(entry) => {
             watch.expect(entry == before.next);
             return Ok(());
@@ -117,8 +116,8 @@ fn bind_at_last(
         Err(refusal) => watch.expect(refusal.fault == Fault::OutOfMemory),
     }
     watch.expect(sight_of(space, journal, ids) == before);
-    let ready = ready_at_last(alloc, ids, changes)?;
-    let bound = journal.bind(alloc, space, ready);
+    let ready = ready_at_last(watch.alloc, ids, changes)?;
+    let bound = journal.bind(watch.alloc, space, ready);
     watch.expect(bound.is_ok());
     Ok(())
 }
@@ -126,7 +125,6 @@ fn bind_at_last(
 /// Withdraws an item. Where memory is refused, nothing has changed, and it is withdrawn again.
 fn withdraw_at_last(
     watch: &mut Watch,
-    alloc: Global,
     space: &mut Space,
     journal: &mut Journal,
     ids: &Ids,
@@ -136,12 +134,12 @@ fn withdraw_at_last(
     ensures { FitsSpace space.new journal.new }
 {
     let before = sight_of(space, journal, ids);
-    match journal.withdraw(alloc, space, entry) {
+    match journal.withdraw(watch.alloc, space, entry) {
         Ok(_) => return,
         Err(fault) => watch.expect(fault == Fault::OutOfMemory),
     }
     watch.expect(sight_of(space, journal, ids) == before);
-    let withdrawn = journal.withdraw(alloc, space, entry);
+    let withdrawn = journal.withdraw(watch.alloc, space, entry);
     watch.expect(withdrawn.is_ok());
 }
 
@@ -163,7 +161,6 @@ const fn unmap(first: u32, count: u32) -> Change {
 /// A bind of three operations, another three, and an unmap of the whole buffer: what is seen before each and behind all.
 fn bind_all(
     watch: &mut Watch,
-    alloc: Global,
     space: &mut Space,
     journal: &mut Journal,
     ids: &Ids,
@@ -173,31 +170,26 @@ fn bind_all(
 {
     let empty = sight_of(space, journal, ids);
     let changes = [map(0, 4, 0), map(5, 1, 5), map(7, 1, 7)];
-    bind_at_last(watch, alloc, space, journal, ids, &changes)?;
+    bind_at_last(watch, space, journal, ids, &changes)?;
     let first = sight_of(space, journal, ids);
     let changes = [unmap(0, 1), map(1, 2, 4), unmap(2, 2)];
-    bind_at_last(watch, alloc, space, journal, ids, &changes)?;
+    bind_at_last(watch, space, journal, ids, &changes)?;
     let second = sight_of(space, journal, ids);
     let all = [Change::UnmapAll { buffer: 0 }];
-    bind_at_last(watch, alloc, space, journal, ids, &all)?;
+    bind_at_last(watch, space, journal, ids, &all)?;
     Ok([empty, first, second, sight_of(space, journal, ids)])
 }
 
 /// The binds, a withdrawal of the last one, and all of them taken back.
-fn there_and_back(
-    watch: &mut Watch,
-    alloc: Global,
-    space: &mut Space,
-    journal: &mut Journal,
-) -> Result<(), Wrong>
+fn there_and_back(watch: &mut Watch, space: &mut Space, journal: &mut Journal) -> Result<(), Wrong>
     requires { FitsSpace space.old journal.old }
     ensures { FitsSpace space.new journal.new }
 {
-    let ids = &create_at_last(alloc, space, journal)?;
-    let [empty, first, second, third] = bind_all(watch, alloc, space, journal, ids)?;
+    let ids = &create_at_last(watch.alloc, space, journal)?;
+    let [empty, first, second, third] = bind_all(watch, space, journal, ids)?;
     watch.expect((second.uses, second.kept) == (Some(3), Some(4)));
     watch.expect((third.uses, third.kept) == (Some(0), Some(7)));
-    withdraw_at_last(watch, alloc, space, journal, ids, 2);
+    withdraw_at_last(watch, space, journal, ids, 2);
     watch.expect(list_of(space) == second.list);
     for wanted in [third, second, first, empty] {
         let rewound = journal.rewind(space);
@@ -209,10 +201,10 @@ fn there_and_back(
 
 /// Plays the row.
 pub fn play(alloc: Global) -> Result<(), Wrong> {
-    let mut watch = Watch::new();
+    let mut watch = Watch::new(alloc);
     let mut space = space_at_last(alloc)?;
     let mut journal = Journal::new(alloc, 8);
-    let outcome = there_and_back(&mut watch, alloc, &mut space, &mut journal);
+    let outcome = there_and_back(&mut watch, &mut space, &mut journal);
     journal.close(&mut space);
     outcome?;
     watch.end()

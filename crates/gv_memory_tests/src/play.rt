@@ -166,13 +166,23 @@ enum Stage {
     Pay,
 }
 
-fn event_at(stage: Stage, queue: u64) -> Event {
-    match stage {
-        Stage::Take => Event::Take { queue },
-        Stage::Look => Event::Look { queue },
-        Stage::Bind => Event::Bind { queue },
-        Stage::GiveUp => Event::GiveUp { queue },
-        Stage::Pay => Event::Pay { queue },
+/// Such an event, and the queue.
+#[derive(Clone, Copy)]
+struct QueueStep {
+    queue: u64,
+    stage: Stage,
+}
+
+impl QueueStep {
+    fn event(&self) -> Event {
+        let queue = self.queue;
+        match self.stage {
+            Stage::Take => Event::Take { queue },
+            Stage::Look => Event::Look { queue },
+            Stage::Bind => Event::Bind { queue },
+            Stage::GiveUp => Event::GiveUp { queue },
+            Stage::Pay => Event::Pay { queue },
+        }
     }
 }
 
@@ -181,20 +191,19 @@ fn step_at_last(
     alloc: Global,
     world: &mut World,
     ids: &Ids,
-    stage: Stage,
-    queue: u64,
+    step: QueueStep,
     course: &mut Course,
 ) -> Result<Reply, Wrong> {
     let before = sight_of(world, ids);
-    if let Ok(reply) = world.step(alloc, event_at(stage, queue)) {
+    if let Ok(reply) = world.step(alloc, step.event()) {
         return Ok(reply);
     }
     course.refused = course.refused.saturating_add(1);
-    if stage == Stage::Take || stage == Stage::Pay {
+    if step.stage == Stage::Take || step.stage == Stage::Pay {
         return Err(Wrong::Wanted);
     }
     unchanged(world, ids, before, 0)?;
-    match world.step(alloc, event_at(stage, queue)) {
+    match world.step(alloc, step.event()) {
         Ok(reply) => Ok(reply),
         Err(_) => Err(Wrong::Twice),
     }
@@ -245,8 +254,9 @@ fn is_served(
     }
     take_reply(&mut course.fold, &reply);
     if is_accepted(&reply) {
+        let stage = Stage::Pay;
         for _ in ask.signals {
-            let paid = step_at_last(alloc, world, ids, Stage::Pay, queue, course)?;
+            let paid = step_at_last(alloc, world, ids, QueueStep { queue, stage }, course)?;
             take_reply(&mut course.fold, &paid);
         }
     }
@@ -262,13 +272,14 @@ fn told(
     course: &mut Course,
 ) -> Result<Reply, Wrong> {
     let queue = ask.queue;
-    let _taken = step_at_last(alloc, world, ids, Stage::Take, queue, course)?;
+    let step = |stage| QueueStep { queue, stage };
+    let _taken = step_at_last(alloc, world, ids, step(Stage::Take), course)?;
     for _ in ask.waits {
-        let seen = step_at_last(alloc, world, ids, Stage::Look, queue, course)?;
+        let seen = step_at_last(alloc, world, ids, step(Stage::Look), course)?;
         take_reply(&mut course.fold, &seen);
     }
-    match step_at_last(alloc, world, ids, Stage::Bind, queue, course)? {
-        Reply::Idle => step_at_last(alloc, world, ids, Stage::GiveUp, queue, course),
+    match step_at_last(alloc, world, ids, step(Stage::Bind), course)? {
+        Reply::Idle => step_at_last(alloc, world, ids, step(Stage::GiveUp), course),
         reply => Ok(reply),
     }
 }

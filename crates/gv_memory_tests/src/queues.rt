@@ -136,9 +136,9 @@ pub fn play<R: Threads + Wait + Sync>(rt: &R, alloc: Global) -> Result<(), Wrong
         &gate,
         &mut driver,
     );
-    let mut watch = Watch::new();
+    let mut watch = Watch::new(alloc);
     let end = match ends {
-        Ok(ends) => each_left(&mut watch, alloc, &vm, ends.as_slice()),
+        Ok(ends) => each_left(&mut watch, &vm, ends.as_slice()),
         Err(QueuesFault::NotMade | QueuesFault::NotStarted { queue: _ }) => {
             watch.expect(sight(&vm) == before);
             watch.expect((driver.count(0), driver.count(1)) == (0, 0));
@@ -152,7 +152,7 @@ pub fn play<R: Threads + Wait + Sync>(rt: &R, alloc: Global) -> Result<(), Wrong
 }
 
 /// Each request was put, is told or left, and those left are the last ones, in order.
-fn each_left(watch: &mut Watch, alloc: Global, vm: &Vm, ends: &[QueueEnd]) -> Result<(), Wrong> {
+fn each_left(watch: &mut Watch, vm: &Vm, ends: &[QueueEnd]) -> Result<(), Wrong> {
     watch.expect(ends.len() == 2);
     for queue in 0..2 {
         let Some(end) = ends.get(queue as usize) else {
@@ -161,23 +161,18 @@ fn each_left(watch: &mut Watch, alloc: Global, vm: &Vm, ends: &[QueueEnd]) -> Re
         let told = vm.told(queue);
         watch.expect(told.iter().all(may_come));
         watch.expect((end.put, end.told) == (EACH, told.len() as u64));
-        left_in_order(watch, alloc, queue, end)?;
+        left_in_order(watch, queue, end)?;
     }
     Ok(())
 }
 
-fn left_in_order(
-    watch: &mut Watch,
-    alloc: Global,
-    queue: u64,
-    end: &QueueEnd,
-) -> Result<(), Wrong> {
+fn left_in_order(watch: &mut Watch, queue: u64, end: &QueueEnd) -> Result<(), Wrong> {
     watch.expect(end.told <= end.put);
     watch.expect(end.left.len() as u64 == end.put.saturating_sub(end.told));
     for (number, left) in (end.told..end.put).zip(end.left.iter()) {
-        let request = match wanted(alloc, queue, number) {
+        let request = match wanted(watch.alloc, queue, number) {
             Ok(request) => request,
-            Err(_) => wanted(alloc, queue, number)?,
+            Err(_) => wanted(watch.alloc, queue, number)?,
         };
         watch.expect(*left == request);
     }

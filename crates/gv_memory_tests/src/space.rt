@@ -66,16 +66,11 @@ fn create_at_last(alloc: Global, space: &mut Space, pages: u64) -> Result<Buffer
 }
 
 /// Lets the job 3 read a buffer. Where memory is refused, it does not read it yet.
-fn join_at_last(
-    watch: &mut Watch,
-    alloc: Global,
-    space: &mut Space,
-    id: &BufferId,
-) -> Result<(), Fault> {
-    if space.join(alloc, *id, 3, Usage::Read).is_err() {
-        watch.expect(space.join(alloc, *id, 9, Usage::Write).is_ok());
+fn join_at_last(watch: &mut Watch, space: &mut Space, id: &BufferId) -> Result<(), Fault> {
+    if space.join(watch.alloc, *id, 3, Usage::Read).is_err() {
+        watch.expect(space.join(watch.alloc, *id, 9, Usage::Write).is_ok());
         space.leave(9);
-        return space.join(alloc, *id, 3, Usage::Read);
+        return space.join(watch.alloc, *id, 3, Usage::Read);
     }
     Ok(())
 }
@@ -100,7 +95,6 @@ fn apply(alloc: Global, space: &mut Space, op: &Op) -> Result<OpUndo, Fault>
 /// Applies an operation. Where memory is refused, nothing has changed, and it is applied again.
 fn apply_at_last(
     watch: &mut Watch,
-    alloc: Global,
     space: &mut Space,
     op: &Op,
     id: &BufferId,
@@ -110,12 +104,12 @@ fn apply_at_last(
     ensures unchanged { OnErr result (IsUnchanged space.old space.new) }
 {
     let before = seen(space, id);
-    match apply(alloc, space, op) {
+    match apply(watch.alloc, space, op) {
         Ok(undo) => Ok(undo),
         Err(fault) => {
             watch.expect(fault == Fault::OutOfMemory);
             watch.expect(seen(space, id) == before);
-            apply(alloc, space, op)
+            apply(watch.alloc, space, op)
         }
     }
 }
@@ -123,7 +117,6 @@ fn apply_at_last(
 /// Restores a range. Where memory is refused, nothing has changed, and it is restored again.
 fn restore_at_last(
     watch: &mut Watch,
-    alloc: Global,
     space: &mut Space,
     range: PageRange,
     saved: &OpUndo,
@@ -135,12 +128,12 @@ fn restore_at_last(
     ensures unchanged { OnErr result (IsUnchanged space.old space.new) }
 {
     let before = seen(space, id);
-    match space.restore(alloc, range, saved) {
+    match space.restore(watch.alloc, range, saved) {
         Ok(undo) => Ok(undo),
         Err(fault) => {
             watch.expect(fault == Fault::OutOfMemory);
             watch.expect(seen(space, id) == before);
-            space.restore(alloc, range, saved)
+            space.restore(watch.alloc, range, saved)
         }
     }
 }
@@ -148,7 +141,6 @@ fn restore_at_last(
 /// Restores all four mappings, and takes that back.
 fn restore_all(
     watch: &mut Watch,
-    alloc: Global,
     space: &mut Space,
     saved: &OpUndo,
     id: &BufferId,
@@ -158,7 +150,7 @@ fn restore_all(
 {
     let before = seen(space, id);
     let range = PageRange::new(0, 8).ok_or(Wrong::Changed)?;
-    let undo = restore_at_last(watch, alloc, space, range, saved, id)?;
+    let undo = restore_at_last(watch, space, range, saved, id)?;
     let restored = (space.list().len(), space.uses(*id), space.kept(*id));
     space.revert(undo);
     watch.expect(seen(space, id) == before);
@@ -167,12 +159,12 @@ fn restore_all(
 }
 
 /// Four maps of two pages each, zeros over a part of each, and the four restored from the undo value.
-fn restore_over_zeros(watch: &mut Watch, alloc: Global) -> Result<(), Wrong> {
-    let mut space = space_at_last(alloc)?;
-    let id = &create_at_last(alloc, &mut space, 2)?;
-    join_at_last(watch, alloc, &mut space, id)?;
+fn restore_over_zeros(watch: &mut Watch) -> Result<(), Wrong> {
+    let mut space = space_at_last(watch.alloc)?;
+    let id = &create_at_last(watch.alloc, &mut space, 2)?;
+    join_at_last(watch, &mut space, id)?;
     for first in [0, 2, 4, 6] {
-        let undo = apply_at_last(watch, alloc, &mut space, &map(id, first, 2), id)?;
+        let undo = apply_at_last(watch, &mut space, &map(id, first, 2), id)?;
         space.release(undo);
     }
     let before = seen(&space, id);
@@ -181,44 +173,43 @@ fn restore_over_zeros(watch: &mut Watch, alloc: Global) -> Result<(), Wrong> {
         len: bytes(6),
         flags: Flags { read_only: false },
     };
-    let saved = apply_at_last(watch, alloc, &mut space, &zeros, id)?;
-    let outcome = restore_all(watch, alloc, &mut space, &saved, id);
+    let saved = apply_at_last(watch, &mut space, &zeros, id)?;
+    let outcome = restore_all(watch, &mut space, &saved, id);
     let count = space.list().len();
     space.revert(saved);
     watch.expect(count == 3);
     watch.expect(seen(&space, id) == before);
-    watch.expect(is_read(alloc, &mut space, id));
+    watch.expect(is_read(watch.alloc, &mut space, id));
     outcome
 }
 
 /// Applies an unmap of a page, and takes it back: how many tables stand in between, and then.
 fn unmap_and_back(
     watch: &mut Watch,
-    alloc: Global,
     space: &mut Space,
     first: u32,
     id: &BufferId,
 ) -> Result<([u64; 5], [u64; 5]), Fault>
     ensures { IsUnchanged space.old space.new }
 {
-    let undo = apply_at_last(watch, alloc, space, &unmap(first, 1), id)?;
+    let undo = apply_at_last(watch, space, &unmap(first, 1), id)?;
     let there = space.tables();
     space.revert(undo);
     Ok((there, space.tables()))
 }
 
 /// Tables that an unmap freed, and those that one made of a large leaf, and the way back.
-fn tables_there_and_back(watch: &mut Watch, alloc: Global) -> Result<(), Wrong> {
-    let mut space = space_at_last(alloc)?;
-    let id = &create_at_last(alloc, &mut space, 512)?;
-    join_at_last(watch, alloc, &mut space, id)?;
-    let undo = apply_at_last(watch, alloc, &mut space, &map(id, 0, 1), id)?;
+fn tables_there_and_back(watch: &mut Watch) -> Result<(), Wrong> {
+    let mut space = space_at_last(watch.alloc)?;
+    let id = &create_at_last(watch.alloc, &mut space, 512)?;
+    join_at_last(watch, &mut space, id)?;
+    let undo = apply_at_last(watch, &mut space, &map(id, 0, 1), id)?;
     space.release(undo);
-    let tables = unmap_and_back(watch, alloc, &mut space, 0, id)?;
+    let tables = unmap_and_back(watch, &mut space, 0, id)?;
     watch.expect(tables == ([0, 0, 0, 0, 0], [1, 1, 1, 1, 1]));
-    let undo = apply_at_last(watch, alloc, &mut space, &map(id, 0, 512), id)?;
+    let undo = apply_at_last(watch, &mut space, &map(id, 0, 512), id)?;
     watch.expect(space.tables() == [1, 1, 1, 1, 0]);
-    let outcome = unmap_and_back(watch, alloc, &mut space, 7, id);
+    let outcome = unmap_and_back(watch, &mut space, 7, id);
     space.revert(undo);
     watch.expect(outcome == Ok(([1, 1, 1, 1, 1], [1, 1, 1, 1, 0])));
     watch.expect(space.tables() == [1, 1, 1, 1, 1]);
@@ -228,7 +219,6 @@ fn tables_there_and_back(watch: &mut Watch, alloc: Global) -> Result<(), Wrong> 
 /// Applies an operation, and takes it back: how many mappings stand in between.
 fn apply_and_back(
     watch: &mut Watch,
-    alloc: Global,
     space: &mut Space,
     op: &Op,
     id: &BufferId,
@@ -236,7 +226,7 @@ fn apply_and_back(
     ensures { IsUnchanged space.old space.new }
 {
     let before = seen(space, id);
-    let undo = apply_at_last(watch, alloc, space, op, id)?;
+    let undo = apply_at_last(watch, space, op, id)?;
     let there = space.list().len();
     space.revert(undo);
     watch.expect(seen(space, id) == before);
@@ -245,18 +235,18 @@ fn apply_and_back(
 
 /// A list that fills a chunk, and then more: chunks and their places in the index are asked for. Then a run of most of it is
 /// taken out and comes back.
-fn chunks_there_and_back(watch: &mut Watch, alloc: Global) -> Result<(), Wrong> {
-    let mut space = space_at_last(alloc)?;
-    let id = &create_at_last(alloc, &mut space, 1)?;
+fn chunks_there_and_back(watch: &mut Watch) -> Result<(), Wrong> {
+    let mut space = space_at_last(watch.alloc)?;
+    let id = &create_at_last(watch.alloc, &mut space, 1)?;
     for page in 0..CHUNK {
-        let undo = apply_at_last(watch, alloc, &mut space, &map(id, page, 1), id)?;
+        let undo = apply_at_last(watch, &mut space, &map(id, page, 1), id)?;
         space.release(undo);
     }
-    let more = apply_and_back(watch, alloc, &mut space, &map(id, CHUNK + 9, 1), id);
+    let more = apply_and_back(watch, &mut space, &map(id, CHUNK + 9, 1), id);
     watch.expect(more == Ok(129));
-    let first = apply_at_last(watch, alloc, &mut space, &map(id, CHUNK, 1), id)?;
+    let first = apply_at_last(watch, &mut space, &map(id, CHUNK, 1), id)?;
     space.release(first);
-    let fewer = apply_and_back(watch, alloc, &mut space, &unmap(5, 120), id);
+    let fewer = apply_and_back(watch, &mut space, &unmap(5, 120), id);
     watch.expect(fewer == Ok(9));
     watch.expect(space.list().len() == 129);
     Ok(())
@@ -264,9 +254,9 @@ fn chunks_there_and_back(watch: &mut Watch, alloc: Global) -> Result<(), Wrong> 
 
 /// Plays the row.
 pub fn play(alloc: Global) -> Result<(), Wrong> {
-    let mut watch = Watch::new();
-    restore_over_zeros(&mut watch, alloc)?;
-    tables_there_and_back(&mut watch, alloc)?;
-    chunks_there_and_back(&mut watch, alloc)?;
+    let mut watch = Watch::new(alloc);
+    restore_over_zeros(&mut watch)?;
+    tables_there_and_back(&mut watch)?;
+    chunks_there_and_back(&mut watch)?;
     watch.end()
 }

@@ -1,16 +1,21 @@
 //! What the rows of calls see, held against what they want to see.
 use crate::play::Wrong;
+use std::alloc::Global;
 
-/// Whether all that was looked at so far was as wanted. A look that finds something else stops nothing, so that each undo
-/// value is still taken back.
+/// The memory that calls ask for, and whether all that was looked at so far was as wanted. A look that finds something else
+/// stops nothing, so that each undo value is still taken back.
 #[derive(Drop)]
 pub struct Watch {
+    pub alloc: Global,
     is_as_wanted: bool,
 }
 
 impl Watch {
-    pub fn new() -> Watch {
-        Watch { is_as_wanted: true }
+    pub fn new(alloc: Global) -> Watch {
+        Watch {
+            alloc,
+            is_as_wanted: true,
+        }
     }
 
     pub fn expect(&mut self, is_so: bool) {
