@@ -50,7 +50,7 @@ fn buffer_in_use_is_not_destroyed(rt: HostRuntime) -> Result<(), Fail> {
         refused(Fault::Kept { count: 1 }),
         DONE,
     ];
-    expect(&rt, rt.alloc(), (1, 4), &steps, &wanted)
+    expect(&rt, (1, 4), &steps, &wanted)
 }
 
 #[test]
@@ -81,7 +81,7 @@ fn dead_buffer_stays_dead(rt: HostRuntime) -> Result<(), Fail> {
         refused(Fault::TooManyBuffers),
         refused(Fault::BadSize),
     ];
-    expect(&rt, rt.alloc(), (1, 4), &steps, &wanted)
+    expect(&rt, (1, 4), &steps, &wanted)
 }
 
 #[test]
@@ -116,5 +116,5 @@ fn writer_uses_a_buffer_alone(rt: HostRuntime) -> Result<(), Fail> {
         DONE,
         DONE,
     ];
-    expect(&rt, rt.alloc(), (1, 4), &steps, &wanted)
+    expect(&rt, (1, 4), &steps, &wanted)
 }

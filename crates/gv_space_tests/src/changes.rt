@@ -24,6 +24,13 @@ pub enum Stay {
     Both,
 }
 
+/// A range that is restored, for good or not.
+#[derive(Clone, Copy)]
+pub struct Restored {
+    pub range: PageRange,
+    pub stays: bool,
+}
+
 /// Applies an operation. `Unmapped` where it names no pages, which no test does.
 fn apply(alloc: Global, space: &mut Space, op: &Op) -> Result<OpUndo, Fault>
     ensures changed { IfOk result (λ undo.
@@ -168,14 +175,13 @@ fn restore<W: Watch>(
     space: &mut Space,
     watch: &mut W,
     saved: &OpUndo,
-    range: PageRange,
-    stays: bool,
+    restored: Restored,
 ) -> Result<PageRange, Fault>
     requires { AreAmongKept space.old saved.now.change.taken }
     ensures { (ms : List Mapping) → AreKept space.old ms → AreKept space.new ms }
 {
-    let undo = space.restore(alloc, range, saved)?;
-    if stays {
+    let undo = space.restore(alloc, restored.range, saved)?;
+    if restored.stays {
         keep(alloc, space, watch, undo)
     } else {
         take_back(alloc, space, watch, undo)
@@ -188,14 +194,13 @@ fn restore_all<W: Watch>(
     space: &mut Space,
     watch: &mut W,
     saved: &OpUndo,
-    ranges: &[PageRange],
-    stays: bool,
+    ranges: &[Restored],
 ) -> Result<(), Fault>
     requires { AreAmongKept space.old saved.now.change.taken }
     ensures { AreAmongKept space.new saved.now.change.taken }
 {
     for range in ranges {
-        restore(alloc, space, watch, saved, *range, stays)?;
+        restore(alloc, space, watch, saved, *range)?;
     }
     Ok(())
 }
@@ -207,13 +212,12 @@ pub fn bring_back<W: Watch>(
     space: &mut Space,
     watch: &mut W,
     ops: &[Op; 2],
-    ranges: &[PageRange],
-    stays: bool,
+    ranges: &[Restored],
 ) -> Result<(), Fault> {
     let saved = apply(alloc, space, &ops[0])?;
     let seen = watch.see(alloc, space);
     let outcome = match there(alloc, space, watch, &ops[1]) {
-        Ok(_) => restore_all(alloc, space, watch, &saved, ranges, stays),
+        Ok(_) => restore_all(alloc, space, watch, &saved, ranges),
         Err(fault) => Err(fault),
     };
     space.release(saved);

@@ -61,7 +61,7 @@ fn first_fault_is_told(rt: HostRuntime) -> Result<(), Fail> {
             refused(fault),
             looked(&[of_buffer(0, 4, 1, 0)], 1, 0, SMALL),
         ];
-        expect_in(&rt, rt.alloc(), bounds, (2, 1), &steps, &wanted)?;
+        expect_in(&rt, bounds, (2, 1), &steps, &wanted)?;
     }
     Ok(())
 }
@@ -90,7 +90,7 @@ fn list_has_a_limit(rt: HostRuntime) -> Result<(), Fail> {
         changed(1, 3),
         looked(&[of_buffer(0, 1, 0, 0), of_buffer(1, 3, 0, 7)], 2, 0, SMALL),
     ];
-    expect(&rt, rt.alloc(), (1, 2), &steps, &wanted)
+    expect(&rt, (1, 2), &steps, &wanted)
 }
 
 #[test]
@@ -115,5 +115,5 @@ fn plan_asks_no_limit(rt: HostRuntime) -> Result<(), Fail> {
         refused(Fault::TooManyMappings),
         looked(&[of_buffer(0, 4, 0, 0)], 1, 0, SMALL),
     ];
-    expect(&rt, rt.alloc(), (1, 1), &steps, &wanted)
+    expect(&rt, (1, 1), &steps, &wanted)
 }

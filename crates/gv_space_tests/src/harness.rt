@@ -1,5 +1,7 @@
 //! Steps played on a space.
-use crate::changes::{Stay, Watch, bring_back, nested, refused_there, there, there_and_back};
+use crate::changes::{
+    Restored, Stay, Watch, bring_back, nested, refused_there, there, there_and_back,
+};
 use crate::query::{Change, Query, Reply, ask, id_of, op_of};
 use gv_buffers::Usage;
 use gv_reference::push;
@@ -45,12 +47,11 @@ pub enum Step {
         stay: Stay,
         query: Query,
     },
-    /// Two operations, and then ranges, each a page and a count of pages, restored from the undo value of the first, for good
-    /// or not. It looks after the first operation, and before and after each other undo value is spent.
+    /// Two operations, and then ranges, each a page and a count of pages, restored from the undo value of the first, each of
+    /// which is taken back. It looks after the first operation, and before and after each other undo value is spent.
     Restore {
         changes: [Change; 2],
         ranges: &'static [(u64, u64)],
-        stays: bool,
         query: Query,
     },
 }
@@ -114,6 +115,13 @@ fn done(outcome: Result<(), Fault>) -> Reply {
     }
 }
 
+fn refused(outcome: Result<Option<Fault>, Fault>) -> Reply {
+    match outcome {
+        Ok(Some(fault)) | Err(fault) => Reply::Refused { fault },
+        Ok(None) => Reply::Done,
+    }
+}
+
 /// Makes a buffer.
 fn create(
     alloc: Global,
@@ -131,12 +139,13 @@ fn create(
     }
 }
 
-/// The ranges of these first pages and counts of pages.
-fn ranges_of(alloc: Global, numbers: &[(u64, u64)]) -> Result<Vec<PageRange>, Fault> {
+/// The ranges of these first pages and counts of pages, each restored and taken back.
+fn ranges_of(alloc: Global, numbers: &[(u64, u64)]) -> Result<Vec<Restored>, Fault> {
     let mut ranges = Vec::new(alloc);
-    for number in numbers {
-        let range = PageRange::new(number.0, number.1).ok_or(Fault::OutOfSpace)?;
-        push(&mut ranges, range)?;
+    for (first, count) in numbers {
+        let range = PageRange::new(*first, *count).ok_or(Fault::OutOfSpace)?;
+        let stays = false;
+        push(&mut ranges, Restored { range, stays })?;
     }
     Ok(ranges)
 }
@@ -148,32 +157,10 @@ fn restore(
     harness: &mut Harness,
     changes: [Change; 2],
     numbers: &[(u64, u64)],
-    stays: bool,
 ) -> Result<(), Fault> {
     let ops = harness.ops(changes);
     let ranges = ranges_of(alloc, numbers)?;
-    bring_back(alloc, space, harness, &ops, ranges.as_slice(), stays)
-}
-
-/// Tries to destroy a buffer that the undo value of an operation keeps.
-fn destroy_kept(
-    alloc: Global,
-    space: &mut Space,
-    harness: &Harness,
-    buffer: usize,
-    change: Change,
-    stays: bool,
-) -> Reply {
-    match refused_there(
-        alloc,
-        space,
-        &harness.op(change),
-        &harness.id(buffer),
-        stays,
-    ) {
-        Ok(Some(fault)) | Err(fault) => Reply::Refused { fault },
-        Ok(None) => Reply::Done,
-    }
+    bring_back(alloc, space, harness, &ops, ranges.as_slice())
 }
 
 /// Plays a step that applies operations.
@@ -191,7 +178,10 @@ fn play_change(alloc: Global, space: &mut Space, harness: &mut Harness, step: St
             buffer,
             change,
             stays,
-        } => destroy_kept(alloc, space, harness, buffer, change, stays),
+        } => {
+            let (op, id) = (harness.op(change), harness.id(buffer));
+            refused(refused_there(alloc, space, &op, &id, stays))
+        }
         Step::Nested { changes, stay, .. } => {
             let ops = harness.ops(changes);
             changed(nested(alloc, space, harness, &ops, stay))
@@ -199,9 +189,8 @@ fn play_change(alloc: Global, space: &mut Space, harness: &mut Harness, step: St
         Step::Restore {
             changes,
             ranges,
-            stays,
             ..
-        } => done(restore(alloc, space, harness, changes, ranges, stays)),
+        } => done(restore(alloc, space, harness, changes, ranges)),
         _ => Reply::Done,
     }
 }

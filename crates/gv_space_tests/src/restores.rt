@@ -15,7 +15,6 @@ fn restore(since: Change, ranges: &'static [(u64, u64)]) -> Step {
     Step::Restore {
         changes: [unmap(0, 4), since],
         ranges,
-        stays: false,
         query: Query::Look { buffer: 0 },
     }
 }
@@ -50,7 +49,7 @@ fn saved_pages_come_back(rt: HostRuntime) -> Result<(), Fail> {
         DONE,
         looked(&zeros, 0, 0, SMALL),
     ];
-    expect(&rt, rt.alloc(), (1, 3), &steps, &wanted)
+    expect(&rt, (1, 3), &steps, &wanted)
 }
 
 #[test]
@@ -70,5 +69,5 @@ fn restore_keeps_the_limit(rt: HostRuntime) -> Result<(), Fail> {
         refused(Fault::TooManyMappings),
         looked(&[of_zero(0, 4)], 0, 0, SMALL),
     ];
-    expect(&rt, rt.alloc(), (1, 2), &steps, &wanted)
+    expect(&rt, (1, 2), &steps, &wanted)
 }

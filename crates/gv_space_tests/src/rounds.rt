@@ -1,5 +1,5 @@
 //! Random operations, each compared with the model.
-use crate::changes::{Stay, Watch, bring_back, nested};
+use crate::changes::{Restored, Stay, Watch, bring_back, nested};
 use crate::course::{Choice, Course, Held, State, Way, course_of, looks_of, way_of};
 use crate::model::{Model, PLACES, Setting, entry_behind};
 use gv_reference::{Random, count_of};
@@ -107,7 +107,8 @@ fn round(
             nested(alloc, space, judge, &ops, Stay::Both)?;
         }
         Way::BringBack { stays } => {
-            bring_back(alloc, space, judge, &ops, &[choice.range], stays)?;
+            let range = choice.range;
+            bring_back(alloc, space, judge, &ops, &[Restored { range, stays }])?;
         }
     }
     judge.see(alloc, space)?;

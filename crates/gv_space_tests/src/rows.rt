@@ -38,7 +38,7 @@ fn tables_that_an_unmap_freed_come_back(rt: HostRuntime) -> Result<(), Fail> {
         looked(&[of_buffer(0, 1, 0, 0)], 1, 0, SMALL),
         changed(0, 1),
     ];
-    expect(&rt, rt.alloc(), (1, 4), &steps, &wanted)
+    expect(&rt, (1, 4), &steps, &wanted)
 }
 
 #[test]
@@ -58,7 +58,7 @@ fn hole_is_taken_back(rt: HostRuntime) -> Result<(), Fail> {
         changed(1, 2),
         whole,
     ];
-    expect(&rt, rt.alloc(), (1, 4), &steps, &wanted)
+    expect(&rt, (1, 4), &steps, &wanted)
 }
 
 #[test]
@@ -79,7 +79,7 @@ fn page_in_a_hole_holds_nothing(rt: HostRuntime) -> Result<(), Fail> {
         walked: None,
     };
     let wanted = [created(0), held, nothing, held, changed(1, 2), held];
-    expect(&rt, rt.alloc(), (1, 4), &steps, &wanted)
+    expect(&rt, (1, 4), &steps, &wanted)
 }
 
 #[test]
@@ -99,5 +99,5 @@ fn two_changes_are_taken_back(rt: HostRuntime) -> Result<(), Fail> {
         changed(700, 701),
         looked(&[], 0, 0, NONE),
     ];
-    expect(&rt, rt.alloc(), (1, 4), &steps, &wanted)
+    expect(&rt, (1, 4), &steps, &wanted)
 }

@@ -57,7 +57,7 @@ fn piece_of_entry(first: u64, end: u64, entry: &Entry, buffers: &[BufferId]) -> 
     }
 }
 
-fn piece_of(mapping: &Mapping, buffers: &[BufferId]) -> Piece {
+pub fn piece_of(mapping: &Mapping, buffers: &[BufferId]) -> Piece {
     let entry = Entry {
         backing: mapping.backing,
         flags: mapping.flags,

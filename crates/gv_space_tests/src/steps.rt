@@ -3,21 +3,19 @@ use crate::harness::{Step, run};
 use crate::query::{Change, Query, Reply};
 use crate::sight::{MOST, Part, Piece, Pieces};
 use gv_types::{Bounds, Fault, Limits, PAGE_BYTES};
-use std::alloc::Global;
 use std::process::Abort;
 use std::test::Fail;
 
 /// Asserts that steps answer this on a space of these bounds, where the limits are so many buffers and mappings.
 pub fn expect_in(
-    rt: &impl Abort,
-    alloc: Global,
+    rt: &(impl Abort + AllocGlobal),
     bounds: Bounds,
     limits: (u64, u64),
     steps: &[Step],
     wanted: &[Reply],
 ) -> Result<(), Fail> {
     let limits = Limits::new(limits.0, limits.1, 1, 1).ok_or("limits")?;
-    let replies = run(alloc, bounds, limits, steps)?;
+    let replies = run(rt.alloc(), bounds, limits, steps)?;
     for (place, (reply, wanted)) in replies.iter().zip(wanted).enumerate() {
         assert_eq!(rt; *reply, *wanted, "reply {place}");
     }
@@ -27,18 +25,18 @@ pub fn expect_in(
 
 /// The same on a space of all pages.
 pub fn expect(
-    rt: &impl Abort,
-    alloc: Global,
+    rt: &(impl Abort + AllocGlobal),
     limits: (u64, u64),
     steps: &[Step],
     wanted: &[Reply],
 ) -> Result<(), Fail> {
-    expect_in(rt, alloc, Bounds::whole(), limits, steps, wanted)
+    expect_in(rt, Bounds::whole(), limits, steps, wanted)
 }
 
 pub const DONE: Reply = Reply::Done;
 
-fn bytes(pages: u32) -> u64 {
+/// So many pages in bytes.
+pub fn bytes(pages: u32) -> u64 {
     u64::from(pages) * PAGE_BYTES
 }
 

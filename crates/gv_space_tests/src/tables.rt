@@ -31,7 +31,7 @@ fn large_maps_have_large_leaves(rt: HostRuntime) -> Result<(), Fail> {
         changed(1, 65_537),
         tables([1, 1, 1, 1, 2]),
     ];
-    expect(&rt, rt.alloc(), (1, 4), &steps, &wanted)
+    expect(&rt, (1, 4), &steps, &wanted)
 }
 
 #[test]
@@ -68,5 +68,5 @@ fn only_one_mapping_makes_a_leaf(rt: HostRuntime) -> Result<(), Fail> {
         changed(0, 512),
         looked(&three, 3, 0, [1, 1, 1, 1, 1]),
     ];
-    expect(&rt, rt.alloc(), (1, 4), &steps, &wanted)
+    expect(&rt, (1, 4), &steps, &wanted)
 }

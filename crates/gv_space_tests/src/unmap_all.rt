@@ -55,14 +55,14 @@ fn each_mapping_has_a_step_and_a_range(rt: HostRuntime) -> Result<(), Fail> {
         refused(Fault::NoBuffer),
         refused(Fault::NoBuffer),
     ];
-    expect(&rt, rt.alloc(), (3, 8), &steps, &wanted)
+    expect(&rt, (3, 8), &steps, &wanted)
 }
 
 #[test]
 fn buffer_without_mappings_has_no_step(rt: HostRuntime) -> Result<(), Fail> {
     let steps = [create(4), Step::Bind(zero(0, 4)), plan_all(0), ranges_of(0)];
     let wanted = [created(0), changed(0, 4), planned(&[]), ranges(&[])];
-    expect(&rt, rt.alloc(), (1, 8), &steps, &wanted)
+    expect(&rt, (1, 8), &steps, &wanted)
 }
 
 #[test]
@@ -96,5 +96,5 @@ fn readers_tell_what_was_given(rt: HostRuntime) -> Result<(), Fail> {
         changed(1, 3),
         looked(&[of_buffer(0, 4, 0, 0)], 1, 0, small),
     ];
-    expect(&rt, rt.alloc(), (1, 8), &steps, &wanted)
+    expect(&rt, (1, 8), &steps, &wanted)
 }

@@ -57,7 +57,7 @@ fn last_page_is_a_page_as_any_other(rt: HostRuntime) -> Result<(), Fail> {
         held(None),
         held(None),
     ];
-    expect(&rt, rt.alloc(), (1, 4), &steps, &wanted)
+    expect(&rt, (1, 4), &steps, &wanted)
 }
 
 #[test]
@@ -82,7 +82,7 @@ fn gigabyte_is_one_leaf(rt: HostRuntime) -> Result<(), Fail> {
         changed(0, 1),
         tables([1, 1, 1, 0, 0]),
     ];
-    expect(&rt, rt.alloc(), (1, 4), &steps, &wanted)
+    expect(&rt, (1, 4), &steps, &wanted)
 }
 
 #[test]
@@ -104,5 +104,5 @@ fn operation_may_be_longer_than_a_leaf(rt: HostRuntime) -> Result<(), Fail> {
         changed(1 << 36, (1 << 36) + 1),
         tables([1, 2, 7, 1, 1]),
     ];
-    expect(&rt, rt.alloc(), (1, 4), &steps, &wanted)
+    expect(&rt, (1, 4), &steps, &wanted)
 }

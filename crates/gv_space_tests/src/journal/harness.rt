@@ -2,9 +2,10 @@
 ghost use Rattle.gv_journal.specs.State.{FitsSpace};
 
 use crate::journal::sight::{List, see};
+use crate::steps::bytes;
 use gv_journal::{Journal, ReadyRequest};
 use gv_space::Space;
-use gv_types::{Bounds, BufferId, Fault, Flags, Limits, Op, PAGE_BYTES, Request};
+use gv_types::{Bounds, BufferId, Fault, Flags, Limits, Op, Request};
 use std::alloc::Global;
 use std::test::Fail;
 
@@ -79,11 +80,15 @@ fn reply_of(answer: Result<u64, Fault>) -> Reply {
     }
 }
 
-fn bytes(pages: u32) -> u64 {
-    u64::from(pages) * PAGE_BYTES
-}
-
 impl Harness {
+    pub fn new(alloc: Global) -> Harness {
+        Harness {
+            buffers: Vec::new(alloc),
+            ops: Vec::new(alloc),
+            number: 0,
+        }
+    }
+
     fn id(&self, buffer: usize) -> Result<BufferId, Fail> {
         let id = self.buffers.get(buffer).copied();
         Ok(id.ok_or("no such buffer")?)
@@ -257,11 +262,7 @@ pub fn play_all(
     requires { FitsSpace space.old journal.old }
     ensures { FitsSpace space.new journal.new }
 {
-    let mut harness = Harness {
-        buffers: Vec::new(alloc),
-        ops: Vec::new(alloc),
-        number: 0,
-    };
+    let mut harness = Harness::new(alloc);
     let mut replies = Vec::new(alloc);
     for step in steps {
         match play(alloc, space, journal, &mut harness, *step) {

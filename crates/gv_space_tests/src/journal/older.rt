@@ -1,11 +1,12 @@
 //! Worked rows of older requests, withdrawn and settled.
 use crate::journal::harness::Step;
 use crate::journal::rows::{DONE, MANY, expect};
-use crate::journal::sight::{of_buffer, of_zero};
+use crate::journal::sight::of_zero;
 use crate::journal::steps::{
     accepted, count, counted, create, destroy, map, number, refused, seen, settle, unmap, withdraw,
     zero,
 };
+use crate::steps::of_buffer;
 use gv_types::Fault;
 use std::test::Fail;
 
@@ -63,7 +64,7 @@ fn older_requests_are_withdrawn(rt: HostRuntime) -> Result<(), Fail> {
         accepted(2),
         refused(Fault::Touched { by: 2 }),
     ];
-    expect(&rt, rt.alloc(), MANY, &steps, &wanted)?;
+    expect(&rt, MANY, &steps, &wanted)?;
     let steps = [
         create(4),
         create(2),
@@ -103,7 +104,7 @@ fn older_requests_are_withdrawn(rt: HostRuntime) -> Result<(), Fail> {
         number(2),
         seen(&list),
     ];
-    expect(&rt, rt.alloc(), MANY, &steps, &wanted)?;
+    expect(&rt, MANY, &steps, &wanted)?;
     let steps = [
         create(4),
         map(0, 4, 0, 0),
@@ -127,7 +128,7 @@ fn older_requests_are_withdrawn(rt: HostRuntime) -> Result<(), Fail> {
         number(2),
         seen(&[of_zero(1, 3, false)]),
     ];
-    expect(&rt, rt.alloc(), MANY, &steps, &wanted)
+    expect(&rt, MANY, &steps, &wanted)
 }
 
 #[test]
@@ -168,7 +169,7 @@ fn settled_items_go(rt: HostRuntime) -> Result<(), Fail> {
         refused(Fault::NoEntry),
         seen(&list),
     ];
-    expect(&rt, rt.alloc(), MANY, &steps, &wanted)?;
+    expect(&rt, MANY, &steps, &wanted)?;
     let steps = [
         zero(0, 1),
         Step::Bind,
@@ -191,7 +192,7 @@ fn settled_items_go(rt: HostRuntime) -> Result<(), Fail> {
         refused(Fault::NoEntry),
         accepted(2),
     ];
-    expect(&rt, rt.alloc(), MANY, &steps, &wanted)?;
+    expect(&rt, MANY, &steps, &wanted)?;
     let steps = [
         create(1),
         map(0, 1, 0, 0),
@@ -212,5 +213,5 @@ fn settled_items_go(rt: HostRuntime) -> Result<(), Fail> {
         seen(&[of_buffer(0, 1, 0, 0)]),
         refused(Fault::Mapped { count: 1 }),
     ];
-    expect(&rt, rt.alloc(), MANY, &steps, &wanted)
+    expect(&rt, MANY, &steps, &wanted)
 }

@@ -55,6 +55,26 @@ struct Past {
     counts: Vec<Counts>,
 }
 
+/// A round so far: what its steps are played with, and what was before them.
+#[derive(Drop)]
+struct Round {
+    harness: Harness,
+    past: Past,
+}
+
+impl Round {
+    fn new(alloc: Global) -> Round {
+        Round {
+            harness: Harness::new(alloc),
+            past: Past {
+                base: Vec::new(alloc),
+                lists: Vec::new(alloc),
+                counts: Vec::new(alloc),
+            },
+        }
+    }
+}
+
 /// What lay below a page.
 fn below(past: &Past, page: u64) -> Option<Entry> {
     match past.base.get(page as usize) {
@@ -155,13 +175,13 @@ fn turn(
     alloc: Global,
     space: &mut Space,
     journal: &mut Journal,
-    harness: &mut Harness,
-    past: &mut Past,
+    round: &mut Round,
     step: Step,
 ) -> Result<bool, Fail>
     requires { FitsSpace space.old journal.old }
     ensures { FitsSpace space.new journal.new }
 {
+    let Round { harness, past } = round;
     let held = journal.items().len();
     let list: Vec<Mapping> = space.list().iter().map(|mapping| *mapping).collect(alloc)?;
     let before = counts_of(space, harness.buffers.as_slice());
@@ -200,7 +220,7 @@ fn turn(
 }
 
 /// So many steps by chance.
-fn round(
+fn turns(
     alloc: Global,
     space: &mut Space,
     journal: &mut Journal,
@@ -210,24 +230,15 @@ fn round(
     requires { FitsSpace space.old journal.old }
     ensures { FitsSpace space.new journal.new }
 {
-    let mut harness = Harness {
-        buffers: Vec::new(alloc),
-        ops: Vec::new(alloc),
-        number: 0,
-    };
-    let mut past = Past {
-        base: Vec::new(alloc),
-        lists: Vec::new(alloc),
-        counts: Vec::new(alloc),
-    };
+    let mut round = Round::new(alloc);
     let make = Step::Create { pages: 6 };
-    let _first = play(alloc, space, journal, &mut harness, make)?;
-    let _second = play(alloc, space, journal, &mut harness, make)?;
-    let _third = play(alloc, space, journal, &mut harness, make)?;
+    let _first = play(alloc, space, journal, &mut round.harness, make)?;
+    let _second = play(alloc, space, journal, &mut round.harness, make)?;
+    let _third = play(alloc, space, journal, &mut round.harness, make)?;
     let mut random = Random::new(seed);
     for turn_number in 0..steps {
         let step = step_of(&mut random, journal);
-        if !turn(alloc, space, journal, &mut harness, &mut past, step)? {
+        if !turn(alloc, space, journal, &mut round, step)? {
             return Ok(false);
         }
     }
@@ -239,7 +250,7 @@ fn run(alloc: Global, mappings: u64, items: u64, seed: u64, steps: u32) -> Resul
     let limits = Limits::new(3, mappings, items, 1).ok_or("limits")?;
     let mut space = Space::new(alloc, Bounds::whole(), limits)?;
     let mut journal = Journal::new(alloc, items);
-    let agreed = round(alloc, &mut space, &mut journal, seed, steps);
+    let agreed = turns(alloc, &mut space, &mut journal, seed, steps);
     journal.close(&mut space);
     agreed
 }

@@ -1,10 +1,11 @@
 //! Worked rows: steps, and what they answer.
 use crate::journal::harness::{Reply, Step, run};
-use crate::journal::sight::{of_buffer, of_zero};
+use crate::journal::sight::of_zero;
 use crate::journal::steps::{
     accepted, count, counted, create, destroy, map, number, refused, refused_at, seen, settle,
     unmap, withdraw, zero,
 };
+use crate::steps::of_buffer;
 use gv_types::{Fault, Limits};
 use std::alloc::Global;
 use std::process::Abort;
@@ -12,14 +13,13 @@ use std::test::Fail;
 
 /// Asserts that steps answer this, where the limits are so many buffers, mappings and items.
 pub fn expect(
-    rt: &impl Abort,
-    alloc: Global,
+    rt: &(impl Abort + AllocGlobal),
     limits: (u64, u64, u64),
     steps: &[Step],
     wanted: &[Reply],
 ) -> Result<(), Fail> {
     let limits = Limits::new(limits.0, limits.1, limits.2, 1).ok_or("limits")?;
-    let replies = run(alloc, limits, steps)?;
+    let replies = run(rt.alloc(), limits, steps)?;
     assert_eq!(rt; replies.len(), wanted.len());
     for (reply, wanted) in replies.iter().zip(wanted) {
         assert_eq!(rt; *reply, *wanted);
@@ -59,7 +59,7 @@ fn requests_are_whole_or_not(rt: HostRuntime) -> Result<(), Fail> {
         seen(&[of_buffer(0, 4, 0, 0)]),
         counted(1, 0),
     ];
-    expect(&rt, rt.alloc(), MANY, &steps, &wanted)?;
+    expect(&rt, MANY, &steps, &wanted)?;
     let steps = [
         create(4),
         map(0, 4, 0, 0),
@@ -86,7 +86,7 @@ fn requests_are_whole_or_not(rt: HostRuntime) -> Result<(), Fail> {
         counted(1, 0),
         accepted(1),
     ];
-    expect(&rt, rt.alloc(), MANY, &steps, &wanted)
+    expect(&rt, MANY, &steps, &wanted)
 }
 
 #[test]
@@ -120,7 +120,7 @@ fn limits_and_buffers_are_kept_to(rt: HostRuntime) -> Result<(), Fail> {
         accepted(0),
         refused_at(0, Fault::TooManyMappings),
     ];
-    expect(&rt, rt.alloc(), (1, 2, 2), &steps, &wanted)?;
+    expect(&rt, (1, 2, 2), &steps, &wanted)?;
     let steps = [
         create(1),
         map(0, 1, 0, 0),
@@ -151,7 +151,7 @@ fn limits_and_buffers_are_kept_to(rt: HostRuntime) -> Result<(), Fail> {
         refused_at(0, Fault::NoBuffer),
         accepted(0),
     ];
-    expect(&rt, rt.alloc(), MANY, &steps, &wanted)?;
+    expect(&rt, MANY, &steps, &wanted)?;
     let steps = [
         create(2),
         map(0, 1, 0, 0),
@@ -178,7 +178,7 @@ fn limits_and_buffers_are_kept_to(rt: HostRuntime) -> Result<(), Fail> {
         refused(Fault::TooManyMappings),
         seen(&list),
     ];
-    expect(&rt, rt.alloc(), (1, 3, 8), &steps, &wanted)
+    expect(&rt, (1, 3, 8), &steps, &wanted)
 }
 
 /// Steps that bind a request of so many operations.
@@ -194,8 +194,8 @@ fn long_request(alloc: Global, operations: u32) -> Result<Vec<Step>, Fail> {
 #[test]
 fn requests_have_so_many_operations(rt: HostRuntime) -> Result<(), Fail> {
     let steps = long_request(rt.alloc(), 256)?;
-    expect(&rt, rt.alloc(), MANY, steps.as_slice(), &[accepted(0)])?;
+    expect(&rt, MANY, steps.as_slice(), &[accepted(0)])?;
     let steps = long_request(rt.alloc(), 257)?;
     let wanted = [refused_at(0, Fault::TooManyOps)];
-    expect(&rt, rt.alloc(), MANY, steps.as_slice(), &wanted)
+    expect(&rt, MANY, steps.as_slice(), &wanted)
 }

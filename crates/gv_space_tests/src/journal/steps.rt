@@ -1,6 +1,7 @@
 //! Steps and replies in short.
 use crate::journal::harness::{Reply, Step};
-use crate::journal::sight::{Piece, list_of};
+use crate::journal::sight::list_of;
+use crate::sight::Piece;
 use gv_types::Fault;
 
 pub fn map(first: u32, count: u32, buffer: usize, page: u32) -> Step {
