@@ -152,23 +152,29 @@ fn turn(
     Ok(is_wanted(model, &wanted, &given) && agrees(alloc, world, model)?)
 }
 
-/// So many events by chance on a world that was just made. How many agreed in a row.
-fn round(
-    alloc: Global,
-    world: &mut World,
+/// So many events by chance from a seed, on a world of its own.
+#[derive(Clone, Copy)]
+struct Round {
     setting: Setting,
     seed: u64,
     events: u64,
+}
+
+/// The events of a round on a world that was just made. How many agreed in a row.
+fn count_agreed(
+    alloc: Global,
+    world: &mut World,
+    round: &Round,
     tally: &mut Tally,
 ) -> Result<u64, OutOfMemory> {
-    let mut model = Model::new(alloc, setting)?;
-    let mut chance = Chance::new(seed);
-    for done in 0..events {
+    let mut model = Model::new(alloc, round.setting)?;
+    let mut chance = Chance::new(round.seed);
+    for done in 0..round.events {
         if !turn(alloc, world, &mut model, &mut chance, tally)? {
             return Ok(done);
         }
     }
-    Ok(events)
+    Ok(round.events)
 }
 
 /// Two queues, two timelines, pages 1 to 31 of which page 30 is reserved.
@@ -182,30 +188,41 @@ fn setting_of(limits: Limits) -> Result<Setting, Fail> {
     })
 }
 
-/// Plays a round on a world of its own, which is closed in the end.
-fn play(
-    rt: &impl Abort,
-    alloc: Global,
-    limits: Limits,
-    seed: u64,
-    events: u64,
-    tally: &mut Tally,
-) -> Result<(), Fail> {
-    let setting = setting_of(limits)?;
+/// Plays a round, and closes its world in the end.
+fn play(rt: &(impl Abort + AllocGlobal), round: &Round, tally: &mut Tally) -> Result<(), Fail> {
+    let setting = &round.setting;
     let sizes = Sizes {
         queues: 2,
         depth: setting.depth.clamp(1, 9),
         timelines: 2,
     };
-    let made = World::new(alloc, setting.bounds, limits, sizes);
+    let made = World::new(rt.alloc(), setting.bounds, setting.limits, sizes);
     let Ok(mut world) = made else {
         return Err("world".into());
     };
-    let agreed = round(alloc, &mut world, setting, seed, events, tally);
+    let agreed = count_agreed(rt.alloc(), &mut world, round, tally);
     world.close();
     match agreed {
-        Ok(agreed) => assert_eq!(rt; agreed, events, "seed {seed}"),
+        Ok(agreed) => assert_eq!(rt; agreed, round.events, "seed {}", round.seed),
         Err(_) => return Err("memory".into()),
+    }
+    Ok(())
+}
+
+/// Plays a round of so many events from each of 16 seeds.
+fn play_seeds(
+    rt: &(impl Abort + AllocGlobal),
+    setting: Setting,
+    events: u64,
+    tally: &mut Tally,
+) -> Result<(), Fail> {
+    for seed in 0..16u64 {
+        let round = Round {
+            setting,
+            seed,
+            events,
+        };
+        play(rt, &round, tally)?;
     }
     Ok(())
 }
@@ -261,15 +278,13 @@ fn expect_faults_of_requests(rt: &impl Abort, tally: &Tally) {
 
 #[test]
 fn chance_agrees_with_the_definitions(rt: HostRuntime) -> Result<(), Fail> {
-    let wide = Limits::new(3, 64, 40, 200).ok_or("wide")?;
-    let narrow = Limits::new(2, 3, 12, 200).ok_or("narrow")?;
-    let short = Limits::new(3, 9, 3, 30).ok_or("short")?;
+    let wide = setting_of(Limits::new(3, 64, 40, 200).ok_or("wide")?)?;
+    let narrow = setting_of(Limits::new(2, 3, 12, 200).ok_or("narrow")?)?;
+    let short = setting_of(Limits::new(3, 9, 3, 30).ok_or("short")?)?;
     let mut tally = Tally::new();
-    for seed in 0..16u64 {
-        play(&rt, rt.alloc(), wide, seed, 800, &mut tally)?;
-        play(&rt, rt.alloc(), narrow, seed, 800, &mut tally)?;
-        play(&rt, rt.alloc(), short, seed, 500, &mut tally)?;
-    }
+    play_seeds(&rt, wide, 800, &mut tally)?;
+    play_seeds(&rt, narrow, 800, &mut tally)?;
+    play_seeds(&rt, short, 500, &mut tally)?;
     expect_each_kind(&rt, &tally.events, "event");
     expect_each_kind(&rt, &tally.replies, "reply");
     expect_faults_of_calls(&rt, &tally);

@@ -1,8 +1,9 @@
 //! Worked rows: jobs by events, and requests bound out of turn.
 ghost use Rattle.std.specs.Prelude.{◌≡◌, [], IfOk};
 
+use crate::fixtures::{map, zero};
 use gv_buffers::Usage;
-use gv_types::{Bounds, BufferId, Fault, Flags, Limits, Mapping, Op, PAGE_BYTES, Point, Request};
+use gv_types::{Bounds, BufferId, Fault, Flags, Limits, Mapping, Op, Point, Request};
 use gv_vm::{Access, Event, NotTold, Outcome, Place, Reply, Sizes, Stopped, Target, Vm, World};
 use std::alloc::{AllocError, Global};
 use std::process::Abort;
@@ -15,26 +16,6 @@ fn access(addr: u64, usage: Usage) -> Access {
 fn byte_of(id: &BufferId, byte: u64) -> Place {
     Place {
         target: Target::Buffer { id: *id, byte },
-        flags: Flags { read_only: false },
-    }
-}
-
-/// A map of one page of a buffer.
-fn map(page: u32, id: &BufferId, of: u32, read_only: bool) -> Op {
-    Op::Map {
-        addr: u64::from(page) * PAGE_BYTES,
-        len: PAGE_BYTES,
-        buffer: *id,
-        offset: u64::from(of) * PAGE_BYTES,
-        flags: Flags { read_only },
-    }
-}
-
-/// A map of one page of zeros.
-fn zero(page: u32) -> Op {
-    Op::MapZero {
-        addr: u64::from(page) * PAGE_BYTES,
-        len: PAGE_BYTES,
         flags: Flags { read_only: false },
     }
 }
