@@ -5,7 +5,6 @@ use crate::devices::FailingSource;
 use crate::failing::{is_read_fault_told, is_write_fault_told};
 use crate::rows::{BAD_LINES, EDITS, REQUESTS};
 use gv_text::{MemorySink, MemorySource, SCRIPT_LIMIT, ScriptFault, WriteSink, run_script};
-use std::alloc::Global;
 use std::io;
 use std::io::Write;
 use std::process::Abort;
@@ -16,15 +15,14 @@ const HOLE: &[u8] =
 
 /// Runs the script over memory, and asserts what it comes to.
 fn expect(
-    rt: &impl Abort,
-    alloc: Global,
+    rt: &(impl Abort + AllocGlobal),
     name: &str,
     script: &[u8],
     wanted: Result<(), ScriptFault>,
     replies: &[u8],
 ) {
-    let mut sink = MemorySink::new(alloc);
-    let outcome = run_script(alloc, &mut MemorySource::new(script), &mut sink);
+    let mut sink = MemorySink::new(rt.alloc());
+    let outcome = run_script(rt.alloc(), &mut MemorySource::new(script), &mut sink);
     assert!(rt; outcome == wanted, "{name}");
     assert!(rt; sink.bytes() == replies, "{name}");
 }
@@ -39,14 +37,7 @@ fn ends(bad_line: Option<u64>) -> Result<(), ScriptFault> {
 #[test]
 fn rows_come_to_their_replies(rt: HostRuntime) {
     for row in EDITS.iter().chain(&REQUESTS) {
-        expect(
-            &rt,
-            rt.alloc(),
-            row.name,
-            row.script,
-            ends(row.bad_line),
-            row.replies,
-        );
+        expect(&rt, row.name, row.script, ends(row.bad_line), row.replies);
     }
 }
 
@@ -57,7 +48,7 @@ fn bad_lines_end_the_script(rt: HostRuntime) -> Result<(), Fail> {
         script.extend_from_slice(b"buffer b 4\n")?;
         script.extend_from_slice(line)?;
         script.extend_from_slice(b"\nmap\n")?;
-        expect(&rt, rt.alloc(), what, &script, ends(Some(2)), b"ok\n");
+        expect(&rt, what, &script, ends(Some(2)), b"ok\n");
     }
     Ok(())
 }
@@ -73,7 +64,7 @@ fn prefixes_end_at_their_last_line(rt: HostRuntime) -> Result<(), Fail> {
         let at_end = prefix.is_empty() || prefix.ends_with(b"\n");
         let bad_line = if at_end { None } else { Some(lines as u64 + 1) };
         let kept = first_lines(whole.bytes(), replies.get(lines).copied().unwrap_or(0));
-        expect(&rt, rt.alloc(), "prefix", prefix, ends(bad_line), kept);
+        expect(&rt, "prefix", prefix, ends(bad_line), kept);
     }
     Ok(())
 }
@@ -97,11 +88,10 @@ fn longest_script_is_read(rt: HostRuntime) -> Result<(), Fail> {
     let mut comment = vec![in rt.alloc(); b'#'; SCRIPT_LIMIT]?;
     comment.pop();
     comment.push(b'\n')?;
-    expect(&rt, rt.alloc(), "longest", &comment, Ok(()), b"");
+    expect(&rt, "longest", &comment, Ok(()), b"");
     comment.push(b'\n')?;
     expect(
         &rt,
-        rt.alloc(),
         "too long",
         &comment,
         Err(ScriptFault::ScriptTooLong),
