@@ -18,7 +18,7 @@ use crate::status::{BAD_WORDS, DONE};
 use crate::words::{Task, WordsFault, read_words};
 use clap::Error;
 use gv_text::{ReadSource, ScriptFault, Sink, Source, WriteSink, run_script};
-use gv_threads::run_threads;
+use gv_threads::{RunTerms, run_threads};
 use std::rt::Env;
 use std::sync::Wait;
 use std::thread::Threads;
@@ -140,7 +140,8 @@ fn run_with_threads<R: AllocGlobal + Eprint, T: Threads + Wait + Sync, S: Source
         reader.old reader.new writer.old writer.new queues answer × (result ≡ threads_status answer) }
     ensures status { IsStatus result }
 {
-    match run_threads(threads, rt.alloc(), reader, writer, queues, turns) {
+    let terms = RunTerms { queues, turns };
+    match run_threads(threads, rt.alloc(), reader, writer, terms) {
         Ok(()) => DONE,
         Err(ended) => told(rt, ProgramFault::from(ended)),
     }

@@ -9,7 +9,7 @@ mod rows;
 
 use failing::{is_read_fault_told, is_write_fault_told};
 use gv_text::{MemorySink, MemorySource, run_script};
-use gv_threads::run_threads;
+use gv_threads::{RunTerms, run_threads};
 use gv_vm::QUEUES;
 use std::process::ExitCode;
 use std::rt::Files;
@@ -97,7 +97,11 @@ fn is_answered_by_queues<R: Files + AllocGlobal + Threads + Wait + Sync>(
     if queues == 0 || queues > QUEUES as u64 {
         return Ok(false);
     }
-    let ended = run_threads(rt, alloc, &mut source, &mut sink, queues, TURNS);
+    let terms = RunTerms {
+        queues,
+        turns: TURNS,
+    };
+    let ended = run_threads(rt, alloc, &mut source, &mut sink, terms);
     Ok(ended.is_ok() && sink.bytes() == wanted.as_slice())
 }
 

@@ -13,7 +13,7 @@ mod script;
 mod setting;
 
 pub use fault::ThreadsFault;
-pub use run::run_threads;
+pub use run::{RunTerms, run_threads};
 
 #[cfg(test)]
 mod tests;

@@ -30,6 +30,20 @@ use std::alloc::Global;
 use std::sync::Wait;
 use std::thread::Threads;
 
+/// On how many queues a script runs, and after how many looks that lacked a request that waits is given up.
+#[derive(Clone, Copy, Debug, PartialEq, Eq)]
+pub struct RunTerms {
+    pub queues: u64,
+    pub turns: u64,
+}
+
+/// A script that was read, what it runs on, and on what terms. The harness has to be closed.
+struct Run<'a> {
+    script: ThreadsScript<'a>,
+    harness: Harness,
+    terms: RunTerms,
+}
+
 /// Reads a threads script and runs it: its first part, then its requests on so many running queues, then, for each
 /// queue, a line of what it came to, and its last part. A request that waits is given up after so many looks that
 /// lacked. It may wait.
@@ -42,18 +56,18 @@ pub fn run_threads<R: Threads + Wait + Sync, S: Source, K: Sink>(
     alloc: Global,
     reader: &mut S,
     writer: &mut K,
-    count: u64,
-    turns: u64,
+    terms: RunTerms,
 ) -> Result<(), ThreadsFault>
-    requires { IsFromOneTo queues count }
+    requires { IsFromOneTo queues terms.queues }
     // The text is that of a run over the bytes that the reader gave.
     ensures text { OnOk result ((script text : List ℕ)
         × IfSome (S.remaining reader.old) (λ bytes. script ≡ bytes)
-        × IsThreadsRun script count text × Appends (K.written writer.old) (K.written writer.new) text) }
+        × IsThreadsRun script terms.queues text × Appends (K.written writer.old) (K.written writer.new) text) }
     // A bad line is the first that may not stand where it does, unless each may.
     ensures bad_line { (line : ℕ) → result ≡ Err (ThreadsFault.Script (ScriptFault.BadLine line)) → (script : List ℕ)
-        × IfSome (S.remaining reader.old) (λ bytes. script ≡ bytes) × IsBadLine script count line }
-    ensures ends { RunsAs (S.failed reader.old) (S.failed reader.new) (K.failed writer.old) (K.failed writer.new) count result }
+        × IfSome (S.remaining reader.old) (λ bytes. script ≡ bytes) × IsBadLine script terms.queues line }
+    ensures ends { RunsAs (S.failed reader.old) (S.failed reader.new) (K.failed writer.old) (K.failed writer.new)
+        terms.queues result }
     ensures silent { IfErr result (λ fault. HasNotBegun fault → writer.new ≡ writer.old) }
     // One byte more than the longest script has is taken at most, in as many reads.
     ensures few { TakesFew (S.remaining reader.old) (S.remaining reader.new) }
@@ -63,7 +77,7 @@ pub fn run_threads<R: Threads + Wait + Sync, S: Source, K: Sink>(
         Ok(text) => text,
         Err(fault) => return Err(ThreadsFault::Script(fault)),
     };
-    let script = match ThreadsScript::read(alloc, text.as_slice(), count) {
+    let script = match ThreadsScript::read(alloc, text.as_slice(), terms.queues) {
         Ok(script) => script,
         Err(fault) => return Err(ThreadsFault::Script(fault)),
     };
@@ -78,7 +92,12 @@ pub fn run_threads<R: Threads + Wait + Sync, S: Source, K: Sink>(
                 timelines,
                 seat,
             };
-            run_on(rt, alloc, script, harness, writer, count, turns)
+            let run = Run {
+                script,
+                harness,
+                terms,
+            };
+            run_on(rt, alloc, run, writer)
         }
         Err(_) => Err(ThreadsFault::Script(ScriptFault::OutOfMemory)),
     }
@@ -88,28 +107,39 @@ pub fn run_threads<R: Threads + Wait + Sync, S: Source, K: Sink>(
 fn run_on<R: Threads + Wait + Sync, K: Sink>(
     rt: &R,
     alloc: Global,
-    mut script: ThreadsScript<'_>,
-    mut harness: Harness,
+    run: Run<'_>,
     writer: &mut K,
-    count: u64,
-    turns: u64,
 ) -> Result<(), ThreadsFault>
-    requires queues { IsFromOneTo queues count }
-    requires read { script.queues ≡ count }
-    requires asked { All IsAsked (unnumbered script.questions) }
-    requires own { IsSeatOf harness.timelines harness.seat }
-    requires all { timeline_count harness.timelines ≡ most_timelines }
-    requires first { IsFirst harness.seat }
-    requires untold { IsUntold harness.vm }
-    requires depth { IsFromOneTo most_waiting script.depth }
-    ensures text { (lines : List TheLine) → Keeps lines script.entry → OnOk result ((text : List ℕ)
-        × IsTextOf lines (ready_of harness) count text × Appends (K.written writer.old) (K.written writer.new) text) }
+    requires queues { IsFromOneTo queues run.terms.queues }
+    requires read { run.script.queues ≡ run.terms.queues }
+    requires asked { All IsAsked (unnumbered run.script.questions) }
+    requires own { IsSeatOf run.harness.timelines run.harness.seat }
+    requires all { timeline_count run.harness.timelines ≡ most_timelines }
+    requires first { IsFirst run.harness.seat }
+    requires untold { IsUntold run.harness.vm }
+    requires depth { IsFromOneTo most_waiting run.script.depth }
+    ensures text { (lines : List TheLine) → Keeps lines run.entry.script → OnOk result ((text : List ℕ)
+        × IsTextOf lines (ready_of run.entry.harness) run.entry.terms.queues text
+        × Appends (K.written writer.old) (K.written writer.new) text) }
     // The reader has nothing to do with it.
-    ensures ends { (read : Bool) → RunsAs read read (K.failed writer.old) (K.failed writer.new) count result }
+    ensures ends { (read : Bool)
+        → RunsAs read read (K.failed writer.old) (K.failed writer.new) run.entry.terms.queues result }
     ensures begun { IfErr result (λ fault. HasNotBegun fault → ⊥) }
 {
+    let Run {
+        mut script,
+        mut harness,
+        terms,
+    } = run;
     match script.begin(alloc, &mut harness, writer) {
-        Ok(requests) => serve(rt, alloc, &script, requests, harness, writer, count, turns),
+        Ok(requests) => {
+            let run = Run {
+                script,
+                harness,
+                terms,
+            };
+            serve(rt, alloc, run, requests, writer)
+        }
         Err(fault) => {
             harness.close();
             Err(ThreadsFault::Script(fault))
@@ -121,34 +151,38 @@ fn run_on<R: Threads + Wait + Sync, K: Sink>(
 fn serve<R: Threads + Wait + Sync, K: Sink>(
     rt: &R,
     alloc: Global,
-    script: &ThreadsScript<'_>,
+    run: Run<'_>,
     requests: Vec<(u64, Request)>,
-    harness: Harness,
     writer: &mut K,
-    count: u64,
-    turns: u64,
 ) -> Result<(), ThreadsFault>
-    requires queues { IsFromOneTo queues count }
-    requires read { script.now.queues ≡ count }
-    requires asked { All IsAsked (unnumbered script.now.questions) }
-    requires own { IsSeatOf harness.timelines harness.seat }
-    requires all { timeline_count harness.timelines ≡ most_timelines }
-    requires first { IsFirst harness.seat }
-    requires untold { IsUntold harness.vm }
-    requires depth { IsFromOneTo most_waiting script.now.depth }
+    requires queues { IsFromOneTo queues run.terms.queues }
+    requires read { run.script.queues ≡ run.terms.queues }
+    requires asked { All IsAsked (unnumbered run.script.questions) }
+    requires own { IsSeatOf run.harness.timelines run.harness.seat }
+    requires all { timeline_count run.harness.timelines ≡ most_timelines }
+    requires first { IsFirst run.harness.seat }
+    requires untold { IsUntold run.harness.vm }
+    requires depth { IsFromOneTo most_waiting run.script.depth }
     ensures served { OnOk result ((text : List ℕ)
-        × IsServed (ready_of harness) script.now.timelines requests.items (unnumbered script.now.questions) count text
+        × IsServed (ready_of run.entry.harness) run.entry.script.timelines requests.items
+        (unnumbered run.entry.script.questions) run.entry.terms.queues text
         × Appends (K.written writer.old) (K.written writer.new) text) }
-    ensures ends { (read : Bool) → RunsAs read read (K.failed writer.old) (K.failed writer.new) count result }
+    ensures ends { (read : Bool)
+        → RunsAs read read (K.failed writer.old) (K.failed writer.new) run.entry.terms.queues result }
     ensures begun { IfErr result (λ fault. HasNotBegun fault → ⊥) }
 {
+    let Run {
+        script,
+        harness,
+        terms,
+    } = run;
     let Harness {
         vm,
         buffers,
         timelines,
         mut seat,
     } = harness;
-    let gate = TurnLimit::new(turns);
+    let gate = TurnLimit::new(terms.turns);
     let mut driver = PutAll::new(requests);
     let depth = script.depth();
     let (vm, ran) = run_queues(
@@ -157,7 +191,7 @@ fn serve<R: Threads + Wait + Sync, K: Sink>(
         vm,
         &timelines,
         &mut seat,
-        count,
+        terms.queues,
         depth,
         &gate,
         &mut driver,
@@ -168,7 +202,7 @@ fn serve<R: Threads + Wait + Sync, K: Sink>(
         timelines,
         seat,
     };
-    let ended = end(alloc, script, ran, &mut harness, writer);
+    let ended = end(alloc, &script, ran, &mut harness, writer);
     harness.close();
     ended
 }

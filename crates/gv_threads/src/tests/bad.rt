@@ -1,5 +1,5 @@
 //! Bad lines of threads scripts, with what is written before them.
-use super::{TURNS, bad_line, expect};
+use super::{Wanted, bad_line, expect, on};
 use crate::ThreadsFault;
 use gv_text::{SCRIPT_LIMIT, ScriptFault};
 use std::test::Fail;
@@ -66,10 +66,10 @@ const UNNAMED: [(&[u8], u64, &[u8]); 7] = [
 #[test]
 fn bad_lines_are_told(rt: HostRuntime) {
     for (script, line) in &UNREAD {
-        expect(&rt, rt.alloc(), script, 2, TURNS, bad_line(*line), b"");
+        expect(&rt, rt.alloc(), script, on(2), bad_line(*line, b""));
     }
     for (script, line, replies) in &UNNAMED {
-        expect(&rt, rt.alloc(), script, 2, TURNS, bad_line(*line), replies);
+        expect(&rt, rt.alloc(), script, on(2), bad_line(*line, replies));
     }
 }
 
@@ -82,29 +82,17 @@ fn more_timelines_than_there_are_is_a_bad_line(rt: HostRuntime) -> Result<(), Fa
         script.push_str(timeline.to_string(rt.alloc())?.as_str())?;
         script.push_str("\n")?;
     }
-    expect(
-        &rt,
-        rt.alloc(),
-        script.as_bytes(),
-        1,
-        TURNS,
-        bad_line(65),
-        b"",
-    );
+    expect(&rt, rt.alloc(), script.as_bytes(), on(1), bad_line(65, b""));
     Ok(())
 }
 
 #[test]
 fn long_script_is_refused(rt: HostRuntime) -> Result<(), Fail> {
     let script = vec![in rt.alloc(); b'\n'; SCRIPT_LIMIT + 1]?;
-    expect(
-        &rt,
-        rt.alloc(),
-        script.as_slice(),
-        1,
-        TURNS,
-        Err(ThreadsFault::Script(ScriptFault::ScriptTooLong)),
-        b"",
-    );
+    let wanted = Wanted {
+        outcome: Err(ThreadsFault::Script(ScriptFault::ScriptTooLong)),
+        replies: b"",
+    };
+    expect(&rt, rt.alloc(), script.as_slice(), on(1), wanted);
     Ok(())
 }

@@ -12,7 +12,7 @@ returns-in-Ok-clause-text g c = λ lines keeps.
     then_ok c.serve.result _ _
     (λ found. (
       first.0 ++ found.0,
-      text_of lines c.args.script c.begin.new.self (ready_of c.args.harness) (ready_of c.begin.new.harness) c.in-Ok.requests.items c.args.count first.0 found.0
+      text_of lines c.args.run.script c.begin.new.self (ready_of c.args.run.harness) (ready_of c.begin.new.harness) c.in-Ok.requests.items c.args.run.terms.queues first.0 found.0
           keeps c.begin.ensures.same first.1 c.in-Ok.ensures.named found.1,
       Appends-trans _ _ _ _ _ first.2 found.2,
     ))
@@ -20,5 +20,5 @@ returns-in-Ok-clause-text g c = λ lines keeps.
 
 pub returns-in-Ok-clause-ends : goal.returns-in-Ok-clause-ends
 returns-in-Ok-clause-ends g c = λ read.
-    from_first read read (g.K.Sink.failed c.args.writer.now) (g.K.Sink.failed c.begin.new.writer) (g.K.Sink.failed c.serve.new.writer) c.args.count c.serve.result
+    from_first read read (g.K.Sink.failed c.args.writer.now) (g.K.Sink.failed c.begin.new.writer) (g.K.Sink.failed c.serve.new.writer) c.args.run.terms.queues c.serve.result
     refl c.in-Ok.ensures.write_fault c.serve.ensures.ends

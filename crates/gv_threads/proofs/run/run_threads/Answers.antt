@@ -33,7 +33,7 @@ returns-in-Ok-new-2-clause-text g c =
         lines = lines;
         read = subst (λ (bytes : List ℕ). AreLinesOf bytes lines) c.as_slice.ensures.value kept.1;
         stand = kept.2;
-        text_is = subst (λ (r : Ready). IsTextOf lines r c.args.count found.0) begins found.1;
+        text_is = subst (λ (r : Ready). IsTextOf lines r c.args.terms.queues found.0) begins found.1;
       },
       found.2,
     ))
@@ -41,5 +41,5 @@ returns-in-Ok-new-2-clause-text g c =
 
 pub returns-in-Ok-new-2-clause-ends : goal.returns-in-Ok-new-2-clause-ends
 returns-in-Ok-new-2-clause-ends g c =
-    from_first (g.S.Source.failed c.args.reader.now) (g.S.Source.failed c.read_script.new.source) (g.K.Sink.failed c.args.writer.now) (g.K.Sink.failed c.args.writer.now) (g.K.Sink.failed c.run_on.new.writer) c.args.count c.run_on.result
+    from_first (g.S.Source.failed c.args.reader.now) (g.S.Source.failed c.read_script.new.source) (g.K.Sink.failed c.args.writer.now) (g.K.Sink.failed c.args.writer.now) (g.K.Sink.failed c.run_on.new.writer) c.args.terms.queues c.run_on.result
     c.in-Ok.ensures.fault refl c.run_on.ensures.ends
