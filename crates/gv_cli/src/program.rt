@@ -84,7 +84,7 @@ fn obey<R: AllocGlobal + Print + Eprint, T: Threads + Wait + Sync, S: Source, K:
     match read_words(rt.alloc(), words) {
         Ok(Task::Run) => run(rt, reader, writer),
         Ok(Task::Threads { queues, turns }) => {
-            run_with_threads(rt, threads, reader, writer, queues, turns)
+            run_with_threads(rt, threads, reader, writer, RunTerms { queues, turns })
         }
         Err(WordsFault::Printed(error)) => printed(rt, &error),
         Err(WordsFault::OutOfMemory) => told(rt, ProgramFault::Script(ScriptFault::OutOfMemory)),
@@ -132,15 +132,13 @@ fn run_with_threads<R: AllocGlobal + Eprint, T: Threads + Wait + Sync, S: Source
     threads: &T,
     reader: &mut S,
     writer: &mut K,
-    queues: u64,
-    turns: u64,
+    terms: RunTerms,
 ) -> u8
-    requires { IsFromOneTo most_queues queues }
+    requires { IsFromOneTo most_queues terms.queues }
     ensures run { (answer : Result (Unit {0}) ThreadsFault) × HasRunThreads S.remaining S.failed K.written K.failed
-        reader.old reader.new writer.old writer.new queues answer × (result ≡ threads_status answer) }
+        reader.old reader.new writer.old writer.new terms.queues answer × (result ≡ threads_status answer) }
     ensures status { IsStatus result }
 {
-    let terms = RunTerms { queues, turns };
     match run_threads(threads, rt.alloc(), reader, writer, terms) {
         Ok(()) => DONE,
         Err(ended) => told(rt, ProgramFault::from(ended)),
