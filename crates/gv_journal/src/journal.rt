@@ -17,6 +17,10 @@ use gv_types::Fault;
 use std::alloc::Global;
 use std::marker::Model;
 
+mod entry;
+
+pub use entry::HeldItem;
+
 /// A request has at most so many operations.
 pub const MAX_OPS: usize = 256;
 
