@@ -12,7 +12,7 @@ use Rattle.gv_vm.specs.declared.event.Looked.TheVariants.{Lacked}
 use Rattle.gv_vm.specs.declared.event.Reply.{Reply}
 use Rattle.gv_vm.specs.declared.event.Reply.TheVariants.{Reached, Lacking, Told}
 use Rattle.gv_vm.specs.declared.outcome.Outcome.TheVariants.{Accepted, Refused, NotReady}
-use Rattle.gv_vm.specs.declared.queue.Left.{Left}
+use Rattle.gv_vm.specs.declared.ahead.Left.{Left}
 use Rattle.gv_vm.specs.declared.world.turn.Seen.TheVariants.{Lacks}
 use Rattle.gv_vm.specs.declared.world.turn.Turn.{Turn}
 use Rattle.gv_vm.specs.declared.world.turn.Turn.TheVariants.{Idle}

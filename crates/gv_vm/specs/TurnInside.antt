@@ -8,7 +8,7 @@ use Rattle.gv_vm.specs.declared.event.Looked.{Looked}
 use Rattle.gv_vm.specs.declared.event.Looked.TheVariants.{AllReached as LookedAll, Lacked, Other as LookedOther}
 use Rattle.gv_vm.specs.declared.event.Reply.{Reply}
 use Rattle.gv_vm.specs.declared.event.Reply.TheVariants.{Reached, Lacking}
-use Rattle.gv_vm.specs.declared.queue.Left.{Left}
+use Rattle.gv_vm.specs.declared.ahead.Left.{Left}
 use Rattle.gv_vm.specs.declared.world.turn.Seen.{Seen}
 use Rattle.gv_vm.specs.declared.world.turn.Seen.TheVariants.{AllReached, Lacks, Other}
 

@@ -12,6 +12,7 @@
 //! Rewind, Withdraw and Settle go back over the entries; Create, Destroy, JobBegin, JobEnd and Translate ask the machine alone.
 #![tactic(auto)]
 
+mod ahead;
 mod dispatch;
 mod event;
 mod holding;

@@ -4,8 +4,10 @@ ghost use Rattle.std.specs.VecDeque.{deque_len, deque_capacity};
 ghost use Rattle.gv_types.specs.declared.request.Point.{Point};
 ghost use Rattle.gv_vm.specs.World.{new_queue, taken, put_fault_of, next_wait};
 ghost use Rattle.gv_vm.specs.Queues.{IsInOrder};
+ghost use Rattle.gv_vm.specs.TurnInside.{AreLeft, IsLeftIn};
 ghost use Rattle.gv_vm.specs.Turns.{MayTake, TookFront, wait_of, with_reached, with_lacked, IsReadyToBind, IsLacking, without_hand, PaidFirst};
 
+use crate::ahead::{Ahead, Left};
 use crate::outcome::NotTold;
 use gv_sync::{Lacking, Reached};
 use gv_types::{Fault, OutOfMemory, Point, Request};
@@ -31,22 +33,6 @@ impl Model for Hand {
     ghost view = { hand_of };
 
     ghost invariant = { IsSoundHand };
-}
-
-/// What is left of a request: so many of its waits, and its signals.
-#[derive(Clone, Copy)]
-pub struct Left {
-    /// Whether it is in hand, or else the first that waits.
-    pub in_hand: bool,
-    pub waits: usize,
-    pub signals: usize,
-}
-
-/// What a turn of a queue has before it.
-pub struct Ahead {
-    /// So many signals owed.
-    pub owed: usize,
-    pub left: Option<Left>,
 }
 
 /// So many places the first request makes.
@@ -75,8 +61,6 @@ impl Model for Queue {
 }
 
 impl Hand {
-    ghost use Rattle.gv_vm.specs.TurnInside.{AreLeft};
-
     /// The first wait that is not reached yet.
     pub fn wait(&self) -> Option<Point>
         ensures { result ≡ next_wait self.now }
@@ -118,8 +102,6 @@ impl Hand {
 }
 
 impl Queue {
-    ghost use Rattle.gv_vm.specs.TurnInside.{IsLeftIn};
-
     /// A queue on which nothing was put. It takes no memory.
     pub fn new(alloc: Global) -> Queue
         ensures { result ≡ new_queue }
@@ -271,16 +253,10 @@ impl Queue {
         ensures owed { length self.now.owed ≡ result.owed }
         ensures left { IsLeftIn self.now.hand self.now.waiting result.left }
     {
-        let left = match &self.hand {
-            Some(hand) => Some(hand.left()),
-            None => match self.waiting.front() {
-                Some(request) => Some(Left {
-                    in_hand: false,
-                    waits: request.waits.len(),
-                    signals: request.signals.len(),
-                }),
-                None => None,
-            },
+        let left = match (&self.hand, self.waiting.front()) {
+            (Some(hand), _) => Some(hand.left()),
+            (None, Some(request)) => Some(Left::waiting(request)),
+            (None, None) => None,
         };
         Ahead {
             owed: self.owed.len(),

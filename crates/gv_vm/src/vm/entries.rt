@@ -1,16 +1,26 @@
 //! Entries of the journal taken back, withdrawn and settled.
-ghost use Rattle.std.specs.Prelude.{◌≡◌, ◌+◌, [], ℕ, Some, None, IfOk, IfErr, OnOk, OnErr};
-ghost use Rattle.gv_journal.specs.Items.{next};
+ghost use Rattle.std.specs.Prelude.{◌≡◌, ◌+◌, [], ℕ, Some, None, IfOk, IfErr, IfSome, IfNone, OnOk, OnErr};
+ghost use Rattle.gv_journal.specs.Items.{entries, is_withdrawn, next};
 ghost use Rattle.gv_journal.specs.History.{back};
 ghost use Rattle.gv_journal.specs.Binding.{IsRewound};
 ghost use Rattle.gv_journal.specs.Settling.{settle_fault, IsSettled};
-ghost use Rattle.gv_journal.specs.Withdrawing.{withdraw_fault, IsWithdrawRefused, IsWithdrawn};
+ghost use Rattle.gv_journal.specs.Withdrawing.{item_at, withdraw_fault, IsWithdrawRefused, IsWithdrawn};
 
 use super::Vm;
+use gv_journal::HeldItem;
 use gv_types::Fault;
 use std::alloc::Global;
 
 impl Vm {
+    /// The item of the journal with this number, if it is held.
+    pub fn entry(&self, number: u64) -> Option<HeldItem<'_>>
+        ensures none { IfNone result (item_at self.now.journal number ≡ None) }
+        ensures item { IfSome result (λ held. item_at self.now.journal number ≡ Some held.item.now) }
+        ensures withdrawn { IfSome result (λ held. held.is_withdrawn ≡ is_withdrawn (entries self.now.journal) number) }
+    {
+        self.journal.entry(number)
+    }
+
     /// Takes the newest entry back and answers its number: the list of mappings is what it was before that entry, boundaries
     /// included, and so are the page table and the uses of each buffer. `NoEntry` only where no entry is held. It takes no
     /// memory. What was told, the jobs and the making of buffers are not taken back.

@@ -9,9 +9,9 @@ ghost use Rattle.gv_vm.specs.TurnInside.{AreLeft, IsLeftIn, AreQuiet, AreLooks, 
 ghost use Rattle.gv_vm.specs.World.{HandState, queue_at, next_number};
 
 use super::World;
+use crate::ahead::{Ahead, Left};
 use crate::event::{Event, Reply};
 use crate::outcome::Outcome;
-use crate::queue::{Ahead, Left};
 use crate::told::QUEUES;
 use gv_types::{OutOfMemory, Point};
 use std::alloc::Global;
