@@ -338,7 +338,7 @@ struct vmbind_mapping {
 vmbind_status vmbind_mappings(struct vmbind_vm *vm, uint64_t from, struct vmbind_mapping *list, size_t room, uint64_t *count,
                               uint64_t *total);
 
-/* How many tables the page table has: tables[0] at the top level 4 (always 1), down to tables[4] at level 0. */
+/* How many tables the page table has: tables[0] at the top level 4, down to tables[4] at level 0. */
 struct vmbind_table_counts { uint64_t tables[5]; };
 
 vmbind_status vmbind_tables(struct vmbind_vm *vm, struct vmbind_table_counts *counts);
