@@ -1,0 +1,449 @@
+"""vmbind: a GPU's address space, proved. One Vm is one address space; capi/vmbind.h says what each call does.
+
+    import vmbind
+    with vmbind.Vm() as vm:
+        b = vm.buffer(4)                                  # four pages of 4,096 bytes
+        entry = vm.bind(vmbind.Map(0, 0x4000, b))
+        place = vm.translate(0x2abc)                      # place.buffer == b, place.byte == 0x2abc, place.run == 0x1544
+        vm.rewind()
+
+A call that is refused raises Refused. Calls hold the interpreter's lock, so threads may share a Vm.
+The library is looked for at the path in VMBIND_LIBRARY, beside this file, where `make install` puts it, and then by the loader.
+"""
+import ctypes as c
+import os
+from collections import namedtuple
+
+OK, BAD_ARGUMENT, NO_VM, NOT_NULL, IDLE, NOT_READY = 0, 64, 65, 66, 67, 68
+NAMES = {
+    0: "Ok", 1: "Unaligned", 2: "Empty", 3: "OutOfSpace", 4: "Reserved", 6: "NoBuffer", 7: "OutOfBuffer", 8: "BadSize",
+    9: "TooManyBuffers", 10: "Mapped", 11: "Kept", 12: "InUse", 13: "Conflict", 14: "TooManyMappings", 15: "TooManyOps",
+    16: "JournalFull", 17: "NoEntry", 18: "NotABind", 19: "Withdrawn", 20: "Touched", 21: "Crossed", 22: "OutOfTurn",
+    23: "QueueSpent", 24: "Unmapped", 25: "WriteToReadOnly", 26: "QueueFull", 29: "TooManyJobs", 30: "TooManyAccesses",
+    31: "NoJob", 32: "QueueGone", 33: "OutOfMemory", 64: "BadArgument", 65: "NoVm", 66: "NotNull", 67: "Idle", 68: "NotReady",
+}
+# Kinds of outcomes, of places and mappings, of entries and of steps, as in the header.
+NOT_PUT, ACCEPTED, REFUSED, GIVEN_UP, PENDING = range(5)
+NOTHING, BUFFER, ZEROS = range(3)
+BIND, WITHDRAWAL = 1, 2
+STEP_UNMAP, STEP_REMAP, STEP_MAP = 1, 2, 3
+END = 1 << 57
+
+_u32, _u64, _size, _address_of = c.c_uint32, c.c_uint64, c.c_size_t, c.addressof
+_MOST = (1 << 64) - 1
+
+
+def _number(it):
+    """A number of 64 bits. ctypes would cut a greater one off in silence."""
+    if not 0 <= it < 1 << 64:
+        raise ValueError(f"not a number of 64 bits: {it}")
+    return it
+
+
+class _Value(c.Structure):
+    """A structure that is compared and shown by its fields."""
+
+    def _fields_of(self):
+        return tuple(getattr(self, name) for name, *_ in self._fields_)
+
+    def __eq__(self, other):
+        return type(self) is type(other) and bytes(self) == bytes(other)
+
+    def __hash__(self):
+        return hash(bytes(self))
+
+    def __repr__(self):
+        return f"{type(self).__name__}({', '.join(f'{n}={getattr(self, n)!r}' for n, *_ in self._fields_)})"
+
+
+class _Handle(c.Structure):
+    _fields_ = [("at", c.c_void_p)]
+
+
+class _Config(c.Structure):
+    _fields_ = [(name, _u64) for name in (
+        "start size reserved_start reserved_size buffers mappings items told queues depth timelines").split()]
+
+
+class Buffer(_Value):
+    """A buffer's id."""
+    _fields_ = [("generation", _u64), ("index", _u32), ("made", _u32)]
+
+
+class Op(_Value):
+    """An operation: see Map, MapZero, Unmap and UnmapAll."""
+    _fields_ = [("kind", _u32), ("flags", _u32), ("start", _u64), ("size", _u64), ("buffer", Buffer), ("offset", _u64)]
+
+
+class Point(_Value):
+    """A number on a timeline."""
+    _fields_ = [("timeline", _u64), ("value", _u64)]
+
+
+class _Request(c.Structure):
+    _fields_ = [("queue", _u64), ("ops", c.c_void_p), ("op_count", _size), ("waits", c.c_void_p), ("wait_count", _size),
+                ("signals", c.c_void_p), ("signal_count", _size)]
+
+
+class Outcome(_Value):
+    """What became of a request."""
+    _fields_ = [("kind", _u32), ("fault", _u32), ("number", _u64), ("entry", _u64), ("op", _u64), ("carried", _u64),
+                ("point", Point), ("have", _u64)]
+
+
+class Translation(_Value):
+    """Where an address leads. It is true where something is mapped."""
+    _fields_ = [("kind", _u32), ("flags", _u32), ("run", _u64), ("buffer", Buffer), ("byte", _u64)]
+
+    def __bool__(self):
+        return self.kind != NOTHING
+
+    @property
+    def read_only(self):
+        return self.flags == 1
+
+
+class Mapping(_Value):
+    """A mapping of the list. It is true where it is one."""
+    _fields_ = [("kind", _u32), ("flags", _u32), ("start", _u64), ("size", _u64), ("buffer", Buffer), ("offset", _u64)]
+
+    def __bool__(self):
+        return self.kind != NOTHING
+
+    @property
+    def read_only(self):
+        return self.flags == 1
+
+
+class Step(_Value):
+    """A step of an operation's plan."""
+    _fields_ = [("kind", _u32), ("keep", _u32), ("mapping", Mapping), ("prev", Mapping), ("next", Mapping)]
+
+
+class Uses(_Value):
+    """A buffer's pages, and how many mappings of it are in the list and kept."""
+    _fields_ = [("pages", _u64), ("mapped", _u64), ("kept", _u64)]
+
+
+class _Access(c.Structure):
+    _fields_ = [("address", _u64), ("usage", _u32), ("reserved", _u32)]
+
+
+class _Counts(c.Structure):
+    _fields_ = [("tables", _u64 * 5)]
+
+
+class _Info(c.Structure):
+    _fields_ = [("kind", _u32), ("withdrawn", _u32), ("queue", _u64), ("number", _u64), ("ops", _u64), ("of", _u64)]
+
+
+# An entry of the journal. `ops` are a request's operations; a withdrawal has None there, and `of` is what it withdraws.
+Entry = namedtuple("Entry", "entry queue number withdrawn ops of")
+
+
+class Refused(Exception):
+    """A call was refused. `fault` is its status, `name` that status's name, `op` the operation of a request that has the fault
+    (None where there is none), `n` the number that the fault carries (0: none), `outcome` what a request was told."""
+
+    def __init__(self, fault, op=None, n=0, outcome=None):
+        self.fault, self.op, self.n, self.outcome = fault, op, n, outcome
+        self.name = NAMES.get(fault, "Unknown")
+        super().__init__(self.name + (f" {n}" if n else "") + ("" if op is None else f" at operation {op}"))
+
+
+class NotReady(Refused):
+    """A request stays on its queue, or was given up (outcome.kind), since `point` isn't reached: its timeline is at `have`."""
+
+    def __init__(self, outcome):
+        super().__init__(NOT_READY, outcome=outcome)
+        self.point, self.have = outcome.point, outcome.have
+
+
+def _load():
+    here = os.path.dirname(os.path.abspath(__file__))
+    named = os.environ.get("VMBIND_LIBRARY")
+    if named:
+        return c.PyDLL(named)
+    for path in (here, os.path.join(here, "build"), os.path.join(here, "..", "..", "lib")):
+        path = os.path.join(path, "libvmbind.so")
+        if os.path.exists(path):
+            return c.PyDLL(path)
+    return c.PyDLL("libvmbind.so.0")
+
+
+_library = _load()
+_to = c.POINTER
+
+
+def _declare(name, *types):
+    call = getattr(_library, "vmbind_" + name)
+    call.argtypes, call.restype = (_to(_Handle), *types), _u32
+    return call
+
+
+_create = _declare("create", _to(_Config))
+_destroy = _declare("destroy")
+_buffer_create = _declare("buffer_create", _u64, _to(Buffer))
+_buffer_destroy = _declare("buffer_destroy", Buffer, _to(_u64))
+_buffer_uses = _declare("buffer_uses", Buffer, _to(Uses))
+_bind = _declare("bind", _to(_Request), _to(Outcome))
+_submit = _declare("submit", _to(_Request), _to(_u64))
+_serve = _declare("serve", _u64, _u32, _to(Outcome))
+_told = _declare("told", _u64, _u64, c.c_void_p, _size, _to(_u64), _to(_u64))
+_timeline_raise = _declare("timeline_raise", _u64, _u64, _to(_u64))
+_timeline_value = _declare("timeline_value", _u64, _to(_u64))
+_rewind = _declare("rewind", _to(_u64))
+_withdraw = _declare("withdraw", _u64, _to(_u64))
+_settle = _declare("settle", _u64, _to(_u64))
+_journal = _declare("journal", _to(_u64), _to(_u64))
+_entry = _declare("entry", _u64, _to(_Info), c.c_void_p, _size, _to(_u64))
+_translate = _declare("translate", _u64, c.c_void_p)
+_translate.argtypes = c.c_void_p, _u64, c.c_void_p   # bare addresses: a third of the time
+_translate_many = _declare("translate_many", c.c_void_p, _size, c.c_void_p, _size)
+_mappings = _declare("mappings", _u64, c.c_void_p, _size, _to(_u64), _to(_u64))
+_tables = _declare("tables", _to(_Counts))
+_plan = _declare("plan", _to(Op), c.c_void_p, _size, _to(_u64), _to(_u64))
+_job_begin = _declare("job_begin", c.c_void_p, _size, _to(_u64))
+_job_end = _declare("job_end", _u64)
+
+_NO_BUFFER = Buffer()
+_EMPTY = (None, 0)
+
+
+def Map(start, size, buffer, offset=0, read_only=False):
+    """Map a buffer's bytes from `offset` on."""
+    return Op(1, int(read_only), _number(start), _number(size), buffer, _number(offset))
+
+
+def MapZero(start, size, read_only=False):
+    """Map zeros."""
+    return Op(2, int(read_only), _number(start), _number(size), _NO_BUFFER, 0)
+
+
+def Unmap(start, size):
+    """Cut out what lies there."""
+    return Op(3, 0, _number(start), _number(size), _NO_BUFFER, 0)
+
+
+def UnmapAll(buffer):
+    """Unmap every mapping of a buffer."""
+    return Op(4, 0, 0, 0, buffer, 0)
+
+
+def _array(kind, items):
+    items = list(items)
+    return ((kind * len(items))(*items), len(items)) if items else _EMPTY
+
+
+def _points(points):
+    """Points, or pairs of a timeline and a value."""
+    return [it if isinstance(it, Point) else Point(_number(it[0]), _number(it[1])) for it in points]
+
+
+def _numbers(items):
+    """An array of 64-bit numbers: where the items lie, if they lie in a buffer that may be written, else a copy."""
+    try:
+        view = memoryview(items)
+    except TypeError:
+        items = [_number(it) for it in items]
+        return (_u64 * len(items))(*items), len(items)
+    if view.itemsize != 8 or view.format.lstrip("@=<") not in ("Q", "L") or not view.c_contiguous:
+        raise TypeError("a buffer of unsigned 64-bit numbers is wanted")
+    count, view = view.nbytes // 8, view.cast("B")
+    return ((_u64 * count).from_buffer_copy(view) if view.readonly else (_u64 * count).from_buffer(view)), count
+
+
+class Vm:
+    """An address space. Sizes are in bytes; the limits are those of struct vmbind_config."""
+
+    def __init__(self, *, start=0, size=END, reserved=(0, 0), buffers=65536, mappings=1 << 20, items=65536, told=65536,
+                 queues=16, depth=65536, timelines=64):
+        self._vm = _Handle()
+        self._at = _address_of(self._vm)
+        numbers = (start, size, *reserved, buffers, mappings, items, told, queues, depth, timelines)
+        self._check(_create(self._vm, _Config(*map(_number, numbers))))
+
+    def close(self):
+        """Gives the address space up. A second time it does nothing; other calls are refused then, as NoVm."""
+        _destroy(self._vm)
+
+    def __del__(self):
+        if hasattr(self, "_vm"):
+            _destroy(self._vm)
+
+    def __enter__(self):
+        return self
+
+    def __exit__(self, *_):
+        self.close()
+
+    @staticmethod
+    def _check(status, n=0):
+        if status:
+            raise Refused(status, n=n)
+
+    def _counted(self, call, *arguments):
+        number = _u64()
+        status = call(self._vm, *arguments, number)
+        if status:
+            raise Refused(status, n=number.value)
+        return number.value
+
+    def _listed(self, kind, call, *arguments):
+        """All of a list: how many there are, and then those."""
+        count, total = _u64(), _u64()
+        self._check(call(self._vm, *arguments, None, 0, count, total))
+        found = (kind * total.value)()
+        if total.value:
+            self._check(call(self._vm, *arguments, found, total.value, count, total))
+        return list(found)
+
+    # Buffers
+
+    def buffer(self, pages):
+        """A new buffer of so many pages."""
+        made = Buffer()
+        self._check(_buffer_create(self._vm, _number(pages), made))
+        return made
+
+    def destroy(self, buffer):
+        number = _u64()
+        self._check(_buffer_destroy(self._vm, buffer, number), number.value)
+
+    def uses(self, buffer):
+        uses = Uses()
+        self._check(_buffer_uses(self._vm, buffer, uses))
+        return uses
+
+    # Requests
+
+    @staticmethod
+    def _request(ops, waits, signals, queue):
+        ops, waits, signals = _array(Op, ops), _array(Point, _points(waits)), _array(Point, _points(signals))
+        asked = _Request(_number(queue), c.cast(ops[0], c.c_void_p), ops[1], c.cast(waits[0], c.c_void_p), waits[1],
+                         c.cast(signals[0], c.c_void_p), signals[1])
+        asked.lists = ops, waits, signals
+        return asked
+
+    @staticmethod
+    def _told_of(status, outcome):
+        if status == NOT_READY:
+            raise NotReady(outcome)
+        if status:
+            raise Refused(status, outcome.op if outcome.kind == REFUSED else None, outcome.carried, outcome)
+        return outcome
+
+    def bind(self, *ops, waits=(), signals=(), queue=0):
+        """Puts a request and serves its queue up to it. The entry's number; Refused, or NotReady where it stays."""
+        outcome = Outcome()
+        return self._told_of(_bind(self._vm, self._request(ops, waits, signals, queue), outcome), outcome).entry
+
+    def submit(self, *ops, waits=(), signals=(), queue=0):
+        """Puts a request and serves nothing. Its number on the queue."""
+        return self._counted(_submit, self._request(ops, waits, signals, queue))
+
+    def serve(self, queue=0, give_up=False):
+        """Serves one request. Its Outcome; Refused (IDLE where nothing waits), or NotReady."""
+        outcome = Outcome()
+        return self._told_of(_serve(self._vm, _number(queue), int(give_up), outcome), outcome)
+
+    def told(self, queue=0, start=0):
+        """The Outcomes of a queue's requests, from one number on."""
+        count, total = _u64(), _u64()
+        self._check(_told(self._vm, _number(queue), 0, None, 0, count, total))
+        room = max(total.value - _number(start), 0)
+        found = (Outcome * room)()
+        self._check(_told(self._vm, queue, start, found, room, count, total))
+        return list(found)
+
+    # Timelines
+
+    def raise_to(self, timeline, value):
+        """Raises a timeline, where it is lower. Its number then."""
+        return self._counted(_timeline_raise, _number(timeline), _number(value))
+
+    def value(self, timeline):
+        return self._counted(_timeline_value, _number(timeline))
+
+    # Going back
+
+    def rewind(self):
+        """Takes the newest entry back. Its number."""
+        return self._counted(_rewind)
+
+    def withdraw(self, entry):
+        """Withdraws an older request. The number of the withdrawal, which is an entry."""
+        return self._counted(_withdraw, _number(entry))
+
+    def settle(self, to):
+        """Lets go of the entries below a number. How many."""
+        return self._counted(_settle, _number(to))
+
+    def journal(self):
+        """The range of the entries that are held."""
+        first, after = _u64(), _u64()
+        self._check(_journal(self._vm, first, after))
+        return range(first.value, after.value)
+
+    def entry(self, number):
+        info, count = _Info(), _u64()
+        self._check(_entry(self._vm, _number(number), info, None, 0, count))
+        if info.kind == WITHDRAWAL:
+            return Entry(number, None, None, False, None, info.of)
+        ops = (Op * info.ops)()
+        self._check(_entry(self._vm, number, info, ops, info.ops, count))
+        return Entry(number, info.queue, info.number, bool(info.withdrawn), list(ops), None)
+
+    def entries(self):
+        """The entries that are held, the oldest one first."""
+        return (self.entry(number) for number in self.journal())
+
+    # Looking
+
+    def translate(self, address):
+        """The Translation of an address, in bytes."""
+        place = Translation()
+        if not 0 <= address <= _MOST:
+            _number(address)
+        status = _translate(self._at, address, _address_of(place))
+        if status:
+            raise Refused(status)
+        return place
+
+    def translate_many(self, addresses, out=None):
+        """The Translations of many addresses, as an array. `addresses` is any row of numbers; a buffer of unsigned 64-bit
+        numbers (array.array("Q"), numpy.uint64) is read where it lies. `out` may be an earlier answer of as many, which is
+        written again."""
+        numbers, count = _numbers(addresses)
+        if out is None:
+            out = (Translation * count)()
+        elif not isinstance(out, c.Array) or out._type_ is not Translation:
+            raise TypeError("an array of Translations is wanted")
+        self._check(_translate_many(self._vm, numbers, count, out, len(out)))
+        return out
+
+    def mappings(self):
+        """The mappings, ascending, as they are now."""
+        return iter(self._listed(Mapping, _mappings, 0))
+
+    def tables(self):
+        """How many tables there are at the levels 4, 3, 2, 1 and 0."""
+        counts = _Counts()
+        self._check(_tables(self._vm, counts))
+        return tuple(counts.tables)
+
+    def plan(self, op):
+        """The Steps that an operation would take now."""
+        return self._listed(Step, _plan, op)
+
+    # Jobs
+
+    def job(self, reads=(), writes=(), accesses=None):
+        """Begins a job that reads and writes these addresses. `accesses` has pairs of an address and whether it is written,
+        where their order counts. The job's number."""
+        if accesses is None:
+            accesses = [(it, False) for it in reads] + [(it, True) for it in writes]
+        return self._counted(_job_begin, *_array(_Access, [_Access(_number(at), int(writes), 0) for at, writes in accesses]))
+
+    def end(self, job):
+        self._check(_job_end(self._vm, _number(job)))
