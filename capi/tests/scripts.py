@@ -270,7 +270,7 @@ class Author:
         kind = self.chance.random()
         flags = " ro" if self.chance.random() < 0.3 else ""
         if kind < 0.5 and session.declared:
-            return f"map {self.range()} {self.name(session)} {self.chance.randint(0, 6) * PAGE:#x}{flags}"
+            return f"map {self.range()} {self.name(session)} {self.chance.randint(0, 4) * PAGE:#x}{flags}"
         if kind < 0.65:
             return f"zero {self.range()}{flags}"
         if kind < 0.72 and all_too and session.declared:
@@ -294,7 +294,7 @@ class Author:
     def next(self, session, k):
         pick = self.chance.random()
         if pick < 0.06 or k < 3:
-            size = self.chance.choice((0, 1 << 37)) if self.chance.random() < 0.1 else self.chance.randint(1, 9)
+            size = self.chance.choice((0, 1 << 37)) if self.chance.random() < 0.1 else self.chance.randint(1, 20)
             if self.wide and self.chance.random() < 0.3:
                 size = self.chance.choice((1 << 18, 1 << 20))
             return f"buffer b{k} {size}"
@@ -311,15 +311,15 @@ class Author:
             return "plan " + self.operation(session, all_too=False)
         if pick < 0.70:
             return f"at {self.page() + self.chance.randrange(PAGE):#x}"
-        if pick < 0.76:
+        if pick < 0.74:
             return "rewind"
         if pick < 0.83:
             return f"withdraw {self.entry(session)}"
         if pick < 0.85:
             return f"settle {self.entry(session)}"
-        if pick < 0.89:
+        if pick < 0.90:
             return "job " + " ; ".join(f"{self.chance.choice(('read', 'write'))} {self.page() + 4:#x}"
-                                       for _ in range(self.chance.randint(1, 4)))
+                                       for _ in range(self.chance.randint(1, 3)))
         if pick < 0.92:
             return f"end {self.chance.randrange(6)}"
         return self.chance.choice(("map", "tables", "journal", f"told {self.chance.randrange(4)}"))
@@ -337,7 +337,7 @@ def one_by_chance(seed, words):
     if chance.random() < 0.3:
         run("space 0x0 0x20000000000 0x10000 0x3000")
     if chance.random() < 0.5:
-        run(f"limits {chance.randint(2, 6)} {chance.randint(4, 20)} {chance.randint(3, 12)}")
+        run(f"limits {chance.randint(2, 6)} {chance.randint(4, 20)} {chance.randint(3, 40)}")
     for k in range(chance.randint(40, 300)):
         run(author.next(session, k))
         if chance.random() < 0.05 and session.vm:
