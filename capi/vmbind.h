@@ -222,7 +222,7 @@ struct vmbind_outcome {
  *                         the request
  *   VMBIND_NOT_READY      PENDING; it, or one before it, waits. vmbind_serve goes on once the point is reached
  *   VMBIND_OUT_OF_MEMORY  PENDING: it is on the queue, where vmbind_serve goes on. NOT_PUT: it isn't
- *   VMBIND_QUEUE_SPENT, VMBIND_QUEUE_FULL   NOT_PUT
+ *   VMBIND_QUEUE_SPENT, VMBIND_QUEUE_FULL   NOT_PUT, and nothing is served: no place is made by serving
  *   VMBIND_BAD_ARGUMENT   NOT_PUT; a kind, a flag, a queue or a timeline that there is not */
 vmbind_status vmbind_bind(struct vmbind_vm *vm, const struct vmbind_request *request, struct vmbind_outcome *outcome);
 
