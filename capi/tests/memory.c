@@ -1,0 +1,260 @@
+/* Each request for memory refused in turn, in a row of calls: a call that wants memory changes nothing, is made again and then comes
+ * to the same; and once all memory is refused, what takes none still works. Nothing is lost. Linked with
+ * --wrap=malloc,--wrap=realloc,--wrap=free. */
+#include "check.h"
+
+#define PAGE VMBIND_PAGE
+#define COUNT(list) (sizeof(list) / sizeof *(list))
+
+static long left = -1;   /* so many requests until one is refused; none below 0 */
+static int for_good;     /* then all are refused */
+static long asked, held;
+
+void *__real_malloc(size_t);
+void *__real_realloc(void *, size_t);
+void __real_free(void *);
+
+static int refused(void) {
+  asked++;
+  if (left > 0) left--;
+  else if (left == 0) {
+    if (!for_good) left = -1;
+    return 1;
+  }
+  return 0;
+}
+
+void *__wrap_malloc(size_t size) {
+  void *at = refused() ? NULL : __real_malloc(size);
+  held += at != NULL;
+  return at;
+}
+
+void *__wrap_realloc(void *old, size_t size) {
+  void *at = refused() ? NULL : __real_realloc(old, size);
+  held += at && !old;
+  return at;
+}
+
+void __wrap_free(void *at) {
+  held -= at != NULL;
+  __real_free(at);
+}
+
+#define BUFFERS 10
+
+/* All that can be seen of an address space. What queues were told stands apart, since a request that is refused for want of
+ * memory is told so. */
+struct seen {
+  struct vmbind_mapping list[64];
+  struct vmbind_table_counts tables;
+  struct vmbind_entry_info entries[32];
+  struct vmbind_op ops[32][8];
+  struct vmbind_uses uses[BUFFERS];
+  uint64_t mappings, first, next, count[32], timeline[4];
+};
+
+static struct vmbind_buffer buffer[BUFFERS];
+
+static void look(struct vmbind_vm *vm, struct seen *s) {
+  long before = asked;
+  uint64_t count;
+  memset(s, 0, sizeof *s);
+  CALL(OK, mappings, vm, 0, s->list, 64, &count, &s->mappings);
+  CHECK(count == s->mappings);
+  CALL(OK, tables, vm, &s->tables);
+  CALL(OK, journal, vm, &s->first, &s->next);
+  CHECK(s->next - s->first <= 32);
+  for (uint64_t k = s->first; k < s->next && k - s->first < 32; k++) {
+    CALL(OK, entry, vm, k, &s->entries[k - s->first], s->ops[k - s->first], 8, &s->count[k - s->first]);
+    s->entries[k - s->first].number = 0;
+  }
+  for (int k = 0; k < BUFFERS; k++) vmbind_buffer_uses(vm, buffer[k], &s->uses[k]);
+  for (uint64_t k = 0; k < 4; k++) CALL(OK, timeline_value, vm, k, &s->timeline[k]);
+  for (uint64_t k = 0; k < s->mappings && k < 64; k++) {
+    struct vmbind_translation t;
+    CALL(OK, translate, vm, s->list[k].start, &t);
+    CHECK(t.kind == s->list[k].kind && t.run == s->list[k].size);
+  }
+  CHECK(asked == before);   /* looking takes no memory */
+}
+
+enum doing { MAKE, BIND, PUT, SERVE, GIVE_UP, RAISE, REWIND, WITHDRAW, SETTLE, JOB, END, PLAN, DESTROY, DOINGS };
+
+/* Which may want memory. */
+static const char grows[DOINGS] = { [MAKE] = 1, [BIND] = 1, [PUT] = 1, [SERVE] = 1, [GIVE_UP] = 1, [WITHDRAW] = 1, [JOB] = 1, [PLAN] = 1 };
+static char lacked[DOINGS];
+
+struct row { enum doing doing; uint64_t a, b; vmbind_status wanted; };
+
+/* BIND and PUT are of request `a` on queue `b`, which SERVE and GIVE_UP name too. MAKE makes buffer `a` of `b` pages. */
+static const struct row rows[] = {
+  { MAKE, 0, 4096, VMBIND_OK }, { MAKE, 1, 600, VMBIND_OK }, { MAKE, 2, 4, VMBIND_OK }, { MAKE, 3, 4, VMBIND_OK },
+  { MAKE, 4, 4, VMBIND_OK }, { MAKE, 5, 4, VMBIND_OK }, { MAKE, 6, 4, VMBIND_OK }, { MAKE, 7, 4, VMBIND_OK },
+  { MAKE, 8, 4, VMBIND_OK }, { MAKE, 9, 4, VMBIND_OK },
+  { BIND, 0, 0, VMBIND_OK }, { BIND, 1, 0, VMBIND_OK }, { BIND, 2, 0, VMBIND_OK }, { BIND, 3, 0, VMBIND_OK },
+  { BIND, 4, 0, VMBIND_OK }, { BIND, 5, 0, VMBIND_OUT_OF_BUFFER }, { PLAN, 0x20000000, 0x200000, VMBIND_OK },
+  { JOB, 0x1000, 0x20000000, VMBIND_OK }, { JOB, 0x2000, 0x5000, VMBIND_OK }, { BIND, 6, 0, VMBIND_OK },
+  { WITHDRAW, 2, 0, VMBIND_OK }, { WITHDRAW, 0, 0, VMBIND_TOUCHED }, { REWIND, 6, 0, VMBIND_OK },
+  { WITHDRAW, 3, 0, VMBIND_OK },
+  { PUT, 8, 2, VMBIND_OK }, { GIVE_UP, 0, 2, VMBIND_NOT_READY }, { PUT, 7, 1, VMBIND_OK }, { PUT, 8, 1, VMBIND_OK },
+  { PUT, 1, 1, VMBIND_OK }, { PUT, 2, 1, VMBIND_OK }, { PUT, 3, 1, VMBIND_OK }, { PUT, 4, 1, VMBIND_OK },
+  { SERVE, 0, 1, VMBIND_NOT_READY }, { RAISE, 1, 5, VMBIND_OK }, { SERVE, 0, 1, VMBIND_OK },
+  { GIVE_UP, 0, 1, VMBIND_NOT_READY }, { SERVE, 0, 1, VMBIND_OK }, { SERVE, 0, 1, VMBIND_OK },
+  { SERVE, 0, 1, VMBIND_OK }, { SERVE, 0, 1, VMBIND_OK }, { SERVE, 0, 1, VMBIND_IDLE },
+  { END, 0, 0, VMBIND_OK }, { END, 0, 0, VMBIND_NO_JOB }, { SETTLE, 7, 0, VMBIND_OK }, { BIND, 9, 0, VMBIND_OK },
+  { DESTROY, 9, 0, VMBIND_OK }, { MAKE, 9, 7, VMBIND_OK }, { REWIND, 12, 0, VMBIND_OK },
+};
+
+static vmbind_status ask(struct vmbind_vm *vm, const struct row *row, struct vmbind_outcome *outcome) {
+  static const struct vmbind_point waits[2] = { { 1, 3 }, { 1, 5 } }, never[1] = { { 1, 6 } }, signals[3] = { { 2, 1 }, { 2, 9 }, { 3, 4 } };
+  struct vmbind_op ops[8];
+  struct vmbind_request r = asks(row->b, ops, 1);
+  uint64_t number;
+  switch (row->a) {
+    case 0:   /* leaves of three levels */
+      ops[0] = map(0, 16 * PAGE, buffer[0], 0);
+      ops[1] = map(0x20000000, 0x400000, buffer[0], 0x200000);
+      ops[2] = map_zero(0x4000000000, 0x40000000);
+      r.op_count = 3;
+      break;
+    case 1:   /* holes, which break leaves and split mappings */
+      ops[0] = unmap(0x20001000, PAGE);
+      ops[1] = unmap(0x4000001000, PAGE);
+      ops[2] = unmap(PAGE, PAGE);
+      ops[3] = unmap(3 * PAGE, PAGE);
+      ops[4] = unmap(5 * PAGE, PAGE);
+      ops[5] = unmap(7 * PAGE, PAGE);
+      r.op_count = 6;
+      break;
+    case 2: ops[0] = map(0, 16 * PAGE, buffer[1], 0x10000); break;      /* over many mappings */
+    case 3: ops[0] = map_zero(0x100000000000, 0x3000); break;           /* tables of their own */
+    case 4:
+      for (int k = 0; k < 8; k++) ops[k] = map(0x8000000 + k * 2 * PAGE, PAGE, buffer[2 + k % 7], 0);
+      r.op_count = 8;
+      break;
+    case 5:   /* refused at the second one, after the first one took memory */
+      ops[0] = map_zero(0x1000000000000, 0x200000);
+      ops[1] = map(0, 2 * PAGE, buffer[2], 3 * PAGE);
+      r.op_count = 2;
+      break;
+    case 6: ops[0] = unmap_all(buffer[0]); r.signals = signals; r.signal_count = 3; break;
+    case 7: ops[0] = map_zero(0x5000, 2 * PAGE); r.waits = waits; r.wait_count = 2; r.signals = signals; r.signal_count = 3; break;
+    case 8: ops[0] = map_zero(0, PAGE); r.waits = never; r.wait_count = 1; break;
+    default: ops[0] = unmap(0, UINT64_C(1) << 57); break;               /* all tables go */
+  }
+  if (row->doing == BIND) return vmbind_bind(vm, &r, outcome);
+  return vmbind_submit(vm, &r, &number);
+}
+
+static vmbind_status once(struct vmbind_vm *vm, const struct row *row, struct vmbind_outcome *outcome) {
+  struct vmbind_access accesses[2] = { { row->a, VMBIND_READ, 0 }, { row->b, VMBIND_READ, 0 } };
+  struct vmbind_op op = map(row->a, row->b, buffer[0], 0);
+  struct vmbind_step steps[4];
+  uint64_t n, m;
+  vmbind_status status;
+  memset(outcome, 0, sizeof *outcome);
+  switch (row->doing) {
+    case MAKE: return vmbind_buffer_create(vm, row->b, &buffer[row->a]);
+    case BIND: case PUT: return ask(vm, row, outcome);
+    case SERVE: return vmbind_serve(vm, row->b, 0, outcome);
+    case GIVE_UP: return vmbind_serve(vm, row->b, VMBIND_GIVE_UP, outcome);
+    case RAISE: return vmbind_timeline_raise(vm, row->a, row->b, &n);
+    case REWIND: status = vmbind_rewind(vm, &n); CHECK(n == row->a); return status;
+    case WITHDRAW: return vmbind_withdraw(vm, row->a, &n);
+    case SETTLE: return vmbind_settle(vm, row->a, &n);
+    case JOB: return vmbind_job_begin(vm, accesses, 2, &n);
+    case END: return vmbind_job_end(vm, row->a);
+    case PLAN: return vmbind_plan(vm, &op, steps, 4, &n, &m);
+    case DESTROY: return vmbind_buffer_destroy(vm, buffer[row->a], &n);
+    default: return VMBIND_BAD_ARGUMENT;
+  }
+}
+
+/* All that takes no memory, where there is none: back to the oldest entry held, and away. */
+static void back_without_memory(struct vmbind_vm *vm) {
+  struct seen s;
+  uint64_t n, first, next;
+  long before = asked;
+  look(vm, &s);
+  CALL(OK, timeline_raise, vm, 0, 7, &n);
+  CALL(OK, journal, vm, &first, &next);
+  while (next > first) {
+    CALL(OK, rewind, vm, &n);
+    CHECK(n == --next);
+  }
+  CALL(OK, settle, vm, first, &n);
+  vmbind_job_end(vm, 0);
+  CHECK(asked == before);
+}
+
+/* One run, with the request number `n` refused. How many calls wanted memory. */
+static long run(long n, int all, struct seen *last) {
+  struct vmbind_vm vm = VMBIND_INIT;
+  struct vmbind_config config = VMBIND_CONFIG_DEFAULT;
+  struct vmbind_outcome outcome;
+  struct seen before, after;
+  long lacks = 0, here = failed, asked_before;
+  vmbind_status status;
+  left = n;
+  for_good = all;
+  held = asked = 0;
+  memset(buffer, 0, sizeof buffer);
+  status = vmbind_create(&vm, &config);
+  if (status == VMBIND_OUT_OF_MEMORY) {
+    CHECK(vm.at == NULL && held == 0);
+    if (all) return 1;
+    lacks++;
+    status = vmbind_create(&vm, &config);
+  }
+  if (!CHECK(status == VMBIND_OK)) return lacks;
+  for (size_t k = 0; k < COUNT(rows); k++) {
+    const struct row *row = &rows[k];
+    look(&vm, &before);
+    asked_before = asked;
+    status = once(&vm, row, &outcome);
+    CHECK(grows[row->doing] || asked == asked_before);
+    if (status == VMBIND_OUT_OF_MEMORY) {
+      lacks++;
+      lacked[row->doing] = 1;
+      look(&vm, &after);
+      CHECK(!memcmp(&before, &after, sizeof after));
+      CHECK(row->doing != MAKE || is_zero(&buffer[row->a], sizeof *buffer));
+      if (row->doing == BIND || row->doing == SERVE || row->doing == GIVE_UP)
+        CHECK(outcome.kind == VMBIND_NOT_PUT || outcome.kind == VMBIND_PENDING || (outcome.kind == VMBIND_REFUSED && outcome.fault == VMBIND_OUT_OF_MEMORY));
+      if (all) {
+        back_without_memory(&vm);
+        break;
+      }
+      if (row->doing == BIND && outcome.kind == VMBIND_PENDING) status = vmbind_serve(&vm, row->b, 0, &outcome);
+      else if ((row->doing == SERVE || row->doing == GIVE_UP) && outcome.kind == VMBIND_REFUSED) {
+        /* it was told so, and is put again at the back: this run ends here */
+        break;
+      } else status = once(&vm, row, &outcome);
+    }
+    if (!CHECK(status == row->wanted)) printf("  row %zu answers %s, with request %ld refused\n", k, vmbind_status_name(status), n);
+    if (k + 1 == COUNT(rows)) {
+      look(&vm, &after);
+      if (n < 0) *last = after;
+      else CHECK(!memcmp(last, &after, sizeof after));
+    }
+  }
+  asked_before = asked;
+  CALL(OK, destroy, &vm);
+  CHECK(asked == asked_before && held == 0 && vm.at == NULL);
+  if (failed != here) printf("  with request %ld refused%s\n", n, all ? ", and all after it" : "");
+  return lacks;
+}
+
+int main(void) {
+  struct seen last;
+  run(-1, 0, &last);
+  long most = asked;
+  CHECK(most > 50 && last.next > last.first && last.mappings > 4);
+  for (int all = 0; all < 2; all++)
+    for (long n = 0; n < most && failed < 20; n++) CHECK(run(n, all, &last) > 0);
+  for (int k = 0; k < DOINGS; k++)
+    if (!CHECK(lacked[k] == grows[k])) printf("  doing %d\n", k);
+  printf("%ld requests for memory\n", most);
+  return ended("memory");
+}
