@@ -24,7 +24,7 @@ static char met[256];
 
 #define CALL(wanted, name, ...) call(__FILE__, __LINE__, #name, VMBIND_##wanted, vmbind_##name(__VA_ARGS__))
 
-static vmbind_status call(const char *file, int line, const char *name, vmbind_status wanted, vmbind_status got) {
+static inline vmbind_status call(const char *file, int line, const char *name, vmbind_status wanted, vmbind_status got) {
   size_t k = 0;
   while (k < called_count && strcmp(called[k], name)) k++;
   if (k == called_count && k < sizeof called / sizeof *called) called[called_count++] = name;
