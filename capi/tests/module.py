@@ -1,0 +1,160 @@
+#!/usr/bin/env python3
+"""The Python module: what it makes of statuses, numbers, lists and buffers."""
+import array
+import gc
+import os
+import sys
+import threading
+
+sys.path.insert(0, os.path.join(os.path.dirname(os.path.abspath(__file__)), ".."))
+import vmbind as v  # noqa: E402
+
+passed = failed = 0
+
+
+def check(holds, what):
+    global passed, failed
+    if holds:
+        passed += 1
+    else:
+        failed += 1
+        print(f"line {sys._getframe(1).f_lineno}: {what}")
+
+
+def raised(kind, call, *arguments, **named):
+    """What a call raises of a kind; None where it raises nothing."""
+    try:
+        call(*arguments, **named)
+    except kind as it:
+        return it
+    return None
+
+
+def living():
+    with v.Vm() as vm:
+        b = vm.buffer(4)
+        check(vm.bind(v.Map(0, 0x4000, b)) == 0, "the first entry")
+        check(vm.translate(0x2abc).byte == 0x2abc and vm.translate(0x2abc).buffer == b and vm.translate(0x2abc).run == 0x1544, "a place")
+    check(raised(v.Refused, vm.translate, 0).fault == v.NO_VM, "after its end")
+    vm.close()
+    check(raised(v.Refused, v.Vm, queues=17).name == "BadArgument", "a bad limit")
+    check(raised(ValueError, v.Vm, queues=-1), "a negative limit")
+    for _ in range(50):
+        v.Vm().buffer(3)   # given up by the collector
+    gc.collect()
+
+
+def refusals():
+    vm = v.Vm(reserved=(0x8000, 0x1000), items=9)
+    b = vm.buffer(4)
+    it = raised(v.Refused, vm.bind, v.Unmap(0, 0x1000), v.Map(0, 0x5000, b))
+    check((it.fault, it.name, it.op, it.n) == (7, "OutOfBuffer", 1, 0) and it.outcome.kind == v.REFUSED, "of a request")
+    check(str(it) == "OutOfBuffer at operation 1", str(it))
+    check(raised(v.Refused, vm.bind, v.MapZero(0x8000, 0x1000)).name == "Reserved", "reserved")
+    vm.bind(v.Map(0, 0x4000, b), queue=2)
+    it = raised(v.Refused, vm.destroy, b)
+    check((it.name, it.n, it.op, str(it)) == ("Mapped", 1, None, "Mapped 1"), "with a number")
+    check(raised(v.Refused, vm.bind, queue=16).fault == v.BAD_ARGUMENT, "no such queue")
+    check(raised(v.Refused, vm.bind, v.Op(9, 0, 0, 0, b, 0)).fault == v.BAD_ARGUMENT, "no such kind")
+    check(raised(v.Refused, vm.serve).fault == v.IDLE, "idle")
+    check(raised(v.Refused, vm.raise_to, 64, 1).fault == v.BAD_ARGUMENT, "no such timeline")
+    for call in (lambda n: vm.translate(n), lambda n: v.Map(n, 0, b), lambda n: v.Unmap(0, n), lambda n: vm.translate_many([n]),
+                 lambda n: vm.raise_to(0, n), lambda n: vm.settle(n), lambda n: vm.bind(waits=[(0, n)])):
+        check(raised(ValueError, call, -1) and raised(ValueError, call, 1 << 64), "not a number of 64 bits")
+    check(raised(TypeError, vm.translate, "0"), "a text for an address")
+    check(raised(v.Refused, vm.uses, v.Buffer()).name == "NoBuffer", "an id of zeros")
+
+
+def waiting():
+    vm = v.Vm(timelines=3)
+    it = raised(v.NotReady, vm.bind, v.MapZero(0, 0x1000), waits=[(1, 4), v.Point(2, 1)], signals=[(0, 6)])
+    check(it.point == v.Point(1, 4) and it.have == 0 and it.outcome.kind == v.PENDING and isinstance(it, v.Refused), "pending")
+    check(vm.submit(v.MapZero(0x1000, 0x1000)) == 1 and vm.raise_to(1, 9) == 9, "put behind it")
+    it = raised(v.NotReady, vm.serve, give_up=True)
+    check(it.point == v.Point(2, 1) and it.outcome.kind == v.GIVEN_UP, "given up at the second point")
+    check(vm.serve().entry == 0 and vm.value(0) == 0, "the next one")
+    check([it.kind for it in vm.told()] == [v.GIVEN_UP, v.ACCEPTED] and [it.number for it in vm.told(start=1)] == [1], "told")
+    check(vm.told(start=7) == [] and vm.told(1) == [], "told nothing")
+    vm.bind(signals=[(0, 6)])
+    check(vm.value(0) == 6, "signalled")
+
+
+def lists():
+    vm = v.Vm()
+    b = vm.buffer(600)
+    ops = [v.Map(0x3000 * k, 0x1000, b, 0x1000 * k, read_only=k % 2 == 1) for k in range(200)]
+    vm.bind(*ops)
+    vm.bind(v.Map(0x1000, 0x1000, b))
+    mappings = list(vm.mappings())
+    check(len(mappings) == 201 and [it.start for it in mappings] == sorted(it.start for it in mappings), "in order")
+    check(mappings[2].read_only and mappings[2].buffer == b and mappings[2].offset == 0x1000, "a mapping")
+    check(vm.uses(b).mapped == 201 and vm.uses(b).pages == 600, "uses")
+    check(vm.tables() == (1, 1, 1, 1, 2), f"tables {vm.tables()}")
+    check(vm.entry(0).ops == ops and vm.entry(0).queue == 0 and not vm.entry(0).withdrawn, "an entry")
+    vm.withdraw(1)
+    check([(it.entry, it.withdrawn, it.of) for it in vm.entries()] == [(0, False, None), (1, True, None), (2, False, 1)], "entries")
+    check(vm.rewind() == 2 and vm.rewind() == 1 and vm.journal() == range(0, 1) and vm.settle(1) == 1 and not vm.journal(), "back")
+    steps = vm.plan(v.MapZero(0x800 * 2, 0x1000 * 6))
+    check([it.kind for it in steps] == [v.STEP_UNMAP, v.STEP_UNMAP, v.STEP_MAP] and not steps[0].prev and steps[0].mapping, "a plan")
+    check(vm.plan(v.UnmapAll(b))[199].mapping == list(vm.mappings())[199], "a plan of all")
+    check(len({b, vm.buffer(1), b}) == 2, "ids in a set")
+
+
+def many():
+    vm = v.Vm()
+    b = vm.buffer(16)
+    vm.bind(v.Map(0x1000, 0x10000, b))
+    numbers = [0, 0x1000, 0x5432, 0x11000, v.END, (1 << 64) - 1]
+    wanted = [vm.translate(it) for it in numbers]
+    rows = array.array("Q", numbers)
+    for given in (numbers, tuple(numbers), iter(numbers), rows, memoryview(rows), memoryview(rows.tobytes()).cast("Q")):
+        check(list(vm.translate_many(given)) == wanted, f"many of {type(given)}")
+    out = vm.translate_many(rows)
+    vm.rewind()
+    check(vm.translate_many(rows, out) is out and not any(out), "written again")
+    check(raised(v.Refused, vm.translate_many, rows[:3], out).fault == v.BAD_ARGUMENT, "counts that differ")
+    check(raised(TypeError, vm.translate_many, array.array("I", [1])), "numbers of 32 bits")
+    check(raised(TypeError, vm.translate_many, memoryview(rows)[::2]), "with gaps")
+    check(raised(TypeError, vm.translate_many, rows, bytearray(999)), "another thing to write to")
+    check(len(vm.translate_many([])) == 0, "none")
+    rows.append(5)   # nothing holds the array any more
+
+
+def jobs():
+    vm = v.Vm()
+    b, c = vm.buffer(1), vm.buffer(1)
+    vm.bind(v.Map(0, 0x1000, b), v.Map(0x1000, 0x1000, c, read_only=True))
+    job = vm.job(writes=[0], reads=[0x1000])
+    check(raised(v.Refused, vm.job, reads=[0]).name == "Conflict", "in use")
+    it = raised(v.Refused, vm.job, accesses=[(0x1000, False), (0x1004, True)])
+    check(it.name == "WriteToReadOnly" and it.n == 1, "the second access")
+    vm.rewind()
+    it = raised(v.Refused, vm.destroy, b)
+    check(it.name == "InUse" and it.n == 1, "held")
+    vm.end(job)
+    vm.destroy(b)
+    check(raised(v.Refused, vm.end, job).name == "NoJob", "ended")
+
+
+def threads():
+    vm = v.Vm()
+    wrong = []
+
+    def work(base):
+        for k in range(300):
+            vm.bind(v.MapZero(base + k % 8 * 0x1000, 0x1000), queue=base >> 20)
+            if not vm.translate(base + k % 8 * 0x1000):
+                wrong.append(k)
+
+    workers = [threading.Thread(target=work, args=(k << 20,)) for k in range(4)]
+    for it in workers:
+        it.start()
+    for it in workers:
+        it.join()
+    check(not wrong and len(list(vm.mappings())) == 32 and len(vm.journal()) == 1200, "threads on one address space")
+
+
+for test in (living, refusals, waiting, lists, many, jobs, threads):
+    test()
+print(f"module.py: {passed} passed, {failed} failed")
+sys.exit(1 if failed or not passed else 0)
