@@ -1,10 +1,10 @@
-# Everything here needs the Rattle toolchain's command `rt` on the path, and nothing else.
+# Everything here needs the Rattle toolchain's command `rt` on the path, and nothing else; the C library a C compiler too.
 
 RT ?= rt
 PROGRAM := crates/gv_cli
 SOURCES := crates.txt HANDLES $(shell find crates -type f \( -name '*.rt' -o -name '*.antt' \) -not -path '*/out/*')
 
-.PHONY: build try run test check-documents fuzz refuse-memory measure clean
+.PHONY: build try run test check-documents fuzz refuse-memory measure clean lib install capi-test capi-measure
 
 # The proved program, at ./vmbind.
 build: vmbind
@@ -63,5 +63,62 @@ measure:
 	cd crates/gv_bench && $(RT) run > /dev/null
 	cd crates/gv_queues_bench && $(RT) run > /dev/null
 
+# The C library, in capi/build: an archive and a shared library, the header, the C++ owner, the Python module, a file for
+# pkg-config. The crate gv_c and those below it are proved first, where an earlier run hasn't left that; the gate leaves nothing that
+# serves here. docs/C.md is for its users.
+CC ?= cc
+PREFIX ?= /usr/local
+DESTDIR ?=
+CAPI := capi/build
+SHOWN := capi/vmbind.h capi/vmbind.hpp capi/vmbind.py
+KIT = $(dir $(shell readlink -f "$$(command -v $(RT))"))..
+VERSION = $(shell awk '/^.define VMBIND_VERSION_(MAJOR|MINOR|PATCH) / { v = v dot $$3; dot = "." } END { print v }' capi/vmbind.h)
+LIBRARY := $(CAPI)/libvmbind.a $(CAPI)/libvmbind.so $(SHOWN:capi/%=$(CAPI)/%) $(CAPI)/vmbind.pc
+
+lib: $(LIBRARY)
+
+# One object, with the few functions of the toolchain that reach malloc and free, in which the names of the header alone are global.
+# A library that was built is left as it is where LIB_IS_BUILT is set.
+$(CAPI)/libvmbind.a: $(if $(LIB_IS_BUILT),,$(SOURCES))
+	@mkdir -p $(CAPI)
+	@RT="$(RT)" tools/prove gv_c
+	cd crates/gv_c && $(RT) lib
+	tools/one-object $@ crates/gv_c/out/libgv_c.a $(KIT)/c/liblibc_c.a
+
+$(CAPI)/libvmbind.so: $(CAPI)/libvmbind.a capi/vmbind.map
+	$(CC) -shared -Wl,-soname,libvmbind.so.0 -Wl,--version-script=capi/vmbind.map -Wl,--no-undefined -Wl,--gc-sections \
+	    -Wl,-z,relro,-z,now -Wl,--whole-archive $< -Wl,--no-whole-archive -o $@
+
+$(SHOWN:capi/%=$(CAPI)/%): $(CAPI)/%: capi/%
+	@mkdir -p $(CAPI)
+	cp $< $@
+
+# pkg_config PREFIX INCLUDE LIB
+pkg_config = sed 's|@PREFIX@|$(1)|; s|@INCLUDE@|$(2)|; s|@LIB@|$(3)|; s|@VERSION@|$(VERSION)|' capi/vmbind.pc.in
+
+$(CAPI)/vmbind.pc: capi/vmbind.pc.in capi/vmbind.h
+	@mkdir -p $(CAPI)
+	$(call pkg_config,$(CURDIR)/$(CAPI),$(CURDIR)/$(CAPI),$(CURDIR)/$(CAPI)) > $@
+
+install: lib
+	install -d $(DESTDIR)$(PREFIX)/include $(DESTDIR)$(PREFIX)/lib/pkgconfig $(DESTDIR)$(PREFIX)/share/vmbind
+	install -m 644 capi/vmbind.h capi/vmbind.hpp $(DESTDIR)$(PREFIX)/include
+	install -m 644 $(CAPI)/libvmbind.a $(DESTDIR)$(PREFIX)/lib
+	install -m 755 $(CAPI)/libvmbind.so $(DESTDIR)$(PREFIX)/lib/libvmbind.so.0
+	ln -sf libvmbind.so.0 $(DESTDIR)$(PREFIX)/lib/libvmbind.so
+	install -m 644 capi/vmbind.py $(DESTDIR)$(PREFIX)/share/vmbind
+	$(call pkg_config,$(PREFIX),$(PREFIX)/include,$(PREFIX)/lib) > $(DESTDIR)$(PREFIX)/lib/pkgconfig/vmbind.pc
+
+# The tests of the C library. They stand beside the gate, and `make test` doesn't call them: a build of the library proves its crates
+# once more. With ./vmbind there (make), scripts by chance are compared with what it writes. The last line is 'N passed, M failed'.
+SCRIPTS ?= 200
+capi-test: lib
+	@CC="$(CC)" CXX="$(CXX)" SEED=$(SEED) SCRIPTS=$(SCRIPTS) tools/capi-test
+
+# Times of calls from C and from Python. The figures are of this machine.
+capi-measure: lib
+	$(CC) -std=c11 -O2 -Icapi capi/tests/speed.c $(CAPI)/libvmbind.a -o $(CAPI)/speed && $(CAPI)/speed
+	VMBIND_LIBRARY=$(CURDIR)/$(CAPI)/libvmbind.so python3 capi/tests/speed.py
+
 clean:
-	rm -rf vmbind crates/*/out
+	rm -rf vmbind crates/*/out $(CAPI)
