@@ -196,6 +196,8 @@ static long run(long n, int all, struct seen *last) {
   struct seen before, after;
   long lacks = 0, here = failed, asked_before;
   vmbind_status status;
+  config.buffers = BUFFERS;   /* limits that are just met, so that a refused call that uses a place up is seen */
+  config.items = 12;
   left = n;
   for_good = all;
   held = asked = 0;
