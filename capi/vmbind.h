@@ -8,7 +8,8 @@
  *   - One call at a time has a handle, from any thread, under the caller's own lock. Reads take the handle as writes do.
  *     Two handles share nothing.
  *   - A call finds 256 KiB of stack.
- *   - No call is made from a signal handler.
+ *   - No call is made from a signal handler, nor in the child of a fork of a process with threads.
+ *   - malloc, realloc and free are of one allocator, which aligns as C wants.
  *
  * Every number, address, size, id, kind and flag may be anything: it is checked, and answered with a status.
  */

@@ -1,8 +1,10 @@
 #!/usr/bin/env python3
 """The Python module: what it makes of statuses, numbers, lists and buffers."""
 import array
+import ctypes
 import gc
 import os
+import re
 import sys
 import threading
 
@@ -28,6 +30,34 @@ def raised(kind, call, *arguments, **named):
     except kind as it:
         return it
     return None
+
+
+def header():
+    """Numbers, names and structures are those of vmbind.h."""
+    with open(os.path.join(os.path.dirname(v.__file__), "vmbind.h"), encoding="ascii") as file:
+        text = re.sub(r"/\*.*?\*/", "", file.read(), flags=re.S)
+    numbers = {name: int(it) for name, it in re.findall(r"\bVMBIND_(\w+) = (\d+)", text)}
+    names = {numbers[it]: name for it, name in re.findall(r'case VMBIND_(\w+): return "(\w+)";', text)}
+    check(names == v.NAMES, "names of statuses")
+    for name in "OK BAD_ARGUMENT NO_VM NOT_NULL IDLE NOT_READY NOT_PUT ACCEPTED REFUSED GIVEN_UP PENDING NOTHING BUFFER ZEROS".split():
+        check(numbers[name] == getattr(v, name), name)
+    for name in "STEP_UNMAP STEP_REMAP STEP_MAP".split():
+        check(numbers[name] == getattr(v, name), name)
+    check((numbers["ENTRY_BIND"], numbers["ENTRY_WITHDRAWAL"]) == (v.BIND, v.WITHDRAWAL), "kinds of entries")
+    ours = dict(vm=v._Handle, config=v._Config, buffer=v.Buffer, uses=v.Uses, op=v.Op, point=v.Point, request=v._Request,
+                outcome=v.Outcome, entry_info=v._Info, translation=v.Translation, mapping=v.Mapping, table_counts=v._Counts,
+                step=v.Step, access=v._Access)
+    sizes = {"uint64_t": 8, "size_t": 8, "uint32_t": 4}
+    structs = dict(re.findall(r"^struct vmbind_(\w+) \{(.*?)\};", text, re.S | re.M))
+    check(set(structs) == set(ours), "structures")
+    for name, fields in structs.items():
+        wanted = []
+        for kind, declared in re.findall(r"(?:const )?(?:struct )?(\w+) ([^;]+);", fields):
+            for it in declared.split(","):
+                pointer, field, count = re.match(r"\s*(\*?)(\w+)(?:\[(\d+)\])?", it).groups()
+                one = 8 if pointer else sizes.get(kind) or ctypes.sizeof(ours[kind.removeprefix("vmbind_")])
+                wanted.append((field, one * int(count or 1)))
+        check([(field, ctypes.sizeof(kind)) for field, kind in ours[name]._fields_] == wanted, f"struct {name}: {wanted}")
 
 
 def living():
@@ -154,7 +184,7 @@ def threads():
     check(not wrong and len(list(vm.mappings())) == 32 and len(vm.journal()) == 1200, "threads on one address space")
 
 
-for test in (living, refusals, waiting, lists, many, jobs, threads):
+for test in (header, living, refusals, waiting, lists, many, jobs, threads):
     test()
 print(f"module.py: {passed} passed, {failed} failed")
 sys.exit(1 if failed or not passed else 0)
