@@ -43,8 +43,9 @@ extern "C" {
  *     something there. After that a bad argument is answered before any fault but want of memory.
  *   - Each number and structure that it may write is written, also where it is refused: with zeros where there is nothing to
  *     say. Of an array only as many elements are written as is told; the others stay as they were.
- *   - VMBIND_OUT_OF_MEMORY is answered where malloc refused memory. All is as before, but for what vmbind_bind and vmbind_serve
- *     say, and the call may be made again.
+ *   - VMBIND_OUT_OF_MEMORY is answered where malloc refused memory. All is as before and the call may be made again, but for
+ *     vmbind_bind and vmbind_serve, where the outcome says whether the request stays on its queue. Of the calls that only look,
+ *     vmbind_plan alone takes memory.
  *   - It calls nothing back, starts no thread, takes no lock, never aborts, and writes to no stream or file. Memory comes from
  *     malloc and goes to free.
  */
@@ -120,7 +121,7 @@ struct vmbind_config {
   uint64_t items;      /* entries that the journal holds, withdrawals too: 65,536 */
   uint64_t told;       /* requests that are put on a queue in its life: 65,536 */
   uint64_t queues;     /* queues, which have the numbers below it: 16 */
-  uint64_t depth;      /* places of a queue, for requests that wait: 65,536 */
+  uint64_t depth;      /* places of a queue for requests, without the one that was looked at and waits: 65,536 */
   uint64_t timelines;  /* timelines, which have the numbers below it: 64 */
 };
 
