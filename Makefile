@@ -77,7 +77,7 @@ LIBRARY := $(CAPI)/libvmbind.a $(CAPI)/libvmbind.so $(SHOWN:capi/%=$(CAPI)/%) $(
 
 lib: $(LIBRARY)
 
-# One object, with the few functions of the toolchain that reach malloc and free, in which the names of the header alone are global.
+# The exports and what they reach, with the few functions of the toolchain that reach malloc and free.
 # A library that was built is left as it is where LIB_IS_BUILT is set.
 $(CAPI)/libvmbind.a: $(if $(LIB_IS_BUILT),,$(SOURCES))
 	@mkdir -p $(CAPI)
