@@ -77,13 +77,16 @@ LIBRARY := $(CAPI)/libvmbind.a $(CAPI)/libvmbind.so $(SHOWN:capi/%=$(CAPI)/%) $(
 
 lib: $(LIBRARY)
 
-# The exports and what they reach, with the few functions of the toolchain that reach malloc and free.
-# A library that was built is left as it is where LIB_IS_BUILT is set.
-$(CAPI)/libvmbind.a: $(if $(LIB_IS_BUILT),,$(SOURCES))
+# What the toolchain makes of the exports. A library that was built is left as it is where LIB_IS_BUILT is set.
+$(CAPI)/libgv_c.a: $(if $(LIB_IS_BUILT),,$(SOURCES))
 	@mkdir -p $(CAPI)
 	@RT="$(RT)" tools/prove gv_c
 	cd crates/gv_c && $(RT) lib
-	tools/one-object $@ crates/gv_c/out/libgv_c.a $(KIT)/c/liblibc_c.a
+	cp crates/gv_c/out/libgv_c.a $@
+
+# With the few functions of the toolchain that reach malloc and free.
+$(CAPI)/libvmbind.a: $(CAPI)/libgv_c.a capi/vmbind.h tools/one-object
+	@CC="$(CC)" tools/one-object $@ $< $(KIT)/c/liblibc_c.a
 
 $(CAPI)/libvmbind.so: $(CAPI)/libvmbind.a capi/vmbind.map
 	$(CC) -shared -Wl,-soname,libvmbind.so.0 -Wl,--version-script=capi/vmbind.map -Wl,--no-undefined -Wl,--gc-sections \
