@@ -294,8 +294,8 @@ struct vmbind_entry_info {
   uint64_t queue, number, ops, of;
 };
 
-/* An entry that is held, and its operations as they were asked for: the first ones, as many as `list` has room for. *count is
- * how many were written.
+/* An entry that is held, and its operations as they were asked for, with zeros in the fields that their kinds haven't: the first
+ * ones, as many as `list` has room for. *count is how many were written.
  *   VMBIND_NO_ENTRY */
 vmbind_status vmbind_entry(struct vmbind_vm *vm, uint64_t entry, struct vmbind_entry_info *info, struct vmbind_op *list,
                            size_t room, uint64_t *count);

@@ -487,12 +487,18 @@ static void going_back(void) {
   request = asks(0, all, 2);
   CALL(OK, bind, &vm, &request, &o);
   CHECK(o.entry == 3);
+  CALL(OK, entry, &vm, 3, &info, list, 4, &count);
+  CHECK(count == 2 && !memcmp(list, all, sizeof all));
   CALL(OK, buffer_uses, &vm, b, &uses);
   CHECK(uses.mapped == 0 && uses.kept == 1);
   CALL(KEPT, buffer_destroy, &vm, b, &n);
   CHECK(n == 1);
-  request = asks(0, NULL, 0);
+  struct vmbind_op odd = { VMBIND_UNMAP, 0, 0, PAGE, b, 77 }, even = unmap(0, PAGE);   /* a buffer and an offset to no purpose */
+  request = asks(0, &odd, 1);
   CALL(OK, bind, &vm, &request, &o);
+  CALL(OK, entry, &vm, 4, &info, list, 4, &count);
+  CHECK(count == 1 && !memcmp(list, &even, sizeof even));
+  request = asks(0, NULL, 0);
   CALL(JOURNAL_FULL, bind, &vm, &request, &o);
   CHECK(o.kind == VMBIND_REFUSED && o.op == 0);
   CALL(JOURNAL_FULL, withdraw, &vm, 4, &n);

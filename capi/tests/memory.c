@@ -83,7 +83,7 @@ enum doing { MAKE, BIND, PUT, SERVE, GIVE_UP, RAISE, REWIND, WITHDRAW, SETTLE, J
 
 /* Which may want memory. */
 static const char grows[DOINGS] = { [MAKE] = 1, [BIND] = 1, [PUT] = 1, [SERVE] = 1, [GIVE_UP] = 1, [WITHDRAW] = 1, [JOB] = 1, [PLAN] = 1 };
-static char lacked[DOINGS];
+static char lacked[DOINGS], left_as[5];   /* and what a bind then was told */
 
 struct row { enum doing doing; uint64_t a, b; vmbind_status wanted; };
 
@@ -224,6 +224,7 @@ static long run(long n, int all, struct seen *last) {
       CHECK(row->doing != MAKE || is_zero(&buffer[row->a], sizeof *buffer));
       if (row->doing == BIND || row->doing == SERVE || row->doing == GIVE_UP)
         CHECK(outcome.kind == VMBIND_NOT_PUT || outcome.kind == VMBIND_PENDING || (outcome.kind == VMBIND_REFUSED && outcome.fault == VMBIND_OUT_OF_MEMORY));
+      if (row->doing == BIND && outcome.kind < sizeof left_as) left_as[outcome.kind] = 1;
       if (all) {
         back_without_memory(&vm);
         break;
@@ -257,6 +258,7 @@ int main(void) {
     for (long n = 0; n < most && failed < 20; n++) CHECK(run(n, all, &last) > 0);
   for (int k = 0; k < DOINGS; k++)
     if (!CHECK(lacked[k] == grows[k])) printf("  doing %d\n", k);
+  CHECK(left_as[VMBIND_NOT_PUT] && left_as[VMBIND_PENDING] && left_as[VMBIND_REFUSED]);
   printf("%ld requests for memory\n", most);
   return ended("memory");
 }
