@@ -6,7 +6,6 @@
  *     element may be NULL. What is read is initialized; what is written need not be.
  *   - No two parameters of a call overlap, and nothing that a call was given is touched by another thread until it returns.
  *   - One call at a time has a handle, from any thread, under the caller's own lock. Reads take the handle as writes do.
- *     Two handles share nothing.
  *   - A call finds 256 KiB of stack.
  *   - No call is made from a signal handler, nor in the child of a fork of a process with threads.
  *   - malloc, realloc and free are of one allocator, which aligns as C wants.
@@ -47,7 +46,7 @@ extern "C" {
  *     vmbind_bind and vmbind_serve, where the outcome says whether the request stays on its queue. Of the calls that only look,
  *     vmbind_plan alone takes memory.
  *   - It calls nothing back, starts no thread, takes no lock, never aborts, and writes to no stream or file. Memory comes from
- *     malloc and goes to free.
+ *     malloc and goes to free. Two handles share nothing, so calls on them may run at once.
  */
 #define VMBIND_VERSION_MAJOR 0
 #define VMBIND_VERSION_MINOR 1
