@@ -206,8 +206,7 @@ _plan = _declare("plan", _to(Op), c.c_void_p, _size, _to(_u64), _to(_u64))
 _job_begin = _declare("job_begin", c.c_void_p, _size, _to(_u64))
 _job_end = _declare("job_end", _u64)
 
-_NO_BUFFER = Buffer()
-_EMPTY = (None, 0)
+_NO_BUFFER, _EMPTY = Buffer(), (None, 0)
 
 
 def Map(start, size, buffer, offset=0, read_only=False):
@@ -231,13 +230,12 @@ def UnmapAll(buffer):
 
 
 def _array(kind, items):
-    items = list(items)
     return ((kind * len(items))(*items), len(items)) if items else _EMPTY
 
 
 def _points(points):
-    """Points, or pairs of a timeline and a value."""
-    return [it if isinstance(it, Point) else Point(_number(it[0]), _number(it[1])) for it in points]
+    """Points, or pairs of a timeline and a value, as an array."""
+    return _array(Point, [it if isinstance(it, Point) else Point(_number(it[0]), _number(it[1])) for it in points])
 
 
 def _numbers(items):
@@ -319,10 +317,10 @@ class Vm:
 
     @staticmethod
     def _request(ops, waits, signals, queue):
-        ops, waits, signals = _array(Op, ops), _array(Point, _points(waits)), _array(Point, _points(signals))
-        asked = _Request(_number(queue), c.cast(ops[0], c.c_void_p), ops[1], c.cast(waits[0], c.c_void_p), waits[1],
-                         c.cast(signals[0], c.c_void_p), signals[1])
-        asked.lists = ops, waits, signals
+        lists = _array(Op, ops), _points(waits), _points(signals)
+        places = (it for array, count in lists for it in (array and _address_of(array), count))
+        asked = _Request(_number(queue), *places)
+        asked.lists = lists   # which live as long as the request
         return asked
 
     @staticmethod
