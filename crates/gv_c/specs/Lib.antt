@@ -1,2 +1,9 @@
 pub mod Slots
+pub mod Values
+pub mod Statuses
 pub mod Calls
+pub mod Making
+pub mod Reading
+pub mod Lists
+pub mod Binding
+pub mod Entries

@@ -50,7 +50,7 @@ impl Handle {
     }
 
     /// A null handle.
-    fn none(alloc: Global) -> Handle
+    pub fn none(alloc: Global) -> Handle
         ensures { result.value ≡ None }
     {
         Handle {

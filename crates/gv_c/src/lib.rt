@@ -1,9 +1,22 @@
-//! The manager for C: a static library with one function for each call. C holds a `struct vmbind { void *at; }`, zero at
+//! The manager for C: a static library with one function for each call. C holds a `struct vmbind_vm { void *at; }`, zero at
 //! first, and passes its address. It hands on what a call left there and makes no copy of it; beyond that each function is
-//! proved for everything that C may pass.
+//! proved for everything that C may pass. `capi/vmbind.h` says the same in C.
 #![tactic(auto)]
 
+mod binding;
+mod entry;
+mod events;
+mod found;
 mod handle;
 mod held;
+mod jobs;
+mod lists;
 mod loose;
 mod making;
+mod outcome;
+mod reading;
+mod request;
+mod status;
+#[cfg(test)]
+mod tests;
+mod values;

@@ -1,0 +1,10 @@
+use Rattle.std.proofs.Common.{◌≡◌, map, take, length}
+use Rattle.gv_c.specs.Lists.{written_over}
+use Rattle.gv_c.specs.Values.{c_step}
+use Rattle.gv_c.proofs.lists.write_steps.Given as goal
+
+abbrev pub invariant-loop-k : goal.invariant-loop-k
+invariant-loop-k l = record {
+  long : length l.list ≡ length l.fn.list;
+  is : l.list ≡ written_over l.fn.list (take l.k (map c_step l.steps));
+}

@@ -1,0 +1,128 @@
+//! Calls that carry out one event of the world.
+ghost use Rattle.std.specs.Prelude.{◌≡◌};
+ghost use Rattle.gv_vm.specs.declared.event.Event.TheVariants.{Create, Destroy, Rewind, Withdraw, Settle, JobEnd, Raise};
+ghost use Rattle.gv_c.specs.Values.{id_of};
+ghost use Rattle.gv_c.specs.Statuses.{status_of};
+ghost use Rattle.gv_c.specs.Calls.{Answers, made_in, number_in};
+
+use crate::handle::Handle;
+use crate::status::of_reply;
+use crate::values::Buffer;
+use gv_types::{OutOfMemory, Point};
+use gv_vm::{Event, Reply};
+use std::alloc::Global;
+
+/// Makes a buffer of so many pages, and writes its id.
+#[unsafe(no_mangle)]
+pub extern "C" fn vmbind_buffer_create(
+    alloc: Global,
+    vm: &mut Handle,
+    pages: u64,
+    buffer: &mut Buffer,
+) -> u32
+    ensures { Answers vm.old.value (Create pages) vm.new.value (λ reply.
+        (result ≡ status_of reply) × (buffer.new ≡ made_in reply)) }
+{
+    let reply = vm.step(alloc, Event::Create { pages });
+    *buffer = match &reply {
+        Some(Ok(Reply::Created { id })) => Buffer::of(*id),
+        _ => Buffer::none(),
+    };
+    of_reply(&reply)
+}
+
+/// Destroys a buffer that nothing names. Where something does, writes how many.
+#[unsafe(no_mangle)]
+pub extern "C" fn vmbind_buffer_destroy(
+    alloc: Global,
+    vm: &mut Handle,
+    buffer: Buffer,
+    number: &mut u64,
+) -> u32
+    ensures { Answers vm.old.value (Destroy (id_of buffer)) vm.new.value (λ reply.
+        (result ≡ status_of reply) × (number.new ≡ number_in reply)) }
+{
+    let reply = vm.step(alloc, Event::Destroy { id: buffer.id() });
+    *number = number_of(&reply);
+    of_reply(&reply)
+}
+
+/// Takes the newest entry back, and writes its number.
+#[unsafe(no_mangle)]
+pub extern "C" fn vmbind_rewind(alloc: Global, vm: &mut Handle, entry: &mut u64) -> u32
+    ensures { Answers vm.old.value Rewind vm.new.value (λ reply.
+        (result ≡ status_of reply) × (entry.new ≡ number_in reply)) }
+{
+    let reply = vm.step(alloc, Event::Rewind);
+    *entry = number_of(&reply);
+    of_reply(&reply)
+}
+
+/// Withdraws an older entry, and writes the number of the withdrawal.
+#[unsafe(no_mangle)]
+pub extern "C" fn vmbind_withdraw(
+    alloc: Global,
+    vm: &mut Handle,
+    entry: u64,
+    number: &mut u64,
+) -> u32
+    ensures { Answers vm.old.value (Withdraw entry) vm.new.value (λ reply.
+        (result ≡ status_of reply) × (number.new ≡ number_in reply)) }
+{
+    let reply = vm.step(alloc, Event::Withdraw { entry });
+    *number = number_of(&reply);
+    of_reply(&reply)
+}
+
+/// Settles the entries below a number, and writes how many.
+#[unsafe(no_mangle)]
+pub extern "C" fn vmbind_settle(alloc: Global, vm: &mut Handle, to: u64, number: &mut u64) -> u32
+    ensures { Answers vm.old.value (Settle to) vm.new.value (λ reply.
+        (result ≡ status_of reply) × (number.new ≡ number_in reply)) }
+{
+    let reply = vm.step(alloc, Event::Settle { to });
+    *number = number_of(&reply);
+    of_reply(&reply)
+}
+
+/// Ends a job.
+#[unsafe(no_mangle)]
+pub extern "C" fn vmbind_job_end(alloc: Global, vm: &mut Handle, job: u64) -> u32
+    ensures { Answers vm.old.value (JobEnd job) vm.new.value (λ reply. result ≡ status_of reply) }
+{
+    of_reply(&vm.step(alloc, Event::JobEnd { job }))
+}
+
+/// Raises a timeline to a value where it is lower, and writes its number after that.
+#[unsafe(no_mangle)]
+pub extern "C" fn vmbind_timeline_raise(
+    alloc: Global,
+    vm: &mut Handle,
+    timeline: u64,
+    value: u64,
+    now: &mut u64,
+) -> u32
+    ensures { Answers vm.old.value (Raise (record { timeline = timeline; value = value })) vm.new.value (λ reply.
+        (result ≡ status_of reply) × (now.new ≡ number_in reply)) }
+{
+    let point = Point { timeline, value };
+    let reply = vm.step(alloc, Event::Raise { point });
+    *now = number_of(&reply);
+    of_reply(&reply)
+}
+
+/// The number that a reply carries, or that of its fault, and else 0.
+pub fn number_of(reply: &Option<Result<Reply, OutOfMemory>>) -> u64
+    ensures { result ≡ number_in reply.now }
+{
+    match reply {
+        Some(Ok(Reply::Rewound { item })) => *item,
+        Some(Ok(Reply::Withdrawn { item })) => *item,
+        Some(Ok(Reply::Settled { count })) => *count,
+        Some(Ok(Reply::Raised { now, .. })) => *now,
+        Some(Ok(Reply::Begun { job, .. })) => *job,
+        Some(Ok(Reply::Put { number })) => *number,
+        Some(Ok(Reply::Refused { fault })) => fault.carried().unwrap_or(0),
+        _ => 0,
+    }
+}

@@ -1,0 +1,169 @@
+//! Calls that write lists, and change nothing.
+ghost use Rattle.std.specs.Prelude.{◌≡◌, ◌-◌, map, min, length};
+ghost use Rattle.gv_space.specs.Refusal.{operation_fault};
+ghost use Rattle.gv_c.specs.Lists.{IsTold, AreListed, IsPlanned, ArePlanned, IsWritten, numbered};
+ghost use Rattle.gv_c.specs.Values.{c_mapping, c_step};
+
+use crate::found::{ListedMapping, SplitStep};
+use crate::handle::Handle;
+use crate::outcome::RequestOutcome;
+use crate::status::{BAD_ARGUMENT, NO_VM, OK, of};
+use crate::values::Operation;
+use gv_ranges::RangeList;
+use gv_split::Step;
+use gv_types::Op;
+use gv_vm::{Outcome, QUEUES, Vm};
+use std::alloc::Global;
+
+/// What the requests of a queue came to, from the one with the number `from` on, as many as there is room for.
+#[unsafe(no_mangle)]
+pub extern "C" fn vmbind_told(
+    alloc: Global,
+    vm: &mut Handle,
+    queue: u64,
+    from: u64,
+    list: &mut [RequestOutcome],
+    count: &mut u64,
+    total: &mut u64,
+) -> u32
+    ensures told { IsTold vm.old.value queue from list.old result list.new count.new total.new }
+    ensures same { vm.new.value ≡ vm.old.value }
+{
+    *count = 0;
+    *total = 0;
+    let Some(held) = vm.take(alloc) else {
+        return NO_VM;
+    };
+    let status = if queue < held.world.queues() && queue < QUEUES as u64 {
+        let told = held.world.vm().told(queue);
+        *count = write_outcomes(list, told, from);
+        *total = told.len() as u64;
+        OK
+    } else {
+        BAD_ARGUMENT
+    };
+    vm.put(held);
+    status
+}
+
+/// The mappings from the one with the number `from` on, as many as there is room for.
+#[unsafe(no_mangle)]
+pub extern "C" fn vmbind_mappings(
+    alloc: Global,
+    vm: &mut Handle,
+    from: u64,
+    list: &mut [ListedMapping],
+    count: &mut u64,
+    total: &mut u64,
+) -> u32
+    ensures listed { AreListed vm.old.value from list.old result list.new count.new total.new }
+    ensures same { vm.new.value ≡ vm.old.value }
+{
+    *count = 0;
+    *total = 0;
+    let Some(held) = vm.take(alloc) else {
+        return NO_VM;
+    };
+    let mappings = held.world.vm().space().list();
+    *count = write_mappings(list, mappings, from);
+    *total = mappings.len() as u64;
+    vm.put(held);
+    OK
+}
+
+/// The split steps of an operation, as many as there is room for. Nothing changes.
+#[unsafe(no_mangle)]
+pub extern "C" fn vmbind_plan(
+    alloc: Global,
+    vm: &mut Handle,
+    op: &Operation,
+    list: &mut [SplitStep],
+    count: &mut u64,
+    total: &mut u64,
+) -> u32
+    ensures planned { IsPlanned vm.old.value op.now list.old result list.new count.new total.new }
+    ensures same { vm.new.value ≡ vm.old.value }
+{
+    *count = 0;
+    *total = 0;
+    let Some(held) = vm.take(alloc) else {
+        return NO_VM;
+    };
+    let Some(op) = op.op() else {
+        vm.put(held);
+        return BAD_ARGUMENT;
+    };
+    let planned = write_plan(alloc, held.world.vm(), &op, list);
+    vm.put(held);
+    *count = planned.count;
+    *total = planned.total;
+    planned.status
+}
+
+/// A status, how many were written, and how many there are.
+#[derive(Clone, Copy)]
+struct Planned {
+    status: u32,
+    count: u64,
+    total: u64,
+}
+
+fn write_plan(alloc: Global, vm: &Vm, op: &Op, list: &mut [SplitStep]) -> Planned
+    ensures { ArePlanned vm.now.space op.now (operation_fault vm.now.space op.now) list.old result.status list.new result.count result.total }
+{
+    match vm.plan(alloc, op) {
+        Ok(steps) => {
+            let all = steps.as_slice();
+            Planned {
+                status: OK,
+                count: write_steps(list, all),
+                total: all.len() as u64,
+            }
+        }
+        Err(fault) => Planned {
+            status: of(fault),
+            count: 0,
+            total: 0,
+        },
+    }
+}
+
+/// So many there are from one on, and so many there is room for.
+pub fn fitting(room: usize, all: usize, from: u64) -> usize
+    ensures { result ≡ min room (all - from) }
+{
+    if from >= all as u64 {
+        return 0;
+    }
+    room.min(all - from as usize)
+}
+
+fn write_outcomes(list: &mut [RequestOutcome], told: &[Outcome], from: u64) -> u64
+    ensures { IsWritten (numbered 0 told.now) from list.old list.new result (length told.now) }
+{
+    let count = fitting(list.len(), told.len(), from);
+    for k in 0..count {
+        list[k] = RequestOutcome::of(from + k as u64, told[from as usize + k]);
+    }
+    count as u64
+}
+
+fn write_mappings(list: &mut [ListedMapping], mappings: &RangeList, from: u64) -> u64
+    ensures { IsWritten (map c_mapping mappings.now.mappings) from list.old list.new result (length mappings.now.mappings) }
+{
+    let count = fitting(list.len(), mappings.len(), from);
+    for k in 0..count {
+        list[k] = ListedMapping::of(mappings.get(from as usize + k));
+    }
+    count as u64
+}
+
+fn write_steps(list: &mut [SplitStep], steps: &[Step]) -> u64
+    ensures { IsWritten (map c_step steps.now) 0 list.old list.new result (length steps.now) }
+{
+    let count = fitting(list.len(), steps.len(), 0);
+    for k in 0..count {
+        list[k] = SplitStep::of(&steps[k]);
+    }
+    count as u64
+}
