@@ -61,6 +61,7 @@ pub struct SyncPoint {
 
 /// A request: its queue, its operations, and the points that it waits for and signals.
 #[repr(C)]
+#[derive(Clone, Copy)]
 pub struct BindRequest<'a> {
     pub queue: u64,
     pub ops: &'a [Operation],

@@ -4,7 +4,7 @@ ghost use Rattle.gv_queues.specs.Ending.{IsUntold};
 
 use crate::play::Wrong;
 use crate::watch::Watch;
-use gv_queues::{Driver, Gate, PutAll, QueueEnd, QueuesFault, Turn, run_queues};
+use gv_queues::{Driver, Gate, PutAll, QueueEnd, Queues, QueuesFault, Turn};
 use gv_sync::{Lacking, Timelines};
 use gv_types::{Bounds, Fault, Flags, Limits, Op, OutOfMemory, PAGE_BYTES, Point, Request};
 use gv_vm::{Outcome, Vm};
@@ -125,17 +125,13 @@ pub fn play<R: Threads + Wait + Sync>(rt: &R, alloc: Global) -> Result<(), Wrong
     let vm = vm_at_last(alloc)?;
     let gate = Patience { looks: 10_000 };
     let before = sight(&vm);
-    let (vm, ends) = run_queues(
-        rt,
-        alloc,
-        vm,
-        &timelines,
-        &mut seat,
-        2,
-        EACH as usize,
-        &gate,
-        &mut driver,
-    );
+    let queues = Queues {
+        count: 2,
+        depth: EACH as usize,
+        timelines: &timelines,
+        gate: &gate,
+    };
+    let (vm, ends) = queues.run_queues(rt, alloc, vm, &mut seat, &mut driver);
     let mut watch = Watch::new(alloc);
     let end = match ends {
         Ok(ends) => each_left(&mut watch, &vm, ends.as_slice()),

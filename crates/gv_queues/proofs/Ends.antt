@@ -118,6 +118,11 @@ if_some_none (Some x) P e = absurd (true≢false e)
 pub if_some_of : (r : Option ℕ) (x : ℕ) (P : ℕ → Type 0) → r ≡ Some x → P x → IfSome r P
 if_some_of r x P e p = subst (λ (o : Option ℕ). IfSome o P) (sym e) p
 
+-- what is there is below the same bound, and two facts stand beside
+pub if_some_with : (r : Option ℕ) (n m : ℕ) (A B : Type 0) → n ≡ m → A → B → IfSome r (λ x. x < n) → IfSome r (λ x. (x < m) × A × B)
+if_some_with None n m A B e a b lt = tt
+if_some_with (Some x) n m A B e a b lt = (subst (λ (k : ℕ). x < k) e lt, a, b)
+
 -- what is left of a list when its first element is taken
 pub head_at : {X : Type 0} (xs rest : List X) (x : X) → xs ≡ x ∷ rest → (d : X) → get_or xs 0 d ≡ x
 head_at xs rest x e d = ap (λ l. get_or l 0 d) e

@@ -35,6 +35,14 @@ pub struct Opened {
     pub workers: Vec<Worker>,
 }
 
+/// How many queues there are, how many places each has, and how many requests may be put on it.
+#[derive(Clone, Copy)]
+pub struct Sizes {
+    pub count: u64,
+    pub depth: usize,
+    pub limit: u64,
+}
+
 /// Room for so many queues.
 pub fn make_rooms(alloc: Global, count: u64) -> Result<Rooms, QueuesFault>
     requires { count ≤ queues }
@@ -54,30 +62,33 @@ pub fn make_rooms(alloc: Global, count: u64) -> Result<Rooms, QueuesFault>
     })
 }
 
-/// Opens so many queues of so many places each, on which so many requests may be put, with a seat for each worker, split off
-/// the seat that is lent.
+/// Opens queues of these sizes, with a seat for each worker, split off the seat that is lent.
 pub fn open_all(
     alloc: Global,
     timelines: &Timelines,
     seat: &mut Seat,
-    count: u64,
-    depth: usize,
-    limit: u64,
+    sizes: Sizes,
 ) -> Result<Opened, QueuesFault>
     requires own { IsSeatOf timelines.now seat.old }
-    requires count { count ≤ queues }
-    requires depth { IsFromOneTo most_places depth }
+    requires count { sizes.count ≤ queues }
+    requires depth { IsFromOneTo most_places sizes.depth }
     ensures own { IsSeatOf timelines.now seat.new }
     ensures no_step { TookNoStep seat.old seat.new }
-    ensures share { IfOk result (λ _. seat.new ≡ after_splits seat.old count) }
+    ensures share { IfOk result (λ _. seat.new ≡ after_splits seat.old sizes.count) }
     ensures seats { IfOk result (λ o. All (λ w. w.of ≡ timelines.now) o.workers.items) }
     ensures given { IfOk result (λ o. HaveSplits seat.old o.workers.items) }
-    ensures opened { IfOk result (λ o. AreOpened limit depth (timeline_count timelines.now) o.submitters.items) }
+    ensures opened { IfOk result (λ o.
+        AreOpened sizes.limit sizes.depth (timeline_count timelines.now) o.submitters.items) }
     ensures order { IfOk result (λ o. AreInOrder (λ w. w.queue) o.workers.items) }
     ensures channels { IfOk result (λ o. AreOnOwnChannels o.submitters.items o.workers.items) }
-    ensures even { IfOk result (λ o. (vec_len o.workers ≡ count) × (vec_len o.submitters ≡ count)) }
+    ensures even { IfOk result (λ o. (vec_len o.workers ≡ sizes.count) × (vec_len o.submitters ≡ sizes.count)) }
     ensures fault { IfErr result (λ fault. fault ≡ QueuesFault.NotMade) }
 {
+    let Sizes {
+        count,
+        depth,
+        limit,
+    } = sizes;
     let places = count as usize;
     let mut submitters = Vec::with_capacity(alloc, places)?;
     let mut workers = Vec::with_capacity(alloc, places)?;

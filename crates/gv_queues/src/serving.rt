@@ -43,6 +43,13 @@ fn pay_for(timelines: &Timelines, seat: &mut Seat, item: &Item)
     }
 }
 
+/// A request that was taken, and the numbers at which its waits were reached.
+#[derive(Drop)]
+pub struct ReadyRequest<'a> {
+    pub taken: Taken,
+    pub reached: &'a [Reached],
+}
+
 /// Binds a request whose waits are reached, as `Vm::bind` does, and raises its signals in order if it is accepted. If it is
 /// not, the seat takes no step.
 pub fn serve(
@@ -50,21 +57,22 @@ pub fn serve(
     vm: &mut Vm,
     timelines: &Timelines,
     seat: &mut Seat,
-    taken: Taken,
-    reached: &[Reached],
+    ready: ReadyRequest<'_>,
 ) -> Result<Outcome, NotTold>
     requires own { IsSeatOf timelines.now seat.old }
-    requires fits { FitsTimelines (timeline_count timelines.now) taken.request }
-    requires reached { AreReached taken.request.waits.items seat.old reached.now }
+    requires fits { FitsTimelines (timeline_count timelines.now) ready.taken.request }
+    requires reached { AreReached ready.taken.request.waits.items seat.old ready.reached.now }
     ensures own { IsSeatOf timelines.now seat.new }
-    ensures fault { MatchOption (tell_fault vm.old.space.limits.told vm.old.told taken.queue taken.number)
+    ensures fault { MatchOption
+        (tell_fault vm.old.space.limits.told vm.old.told ready.entry.taken.queue ready.entry.taken.number)
         (IfErr result (λ n. n.fault ≡ Fault.OutOfMemory)) (λ fault. IsErrAnd result (λ n. n.fault ≡ fault)) }
-    ensures request { IfErr result (λ n. n.request ≡ taken.request) }
-    ensures outcome { IfOk result
-        (IsBoundAndTold vm.old vm.new taken.queue taken.number taken.request (seen_by reached.now)) }
-    ensures paid { IfOk result (ArePaid taken.request.signals.items seat.old seat.new) }
+    ensures request { IfErr result (λ n. n.request ≡ ready.entry.taken.request) }
+    ensures outcome { IfOk result (IsBoundAndTold vm.old vm.new ready.entry.taken.queue ready.entry.taken.number
+        ready.entry.taken.request (seen_by ready.entry.reached.now)) }
+    ensures paid { IfOk result (ArePaid ready.entry.taken.request.signals.items seat.old seat.new) }
     ensures err { OnErr result ((vm.new ≡ vm.old) × (seat.new ≡ seat.old)) }
 {
+    let ReadyRequest { taken, reached } = ready;
     let (queue, number) = (taken.queue(), taken.number());
     let outcome = vm.bind(alloc, queue, number, taken.into_request(), reached)?;
     if let Outcome::Accepted { .. } = outcome {

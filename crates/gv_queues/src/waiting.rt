@@ -36,62 +36,62 @@ impl<'a, G: Gate> Asking<'a, G> {
         self.turns = self.turns.saturating_add(1);
         self.gate.turn(self.queue, self.number, lacking, self.turns)
     }
-}
 
-/// Looks at a point until it is reached or the gate gives up.
-fn wait_for<G: Gate, R: Wait>(
-    rt: &R,
-    timelines: &Timelines,
-    seat: &mut Seat,
-    asking: &mut Asking<'_, G>,
-    point: &Point,
-) -> Result<Reached, Lacking>
-    requires own { IsSeatOf timelines.now seat.old }
-    requires named { point.now.timeline < timeline_count timelines.now }
-    ensures own { IsSeatOf timelines.now seat.new }
-    ensures looked { HasLooked seat.old seat.new }
-    ensures reached { IfOk result (λ r. (r.point ≡ point.now)
-        × (r.number ≤ (mark_of seat.new point.now.timeline).seen)) }
-    ensures enough { IfOk result (λ r. r.point.value ≤ r.number) }
-    ensures lacking { IfErr result (λ l. (l.point ≡ point.now) × (l.number < l.point.value)) }
-{
-    seat.has_each_mark();
-    for _ in rt.forever() {
-        match timelines.look(seat, point) {
-            Ok(reached) => return Ok(reached),
-            Err(lacking) => {
-                if let Turn::GiveUp = asking.turn(&lacking) {
-                    return Err(lacking);
+    /// Looks at a point until it is reached or the gate gives up.
+    fn wait_for<R: Wait>(
+        &mut self,
+        rt: &R,
+        timelines: &Timelines,
+        seat: &mut Seat,
+        point: &Point,
+    ) -> Result<Reached, Lacking>
+        requires own { IsSeatOf timelines.now seat.old }
+        requires named { point.now.timeline < timeline_count timelines.now }
+        ensures own { IsSeatOf timelines.now seat.new }
+        ensures looked { HasLooked seat.old seat.new }
+        ensures reached { IfOk result (λ r. (r.point ≡ point.now)
+            × (r.number ≤ (mark_of seat.new point.now.timeline).seen)) }
+        ensures enough { IfOk result (λ r. r.point.value ≤ r.number) }
+        ensures lacking { IfErr result (λ l. (l.point ≡ point.now) × (l.number < l.point.value)) }
+    {
+        seat.has_each_mark();
+        for _ in rt.forever() {
+            match timelines.look(seat, point) {
+                Ok(reached) => return Ok(reached),
+                Err(lacking) => {
+                    if let Turn::GiveUp = self.turn(&lacking) {
+                        return Err(lacking);
+                    }
+                    thread::yield_now();
                 }
-                thread::yield_now();
             }
         }
+        unreachable!()
     }
-    unreachable!()
-}
 
-/// Looks at all waits in order, each until it is reached, or until the gate gives up: then it answers the first that is not
-/// reached. There is room for what is reached.
-pub fn wait_for_all<G: Gate, R: Wait>(
-    rt: &R,
-    timelines: &Timelines,
-    seat: &mut Seat,
-    asking: &mut Asking<'_, G>,
-    waits: &[Point],
-    reached: &mut Vec<Reached>,
-) -> Result<(), Lacking>
-    requires own { IsSeatOf timelines.now seat.old }
-    requires named { All (λ p. p.timeline < timeline_count timelines.now) waits.now }
-    requires none { reached.old.items ≡ [] }
-    requires room { length waits.now ≤ vec_capacity reached.old }
-    ensures own { IsSeatOf timelines.now seat.new }
-    ensures looked { HasLooked seat.old seat.new }
-    ensures lacking { IfErr result (λ l. Contains waits.now l.point) }
-    ensures first { IfErr result (λ l. IsFirstLacking waits.now seat.new reached.new.items l) }
-    ensures reached { OnOk result (AreReached waits.now seat.new reached.new.items) }
-{
-    for point in waits {
-        reached.push_reserved(wait_for(rt, timelines, seat, asking, point)?);
+    /// Looks at all waits in order, each until it is reached, or until the gate gives up: then it answers the first that is not
+    /// reached. There is room for what is reached.
+    pub fn wait_for_all<R: Wait>(
+        &mut self,
+        rt: &R,
+        timelines: &Timelines,
+        seat: &mut Seat,
+        waits: &[Point],
+        reached: &mut Vec<Reached>,
+    ) -> Result<(), Lacking>
+        requires own { IsSeatOf timelines.now seat.old }
+        requires named { All (λ p. p.timeline < timeline_count timelines.now) waits.now }
+        requires none { reached.old.items ≡ [] }
+        requires room { length waits.now ≤ vec_capacity reached.old }
+        ensures own { IsSeatOf timelines.now seat.new }
+        ensures looked { HasLooked seat.old seat.new }
+        ensures lacking { IfErr result (λ l. Contains waits.now l.point) }
+        ensures first { IfErr result (λ l. IsFirstLacking waits.now seat.new reached.new.items l) }
+        ensures reached { OnOk result (AreReached waits.now seat.new reached.new.items) }
+    {
+        for point in waits {
+            reached.push_reserved(self.wait_for(rt, timelines, seat, point)?);
+        }
+        Ok(())
     }
-    Ok(())
 }

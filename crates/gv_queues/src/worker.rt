@@ -6,10 +6,10 @@ ghost use Rattle.gv_queues.specs.Paying.{RaisedJust, all_owed};
 ghost use Rattle.gv_queues.specs.Working.{owed_by};
 
 use crate::gate::Gate;
-use crate::serving::{decline, serve};
+use crate::serving::{ReadyRequest, decline, serve};
 use crate::taking::{Taken, Taker};
 use crate::vm_lock::VmLock;
-use crate::waiting::{Asking, wait_for_all};
+use crate::waiting::Asking;
 use crate::worker_end::WorkerEnd;
 use gv_sync::{Seat, Timelines};
 use gv_types::{Fault, Request};
@@ -108,18 +108,17 @@ fn attend<G: Gate, R: Wait>(
     }
     let timelines = shared.timelines;
     let mut asking = Asking::new(shared.gate, queue, number);
-    let waited = wait_for_all(
-        rt,
-        timelines,
-        seat,
-        &mut asking,
-        taken.waits(),
-        &mut reached,
-    );
+    let waited = asking.wait_for_all(rt, timelines, seat, taken.waits(), &mut reached);
     shared.gate.before_lock(queue, number);
     let mut vm = shared.lock.lock(rt);
     match waited {
-        Ok(()) => serve(alloc, &mut vm, timelines, seat, taken, reached.as_slice()),
+        Ok(()) => {
+            let ready = ReadyRequest {
+                taken,
+                reached: reached.as_slice(),
+            };
+            serve(alloc, &mut vm, timelines, seat, ready)
+        }
         Err(lacking) => decline(&mut vm, taken, lacking),
     }
 }

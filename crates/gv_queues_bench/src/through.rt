@@ -5,7 +5,7 @@ ghost use Rattle.gv_vm.specs.Outcomes.{queues};
 use crate::failure::Failure;
 use crate::patience::Patience;
 use crate::timing::nanoseconds;
-use gv_queues::{PutAll, run_queues};
+use gv_queues::{PutAll, Queues};
 use gv_sync::Timelines;
 use gv_types::{Bounds, Limits, Request};
 use gv_vm::Vm;
@@ -31,18 +31,14 @@ pub fn time_through<R: Clock + Threads + Wait + Sync>(
     let mut driver = PutAll::new(requests);
     let (timelines, mut seat) = Timelines::new(alloc, 1)?;
     let vm = Vm::new(alloc, Bounds::whole(), Limits::full())?;
-    let start = Instant::now(rt);
-    let (vm, ends) = run_queues(
-        rt,
-        alloc,
-        vm,
-        &timelines,
-        &mut seat,
+    let queues = Queues {
         count,
-        PLACES,
-        &Patience,
-        &mut driver,
-    );
+        depth: PLACES,
+        timelines: &timelines,
+        gate: &Patience,
+    };
+    let start = Instant::now(rt);
+    let (vm, ends) = queues.run_queues(rt, alloc, vm, &mut seat, &mut driver);
     let end = Instant::now(rt);
     let items = vm.items().len();
     vm.close();

@@ -2,7 +2,7 @@
 use crate::plan::{Plan, is_wanted};
 use crate::row::{Kept, Sent, Setting, Wanted};
 use gv_journal::{Item, ItemKind};
-use gv_queues::{Driver, Gate, QueueEnd, QueuesFault, run_queues};
+use gv_queues::{Driver, Gate, QueueEnd, Queues, QueuesFault};
 use gv_sync::Timelines;
 use gv_types::{Bounds, Limits, Request};
 use gv_vm::{QUEUES, Vm};
@@ -44,9 +44,13 @@ pub fn run<'a, G: Gate + Sync, R: Threads + Wait + Sync>(
     let (timelines, mut seat) = Timelines::new(alloc, 2)?;
     let mut plan = Plan::new(alloc, asked, setting.steps);
     let vm = Vm::new(alloc, Bounds::whole(), limits)?;
-    let (vm, ends) = run_queues(
-        rt, alloc, vm, &timelines, &mut seat, count, depth, gate, &mut plan,
-    );
+    let queues = Queues {
+        count,
+        depth,
+        timelines: &timelines,
+        gate,
+    };
+    let (vm, ends) = queues.run_queues(rt, alloc, vm, &mut seat, &mut plan);
     let first = timelines.value(&mut seat, 0);
     let second = timelines.value(&mut seat, 1);
     Ok(Ran {

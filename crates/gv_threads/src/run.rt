@@ -21,7 +21,7 @@ use crate::fault::ThreadsFault;
 use crate::gate::TurnLimit;
 use crate::harness::Harness;
 use crate::script::ThreadsScript;
-use gv_queues::{PutAll, QueueEnd, QueuesFault, run_queues};
+use gv_queues::{PutAll, QueueEnd, Queues, QueuesFault};
 use gv_sync::{MAX_TIMELINES, Timelines};
 use gv_text::{Names, ScriptFault, Sink, Source, read_script};
 use gv_types::Request;
@@ -184,18 +184,13 @@ fn serve<R: Threads + Wait + Sync, K: Sink>(
     } = harness;
     let gate = TurnLimit::new(terms.turns);
     let mut driver = PutAll::new(requests);
-    let depth = script.depth();
-    let (vm, ran) = run_queues(
-        rt,
-        alloc,
-        vm,
-        &timelines,
-        &mut seat,
-        terms.queues,
-        depth,
-        &gate,
-        &mut driver,
-    );
+    let queues = Queues {
+        count: terms.queues,
+        depth: script.depth(),
+        timelines: &timelines,
+        gate: &gate,
+    };
+    let (vm, ran) = queues.run_queues(rt, alloc, vm, &mut seat, &mut driver);
     let mut harness = Harness {
         vm,
         buffers,

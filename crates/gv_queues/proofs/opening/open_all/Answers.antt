@@ -22,7 +22,7 @@ loop-queue-preserved c =
     let was = c.loop-queue.invariant in
     let long : vec_len c.loop-queue.submitters ≡ length c.loop-queue.submitters.items = search rules in
     let wide : vec_len c.loop-queue.workers ≡ length c.loop-queue.workers.items = search rules in
-    let opened : IsOpened (length c.loop-queue.submitters.items) c.args.limit c.args.depth (timeline_count c.args.timelines.now) c.new.result = record {
+    let opened : IsOpened (length c.loop-queue.submitters.items) c.args.sizes.limit c.args.sizes.depth (timeline_count c.args.timelines.now) c.new.result = record {
       queue = ap (λ (s : SubmitterState). s.queue) c.new.ensures ∙ (sym was.3 ∙ long);
       channel = ap (λ (s : SubmitterState). s.channel.queue) c.new.ensures ∙ (sym was.3 ∙ long);
       limit = ap (λ (s : SubmitterState). s.limit) c.new.ensures;
@@ -50,7 +50,7 @@ loop-queue-preserved c =
       shared,
       search rules,
       search rules,
-      opened_more c.args.limit c.args.depth (timeline_count c.args.timelines.now) c.loop-queue.submitters.items c.push_reserved.new.self.items c.new.result c.push_reserved.ensures.items opened was.5,
+      opened_more c.args.sizes.limit c.args.sizes.depth (timeline_count c.args.timelines.now) c.loop-queue.submitters.items c.push_reserved.new.self.items c.new.result c.push_reserved.ensures.items opened was.5,
       in_order_more (λ (w : WorkerState). w.queue) c.loop-queue.workers.items c.push_reserved-in-loop-queue.new.self.items c.new-in-loop-queue-2.result was.6 queue c.push_reserved-in-loop-queue.ensures.items,
       each_more (λ (k : ℕ) (w : WorkerState). w.of ≡ c.args.timelines.now) c.loop-queue.workers.items c.push_reserved-in-loop-queue.new.self.items c.new-in-loop-queue-2.result
           c.push_reserved-in-loop-queue.ensures.items (ap (λ (w : WorkerState). w.of) c.new-in-loop-queue-2.ensures ∙ c.in_ok-own.ensures.own_given) was.7,
@@ -65,11 +65,11 @@ loop-queue-preserved c =
 
 pub returns-clause-channels : goal.returns-clause-channels
 returns-clause-channels c =
-    let was = c.loop-queue.invariant in own_channels c.args.limit c.args.depth (timeline_count c.args.timelines.now) c.loop-queue.submitters.items c.loop-queue.workers.items was.5 was.8
+    let was = c.loop-queue.invariant in own_channels c.args.sizes.limit c.args.sizes.depth (timeline_count c.args.timelines.now) c.loop-queue.submitters.items c.loop-queue.workers.items was.5 was.8
 
 pub returns-clause-share : goal.returns-clause-share
 returns-clause-share c =
     let was = c.loop-queue.invariant in
     let lent : c.loop-queue.seat ≡ after_splits c.args.seat.now c.loop-queue.queue = seats_one _ _ (was.0 ∙ sym c.requires.own) was.1 was.12 was.2 in
-    let all : c.loop-queue.queue ≡ c.args.count = search rules in
+    let all : c.loop-queue.queue ≡ c.args.sizes.count = search rules in
     lent ∙ ap (λ (n : ℕ). after_splits c.args.seat.now n) all

@@ -14,11 +14,11 @@ invariant-loop-queue l =
     × (l.seat.halvings ≡ l.fn.seat.halvings + l.queue)
     × (vec_len l.submitters ≡ l.queue)
     × (vec_len l.workers ≡ l.queue)
-    × AreOpened l.fn.limit l.fn.depth (timeline_count l.timelines) l.submitters.items
+    × AreOpened l.fn.sizes.limit l.fn.sizes.depth (timeline_count l.timelines) l.submitters.items
     × AreInOrder (λ (w : WorkerState). w.queue) l.workers.items
     × All (λ (w : WorkerState). w.of ≡ l.timelines) l.workers.items
     × (of_submitters l.submitters.items ≡ of_workers l.workers.items)
     × HaveSplits l.fn.seat l.workers.items
-    × (l.fn.count ≤ vec_capacity l.submitters)
-    × (l.fn.count ≤ vec_capacity l.workers)
+    × (l.fn.sizes.count ≤ vec_capacity l.submitters)
+    × (l.fn.sizes.count ≤ vec_capacity l.workers)
     × (l.seat.raises ≡ l.fn.seat.raises)

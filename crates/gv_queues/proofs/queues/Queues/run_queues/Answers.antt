@@ -2,7 +2,7 @@ use Rattle.std.proofs.Common.{rules}
 use denote.Param.Send.{arg_sync, param_sync}
 use Rattle.gv_queues.proofs.Ends.{counted_ends, if_ok, if_ok_both}
 use Rattle.gv_queues.proofs.Sends.{lock_sync}
-use Rattle.gv_queues.proofs.queues.run_queues.Goals as goal
+use Rattle.gv_queues.proofs.queues.Queues.run_queues.Goals as goal
 
 pub run_workers-ran-requires-sync-L : goal.run_workers-ran-requires-sync-L
 run_workers-ran-requires-sync-L g c κs within = search (lock_sync, param_sync, arg_sync) depth 6

@@ -2,7 +2,7 @@ use Rattle.std.proofs.Common.{◌≤◌, length, take, vec_capacity}
 use Rattle.gv_sync.specs.Seats.{IsSeatOf}
 use Rattle.gv_sync.specs.Turns.{HasLooked}
 use Rattle.gv_queues.specs.Paying.{AreReached, WereReached}
-use Rattle.gv_queues.proofs.waiting.wait_for_all.Given as goal
+use Rattle.gv_queues.proofs.waiting.Asking.wait_for_all.Given as goal
 
 abbrev pub invariant-loop-point : goal.invariant-loop-point
 invariant-loop-point g l =

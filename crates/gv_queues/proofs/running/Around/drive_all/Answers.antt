@@ -2,7 +2,7 @@ use Rattle.std.proofs.Common.{rules, ◌≡◌, ◌∙◌, List, drop, ap, map, 
 use Rattle.gv_queues.specs.Submitting.{SubmitterState, put_end_of}
 use Rattle.gv_queues.proofs.Channels.{closed_of}
 use Rattle.gv_queues.proofs.Ends.{puts_of, taken_whole}
-use Rattle.gv_queues.proofs.running.drive_all.Goals as goal
+use Rattle.gv_queues.proofs.running.Around.drive_all.Goals as goal
 
 pub returns-clause-puts : goal.returns-clause-puts
 returns-clause-puts g c =
