@@ -38,7 +38,7 @@ extern "C" {
  * What holds of every call:
  *   - It answers a status. Where that isn't VMBIND_OK the address space, its buffers, its journal and its jobs are as before the
  *     call, but for what vmbind_bind and vmbind_serve say of queues.
- *   - On an empty handle it answers VMBIND_NO_VM and does nothing, whatever the other arguments are; vmbind_create alone makes
+ *   - On an empty handle it answers VMBIND_NO_VM, whatever the other arguments are; vmbind_create alone makes
  *     something there. After that a bad argument is answered before any fault but want of memory.
  *   - Each number and structure that it may write is written, also where it is refused: with zeros where there is nothing to
  *     say. Of an array only as many elements are written as is told; the others stay as they were.

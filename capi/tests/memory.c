@@ -255,7 +255,11 @@ int main(void) {
   long most = asked;
   CHECK(most > 50 && last.next > last.first && last.mappings > 4);
   for (int all = 0; all < 2; all++)
-    for (long n = 0; n < most && failed < 20; n++) CHECK(run(n, all, &last) > 0);
+    for (long n = 0; n < most && failed < 20; n++) {
+      /* Room is asked for twice as much as there is, and where that is refused for just what is needed: one request more. */
+      long lacks = run(n, all, &last);
+      if (!CHECK(lacks > 0 || (!all && asked == most + 1))) printf("  request %ld refused, all %d: %ld asked of %ld\n", n, all, asked, most);
+    }
   for (int k = 0; k < DOINGS; k++)
     if (!CHECK(lacked[k] == grows[k])) printf("  doing %d\n", k);
   CHECK(left_as[VMBIND_NOT_PUT] && left_as[VMBIND_PENDING] && left_as[VMBIND_REFUSED]);
