@@ -15,21 +15,21 @@ returns-clause-served g c =
     then_ok c.end-ended.result _ _
     (λ found.
     let ends : Vec QueueEnd Global = found.0 in
-    let long : vec_len ends ≡ c.args.run.terms.queues = of_ok c.run-vm.result.1 ends (λ (e : Vec QueueEnd Global). vec_len e ≡ c.args.run.terms.queues) found.2 c.run-vm.ensures.len in (
+    let long : vec_len ends ≡ c.args.run.terms.queues = of_ok c.run_queues-vm.result.1 ends (λ (e : Vec QueueEnd Global). vec_len e ≡ c.args.run.terms.queues) found.2 c.run_queues-vm.ensures.len in (
       end_lines ends.items ++ found.1,
       record {
-        back = c.run-vm.result.0;
-        sound = c.run-vm.ensures.sound;
+        back = c.run_queues-vm.result.0;
+        sound = c.run_queues-vm.ensures.sound;
         ends = ends.items;
         each = search rules;
-        counted = ends_on c.run-vm.result.0 _ c.new-driver.result.asked c.args.requests.items ends.items c.new-driver.ensures (of_ok c.run-vm.result.1 ends (λ (e : Vec QueueEnd Global). AreCountedEnds c.run-vm.result.0 _ _ e.items) found.2 c.run-vm.ensures.counted);
+        counted = ends_on c.run_queues-vm.result.0 _ c.new-driver.result.asked c.args.requests.items ends.items c.new-driver.ensures (of_ok c.run_queues-vm.result.1 ends (λ (e : Vec QueueEnd Global). AreCountedEnds c.run_queues-vm.result.0 _ _ e.items) found.2 c.run_queues-vm.ensures.counted);
         seat = c.args.run.harness.seat;
         first_part = c.requires.first;
         raised_in_it = refl;
         last = found.1;
         after = c.end-ended.new.harness.seat;
-        answered = subst (λ (s : SeatState). AreAnswered c.args.run.harness.buffers.entries c.args.run.script.timelines c.run-vm.result.0 s (unnumbered c.args.run.script.questions) found.1 c.end-ended.new.harness.seat)
-            (seat_back c.run-vm.result.1 ends c.args.run.terms.queues (λ (before after : SeatState). after ≡ before) c.args.run.harness.seat c.run-vm.new.seat found.2 c.run-vm.ensures.lent) found.3;
+        answered = subst (λ (s : SeatState). AreAnswered c.args.run.harness.buffers.entries c.args.run.script.timelines c.run_queues-vm.result.0 s (unnumbered c.args.run.script.questions) found.1 c.end-ended.new.harness.seat)
+            (seat_back c.run_queues-vm.result.1 ends c.args.run.terms.queues (λ (before after : SeatState). after ≡ before) c.args.run.harness.seat c.run_queues-vm.new.seat found.2 c.run_queues-vm.ensures.lent) found.3;
         text_is = refl;
       },
       found.4,
