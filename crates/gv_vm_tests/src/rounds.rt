@@ -188,6 +188,15 @@ fn setting_of(limits: Limits) -> Result<Setting, Fail> {
     })
 }
 
+/// So many events from a seed, on a world of these limits.
+fn round_of(limits: Limits, seed: u64, events: u64) -> Result<Round, Fail> {
+    Ok(Round {
+        setting: setting_of(limits)?,
+        seed,
+        events,
+    })
+}
+
 /// Plays a round, and closes its world in the end.
 fn play(rt: &(impl Abort + AllocGlobal), round: &Round, tally: &mut Tally) -> Result<(), Fail> {
     let setting = &round.setting;
@@ -205,24 +214,6 @@ fn play(rt: &(impl Abort + AllocGlobal), round: &Round, tally: &mut Tally) -> Re
     match agreed {
         Ok(agreed) => assert_eq!(rt; agreed, round.events, "seed {}", round.seed),
         Err(_) => return Err("memory".into()),
-    }
-    Ok(())
-}
-
-/// Plays a round of so many events from each of 16 seeds.
-fn play_seeds(
-    rt: &(impl Abort + AllocGlobal),
-    setting: Setting,
-    events: u64,
-    tally: &mut Tally,
-) -> Result<(), Fail> {
-    for seed in 0..16u64 {
-        let round = Round {
-            setting,
-            seed,
-            events,
-        };
-        play(rt, &round, tally)?;
     }
     Ok(())
 }
@@ -278,13 +269,15 @@ fn expect_faults_of_requests(rt: &impl Abort, tally: &Tally) {
 
 #[test]
 fn chance_agrees_with_the_definitions(rt: HostRuntime) -> Result<(), Fail> {
-    let wide = setting_of(Limits::new(3, 64, 40, 200).ok_or("wide")?)?;
-    let narrow = setting_of(Limits::new(2, 3, 12, 200).ok_or("narrow")?)?;
-    let short = setting_of(Limits::new(3, 9, 3, 30).ok_or("short")?)?;
+    let wide = Limits::new(3, 64, 40, 200).ok_or("wide")?;
+    let narrow = Limits::new(2, 3, 12, 200).ok_or("narrow")?;
+    let short = Limits::new(3, 9, 3, 30).ok_or("short")?;
     let mut tally = Tally::new();
-    play_seeds(&rt, wide, 800, &mut tally)?;
-    play_seeds(&rt, narrow, 800, &mut tally)?;
-    play_seeds(&rt, short, 500, &mut tally)?;
+    for seed in 0..16u64 {
+        play(&rt, &round_of(wide, seed, 800)?, &mut tally)?;
+        play(&rt, &round_of(narrow, seed, 800)?, &mut tally)?;
+        play(&rt, &round_of(short, seed, 500)?, &mut tally)?;
+    }
     expect_each_kind(&rt, &tally.events, "event");
     expect_each_kind(&rt, &tally.replies, "reply");
     expect_faults_of_calls(&rt, &tally);
