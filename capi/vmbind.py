@@ -91,28 +91,25 @@ class Outcome(_Value):
                 ("point", Point), ("have", _u64)]
 
 
-class Translation(_Value):
+class _Backed(_Value):
+    """What has a kind and flags. It is true where something stands behind it."""
+
+    def __bool__(self):
+        return self.kind != NOTHING
+
+    @property
+    def read_only(self):
+        return self.flags == 1
+
+
+class Translation(_Backed):
     """Where an address leads. It is true where something is mapped."""
     _fields_ = [("kind", _u32), ("flags", _u32), ("run", _u64), ("buffer", Buffer), ("byte", _u64)]
 
-    def __bool__(self):
-        return self.kind != NOTHING
 
-    @property
-    def read_only(self):
-        return self.flags == 1
-
-
-class Mapping(_Value):
+class Mapping(_Backed):
     """A mapping of the list. It is true where it is one."""
     _fields_ = [("kind", _u32), ("flags", _u32), ("start", _u64), ("size", _u64), ("buffer", Buffer), ("offset", _u64)]
-
-    def __bool__(self):
-        return self.kind != NOTHING
-
-    @property
-    def read_only(self):
-        return self.flags == 1
 
 
 class Step(_Value):
