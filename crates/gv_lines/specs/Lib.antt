@@ -4,4 +4,5 @@ pub mod Operation
 pub mod Clause
 pub mod Job
 pub mod Grammar
+pub mod ServeLine
 pub mod Hex

@@ -4,6 +4,7 @@
 
 mod clause;
 mod clauses;
+mod explaining;
 mod hex;
 mod job;
 mod keyword;
@@ -13,15 +14,25 @@ mod number;
 mod operation;
 mod parse;
 mod point;
+mod reason;
+mod serve_line;
 mod words;
 
 pub use clause::Clause;
 pub use clauses::ClauseList;
+pub use explaining::{
+    Found, Mention, Mentions, explain, explain_serve, no_such_line, queue_in, word_at,
+};
 pub use hex::write_hex;
 pub use job::{Access, AccessList};
 pub use line::Line;
 pub use name::Name;
+pub use number::number_of;
 pub use operation::Operation;
 pub use parse::parse_line;
 pub use point::NamedPoint;
+pub use reason::{
+    Beginning, Form, LINE_LIMIT, Layout, NameSlip, NumberSlip, Place, Reason, Set, Setting, Slip,
+};
+pub use serve_line::{ServeLine, parse_serve_line};
 pub use words::split_once;

@@ -8,7 +8,8 @@ use super::name::Name;
 use super::number::{decimal_of, number_of};
 use std::marker::Model;
 
-const QUEUES: u64 = 16;
+/// How many queues there are.
+pub const QUEUES: u64 = 16;
 
 /// Words that are left: those of the text, but no more than the limit.
 #[derive(Drop, Debug)]

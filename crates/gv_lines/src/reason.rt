@@ -1,0 +1,110 @@
+//! Why a line is bad.
+mod beginning;
+mod form;
+mod layout;
+mod name_slip;
+mod number_slip;
+mod place;
+mod setting;
+mod shown;
+
+pub use beginning::Beginning;
+pub use form::Form;
+pub use layout::{LINE_LIMIT, Layout};
+pub use name_slip::NameSlip;
+pub use number_slip::NumberSlip;
+pub use place::{Place, Set};
+pub use setting::Setting;
+use shown::Shown;
+use std::fmt;
+
+/// Where a line is bad first, and why. Its text says what was found, where, and what is wanted, in one line of ASCII.
+#[derive(Clone, Copy, Debug)]
+pub struct Slip<'a> {
+    /// The place in the line of what was found, in bytes, counted from 1.
+    pub column: u64,
+    pub reason: Reason<'a>,
+}
+
+/// Why a line is bad. Words are those of the line.
+#[derive(Clone, Copy, Debug)]
+pub enum Reason<'a> {
+    /// Its bytes are not words with one space between them.
+    Layout(Layout),
+    /// The first word of the line, or of a clause, begins none.
+    Beginning { word: &'a [u8], slip: Beginning },
+    /// The words are not of a form, or the clauses not of a line.
+    Form(Form<'a>),
+    /// A word is no name.
+    Name { word: &'a [u8], slip: NameSlip },
+    /// A word is no number, or none that may stand there.
+    Number { word: &'a [u8], slip: NumberSlip },
+    /// The line is of the language, and not at its place.
+    Place(Place<'a>),
+    /// The line sets what cannot be set.
+    Setting { word: &'a [u8], setting: Setting },
+}
+
+impl<'a> Slip<'a> {
+    /// A line of over `LINE_LIMIT` bytes.
+    pub fn too_long() -> Self {
+        Slip {
+            column: LINE_LIMIT + 1,
+            reason: Reason::Layout(Layout::TooLong),
+        }
+    }
+
+    /// A script whose last line, of so many bytes, has no line end.
+    pub fn no_line_end(bytes: usize) -> Self {
+        Slip {
+            column: (bytes as u64).saturating_add(1),
+            reason: Reason::Layout(Layout::NoLineEnd),
+        }
+    }
+}
+
+impl Reason<'_> {
+    /// Whether the text says the place of what was found.
+    fn has_column(&self) -> bool {
+        match self {
+            Reason::Layout(layout) => layout.has_column(),
+            Reason::Beginning { slip, .. } => slip.has_column(),
+            Reason::Place(_) => false,
+            _ => true,
+        }
+    }
+}
+
+impl fmt::Display for Slip<'_> {
+    fn fmt<W: fmt::Write>(&self, f: &mut fmt::Formatter<W>) -> fmt::Result {
+        let column = self.column;
+        if self.reason.has_column() {
+            write!(f, "column {column}: ")?;
+        }
+        let reason = &self.reason;
+        write!(f, "{reason}")
+    }
+}
+
+impl fmt::Display for Reason<'_> {
+    fn fmt<W: fmt::Write>(&self, f: &mut fmt::Formatter<W>) -> fmt::Result {
+        match *self {
+            Reason::Layout(layout) => write!(f, "{layout}"),
+            Reason::Beginning { word, slip } => slip.write(f, Shown(word)),
+            Reason::Form(form) => write!(f, "{form}"),
+            Reason::Name { word, slip } => {
+                let word = Shown(word);
+                write!(f, "{word}; {slip}")
+            }
+            Reason::Number { word, slip } => {
+                let word = Shown(word);
+                write!(f, "{word}; {slip}")
+            }
+            Reason::Place(place) => write!(f, "{place}"),
+            Reason::Setting { word, setting } => {
+                let word = Shown(word);
+                write!(f, "{word}; {setting}")
+            }
+        }
+    }
+}

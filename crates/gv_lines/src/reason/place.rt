@@ -1,0 +1,67 @@
+//! Lines of the language that are not at their place.
+use super::shown::Shown;
+use std::fmt;
+
+/// The two sets of names.
+#[derive(Clone, Copy, Debug, PartialEq, Eq)]
+pub enum Set {
+    Buffers,
+    Timelines,
+}
+
+impl fmt::Display for Set {
+    fn fmt<W: fmt::Write>(&self, f: &mut fmt::Formatter<W>) -> fmt::Result {
+        f.write_str(match self {
+            Set::Buffers => "buffer",
+            Set::Timelines => "timeline",
+        })
+    }
+}
+
+/// Why a line of the language may not stand at its place in its script.
+#[derive(Clone, Copy, Debug)]
+pub enum Place<'a> {
+    /// It names what is not declared.
+    Undeclared { set: Set, name: &'a [u8] },
+    /// It declares what is declared already.
+    Declared { set: Set, name: &'a [u8] },
+    /// All 64 timelines are declared.
+    ManyTimelines,
+    /// A `space` line that is not the first.
+    SpaceFirst,
+    /// A `limits` line behind another than `space`.
+    LimitsFirst,
+    /// No threads script has a line that begins with this word.
+    NotInThreads { word: &'a [u8] },
+    /// In a threads script it stands before all `bind` lines and questions.
+    FirstPart { word: &'a [u8] },
+    /// In a threads script a `bind` line stands before all questions.
+    SecondPart,
+}
+
+impl fmt::Display for Place<'_> {
+    fn fmt<W: fmt::Write>(&self, f: &mut fmt::Formatter<W>) -> fmt::Result {
+        match *self {
+            Place::Undeclared { set, name } => {
+                let name = Shown(name);
+                write!(f, "{set} {name} is not declared")
+            }
+            Place::Declared { set, name } => {
+                let name = Shown(name);
+                write!(f, "{set} {name} is declared")
+            }
+            Place::ManyTimelines => f.write_str("a 65th timeline; there are at most 64"),
+            Place::SpaceFirst => f.write_str("space stands before all other lines"),
+            Place::LimitsFirst => f.write_str("limits stands before all other lines but space"),
+            Place::NotInThreads { word } => {
+                let word = Shown(word);
+                write!(f, "{word} stands in no threads script")
+            }
+            Place::FirstPart { word } => {
+                let word = Shown(word);
+                write!(f, "{word} stands before all bind lines and questions")
+            }
+            Place::SecondPart => f.write_str("bind stands before all questions"),
+        }
+    }
+}

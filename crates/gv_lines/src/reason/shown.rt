@@ -1,0 +1,29 @@
+//! Words of a line as they are shown.
+use std::fmt;
+
+/// How many bytes of a word are shown.
+const SHOWN: usize = 40;
+
+/// A word in printable ASCII: its first bytes, and two dots where it is longer. Another byte is shown as its number.
+#[derive(Clone, Copy, Debug)]
+pub struct Shown<'a>(pub &'a [u8]);
+
+impl fmt::Display for Shown<'_> {
+    fn fmt<W: fmt::Write>(&self, f: &mut fmt::Formatter<W>) -> fmt::Result {
+        for byte in self.0.iter().take(SHOWN) {
+            write_byte(f, *byte)?;
+        }
+        if self.0.len() > SHOWN {
+            f.write_str("..")?;
+        }
+        Ok(())
+    }
+}
+
+fn write_byte<W: fmt::Write>(f: &mut fmt::Formatter<W>, byte: u8) -> fmt::Result {
+    if byte.is_ascii_graphic() || byte == b' ' {
+        f.write_char(char::from(byte))
+    } else {
+        write!(f, "(byte 0x{byte:02x})")
+    }
+}
