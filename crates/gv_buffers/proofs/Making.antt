@@ -1,15 +1,16 @@
 -- A buffer is made, or destroyed.
-use Rattle.std.proofs.Common.{◌≡◌, ◌≢◌, ℕ, ◌+◌, ◌<◌, ◌≤◌, ◌||◌, List, ◌∷◌, [], length, reverse, drop, slice_get, unwrap_or, vec_len, vec_capacity, true, false, cond, not, eqb, ltb, leb, arith, refl, sym, ◌∙◌, ap, subst, ⊎_elim, Some, None, Option, zero-add}
+use Rattle.std.proofs.Common.{◌≡◌, ◌≢◌, ℕ, ◌+◌, ◌<◌, ◌≤◌, ◌||◌, Bool, List, ◌∷◌, [], length, reverse, drop, slice_get, unwrap_or, vec_len, vec_capacity, true, false, cond, not, eqb, ltb, leb, arith, refl, sym, ◌∙◌, ap, subst, ⊎_elim, Some, None, Option, zero-add}
 use Rattle.std.specs.Option.{option_map}
 use Rattle.std.proofs.lemmas.List.{length-reverse}
 use Rattle.std.specs.List.{insert, filter}
 use Rattle.std.proofs.lemmas.Bool.{cases_eq, ne_eqb, eq-eqb, le-ltb, lt-leb, le-leb}
+use Rattle.std.proofs.lemmas.Bool.Decides.{nat_tests}
 use Rattle.std.proofs.lemmas.Option.{none-some, same_Some}
 use Rattle.std.proofs.lemmas.List.Elements.{All-nil}
 use Rattle.gv_types.specs.Page.{pages_per_buffer}
 use Rattle.gv_types.specs.Mapping.{buffer_id}
 use Rattle.gv_types.specs.declared.mapping.BufferId.{BufferId}
-use Rattle.gv_types.specs.declared.fault.Fault.TheVariants.{TooManyBuffers}
+use Rattle.gv_types.specs.declared.fault.Fault.TheVariants.{BadSize, TooManyBuffers}
 use Rattle.gv_buffers.specs.declared.live_buffer.LiveBuffer.{LiveBuffer}
 use Rattle.gv_buffers.specs.declared.slots.Slots.{Slots}
 use Rattle.gv_buffers.specs.declared.buffers.Buffers.TheInside.{Inside}
@@ -178,4 +179,28 @@ destroyed a t slots id v sound view found updates len are noted indices =
       };
       table = ap (λ (live : List Buffer). record { limit = a.limit; made = a.made; live = live; vacant = reverse slots.vacant.items }) list
           ∙ ap (λ (vs : List ℕ). record (without id (table_of a)) { vacant = vs }) noted ∙ ap (without id) view;
+    }
+
+no_faults : (a b c d : Bool) → cond (a || b) (Some BadSize) (cond (c || d) (Some TooManyBuffers) None) ≡ None → (a ≡ false) × (b ≡ false) × (c ≡ false) × (d ≡ false)
+no_faults true b c d none = absurd cc
+no_faults false true c d none = absurd cc
+no_faults false false true d none = absurd cc
+no_faults false false false true none = absurd cc
+no_faults false false false false none = (refl, refl, refl, refl)
+
+pub record IsCreatable (t : BuffersState) (pages : ℕ) : Type 0 where
+  pub some : 0 < pages
+  pub few : pages ≤ pages_per_buffer
+  pub room : length t.live < t.limit
+  pub more : t.made < most_made
+
+-- nothing speaks against a buffer of this size
+pub creatable : (t : BuffersState) (pages : ℕ) → create_fault t pages ≡ None → IsCreatable t pages
+creatable t pages none =
+    let not_so = no_faults (eqb pages 0) (ltb pages_per_buffer pages) (leb t.limit (length t.live)) (leb most_made t.made) none in
+    record {
+      some = grind (arith, nat_tests, not_so.0);
+      few = grind (arith, nat_tests, not_so.1);
+      room = grind (arith, nat_tests, not_so.2);
+      more = grind (arith, nat_tests, not_so.3);
     }

@@ -66,10 +66,24 @@ impl Buffers {
         })
     }
 
-    /// Makes a buffer of `pages` pages. `BadSize` at 0 pages or over 2^36, then `TooManyBuffers`
-    /// where the limit's buffers are alive or 2^64 - 1 were made, then `OutOfMemory`. The id's
-    /// generation is how many were made before; its index is the one that a destroyed buffer left
-    /// last, if one is vacant. It takes memory only where none is, and then for twice as many indices.
+    /// Why no buffer of `pages` pages can be made, whatever memory there is: `BadSize` at 0 pages or
+    /// over 2^36, then `TooManyBuffers` where the limit's buffers are alive or 2^64 - 1 were made.
+    pub fn create_fault(&self, pages: u64) -> Option<Fault>
+        ensures { result ≡ create_fault self.now pages }
+    {
+        if pages == 0 || pages > BUFFER_PAGES {
+            return Some(Fault::BadSize);
+        }
+        if self.live() as u64 >= self.limit || self.made == u64::MAX {
+            return Some(Fault::TooManyBuffers);
+        }
+        None
+    }
+
+    /// Makes a buffer of `pages` pages, unless `create_fault` says why none can be, or memory is
+    /// refused. The id's generation is how many were made before; its index is the one that a
+    /// destroyed buffer left last, if one is vacant. It takes memory only where none is, and then
+    /// for twice as many indices.
     pub fn create(&mut self, alloc: Global, pages: u64) -> Result<BufferId, Fault>
         ensures fault { MatchOption (create_fault self.old pages)
             (IsOkUnless result Fault.OutOfMemory) (λ fault. result ≡ Err fault) }
@@ -77,11 +91,8 @@ impl Buffers {
         ensures err { OnErr result (self.new ≡ self.old) }
         ensures table { OnOk result (IsTable self.new) }
     {
-        if pages == 0 || pages > BUFFER_PAGES {
-            return Err(Fault::BadSize);
-        }
-        if self.live() as u64 >= self.limit || self.made == u64::MAX {
-            return Err(Fault::TooManyBuffers);
+        if let Some(fault) = self.create_fault(pages) {
+            return Err(fault);
         }
         let index = self.slots.next_slot()?;
         let generation = self.made;

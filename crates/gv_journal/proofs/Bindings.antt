@@ -17,6 +17,7 @@ use Rattle.gv_journal.specs.History.{undos_of, kept_by, base, Translates, Save, 
 use Rattle.gv_journal.specs.State.{FitsOver, FitsSpace}
 use Rattle.gv_journal.specs.Applying.{after_all, AreApplied}
 use Rattle.gv_journal.specs.Inside.{NamesBelow, NameOlder}
+use Rattle.gv_journal.specs.Saying.{WereLive}
 use Rattle.gv_journal.specs.declared.item.Item.{Item}
 use Rattle.gv_journal.specs.declared.item.ItemKind.{ItemKind}
 use Rattle.gv_journal.specs.declared.item.ItemKind.TheVariants.{Bind, Withdrawal}
@@ -109,3 +110,13 @@ fits_bound s t j queue number request seen done undos applied older fits =
     subst (λ (below : ℕ → Option Entry). FitsOver t (record j { items = bound queue number request seen done undos ∷ j.items }) below)
     (sym (base_stays s.mappings t.mappings (bound queue number request seen done undos) j.items applied.changes.list))
     (fits_over_bound s t j.first j.items (base s.mappings j.items) queue number request seen done undos applied older j.limit fits)
+
+-- each item was live when it was the newest
+pub were_live : (first : ℕ) (items : List Item) → NameOlder (numbered first items) → WereLive (numbered first items)
+were_live first [] older = tt
+were_live first (item ∷ items) older = (
+  or_false (names item.kind (first + length items)) (is_withdrawn (numbered first items) (first + length items))
+      (names_no_later item.kind (first + length items) (first + length items) older.0 (omega arith))
+      (not_named first items (first + length items) older.1 (omega arith)),
+  were_live first items older.1,
+)

@@ -36,3 +36,6 @@ pub mod BareUndoLemmas
 pub mod RoomLemmas
 pub mod AlikeLemmas
 pub mod WithoutLemmas
+pub mod Covering
+pub mod EntryLemmas
+pub mod Based

@@ -11,7 +11,7 @@ use Rattle.gv_journal.specs.Notes.{extents_joined, reach_from, extent_of, reache
 use Rattle.gv_journal.specs.Withdrawing.{touch}
 
 -- pages that lie in others
-abbrev LieIn : Option PageRangeState → Option PageRangeState → Type 0
+abbrev pub LieIn : Option PageRangeState → Option PageRangeState → Type 0
 LieIn None extent = Unit {0}
 LieIn (Some r) None = ⊥
 LieIn (Some r) (Some extent) = (extent.first ≤ r.first) × (end_of r ≤ end_of extent)
@@ -42,11 +42,11 @@ start_in extent (op ∷ ops) =
     lie_in_both extent (extents_joined extent (pages_named op)) (reach_from (extents_joined extent (pages_named op)) ops) (in_joined extent (pages_named op)) (start_in (extents_joined extent (pages_named op)) ops)
 
 -- all operations lie in these pages
-abbrev AllLieIn : Option PageRangeState → List PageOp → Type 0
+abbrev pub AllLieIn : Option PageRangeState → List PageOp → Type 0
 AllLieIn extent [] = Unit {0}
 AllLieIn extent (op ∷ ops) = LieIn (pages_named op) extent × AllLieIn extent ops
 
-all_in : (extent : Option PageRangeState) (ops : List PageOp) → AllLieIn (reach_from extent ops) ops
+pub all_in : (extent : Option PageRangeState) (ops : List PageOp) → AllLieIn (reach_from extent ops) ops
 all_in extent [] = tt
 all_in extent (op ∷ ops) = (
   lie_in_both (pages_named op) (extents_joined extent (pages_named op)) (reach_from (extents_joined extent (pages_named op)) ops) (in_other_joined extent (pages_named op)) (start_in (extents_joined extent (pages_named op)) ops),

@@ -14,4 +14,5 @@ pub mod Settling
 pub mod Withdrawing
 pub mod Restoring
 pub mod Laws
+pub mod Saying
 pub mod Bare

@@ -19,7 +19,7 @@ use std::marker::Model;
 
 mod entry;
 
-pub use entry::HeldItem;
+pub use entry::{HeldItem, Said};
 
 /// A request has at most so many operations.
 pub const MAX_OPS: usize = 256;
@@ -51,7 +51,8 @@ impl Model for Journal {
 impl Journal {
     ghost use Rattle.gv_space.specs.State.{SpaceState, AreKept, IsUnchanged};
     ghost use Rattle.gv_space.specs.Undo.{released};
-    ghost use Rattle.gv_journal.specs.Items.{next};
+    ghost use Rattle.gv_journal.specs.Items.{entries, next};
+    ghost use Rattle.gv_journal.specs.Saying.{WereLive};
     ghost use Rattle.gv_journal.specs.History.{back, kept_by};
     ghost use Rattle.gv_journal.specs.State.{FitsSpace};
     ghost use Rattle.gv_journal.specs.Verdict.{verdict, full_fault, IsRefused};
@@ -73,7 +74,8 @@ impl Journal {
 
     /// The items held, the oldest one first.
     pub fn items(&self) -> &[Item]
-        ensures { result.now ≡ reverse self.now.items }
+        ensures value { result.now ≡ reverse self.now.items }
+        ensures were_live { WereLive (entries self.now) }
     {
         self.item_store.items()
     }

@@ -30,6 +30,6 @@ mod touching;
 mod undoing;
 
 pub use item::{Item, ItemKind};
-pub use journal::{HeldItem, Journal, MAX_OPS};
+pub use journal::{HeldItem, Journal, MAX_OPS, Said};
 pub use ready::ReadyRequest;
 pub use refusal::Refusal;

@@ -1,5 +1,7 @@
 //! What stands beside each item of a journal, so that it can be passed over unread.
-ghost use Rattle.std.specs.Prelude.{◌≡◌, ◌<◌, ◌-◌, ◌^◌, IfSome, None, Some, is_some};
+ghost use Rattle.std.specs.Prelude.{◌≡◌, ◌<◌, ◌-◌, ◌^◌, IfSome, None, Some, false, is_some};
+ghost use Rattle.std.specs.Option.{option_map_or};
+ghost use Rattle.gv_types.specs.PageRange.{covers};
 ghost use Rattle.gv_journal.specs.Notes.{extents_joined, extent_of, reaches};
 
 use crate::touching::pages_of;
@@ -77,6 +79,13 @@ impl Note {
             Some(number) => number,
             None => NONE,
         };
+    }
+
+    /// Whether the page lies between the least and the greatest.
+    pub fn covers(&self, page: u64) -> bool
+        ensures { result ≡ option_map_or (λ range. covers range page) self.now.extent false }
+    {
+        self.first <= page && page < self.past
     }
 
     /// Whether some page is in what both cover.

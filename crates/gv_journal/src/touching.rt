@@ -1,16 +1,19 @@
 //! Which items touch.
-ghost use Rattle.std.specs.Prelude.{◌≡◌, ℕ, ◌+◌, ◌<◌, ◌^◌, Bool, ◌&&◌, not, is_some, length};
+ghost use Rattle.std.specs.Prelude.{◌≡◌, ℕ, ◌+◌, ◌<◌, ◌^◌, Bool, ◌&&◌, not, is_some, length, IsTrue, IfSome};
 ghost use Rattle.std.specs.List.{list_any};
-ghost use Rattle.gv_types.specs.PageRange.{meets};
+ghost use Rattle.gv_types.specs.Page.{IsPage};
+ghost use Rattle.gv_types.specs.PageRange.{covers, meets};
 ghost use Rattle.gv_types.specs.Operation.{range_of};
 ghost use Rattle.gv_journal.specs.Items.{done_by};
 ghost use Rattle.gv_journal.specs.Notes.{extent_of, AreReaches, TellGone};
 ghost use Rattle.gv_journal.specs.Restoring.{pages_named};
+ghost use Rattle.gv_journal.specs.Saying.{first_taken, last_covering};
 ghost use Rattle.gv_journal.specs.Withdrawing.{touch, touched_from};
 
 use crate::item::{Item, ItemKind};
 use crate::note::Note;
-use gv_types::{PageOp, PageRange};
+use gv_space::OpUndo;
+use gv_types::{Entry, PageOp, PageRange};
 
 /// The pages of an operation, if it names any.
 pub fn pages_of(op: &PageOp) -> Option<PageRange>
@@ -21,6 +24,51 @@ pub fn pages_of(op: &PageOp) -> Option<PageRange>
         PageOp::Unmap { range } => Some(range),
         PageOp::UnmapBuffer { .. } => None,
     }
+}
+
+/// Whether the operation covers the page.
+fn covers(op: &PageOp, page: u64) -> bool
+    ensures value { result ≡ covers (range_of op.now) page }
+    ensures in_space { IsTrue result → IsPage page }
+{
+    match pages_of(op) {
+        Some(range) => range.covers(page),
+        None => false,
+    }
+}
+
+/// The last operation of an item that covers the page.
+pub fn last_covering(kind: &ItemKind, page: u64) -> Option<PageOp>
+    ensures value { result ≡ last_covering kind.now page }
+    ensures in_space { IfSome result (λ _. IsPage page) }
+{
+    let done = done_by(kind);
+    for index in (0..done.len()).rev() {
+        let op = &done[index];
+        if covers(op, page) {
+            return Some(*op);
+        }
+    }
+    None
+}
+
+/// What the first operation that covers the page took out of it, by the undo values.
+fn first_taken(done: &[PageOp], undos: &[OpUndo], page: u64) -> Option<Option<Entry>>
+    ensures { result ≡ first_taken done.now undos.now page }
+{
+    for (index, op) in done.iter().enumerate() {
+        if covers(op, page) {
+            return Some(undos.get(index)?.taken_at(page));
+        }
+    }
+    None
+}
+
+/// What an item took out of the page first, if an operation of it covers the page.
+pub fn first_taken_by(item: &Item, page: u64) -> Option<Option<Entry>>
+    ensures { result ≡ first_taken (done_by item.now.kind) item.now.undos.items page }
+{
+    first_taken(done_by(&item.kind), &item.undos, page)
 }
 
 /// Whether some page is covered by both.

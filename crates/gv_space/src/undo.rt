@@ -3,7 +3,7 @@ ghost use Rattle.std.specs.Prelude.{◌≡◌};
 
 use crate::pieces::Pieces;
 use gv_table::Spares;
-use gv_types::PageRange;
+use gv_types::{Entry, PageRange};
 use std::marker::Model;
 
 /// How one change of an address space is taken back. It owns the mappings that the change took out, with their index and
@@ -34,10 +34,24 @@ impl Model for OpUndo {
 }
 
 impl OpUndo {
+    ghost use Rattle.gv_ranges.specs.List.{at};
+
     /// The pages in which the change was made.
     pub fn range(&self) -> PageRange
         ensures { result ≡ self.now.range }
     {
         self.range
+    }
+
+    /// What the page held before the change, where that is one of its range. Else what the mappings hold there that were taken out.
+    pub fn taken_at(&self, page: u64) -> Option<Entry>
+        ensures { result ≡ at self.now.change.taken page }
+    {
+        for mapping in self.taken.as_slice() {
+            if mapping.range.covers(page) {
+                return Some(mapping.part(page));
+            }
+        }
+        None
     }
 }

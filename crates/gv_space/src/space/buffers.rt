@@ -54,6 +54,13 @@ impl Space {
         Ok(ranges::ranges_of(alloc, self.list(), id, count)?)
     }
 
+    /// Why no buffer of `pages` pages can be made, whatever memory there is.
+    pub fn create_fault(&self, pages: u64) -> Option<Fault>
+        ensures { result ≡ create_fault self.now.buffers pages }
+    {
+        self.buffers.create_fault(pages)
+    }
+
     /// Makes a buffer of `pages` pages. `BadSize` at 0 pages or over 2^36, and `TooManyBuffers` where the limit's buffers are
     /// alive or 2^64 - 1 were made, then `OutOfMemory`.
     pub fn create(&mut self, alloc: Global, pages: u64) -> Result<BufferId, Fault>

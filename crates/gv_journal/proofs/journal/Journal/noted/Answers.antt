@@ -3,7 +3,7 @@ use Rattle.gv_journal.specs.Items.{JournalState, entries, next}
 use Rattle.gv_journal.specs.Notes.{notes_of}
 use Rattle.gv_journal.proofs.Held.{item_store_items}
 use Rattle.gv_journal.proofs.Founds.{item_found, own_note}
-use Rattle.gv_journal.proofs.journal.Journal.entry.Goals as goal
+use Rattle.gv_journal.proofs.journal.Journal.noted.Goals as goal
 
 pub returns-clause-item : goal.returns-clause-item
 returns-clause-item c =
@@ -23,5 +23,17 @@ returns-clause-withdrawn c =
     c.items-items.ensures ∙ item_store_items c.self.inside.limit c.self.inside.first c.self.inside.item_store.items c.args.self.now c.self.view_is in
     let noted : c.notes-notes.result.now ≡ notes_of (entries c.args.self.now) =
     c.notes-notes.ensures.value ∙ c.self.invariant.notes ∙ ap (λ (j : JournalState). notes_of (entries j)) c.self.view_is in
-    c.is_withdrawn.ensures ∙ (own_note c.args.self.now c.args.number c.self.inside.first c.items-items.result.now c.notes-notes.result.now first_is low high all noted
+    (own_note c.args.self.now c.args.number c.self.inside.first c.items-items.result.now c.notes-notes.result.now first_is low high all noted
     c.index-notes-index.result c.index-items-index.result c.index-notes-index.is c.index-items-index.is).0
+
+pub returns-clause-extent : goal.returns-clause-extent
+returns-clause-extent c =
+    let first_is : c.self.inside.first ≡ c.args.self.now.first = ap (λ (j : JournalState). j.first) c.self.view_is in
+    let low : c.self.inside.first ≤ c.args.number = omega arith in
+    let high : c.args.number < next c.args.self.now = omega arith in
+    let all : c.items-items.result.now ≡ reverse c.args.self.now.items =
+    c.items-items.ensures ∙ item_store_items c.self.inside.limit c.self.inside.first c.self.inside.item_store.items c.args.self.now c.self.view_is in
+    let noted : c.notes-notes.result.now ≡ notes_of (entries c.args.self.now) =
+    c.notes-notes.ensures.value ∙ c.self.invariant.notes ∙ ap (λ (j : JournalState). notes_of (entries j)) c.self.view_is in
+    (own_note c.args.self.now c.args.number c.self.inside.first c.items-items.result.now c.notes-notes.result.now first_is low high all noted
+    c.index-notes-index.result c.index-items-index.result c.index-notes-index.is c.index-items-index.is).1
