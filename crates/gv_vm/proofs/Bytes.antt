@@ -40,7 +40,7 @@ rest_less m page covered =
     let both = and_parts (leb m.range.first page) (ltb page (end_of m.range)) covered in
     omega (arith, leb-true m.range.first page both.0, ltb-true page (end_of m.range) both.1)
 
-HasBytes-at : (a : BoundsState) (t : BuffersState) (ms : List Mapping) (page : ℕ) (e : Entry) → IsTable t → All (IsPlaced a t) ms → at ms page ≡ Some e → HasBytes e.backing
+pub HasBytes-at : (a : BoundsState) (t : BuffersState) (ms : List Mapping) (page : ℕ) (e : Entry) → IsTable t → All (IsPlaced a t) ms → at ms page ≡ Some e → HasBytes e.backing
 HasBytes-at a t [] page e table placed is = cc
 HasBytes-at a t (m ∷ ms) page e table placed is =
     elim (covers m.range page) as (λ c. covers m.range page ≡ c → cond c (Some (part m page)) (at ms page) ≡ Some e → HasBytes e.backing) [

@@ -1,7 +1,7 @@
 -- How the events of a turn follow one another, and turns.
 use Rattle.std.proofs.Common.{◌≡◌, ◌≢◌, ℕ, zero, suc, ◌-◌, ◌<◌, ◌≤◌, List, [], ◌∷◌, ◌++◌, length, drop, Some, None, Option, refl, sym, ap, ◌∙◌, subst, append_assoc, append-nil, arith, Bool, true, false, nat_lt}
-use Rattle.std.specs.Prelude.{if◌then◌else◌, Result, Ok, Err, IsErr, IfOk, OnErr}
-use Rattle.std.proofs.lemmas.Bool.{lt-ltb, le-ltb}
+use Rattle.std.specs.Prelude.{if◌then◌else◌, Result, Ok, Err, IsErr, IfOk, OnErr, IsTrue, ◌↔◌, ◌&&◌, ◌==◌, is_none}
+use Rattle.std.proofs.lemmas.Bool.{lt-ltb, le-ltb, and_parts, and_from, eq-eqb, eqb-true}
 use Rattle.gv_types.specs.declared.fault.OutOfMemory.{OutOfMemory as WantOfMemory}
 use Rattle.gv_types.specs.declared.request.Point.{Point}
 use Rattle.gv_types.specs.declared.request.Request.{Request}
@@ -17,7 +17,7 @@ use Rattle.gv_vm.specs.declared.world.turn.Seen.TheVariants.{Lacks}
 use Rattle.gv_vm.specs.declared.world.turn.Turn.{Turn}
 use Rattle.gv_vm.specs.declared.world.turn.Turn.TheVariants.{Idle}
 use Rattle.gv_vm.specs.Plans.{Plan, Goes, paying, nothing, once, lacking, looks, taking, IsCarriedOut, IsStopped, is_accepted, looked_of}
-use Rattle.gv_vm.specs.QueueTurns.{turn_of, going_on, turning, is_earlier, IsTurn, AreTurns, IsServedUpTo}
+use Rattle.gv_vm.specs.QueueTurns.{turn_of, going_on, turning, is_earlier, IsTurn, AreTurns, IsServedUpTo, IsQuiet}
 use Rattle.gv_vm.specs.TurnInside.{AreQuiet, AreLeft, IsLeftIn, seen_of, seen_as}
 use Rattle.gv_vm.proofs.PlanLemmas.{goes_nil, goes_as, carried_out_behind, stopped_behind}
 
@@ -173,3 +173,29 @@ served_before queue number told w is below = let less : nat_lt number (next_numb
 pub served_now : (queue number told : ℕ) (w v : WorldState) (result : Result Turn WantOfMemory) → told ≡ next_number w queue → told ≤ number →
     AreTurns (number - told) queue number w result v → IsServedUpTo queue number w result v
 served_now queue number told w v result is below turns = let not : nat_lt number (next_number w queue) ≡ false = le-ltb _ _ (omega (arith, is, below)) in rw (not, ← is) turns
+
+none_left : (hand : Option HandState) (waiting : List Request) (left : Option Left) → IsLeftIn hand waiting left → is_none left ≡ true → (waiting ≡ []) × (hand ≡ None)
+none_left hand waiting (Some l) is none = absurd (cc)
+none_left (Some h) waiting None is none = absurd is
+none_left None (request ∷ later) None is none = absurd is
+none_left None [] None is none = (refl, refl)
+
+left_none : (left : Option Left) → IsLeftIn None [] left → is_none left ≡ true
+left_none (Some l) is = absurd is
+left_none None is = refl
+
+nothing_owed : (points : List Point) → length points ≡ 0 → points ≡ []
+nothing_owed [] none = refl
+nothing_owed (p ∷ points) none = absurd (omega (arith, none))
+
+-- a queue has nothing before it exactly where nothing is owed and nothing is left
+pub quiet_iff : (w : WorldState) (queue owed : ℕ) (left : Option Left) → length (queue_at w queue).owed ≡ owed → IsLeftIn (queue_at w queue).hand (queue_at w queue).waiting left →
+    IsTrue ((owed == 0) && is_none left) ↔ IsQuiet w queue
+quiet_iff w queue owed left counted is = (
+  λ so.
+      let both = and_parts (owed == 0) (is_none left) so in
+      let none = none_left (queue_at w queue).hand (queue_at w queue).waiting left is both.1 in
+      record { waiting = none.0; hand = none.1; owed = nothing_owed (queue_at w queue).owed (omega (arith, counted, eqb-true owed 0 both.0)) },
+  λ quiet.
+      and_from (owed == 0) (is_none left) (eq-eqb owed 0 (omega (arith, counted, ap length quiet.owed))) (left_none left (rw (quiet.hand, quiet.waiting) at is)),
+)

@@ -22,3 +22,4 @@ pub mod TurnInside
 pub mod Alike
 pub mod Past
 pub mod Laws
+pub mod AddressPast

@@ -21,9 +21,13 @@ target_of ZeroPages rest = Zero
 abbrev pub place_of : Entry → ℕ → Place
 place_of e rest = record { target = target_of e.backing rest; flags = e.flags }
 
+-- where an address leads by an address map
+abbrev pub place_by : (ℕ → Option Entry) → ℕ → Option Place
+place_by map addr = option_map (λ e. place_of e (addr % bytes_per_page)) (map (addr / bytes_per_page))
+
 -- where an address leads, if a mapping holds its page
 abbrev pub place_at : List Mapping → ℕ → Option Place
-place_at ms addr = option_map (λ e. place_of e (addr % bytes_per_page)) (at ms (addr / bytes_per_page))
+place_at ms addr = place_by (at ms) addr
 
 -- the page is one of a buffer, so its bytes have numbers that fit
 abbrev pub HasBytes : Backing → Type 0

@@ -10,6 +10,12 @@ use Rattle.gv_vm.specs.declared.event.Reply.TheVariants.{Told, Lacking}
 use Rattle.gv_vm.specs.declared.world.turn.Turn.{Turn}
 use Rattle.gv_vm.specs.declared.world.turn.Turn.TheVariants.{Told as IsTold, Waits, Idle}
 
+-- a queue has nothing before it: no request waits or is in hand, and no signal is owed
+pub record IsQuiet (w : WorldState) (queue : ℕ) : Type 0 where
+  pub waiting : (queue_at w queue).waiting ≡ []
+  pub hand : (queue_at w queue).hand ≡ None
+  pub owed : (queue_at w queue).owed ≡ []
+
 -- the request in hand looks at the waits that are left; where none is in hand, the first that waits is taken
 abbrev pub going_on : Bool → ℕ → Option HandState → List Request → Plan
 going_on gives_up queue (Some h) waiting = looks gives_up queue (drop (length h.reached) h.request.waits.items) h.request.signals.items

@@ -32,5 +32,5 @@ pub use outcome::{NotTold, Outcome};
 pub use places::{Place, Target};
 pub use sizes::Sizes;
 pub use told::QUEUES;
-pub use vm::Vm;
+pub use vm::{PastItem, Vm};
 pub use world::{Stopped, Turn, World};

@@ -1,12 +1,15 @@
 //! What an address reaches.
-ghost use Rattle.std.specs.Prelude.{◌≡◌, ◌<◌, ◌≤◌, nat_lt, if◌then◌else◌};
+ghost use Rattle.std.specs.Prelude.{◌≡◌, ◌<◌, ◌≤◌, ◌/◌, nat_lt, if◌then◌else◌, IsTrue, IfSome};
 ghost use Rattle.gv_types.specs.Page.{PAGES, bytes_per_page};
-ghost use Rattle.gv_types.specs.PageRange.{end_of};
-ghost use Rattle.gv_vm.specs.Places.{place_at, place_of, run_of, stretch_end, target_of, HasBytes};
+ghost use Rattle.gv_types.specs.PageRange.{covers, end_of};
+ghost use Rattle.gv_types.specs.Operation.{own_part, range_of};
+ghost use Rattle.gv_vm.specs.Places.{place_at, place_by, place_of, run_of, stretch_end, target_of, HasBytes};
 
 use gv_ranges::RangeList;
 use gv_space::Space;
-use gv_types::{Backing, BufferId, Entry, Flags, Mapping, PAGE_BYTES, PageRange, SPACE_PAGES};
+use gv_types::{
+    Backing, BufferId, Entry, Flags, Mapping, PAGE_BYTES, PageOp, PageRange, SPACE_PAGES,
+};
 
 /// What stands behind one byte of the address space: a byte of a buffer, or a zero.
 #[derive(Clone, Copy, Debug, PartialEq, Eq)]
@@ -41,7 +44,7 @@ impl Target {
 
 impl Place {
     /// Where the byte leads that stands `rest` bytes into a page.
-    fn of(entry: Entry, rest: u64) -> Place
+    pub(crate) fn of(entry: Entry, rest: u64) -> Place
         requires backing { HasBytes entry.backing }
         requires rest { rest < bytes_per_page }
         ensures { result ≡ place_of entry rest }
@@ -64,6 +67,26 @@ pub fn translate(space: &Space, addr: u64) -> Option<Place>
     let _backing = Backing::Zero;
     let entry = space.walk(addr / PAGE_BYTES)?;
     Some(Place::of(entry, addr % PAGE_BYTES))
+}
+
+/// Where an address, in bytes, leads by an operation that covers its page. None by an unmap.
+pub fn place_by(op: &PageOp, addr: u64) -> Option<Place>
+    requires covered { IsTrue (covers (range_of op.now) (addr / bytes_per_page)) }
+    requires bytes { IfSome (own_part op.now (addr / bytes_per_page)) (λ e. HasBytes e.backing) }
+    ensures { result ≡ place_by (own_part op.now) addr }
+{
+    match *op {
+        PageOp::Map {
+            range,
+            backing,
+            flags,
+        } => {
+            let first = Entry { backing, flags };
+            let entry = first.advanced(addr / PAGE_BYTES - range.first());
+            Some(Place::of(entry, addr % PAGE_BYTES))
+        }
+        PageOp::Unmap { .. } | PageOp::UnmapBuffer { .. } => None,
+    }
 }
 
 /// How many bytes from an address on lead on as it does: to the end of its mapping, or where none holds its page, to nothing up to

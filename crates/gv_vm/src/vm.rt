@@ -26,6 +26,9 @@ use std::marker::Model;
 
 mod buffers;
 mod entries;
+mod past;
+
+pub use past::PastItem;
 
 /// One GPU address space, of which each accepted request is an entry that can be taken back. It owns undo values, so it is
 /// not `Drop`: a program that lets one go without closing it is refused.

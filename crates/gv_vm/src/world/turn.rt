@@ -1,10 +1,10 @@
 //! A turn of a queue: the events of one request, one after another.
-ghost use Rattle.std.specs.Prelude.{◌≡◌, ◌∷◌, [], Bool, List, Option, Some, length, IfOk, OnErr, if◌then◌else◌};
+ghost use Rattle.std.specs.Prelude.{◌≡◌, ◌↔◌, ◌∷◌, [], Bool, IsTrue, List, Option, Some, length, IfOk, OnErr, if◌then◌else◌};
 ghost use Rattle.gv_types.specs.declared.request.Point.{Point as At};
 ghost use Rattle.gv_types.specs.declared.request.Request.{Request as Asked};
 ghost use Rattle.gv_vm.specs.declared.event.Reply.{Reply as Answer};
 ghost use Rattle.gv_vm.specs.Plans.{Plan, Goes, IsCarriedOut, IsStopped, nothing, paying, looks, carrying_out, after_looks};
-ghost use Rattle.gv_vm.specs.QueueTurns.{turn_of, going_on, is_earlier, IsTurn, IsServedUpTo};
+ghost use Rattle.gv_vm.specs.QueueTurns.{turn_of, going_on, is_earlier, IsTurn, IsServedUpTo, IsQuiet};
 ghost use Rattle.gv_vm.specs.TurnInside.{AreLeft, IsLeftIn, AreQuiet, AreLooks, seen_as, seen_of};
 ghost use Rattle.gv_vm.specs.World.{HandState, queue_at, next_number};
 
@@ -131,6 +131,15 @@ impl World {
                 left: None,
             }
         }
+    }
+
+    /// Whether a queue has nothing before it: no request waits or is in hand, and no signal is owed. So on a queue that there is not.
+    #[tactic(auto, using(crate::proofs::QueueTurns::quiet_iff))]
+    pub fn is_quiet(&self, queue: u64) -> bool
+        ensures { IsTrue result ↔ IsQuiet self.now queue }
+    {
+        let Ahead { owed, left } = self.ahead(queue);
+        owed == 0 && left.is_none()
     }
 
     /// The number of the request that the queue is told of next.
