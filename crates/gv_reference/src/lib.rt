@@ -1,22 +1,14 @@
-//! The reference that tests compare with, and figures begin from: lists of mappings by the plain definitions, each mapping cut by
-//! itself; a world of whole lists, plain queues and entries with the list before them; and seeded numbers.
+//! The reference that tests compare with: a world of whole lists, plain queues and entries with the list before them.
 #![tactic(auto)]
 
 mod ground;
 mod history;
 mod lines;
-mod lists;
 mod model;
-mod random;
 mod running;
 
 pub use ground::{Ground, Made, Turn};
 pub use history::{History, Kind, Past};
 pub use lines::{InHand, Line, Numbered, copy_of};
-pub use lists::{
-    at, changed, count_met, count_of, edited, edited_by_all, further, given, only, push, range_of,
-    unmaps_of,
-};
 pub use model::{Model, Setting};
-pub use random::Random;
 pub use running::{Running, place_of};
