@@ -1,7 +1,8 @@
 pub mod AnswerLemmas
 pub mod Front
 pub mod Servings
-pub mod Lines
+pub mod LinesLemmas
+pub mod StoppedLemmas
 pub mod NumberedLemmas
 pub mod AlikeTexts
 pub mod AlikeReplies

@@ -6,6 +6,7 @@ pub mod Line
 pub mod Question
 pub mod Inside
 pub mod Serving
+pub mod Stopping
 pub mod Reading
 pub mod Script
 pub mod AlikePlans

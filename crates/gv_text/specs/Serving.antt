@@ -1,11 +1,13 @@
--- How far a line has come with its events. No public clause cites this module.
-use Rattle.std.specs.Prelude.{◌≡◌, ℕ, List, ◌∷◌, ◌++◌, Some, None, IsSome, unwrap_or, String, string_bytes}
+-- How far a line has come with its events.
+use Rattle.std.specs.Prelude.{◌≡◌, ℕ, List, ◌∷◌, ◌++◌, Some, None, IsSome, unwrap_or, String, string_bytes, ◌⊎◌}
 use Rattle.std.specs.List.{flat_map}
 use Rattle.std.specs.declared.alloc.Global.{Global}
 use Rattle.gv_types.specs.declared.operation.Op.{Op}
 use Rattle.gv_types.specs.declared.request.Point.{Point}
 use Rattle.gv_vm.specs.World.{WorldState}
+use Rattle.gv_vm.specs.declared.event.Event.{Event}
 use Rattle.gv_vm.specs.declared.event.Reply.{Reply}
+use Rattle.gv_vm.specs.Plans.{Steps}
 use Rattle.gv_text.specs.State.{SessionState, Buffers, begun}
 use Rattle.gv_text.specs.Said.{told}
 use Rattle.gv_text.specs.Line.{Written}
@@ -20,6 +22,10 @@ use Rattle.gv_lines.specs.declared.clause.Clause.TheVariants.{Change, Wait, Sign
 pub record Tells (s t : SessionState) (replies : List Reply) (old out : String Global) : Type 0 where
   pub state : t ≡ record (begun s) { world = t.world }
   pub wrote : string_bytes out ≡ string_bytes old ++ flat_map (told s.timelines) replies
+
+-- An event was not asked, or its reply alone is lost.
+abbrev pub StopsAt : Event → SessionState → SessionState → Type 0
+StopsAt event s t = (t ≡ begun s) ⊎ ((reply : Reply) × Steps s.world event reply t.world × (t ≡ record (begun s) { world = t.world }))
 
 -- what a line did was written behind what stood there
 pub record Wrote (Run : SessionState → Written → SessionState → Type 0) (s : SessionState) (old out : String Global) (t : SessionState) : Type 0 where

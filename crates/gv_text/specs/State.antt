@@ -50,7 +50,7 @@ pub record SessionState : Type 0 where
 
 -- how many requests may wait on a queue
 abbrev pub depth : ℕ
-depth = 1
+depth = 65536
 
 -- the world of a script in these bounds and limits
 abbrev pub empty_world : BoundsState → LimitsState → WorldState

@@ -1,11 +1,12 @@
 //! What the lines of a script do: those that set, declare or ask for an event.
-ghost use Rattle.std.specs.Prelude.{◌≡◌, ◌≢◌, IsOk, OnOk, Some};
+ghost use Rattle.std.specs.Prelude.{◌≡◌, ◌≢◌, IsOk, OnOk, OnErr, IfErr, Some};
 ghost use Rattle.gv_lines.specs.Grammar.{parsed};
 ghost use Rattle.gv_lines.specs.declared.line.Line.TheVariants.{Silent};
 ghost use Rattle.gv_lines.specs.declared.line.Line.TheVariants as line;
 ghost use Rattle.gv_text.specs.Line.{Runs, RunsText, IsGood, IsGoodText, DoesOnce, SetsBounds, MaySetBounds};
 ghost use Rattle.gv_text.specs.Question.{IsQuestion};
 ghost use Rattle.gv_text.specs.Serving.{Wrote};
+ghost use Rattle.gv_text.specs.Stopping.{Leaves, Loses};
 
 use crate::accesses::{accesses_of, are_too_many};
 use crate::caps::Caps;
@@ -39,8 +40,8 @@ pub fn run_text(
     }
 }
 
-/// Runs a line, and writes its reply.
-fn run(
+/// Runs a line, and writes its reply. A bad line changes nothing, and one that memory is wanted for only what `Leaves` says.
+pub fn run(
     alloc: Global,
     session: &mut Session,
     line: Line<'_>,
@@ -50,6 +51,7 @@ fn run(
     ensures bad { result ≡ Err LineFault.Bad → ¬ IsGood line.entry session.old }
     ensures memory { result ≡ Err LineFault.OutOfMemory → IsGood line.entry session.old }
     ensures silent { line.entry ≡ Silent → IsOk result }
+    ensures left { IfErr result (Leaves line.entry session.old session.new) }
 {
     match line {
         Line::Silent => Ok(()),
@@ -92,6 +94,8 @@ fn space(
     ensures done { OnOk result (Wrote (SetsBounds bounds) session.old out.old out.new session.new) }
     ensures bad { result ≡ Err LineFault.Bad → ¬ MaySetBounds bounds session.old }
     ensures memory { result ≡ Err LineFault.OutOfMemory → MaySetBounds bounds session.old }
+    ensures bad_left { result ≡ Err LineFault.Bad → session.new ≡ session.old }
+    ensures left { OnErr result (Loses (SetsBounds bounds) session.old session.new) }
 {
     match session.stage() {
         Stage::Fresh => {}
@@ -117,6 +121,8 @@ fn limits(
         → ¬ IsGood (line.Limits caps.buffers caps.mappings caps.items) session.old }
     ensures memory { result ≡ Err LineFault.OutOfMemory
         → IsGood (line.Limits caps.buffers caps.mappings caps.items) session.old }
+    ensures left { IfErr result
+        (Leaves (line.Limits caps.buffers caps.mappings caps.items) session.old session.new) }
 {
     if session.stage() == Stage::Begun {
         return Err(LineFault::Bad);
@@ -139,6 +145,7 @@ fn buffer(
     ensures done { OnOk result (Wrote (Runs (line.Buffer name pages)) session.old out.old out.new session.new) }
     ensures bad { result ≡ Err LineFault.Bad → ¬ IsGood (line.Buffer name pages) session.old }
     ensures memory { result ≡ Err LineFault.OutOfMemory → IsGood (line.Buffer name pages) session.old }
+    ensures left { IfErr result (Leaves (line.Buffer name pages) session.old session.new) }
 {
     if session.buffers().id_of(&name).is_some() {
         return Err(LineFault::Bad);
@@ -157,6 +164,7 @@ fn destroy(
     ensures done { OnOk result (Wrote (Runs (line.Destroy name.now)) session.old out.old out.new session.new) }
     ensures bad { result ≡ Err LineFault.Bad → ¬ IsGood (line.Destroy name.now) session.old }
     ensures memory { result ≡ Err LineFault.OutOfMemory → IsGood (line.Destroy name.now) session.old }
+    ensures left { IfErr result (Leaves (line.Destroy name.now) session.old session.new) }
 {
     let id = session.buffers().id_of(name).ok_or(LineFault::Bad)?;
     once(alloc, session, Event::Destroy { id }, out)
@@ -167,6 +175,7 @@ fn timeline(session: &mut Session, name: Name, out: &mut String) -> Result<(), L
     ensures done { OnOk result (Wrote (Runs (line.Timeline name)) session.old out.old out.new session.new) }
     ensures bad { result ≡ Err LineFault.Bad → ¬ IsGood (line.Timeline name) session.old }
     ensures memory { result ≡ Err LineFault.OutOfMemory → IsGood (line.Timeline name) session.old }
+    ensures left { IfErr result (Leaves (line.Timeline name) session.old session.new) }
 {
     session.declare_timeline(name)?;
     Ok(out.push_str("ok\n")?)
@@ -182,6 +191,7 @@ fn raise(
     ensures done { OnOk result (Wrote (Runs (line.Raise point.now)) session.old out.old out.new session.new) }
     ensures bad { result ≡ Err LineFault.Bad → ¬ IsGood (line.Raise point.now) session.old }
     ensures memory { result ≡ Err LineFault.OutOfMemory → IsGood (line.Raise point.now) session.old }
+    ensures left { IfErr result (Leaves (line.Raise point.now) session.old session.new) }
 {
     let point = point_named(session.timelines(), point).ok_or(LineFault::Bad)?;
     once(alloc, session, Event::Raise { point }, out)
@@ -192,6 +202,7 @@ fn value(session: &mut Session, name: &Name, out: &mut String) -> Result<(), Lin
     ensures done { OnOk result (Wrote (Runs (line.Value name.now)) session.old out.old out.new session.new) }
     ensures bad { result ≡ Err LineFault.Bad → ¬ IsGood (line.Value name.now) session.old }
     ensures memory { result ≡ Err LineFault.OutOfMemory → IsGood (line.Value name.now) session.old }
+    ensures left { IfErr result (Leaves (line.Value name.now) session.old session.new) }
 {
     let timeline = session.timelines().place_of(name).ok_or(LineFault::Bad)?;
     session.begin();
@@ -210,14 +221,16 @@ fn ask(
     ensures done { OnOk result (Wrote (Runs question.now) session.old out.old out.new session.new) }
     ensures bad { result ≡ Err LineFault.Bad → ¬ IsGood question.now session.old }
     ensures memory { result ≡ Err LineFault.OutOfMemory → IsGood question.now session.old }
+    ensures left { OnErr result (session.new ≡ session.old) }
 {
-    session.begin();
     let named = NamedVm {
         vm: session.world().vm(),
         buffers: session.buffers(),
         timelines: session.timelines(),
     };
-    answer(alloc, question, named, out)
+    answer(alloc, question, named, out)?;
+    session.begin();
+    Ok(())
 }
 
 /// Puts a request on its queue, and serves it.
@@ -230,6 +243,7 @@ fn bind(
     ensures done { OnOk result (Wrote (Runs (line.Bind clauses.now)) session.old out.old out.new session.new) }
     ensures bad { result ≡ Err LineFault.Bad → ¬ IsGood (line.Bind clauses.now) session.old }
     ensures memory { result ≡ Err LineFault.OutOfMemory → IsGood (line.Bind clauses.now) session.old }
+    ensures left { IfErr result (Leaves (line.Bind clauses.now) session.old session.new) }
 {
     let asked = asked_by(alloc, session.buffers(), session.timelines(), clauses)?;
     serve(alloc, session, asked.0, asked.1, out)
@@ -244,6 +258,7 @@ fn once(
 ) -> Result<(), LineFault>
     ensures done { OnOk result (Wrote (DoesOnce event) session.old out.old out.new session.new) }
     ensures memory { result ≢ Err LineFault.Bad }
+    ensures left { OnErr result (Loses (DoesOnce event) session.old session.new) }
 {
     let reply = session.step(alloc, event)?;
     Ok(write_said(out, session.buffers(), session.timelines(), &reply)?)
@@ -258,6 +273,7 @@ fn withdraw(
 ) -> Result<(), LineFault>
     ensures done { OnOk result (Wrote (Runs (line.Withdraw entry)) session.old out.old out.new session.new) }
     ensures memory { result ≢ Err LineFault.Bad }
+    ensures left { OnErr result (Loses (Runs (line.Withdraw entry)) session.old session.new) }
 {
     let reply = session.step(alloc, Event::Withdraw { entry })?;
     Ok(write_withdrawn(out, entry, &reply)?)
@@ -272,6 +288,7 @@ fn job(
 ) -> Result<(), LineFault>
     ensures done { OnOk result (Wrote (Runs (line.Job accesses.entry)) session.old out.old out.new session.new) }
     ensures memory { result ≢ Err LineFault.Bad }
+    ensures left { OnErr result (Loses (Runs (line.Job accesses.entry)) session.old session.new) }
 {
     if are_too_many(&accesses) {
         session.begin();

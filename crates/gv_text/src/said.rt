@@ -36,7 +36,7 @@ pub fn write_refused(out: &mut String, fault: &Fault) -> Result<(), AllocError>
 }
 
 /// Writes the name of a timeline.
-fn write_timeline(
+pub fn write_timeline(
     out: &mut String,
     timelines: &TimelineNames,
     timeline: u64,
@@ -111,7 +111,7 @@ fn write_outcome(
 }
 
 /// Writes what a request was told on a line of its own.
-fn write_outcome_line(
+pub fn write_outcome_line(
     out: &mut String,
     timelines: &TimelineNames,
     outcome: &Outcome,

@@ -11,7 +11,8 @@ use crate::output::Output;
 use crate::run::run_text;
 use crate::session::Session;
 use crate::transfer::read_script;
-use gv_lines::split_once;
+use crate::why::{tell_why, why_bad};
+use gv_lines::{Slip, split_once};
 use std::alloc::Global;
 
 /// Reads a whole script, then runs its lines one after another and writes the reply of each.
@@ -49,9 +50,43 @@ pub fn run_script<R: Source, W: Sink>(
     ensures few { TakesFew (R.remaining reader.old) (R.remaining reader.new) }
     ensures reads { R.reads reader.new ≤ R.reads reader.old + most_read }
 {
+    let mut why = String::new(alloc);
+    run_script_explained(alloc, reader, writer, &mut why)
+}
+
+/// The same, and where the answer is `BadLine`, why that line is bad. If memory is refused for that text, it is empty.
+pub fn run_script_explained<R: Source, W: Sink>(
+    alloc: Global,
+    reader: &mut R,
+    writer: &mut W,
+    why: &mut String,
+) -> Result<(), ScriptFault>
+    // The text is that of a run over the bytes that the reader gave.
+    ensures text { OnOk result ((script text : List ℕ)
+        × IfSome (R.remaining reader.old) (λ bytes. script ≡ bytes)
+        × IsRun script text × Appends (W.written writer.old) (W.written writer.new) text) }
+    // The line is the first bad one, and the text is that of the lines before it.
+    ensures bad_line { (line : ℕ) → result ≡ Err (ScriptFault.BadLine line) → (script text : List ℕ)
+        × IfSome (R.remaining reader.old) (λ bytes. script ≡ bytes)
+        × StopsAt script text line × Appends (W.written writer.old) (W.written writer.new) text }
+    // The text is that of some first lines.
+    ensures out_of_memory { result ≡ Err ScriptFault.OutOfMemory → (script text : List ℕ)
+        × IfSome (R.remaining reader.old) (λ bytes. script ≡ bytes)
+        × IsStart script text × Appends (W.written writer.old) (W.written writer.new) text }
+    // A script is too long exactly where the answer is that, whatever memory is refused, unless a read fails.
+    ensures too_long { TellsLength (R.remaining reader.old) result }
+    ensures too_long_silent { result ≡ Err ScriptFault.ScriptTooLong → writer.new ≡ writer.old }
+    // A device's fault is the answer exactly where its flag goes up.
+    ensures read_fault { TellsReads (R.failed reader.old) (R.failed reader.new) result }
+    ensures read_fault_silent { result ≡ Err ScriptFault.ReadFault → writer.new ≡ writer.old }
+    ensures write_fault { TellsWrites (W.failed writer.old) (W.failed writer.new) result }
+    // One byte more than the longest script has is taken at most, in as many reads.
+    ensures few { TakesFew (R.remaining reader.old) (R.remaining reader.new) }
+    ensures reads { R.reads reader.new ≤ R.reads reader.old + most_read }
+{
     let script = read_script(alloc, reader)?;
     let mut output = Output::new(alloc);
-    let outcome = run_lines(alloc, script.as_slice(), &mut output, writer);
+    let outcome = run_lines(alloc, script.as_slice(), &mut output, writer, why);
     if outcome == Err(ScriptFault::WriteFault) {
         return outcome;
     }
@@ -59,12 +94,13 @@ pub fn run_script<R: Source, W: Sink>(
     outcome
 }
 
-/// Runs the lines of a script in a session of their own.
+/// Runs the lines of a script in a session of their own. Where one is bad, it says why.
 fn run_lines<W: Sink>(
     alloc: Global,
     script: &[u8],
     output: &mut Output,
     writer: &mut W,
+    why: &mut String,
 ) -> Result<(), ScriptFault>
     requires short { length script.now ≤ script_limit }
     requires fresh { output.old ≡ [] }
@@ -76,12 +112,15 @@ fn run_lines<W: Sink>(
         reply: String::new(alloc),
     };
     let outcome = run.run_each(alloc, script, output, writer);
-    let ScriptRun { session, reply: _ } = run;
+    let ScriptRun { session, reply } = run;
     session.close();
+    if let Err(ScriptFault::BadLine { .. }) = outcome {
+        *why = reply;
+    }
     outcome
 }
 
-/// The session of a script that runs, and the reply of its last line. The session has to be closed.
+/// The session of a script that runs, and the reply of its last line, or why that is bad. The session has to be closed.
 struct ScriptRun {
     session: Session,
     reply: String,
@@ -112,6 +151,7 @@ impl ScriptRun {
         if rest.is_empty() {
             Ok(())
         } else {
+            tell_why(&mut self.reply, &Slip::no_line_end(rest.len()));
             Err(ScriptFault::BadLine { line: done + 1 })
         }
     }
@@ -132,7 +172,10 @@ impl ScriptRun {
         self.reply.clear();
         match run_text(alloc, &mut self.session, line, &mut self.reply) {
             Ok(()) => Ok(output.push(writer, self.reply.as_bytes())?),
-            Err(LineFault::Bad) => Err(ScriptFault::BadLine { line: number }),
+            Err(LineFault::Bad) => {
+                tell_why(&mut self.reply, &why_bad(alloc, &self.session, line));
+                Err(ScriptFault::BadLine { line: number })
+            }
             Err(LineFault::OutOfMemory) => Err(ScriptFault::OutOfMemory),
         }
     }

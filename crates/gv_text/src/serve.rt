@@ -1,9 +1,10 @@
 //! A request from its place on a queue to the payment of its signals.
-ghost use Rattle.std.specs.Prelude.{◌≡◌, ◌≢◌, ◌∷◌, [], true, List, IfOk, OnOk, length};
+ghost use Rattle.std.specs.Prelude.{◌≡◌, ◌≢◌, ◌∷◌, [], true, List, IfOk, OnOk, OnErr, length};
 ghost use Rattle.gv_types.specs.declared.request.Point.{Point};
 ghost use Rattle.gv_vm.specs.declared.event.Reply.{Reply as Answer};
 ghost use Rattle.gv_vm.specs.Plans.{serving, looks, carrying_out, payments, IsCarriedOut, Steps, nothing, Goes, after_looks};
-ghost use Rattle.gv_text.specs.Serving.{Tells};
+ghost use Rattle.gv_text.specs.Serving.{Tells, StopsAt};
+ghost use Rattle.gv_text.specs.Stopping.{IsAmid};
 
 use crate::fault::LineFault;
 use crate::said::write_request;
@@ -22,6 +23,7 @@ fn ask(
     ensures step { IfOk result (λ reply. Steps session.old.world event reply session.new.world) }
     ensures tells { IfOk result (λ reply. Tells session.old session.new (reply ∷ []) out.old out.new) }
     ensures memory { result ≢ Err LineFault.Bad }
+    ensures stopped { OnErr result (StopsAt event session.old session.new) }
 {
     let reply = session.step(alloc, event)?;
     write_request(out, session.timelines(), &reply)?;
@@ -40,6 +42,8 @@ fn look_at_all(
         × ((points signals : List Point) → length points ≡ waits
         → Goes (looks true queue points signals) session.old.world replies session.new.world (after_looks true queue signals looked))) }
     ensures memory { result ≢ Err LineFault.Bad }
+    ensures stopped { OnErr result ((points signals : List Point) → length points ≡ waits
+        → IsAmid (looks true queue points signals) session.old session.new) }
 {
     session.begin();
     for done in 0..waits {
@@ -65,6 +69,8 @@ fn pay_all(
         × ((points : List Point) → length points ≡ signals
         → Goes (payments queue points) session.old.world replies session.new.world nothing)) }
     ensures memory { result ≢ Err LineFault.Bad }
+    ensures stopped { OnErr result ((points : List Point) → length points ≡ signals
+        → IsAmid (payments queue points) session.old session.new) }
 {
     session.begin();
     for done in 0..signals {
@@ -88,6 +94,8 @@ fn carry_out(
         × ((points : List Point) → length points ≡ signals
         → Goes (carrying_out queue points) session.old.world replies session.new.world nothing)) }
     ensures memory { result ≢ Err LineFault.Bad }
+    ensures stopped { OnErr result ((points : List Point) → length points ≡ signals
+        → IsAmid (carrying_out queue points) session.old session.new) }
 {
     let reply = ask(alloc, session, Event::Bind { queue }, out)?;
     if reply.is_accepted() {
@@ -108,6 +116,7 @@ pub fn serve(
     ensures goes { OnOk result ((replies : List Answer) × Tells session.old session.new replies out.old out.new
         × IsCarriedOut (serving queue request) session.old.world replies session.new.world) }
     ensures memory { result ≢ Err LineFault.Bad }
+    ensures stopped { OnErr result (IsAmid (serving queue request) session.old session.new) }
 {
     let waits = request.waits.as_slice().len();
     let signals = request.signals.as_slice().len();

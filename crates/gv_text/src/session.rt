@@ -1,9 +1,10 @@
 //! What stands between two lines of a script.
-ghost use Rattle.std.specs.Prelude.{◌≡◌, ◌≢◌, ◌++◌, ◌∷◌, [], None, Err, IfOk, OnOk, bytes_eq, length};
+ghost use Rattle.std.specs.Prelude.{◌≡◌, ◌≢◌, ◌++◌, ◌∷◌, [], None, Err, false, IfOk, OnOk, OnErr, bytes_eq, length};
 ghost use Rattle.gv_sync.specs.Seats.{most_timelines};
 ghost use Rattle.gv_text.specs.Inside.{HasTimelines};
 ghost use Rattle.std.specs.Map.{lookup};
 ghost use Rattle.gv_vm.specs.Plans.{Steps};
+ghost use Rattle.gv_vm.specs.QueueTurns.{IsTurn};
 ghost use Rattle.gv_text.specs.Line.{declared, MayDeclare};
 ghost use Rattle.gv_text.specs.State.{start, begun, empty_world};
 
@@ -13,13 +14,13 @@ use crate::stage::Stage;
 use crate::timeline_names::{TIMELINES, TimelineNames};
 use gv_lines::Name;
 use gv_types::{Bounds, BufferId, Limits, OutOfMemory};
-use gv_vm::{Event, QUEUES, Reply, Sizes, World};
+use gv_vm::{Event, QUEUES, Reply, Sizes, Turn, World};
 use std::alloc::Global;
 use std::marker::Model;
 use std::mem;
 
 /// How many requests may wait on a queue.
-const DEPTH: u64 = 1;
+const DEPTH: u64 = 65_536;
 
 /// How far a script has come with its settings, the world that it runs on, and the names that it has declared. It has to be
 /// closed: it is not `Drop`.
@@ -70,10 +71,11 @@ impl Session {
 
     /// Sets the bounds: the world is a new one.
     pub fn set_bounds(&mut self, alloc: Global, bounds: Bounds) -> Result<(), OutOfMemory>
-        ensures { OnOk result (self.new ≡ record self.old {
+        ensures done { OnOk result (self.new ≡ record self.old {
           stage = Stage.Bounded;
           world = empty_world bounds self.old.world.vm.space.limits;
         }) }
+        ensures err { OnErr result (self.new ≡ self.old) }
     {
         let limits = self.world.vm().limits();
         self.replace(empty_world(alloc, bounds, limits)?);
@@ -83,9 +85,10 @@ impl Session {
 
     /// Sets the limits: the world is a new one in the same bounds.
     pub fn set_limits(&mut self, alloc: Global, limits: Limits) -> Result<(), OutOfMemory>
-        ensures { OnOk result (self.new ≡ record (begun self.old) {
+        ensures done { OnOk result (self.new ≡ record (begun self.old) {
           world = empty_world self.old.world.vm.space.area limits;
         }) }
+        ensures err { OnErr result (self.new ≡ self.old) }
     {
         let bounds = self.world.vm().space().bounds();
         self.replace(empty_world(alloc, bounds, limits)?);
@@ -127,6 +130,7 @@ impl Session {
     pub fn step(&mut self, alloc: Global, event: Event) -> Result<Reply, OutOfMemory>
         ensures step { IfOk result (λ reply. Steps self.old.world event reply self.new.world) }
         ensures state { OnOk result (self.new ≡ record (begun self.old) { world = self.new.world }) }
+        ensures err { OnErr result (self.new ≡ begun self.old) }
     {
         self.stage = Stage::Begun;
         let reply = self.world.step(alloc, event)?;
@@ -135,7 +139,17 @@ impl Session {
         Ok(reply)
     }
 
-    /// Makes a buffer and declares its name: the answer is the world's. A refusal comes before want of memory for the name.
+    /// A turn of a queue, whose request stays in hand where a wait lacks.
+    pub fn turn(&mut self, alloc: Global, queue: u64) -> Result<Turn, OutOfMemory>
+        ensures turn { IsTurn false queue self.old.world result self.new.world }
+        ensures state { self.new ≡ record (begun self.old) { world = self.new.world } }
+    {
+        self.stage = Stage::Begun;
+        self.world.turn(alloc, queue, false)
+    }
+
+    /// Makes a buffer and declares its name: the answer is the world's. A refusal comes before want of memory for the name,
+    /// and where there is no room for the name no buffer is made.
     pub fn make_buffer(
         &mut self,
         alloc: Global,
@@ -146,14 +160,17 @@ impl Session {
         ensures step { IfOk result (λ reply. Steps self.old.world (Event.Create pages) reply self.new.world) }
         ensures state { IfOk result (λ reply. self.new
             ≡ record (begun self.old) { world = self.new.world; buffers = declared name reply self.old.buffers }) }
+        ensures err { OnErr result (self.new ≡ begun self.old) }
     {
+        if self.world.vm().space().create_fault(pages).is_some() {
+            return self.step(alloc, Event::Create { pages });
+        }
         self.stage = Stage::Begun;
-        let room = self.buffers.reserve();
+        self.buffers.reserve()?;
         let reply = self.world.step(alloc, Event::Create { pages })?;
         // For the prover: what always holds of a machine.
         let _space = self.world.vm().space();
         if let Reply::Created { id } = &reply {
-            room?;
             self.buffers.declare(name, *id);
         }
         Ok(reply)
@@ -162,11 +179,13 @@ impl Session {
     /// Declares the next timeline, unless its name is declared already or all are.
     pub fn declare_timeline(&mut self, name: Name) -> Result<(), LineFault>
         ensures done { OnOk result (self.new ≡ record (begun self.old) { timelines = self.old.timelines ++ name ∷ [] }) }
+        ensures same { OnErr result (self.new ≡ self.old) }
         ensures bad { result ≡ Err LineFault.Bad → ¬ MayDeclare self.old.timelines name }
         ensures memory { result ≢ Err LineFault.Bad → MayDeclare self.old.timelines name }
     {
+        self.timelines.add(name)?;
         self.stage = Stage::Begun;
-        self.timelines.add(name)
+        Ok(())
     }
 
     /// Closes the world. It takes no memory.

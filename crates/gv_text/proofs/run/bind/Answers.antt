@@ -3,6 +3,9 @@ use Rattle.std.specs.List.{flat_map, list_any}
 use Rattle.gv_vm.specs.Plans.{serving, IsCarriedOut}
 use Rattle.gv_text.specs.Said.{told, is_lacking}
 use Rattle.gv_text.proofs.AnswerLemmas.{then_ok}
+use Rattle.std.proofs.Common.{inr}
+use Rattle.gv_lines.specs.declared.line.Line.TheVariants as line
+use Rattle.gv_text.proofs.StoppedLemmas.{leaves_any, leaves_amid}
 use Rattle.gv_text.proofs.run.bind.Goals as goal
 
 pub returns-clause-done : goal.returns-clause-done
@@ -27,3 +30,17 @@ returns-clause-done c =
         };
       };
     }) c.serve.ensures.goes
+
+pub returns-in_err-asked-clause-left : goal.returns-in_err-asked-clause-left
+returns-in_err-asked-clause-left c = leaves_any (line.Bind c.args.clauses.now) _ _ c.from_residual.result refl
+
+pub returns-clause-left : goal.returns-clause-left
+returns-clause-left c =
+    let s = c.args.session.now in
+    let asked = c.in_ok-asked.asked in
+    leaves_amid c.args.clauses.now s c.serve.new.session c.serve.result asked.1 asked.0 c.in_ok-asked.ensures.queue
+    (record {
+      ops = rw c.buffers.ensures at c.in_ok-asked.ensures.ops;
+      waits = rw c.timelines.ensures.names at c.in_ok-asked.ensures.waits;
+      signals = rw c.timelines.ensures.names at c.in_ok-asked.ensures.signals;
+    }) c.serve.ensures.memory c.serve.ensures.stopped

@@ -8,7 +8,9 @@ use Rattle.gv_text.specs.Asking.{access_named}
 use Rattle.gv_text.specs.Reply.{refused_reply}
 use Rattle.gv_text.specs.Line.{Runs, DoesOnce}
 use Rattle.gv_text.proofs.AnswerLemmas.{then_ok}
-use Rattle.gv_text.proofs.Lines.{wrote_plain, wrote_as, too_many}
+use Rattle.gv_text.proofs.LinesLemmas.{wrote_plain, wrote_as, too_many}
+use Rattle.gv_text.specs.Line.{plain}
+use Rattle.gv_text.proofs.StoppedLemmas.{on_err, then_on_err, loses_as}
 use Rattle.gv_text.proofs.run.job.Goals as goal
 
 pub returns-then-are_too_many-clause-done : goal.returns-then-are_too_many-clause-done
@@ -24,3 +26,14 @@ returns-clause-done c =
     then_ok c.once.result _ _ (λ wrote.
     wrote_as (DoesOnce (JobBegin c.in_ok-accesses.accesses)) (Runs (line.Job c.args.accesses)) c.args.session.now c.once.new.session c.args.out.now c.once.new.out
     (λ w runs. inl (record { list = c.in_ok-accesses.accesses; list_is = c.in_ok-accesses.ensures; does = runs })) wrote) c.once.ensures.done
+
+pub returns-in_err-write_refused-clause-left : goal.returns-in_err-write_refused-clause-left
+returns-in_err-write_refused-clause-left c = on_err c.from_residual.result _ (inr (inl c.begin.ensures))
+
+pub returns-in_err-accesses-clause-left : goal.returns-in_err-accesses-clause-left
+returns-in_err-accesses-clause-left c = on_err c.from_residual-in_err-accesses.result _ (inl refl)
+
+pub returns-clause-left : goal.returns-clause-left
+returns-clause-left c =
+    then_on_err c.once.result _ _ (loses_as (DoesOnce (JobBegin c.in_ok-accesses.accesses)) (Runs (line.Job c.args.accesses)) c.args.session.now c.once.new.session
+    (λ w runs. inl (record { list = c.in_ok-accesses.accesses; list_is = c.in_ok-accesses.ensures; does = runs }))) c.once.ensures.left

@@ -1,7 +1,7 @@
 use Rattle.std.proofs.Common.{[], refl, sym, append-nil}
 use Rattle.gv_lines.specs.declared.line.Line.TheVariants as line
 use Rattle.gv_text.specs.Line.{Runs}
-use Rattle.gv_text.proofs.Lines.{wrote_plain}
+use Rattle.gv_text.proofs.LinesLemmas.{wrote_plain}
 use Rattle.gv_text.proofs.run.run.Goals as goal
 
 pub returns-in-Silent-clause-done : goal.returns-in-Silent-clause-done

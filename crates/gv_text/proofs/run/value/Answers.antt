@@ -1,11 +1,13 @@
-use Rattle.std.proofs.Common.{◌≡◌, ◌∙◌, List, ℕ, Some, ap, sym, refl, slice_index}
+use Rattle.std.proofs.Common.{◌≡◌, ◌∙◌, List, ℕ, Some, ap, sym, refl, slice_index, inl, inr}
 use Rattle.gv_vm.specs.World.{WorldState}
 use Rattle.gv_lines.specs.declared.line.Line.TheVariants as line
 use Rattle.gv_text.specs.State.{SessionState, timeline_named}
 use Rattle.gv_text.specs.Reply.{number_reply}
 use Rattle.gv_text.specs.Line.{Runs}
 use Rattle.gv_text.proofs.AnswerLemmas.{of_found, ok_or_some}
-use Rattle.gv_text.proofs.Lines.{wrote_plain}
+use Rattle.gv_text.proofs.LinesLemmas.{wrote_plain}
+use Rattle.std.proofs.lemmas.Result.{err_from_is_err_and}
+use Rattle.gv_text.proofs.StoppedLemmas.{leaves_any}
 use Rattle.gv_text.proofs.run.value.Goals as goal
 
 pub returns-clause-done : goal.returns-clause-done
@@ -20,3 +22,11 @@ returns-clause-done c =
     wrote_plain (Runs (line.Value c.args.name.now)) s c.begin.new.self (number_reply s.timelines c.in_ok-timeline.timeline (slice_index s.world.numbers c.in_ok-timeline.timeline))
     c.args.out.now c.write_number.new.out (rw (names, number) at c.in_ok-write_number.ensures)
     (of_found (timeline_named s.timelines c.args.name.now) c.in_ok-timeline.timeline _ named (refl, c.begin.ensures))
+
+pub returns-in_err-timeline-clause-left : goal.returns-in_err-timeline-clause-left
+returns-in_err-timeline-clause-left c = leaves_any (line.Value c.args.name.now) _ _ c.from_residual.result refl
+
+pub returns-in_err-write_number-clause-left : goal.returns-in_err-write_number-clause-left
+returns-in_err-write_number-clause-left c =
+    let p = err_from_is_err_and c.from_residual-in_err-write_number.result c.from_residual-in_err-write_number.ensures.1 in
+    rw (p.1, p.2) (inl (inr (inl c.begin.ensures)))

@@ -1,8 +1,10 @@
-use Rattle.std.proofs.Common.{◌++◌, ◌∷◌, [], true, sym, arith}
+use Rattle.std.proofs.Common.{drop, ◌++◌, ◌∷◌, [], true, sym, arith}
 use Rattle.gv_vm.specs.Plans.{looks, carrying_out}
 use Rattle.gv_vm.specs.declared.event.Looked.TheVariants.{Lacked, Other}
 use Rattle.gv_vm.proofs.PlanLemmas.{goes_nil, goes_trans, goes_as, look_goes_on, look_stops, looks_done}
 use Rattle.gv_text.proofs.Servings.{tells_nil, tells_trans}
+use Rattle.gv_vm.specs.declared.event.Event.TheVariants.{Look}
+use Rattle.gv_text.proofs.StoppedLemmas.{on_err, amid_at, amid_behind, look_next}
 use Rattle.gv_text.proofs.serve.look_at_all.Goals as goal
 
 pub loop-done-init : goal.loop-done-init
@@ -51,3 +53,10 @@ returns-in-Other-clause-goes c =
           goes_trans _ _ _ _ _ _ _ _ (c.loop-done.invariant.goes points signals is)
           (look_stops true c.args.queue c.loop-done.done points signals c.in_ok-reply.reply Other _ _ (omega arith) ran.step (sym c.in-Other.ensures) (λ same. cc)),
     )
+
+pub returns-in_err-reply-clause-stopped : goal.returns-in_err-reply-clause-stopped
+returns-in_err-reply-clause-stopped c =
+    on_err c.from_residual.result _ (λ points signals is.
+    amid_behind (looks true c.args.queue points signals) (looks true c.args.queue (drop c.loop-done.done points) signals) _ _ _ c.loop-done.invariant.replies
+    (c.loop-done.invariant.goes points signals is) c.loop-done.invariant.tells.state
+    (amid_at (looks true c.args.queue (drop c.loop-done.done points) signals) (Look c.args.queue) _ _ (look_next c.args.queue c.loop-done.done points signals (omega arith)) c.in_err-reply.ensures.stopped))

@@ -1,7 +1,9 @@
-use Rattle.std.proofs.Common.{◌≡◌, ◌++◌, ◌∷◌, [], sym, ◌∙◌, arith, rules, true, false}
+use Rattle.std.proofs.Common.{drop, ◌≡◌, ◌++◌, ◌∷◌, [], sym, ◌∙◌, arith, rules, true, false}
 use Rattle.gv_vm.specs.Plans.{payments, nothing}
 use Rattle.gv_vm.proofs.PlanLemmas.{goes_nil, goes_trans, goes_as, pay_goes_on, pay_stops, paying_done}
 use Rattle.gv_text.proofs.Servings.{tells_nil, tells_trans}
+use Rattle.gv_vm.specs.declared.event.Event.TheVariants.{Pay}
+use Rattle.gv_text.proofs.StoppedLemmas.{on_err, amid_at, amid_behind, pay_next}
 use Rattle.gv_text.proofs.serve.pay_all.Goals as goal
 
 pub loop-done-init : goal.loop-done-init
@@ -40,3 +42,10 @@ returns-clause-goes c = (
       goes_as _ _ nothing _ _ _ (λ later. paying_done c.args.queue c.loop-done.done points nothing later (omega arith))
       (c.loop-done.invariant.goes points is),
 )
+
+pub returns-in_err-reply-clause-stopped : goal.returns-in_err-reply-clause-stopped
+returns-in_err-reply-clause-stopped c =
+    on_err c.from_residual.result _ (λ points is.
+    amid_behind (payments c.args.queue points) (payments c.args.queue (drop c.loop-done.done points)) _ _ _ c.loop-done.invariant.replies
+    (c.loop-done.invariant.goes points is) c.loop-done.invariant.tells.state
+    (amid_at (payments c.args.queue (drop c.loop-done.done points)) (Pay c.args.queue) _ _ (pay_next c.args.queue c.loop-done.done points (omega arith)) c.in_err-reply.ensures.stopped))
