@@ -11,9 +11,7 @@ mod requests;
 mod run;
 mod script;
 mod setting;
+mod why;
 
 pub use fault::ThreadsFault;
-pub use run::{RunTerms, run_threads};
-
-#[cfg(test)]
-mod tests;
+pub use run::{RunTerms, run_threads, run_threads_explained};

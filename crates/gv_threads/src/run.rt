@@ -21,9 +21,10 @@ use crate::fault::ThreadsFault;
 use crate::gate::TurnLimit;
 use crate::harness::Harness;
 use crate::script::ThreadsScript;
+use crate::why::why_not_begun;
 use gv_queues::{PutAll, QueueEnd, Queues, QueuesFault};
 use gv_sync::{MAX_TIMELINES, Timelines};
-use gv_text::{Names, ScriptFault, Sink, Source, read_script};
+use gv_text::{Names, ScriptFault, Sink, Source, read_script, tell_why};
 use gv_types::Request;
 use gv_vm::Vm;
 use std::alloc::Global;
@@ -42,6 +43,7 @@ struct Run<'a> {
     script: ThreadsScript<'a>,
     harness: Harness,
     terms: RunTerms,
+    text: &'a [u8],
 }
 
 /// Reads a threads script and runs it: its first part, then its requests on so many running queues, then, for each
@@ -73,11 +75,40 @@ pub fn run_threads<R: Threads + Wait + Sync, S: Source, K: Sink>(
     ensures few { TakesFew (S.remaining reader.old) (S.remaining reader.new) }
     ensures reads { S.reads reader.new ≤ S.reads reader.old + most_read }
 {
+    let mut why = String::new(alloc);
+    run_threads_explained(rt, reader, writer, terms, &mut why)
+}
+
+/// The same, and where a line is bad, why it is. If memory is refused for that text, it is empty. What is wanted of memory comes
+/// from where the text's does.
+pub fn run_threads_explained<R: Threads + Wait + Sync, S: Source, K: Sink>(
+    rt: &R,
+    reader: &mut S,
+    writer: &mut K,
+    terms: RunTerms,
+    why: &mut String,
+) -> Result<(), ThreadsFault>
+    requires { IsFromOneTo queues terms.queues }
+    // The text is that of a run over the bytes that the reader gave.
+    ensures text { OnOk result ((script text : List ℕ)
+        × IfSome (S.remaining reader.old) (λ bytes. script ≡ bytes)
+        × IsThreadsRun script terms.queues text × Appends (K.written writer.old) (K.written writer.new) text) }
+    // A bad line is the first that may not stand where it does, unless each may.
+    ensures bad_line { (line : ℕ) → result ≡ Err (ThreadsFault.Script (ScriptFault.BadLine line)) → (script : List ℕ)
+        × IfSome (S.remaining reader.old) (λ bytes. script ≡ bytes) × IsBadLine script terms.queues line }
+    ensures ends { RunsAs (S.failed reader.old) (S.failed reader.new) (K.failed writer.old) (K.failed writer.new)
+        terms.queues result }
+    ensures silent { IfErr result (λ fault. HasNotBegun fault → writer.new ≡ writer.old) }
+    // One byte more than the longest script has is taken at most, in as many reads.
+    ensures few { TakesFew (S.remaining reader.old) (S.remaining reader.new) }
+    ensures reads { S.reads reader.new ≤ S.reads reader.old + most_read }
+{
+    let alloc = *why.allocator();
     let text = match read_script(alloc, reader) {
         Ok(text) => text,
         Err(fault) => return Err(ThreadsFault::Script(fault)),
     };
-    let script = match ThreadsScript::read(alloc, text.as_slice(), terms.queues) {
+    let script = match ThreadsScript::read(alloc, text.as_slice(), terms.queues, why) {
         Ok(script) => script,
         Err(fault) => return Err(ThreadsFault::Script(fault)),
     };
@@ -96,19 +127,20 @@ pub fn run_threads<R: Threads + Wait + Sync, S: Source, K: Sink>(
                 script,
                 harness,
                 terms,
+                text: text.as_slice(),
             };
-            run_on(rt, alloc, run, writer)
+            run_on(rt, run, writer, why)
         }
         Err(_) => Err(ThreadsFault::Script(ScriptFault::OutOfMemory)),
     }
 }
 
-/// Runs a script that was read on what was made for it, and closes the address space.
+/// Runs a script that was read on what was made for it, and closes the address space. Where a line is bad, it says why.
 fn run_on<R: Threads + Wait + Sync, K: Sink>(
     rt: &R,
-    alloc: Global,
     run: Run<'_>,
     writer: &mut K,
+    why: &mut String,
 ) -> Result<(), ThreadsFault>
     requires queues { IsFromOneTo queues run.terms.queues }
     requires read { run.script.queues ≡ run.terms.queues }
@@ -126,10 +158,12 @@ fn run_on<R: Threads + Wait + Sync, K: Sink>(
         → RunsAs read read (K.failed writer.old) (K.failed writer.new) run.entry.terms.queues result }
     ensures begun { IfErr result (λ fault. HasNotBegun fault → ⊥) }
 {
+    let alloc = *why.allocator();
     let Run {
         mut script,
         mut harness,
         terms,
+        text,
     } = run;
     match script.begin(alloc, &mut harness, writer) {
         Ok(requests) => {
@@ -137,10 +171,14 @@ fn run_on<R: Threads + Wait + Sync, K: Sink>(
                 script,
                 harness,
                 terms,
+                text,
             };
             serve(rt, alloc, run, requests, writer)
         }
         Err(fault) => {
+            if let ScriptFault::BadLine { line } = fault {
+                tell_why(why, &why_not_begun(&script, &harness.buffers, text, line));
+            }
             harness.close();
             Err(ThreadsFault::Script(fault))
         }
@@ -175,6 +213,7 @@ fn serve<R: Threads + Wait + Sync, K: Sink>(
         script,
         harness,
         terms,
+        text: _,
     } = run;
     let Harness {
         vm,

@@ -12,8 +12,8 @@ ghost use Rattle.gv_threads.specs.Script.{IsOfLine, most_waiting};
 
 use crate::requests::queue_asked;
 use crate::setting::Setting;
-use gv_lines::{ClauseList, Line, parse_line, split_once};
-use gv_text::{LineFault, ScriptFault, Stage, TimelineNames};
+use gv_lines::{ClauseList, Line, Slip, parse_line, split_once};
+use gv_text::{LineFault, ScriptFault, Stage, TimelineNames, tell_why};
 use gv_types::{Bounds, Limits};
 use gv_vm::QUEUES;
 use std::alloc::Global;
@@ -24,7 +24,7 @@ const MAX_DEPTH: u64 = 65_536;
 
 /// A part of a script. The parts come in this order.
 #[derive(Clone, Copy, Debug, PartialEq, Eq)]
-enum Part {
+pub enum Part {
     Settings,
     Requests,
     Questions,
@@ -43,7 +43,7 @@ pub struct ThreadsScript<'a> {
     pub(crate) bounds: Bounds,
     pub(crate) limits: Limits,
     depth: u64,
-    part: Part,
+    pub(crate) part: Part,
     pub(crate) stage: Stage,
     binds: [u64; QUEUES],
     has_memory: bool,
@@ -97,8 +97,13 @@ impl<'a> ThreadsScript<'a> {
 
     /// Reads a script for so many queues. A line that is not of the language, or not at its place, or of a queue that there is
     /// not, or whose timelines' names are not declared or declared twice, is `BadLine`, the first of them; buffers' names are
-    /// looked at when the script begins. Want of memory for a line hides no bad one.
-    pub fn read(alloc: Global, text: &'a [u8], count: u64) -> Result<ThreadsScript<'a>, ScriptFault>
+    /// looked at when the script begins. Want of memory for a line hides no bad one. Where a line is bad, it says why.
+    pub fn read(
+        alloc: Global,
+        text: &'a [u8],
+        count: u64,
+        why: &mut String,
+    ) -> Result<ThreadsScript<'a>, ScriptFault>
         requires count { IsFromOneTo queues count }
         requires short { length text.now ≤ script_limit }
         ensures queues { IfOk result (λ script. script.queues ≡ count) }
@@ -112,13 +117,16 @@ impl<'a> ThreadsScript<'a> {
         let mut rest = text;
         let mut number: u64 = 1;
         while let Some((line, after)) = split_once(rest, b'\n') {
+            let stage = script.stage;
             if let Err(fault) = script.read_line(number, line) {
+                tell_why(why, &script.why_not_read(alloc, stage, line));
                 return Err(fault.at(number));
             }
             rest = after;
             number += 1;
         }
         if !rest.is_empty() {
+            tell_why(why, &Slip::no_line_end(rest.len()));
             return Err(ScriptFault::BadLine { line: number });
         }
         if !script.has_memory {

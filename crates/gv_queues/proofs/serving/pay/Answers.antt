@@ -1,5 +1,5 @@
 use Rattle.std.proofs.Common.{◌≡◌, ◌<◌, ◌∙◌, ◌++◌, ◌∷◌, [], List, take, get_or, sym, ap, subst, length}
-use Rattle.std.proofs.lemmas.List.{take_more}
+use Rattle.std.proofs.lemmas.List.{take_all, take_more}
 use Rattle.gv_types.specs.declared.request.Point.{Point}
 use Rattle.gv_sync.specs.Seats.{SeatState, after_raise}
 use Rattle.gv_sync.specs.Turns.{HasRaised}
@@ -21,3 +21,17 @@ loop-signal-preserved c =
       subst (λ (l : List Point). HasRaised l c.args.seat.now c.raise.new.seat) (sym (take_more signals c.loop-signal.signal-index no_point below))
           (subst (λ (s : SeatState). HasRaised (take c.loop-signal.signal-index signals ++ point ∷ []) c.args.seat.now s) (sym c.raise.ensures.step) more),
     )
+
+pub loop-signal-init : goal.loop-signal-init
+loop-signal-init c = (c.requires.own, c.turns.ensures.none c.args.seat.now)
+
+pub raise-requires-clause-own : goal.raise-requires-clause-own
+raise-requires-clause-own c = c.loop-signal.invariant.0
+
+pub raise-requires-clause-named : goal.raise-requires-clause-named
+raise-requires-clause-named c = c.requires.named c.loop-signal.signal-index _ c.loop-signal-test.true
+
+pub returns-clause-paid : goal.returns-clause-paid
+returns-clause-paid c =
+    subst (λ (l : List Point). HasRaised l c.args.seat.now c.loop-signal.seat) (take_all c.loop-signal.signal-index c.args.signals.now c.loop-signal-test.false)
+    c.loop-signal.invariant.1

@@ -1,7 +1,7 @@
 //! Bad lines of threads scripts, with what is written before them.
 use super::{Wanted, bad_line, expect, on};
-use crate::ThreadsFault;
 use gv_text::{SCRIPT_LIMIT, ScriptFault};
+use gv_threads::ThreadsFault;
 use std::test::Fail;
 
 /// Bad by anything but a buffer's name: nothing is written, also where a buffer's name is at fault before.

@@ -1,8 +1,9 @@
 //! Threads scripts from their bytes to their replies.
 mod bad;
+mod reasons;
 
-use crate::{RunTerms, ThreadsFault, run_threads};
 use gv_text::{MemorySink, MemorySource, ScriptFault};
+use gv_threads::{RunTerms, ThreadsFault, run_threads};
 use std::alloc::Global;
 use std::process::Abort;
 use std::sync::Wait;

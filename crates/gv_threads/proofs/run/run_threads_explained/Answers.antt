@@ -8,7 +8,7 @@ use Rattle.gv_threads.specs.Running.{IsTextOf, Ready}
 use Rattle.gv_threads.proofs.Flags.{from_first}
 use Rattle.gv_threads.proofs.Kept.{asked_all}
 use Rattle.gv_threads.proofs.Served.{begins_as}
-use Rattle.gv_threads.proofs.run.run_threads.Goals as goal
+use Rattle.gv_threads.proofs.run.run_threads_explained.Goals as goal
 
 pub run_on-requires-clause-asked : goal.run_on-requires-clause-asked
 run_on-requires-clause-asked g c =
