@@ -1,0 +1,16 @@
+//! The replies to a dialogue's lines as JSON, one object on a line of its own for each.
+//!
+//! The text of a reply is proved elsewhere to say what its line asked for; here it is read once more and written in
+//! another form, so that there is one writer of what a reply means.
+#![tactic(auto)]
+
+mod list;
+mod object;
+mod outcome;
+mod reply;
+mod row;
+mod space;
+mod stop;
+mod words;
+
+pub use reply::{write_bad, write_no_memory, write_reply};

@@ -1,0 +1,16 @@
+//! Why a reply isn't written in the form of its kind.
+use std::alloc::AllocError;
+
+#[derive(Clone, Copy, Debug, PartialEq, Eq)]
+pub enum Stop {
+    /// The system refused memory.
+    OutOfMemory,
+    /// The text isn't a reply of this kind.
+    NotUnderstood,
+}
+
+impl From<AllocError> for Stop {
+    fn from(_error: AllocError) -> Stop {
+        Stop::OutOfMemory
+    }
+}

@@ -1,0 +1,3 @@
+pub mod Fronts
+pub mod AsRun
+pub mod Partials

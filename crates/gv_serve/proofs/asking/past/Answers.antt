@@ -1,0 +1,6 @@
+use Rattle.std.proofs.Common.{inl, inr}
+use Rattle.gv_text.proofs.StoppedLemmas.{then_on_err}
+use Rattle.gv_serve.proofs.asking.past.Goals as goal
+
+pub returns-clause-left : goal.returns-clause-left
+returns-clause-left c = then_on_err c.say.result _ _ (λ e. inr (inl e)) c.say.ensures.left

@@ -1,0 +1,4 @@
+pub mod Partial
+pub mod Added
+pub mod Dialogue
+pub mod Hearing
