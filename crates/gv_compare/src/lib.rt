@@ -1,0 +1,15 @@
+//! Two lists of mappings, page by page: the output of a script's line `map`, or a kernel's `gpuvas`.
+#![tactic(auto)]
+
+mod fault;
+mod listing;
+mod objects;
+mod report;
+mod row;
+#[cfg(test)]
+mod tests;
+mod walk;
+
+pub use fault::{CompareFault, Which};
+pub use report::compare;
+pub use walk::{Difference, Walk};

@@ -1,0 +1,186 @@
+//! A list of mappings read from its text.
+
+use crate::fault::{CompareFault, Which};
+use crate::objects::Objects;
+use crate::row::Row;
+use gv_lines::split_once;
+use gv_types::{BUFFER_PAGES, Backing, BufferId, Flags, Mapping};
+use std::alloc::Global;
+use std::str;
+
+/// What kind of list a text is.
+#[derive(Clone, Copy, Debug, PartialEq, Eq)]
+pub enum Kind {
+    /// What a script's line `map` is answered.
+    Map,
+    /// A kernel's `gpuvas`.
+    Dump,
+}
+
+/// A mapping, and the number of its line.
+#[derive(Clone, Copy, Debug, Drop)]
+struct Placed {
+    mapping: Mapping,
+    line: u64,
+}
+
+/// A list: its kind, and its mappings in ascending order, none of which overlap.
+#[derive(Debug, Drop)]
+pub struct Listing {
+    pub kind: Kind,
+    pub mappings: Vec<Mapping>,
+}
+
+impl Kind {
+    /// A text is a `gpuvas` where a line is its head, or a row of it; what a script is answered has no such line.
+    fn of(text: &[u8]) -> Kind {
+        let mut rest = text;
+        while let Some((line, after)) = split_once(rest, b'\n') {
+            if is_of_dump(line) {
+                return Kind::Dump;
+            }
+            rest = after;
+        }
+        if is_of_dump(rest) {
+            Kind::Dump
+        } else {
+            Kind::Map
+        }
+    }
+}
+
+impl Listing {
+    /// The list of a text.
+    pub fn read(
+        alloc: Global,
+        objects: &mut Objects,
+        list: Which,
+        text: &[u8],
+    ) -> Result<Listing, CompareFault> {
+        let kind = Kind::of(text);
+        let mut reading = Reading {
+            kind,
+            list,
+            line: 0,
+            placed: Vec::new(alloc),
+        };
+        let mut rest = text;
+        while let Some((line, after)) = split_once(rest, b'\n') {
+            reading.take(objects, line)?;
+            rest = after;
+        }
+        if !rest.is_empty() {
+            reading.take(objects, rest)?;
+        }
+        reading.finish(alloc)
+    }
+}
+
+/// A list whose text is being read.
+#[derive(Drop)]
+struct Reading {
+    kind: Kind,
+    list: Which,
+    line: u64,
+    placed: Vec<Placed>,
+}
+
+impl Reading {
+    /// Takes the next line.
+    fn take(&mut self, objects: &mut Objects, line: &[u8]) -> Result<(), CompareFault> {
+        self.line = self.line.saturating_add(1);
+        let fault = CompareFault::NoMapping {
+            list: self.list,
+            line: self.line,
+        };
+        let Ok(text) = str::from_utf8(line) else {
+            return Err(fault);
+        };
+        let row = match self.kind {
+            Kind::Map if text == "empty" => return Ok(()),
+            Kind::Map => Row::of_map(text),
+            Kind::Dump if is_head(text) => return Ok(()),
+            Kind::Dump => Row::of_dump(text),
+        };
+        let row = row.ok_or(fault)?;
+        let mapping = mapping_of(objects, row)?.ok_or(fault)?;
+        self.placed.push(Placed {
+            mapping,
+            line: self.line,
+        })?;
+        Ok(())
+    }
+
+    /// The list, once all lines are read. The lines of a `map` have to ascend; the rows of a `gpuvas` are sorted.
+    fn finish(self, alloc: Global) -> Result<Listing, CompareFault> {
+        let Reading {
+            kind,
+            list,
+            line: _,
+            placed,
+        } = self;
+        let mut placed = placed;
+        if kind == Kind::Dump {
+            placed.sort_by_key(|placed| placed.mapping.range.first())?;
+        }
+        let mut mappings = Vec::new(alloc);
+        let mut end = 0;
+        for item in &placed {
+            let mapping = item.mapping;
+            if mapping.range.first() < end {
+                return Err(CompareFault::Overlapping {
+                    list,
+                    line: item.line,
+                });
+            }
+            end = mapping.range.end();
+            mappings.push(mapping)?;
+        }
+        Ok(Listing { kind, mappings })
+    }
+}
+
+/// The mapping of a row, if a buffer has so many pages.
+fn mapping_of(objects: &mut Objects, row: Row) -> Result<Option<Mapping>, CompareFault> {
+    let Row {
+        range,
+        object,
+        page,
+        read_only,
+    } = row;
+    let backing = match object {
+        Some(object) => Backing::Buffer {
+            id: BufferId::new(objects.number_of(object)?, 0),
+            page,
+        },
+        None => Backing::Zero,
+    };
+    if page > BUFFER_PAGES || range.count() > BUFFER_PAGES - page && backing != Backing::Zero {
+        return Ok(None);
+    }
+    Ok(Some(Mapping {
+        range,
+        backing,
+        flags: Flags { read_only },
+    }))
+}
+
+/// Whether only a `gpuvas` has such a line.
+fn is_of_dump(line: &[u8]) -> bool {
+    let Ok(text) = str::from_utf8(line) else {
+        return false;
+    };
+    let text = text.trim_ascii();
+    text.starts_with("DRM GPU VA space") || text.starts_with("|")
+}
+
+/// Whether a line of a `gpuvas` stands above its rows or between them: the name of a space, its reserved region, the names
+/// of the columns, a rule, or nothing.
+fn is_head(line: &str) -> bool {
+    let text = line.trim_ascii();
+    text.is_empty()
+        || text.starts_with("DRM GPU VA space")
+        || text.starts_with("Kernel reserved")
+        || text.starts_with("VAs |")
+        || text.starts_with("---")
+}

@@ -1,0 +1,126 @@
+//! Boxes: a mapping for as long as it stood.
+
+use crate::choice::rows_before;
+use crate::history::History;
+use crate::piece::Piece;
+use gv_types::{Backing, OutOfMemory};
+use std::alloc::Global;
+
+/// How many boxes a picture has at most.
+const MOST: usize = 4000;
+
+/// From how many boxes on those that no row changes are drawn together.
+const MANY: usize = 60;
+
+/// How many boxes side by side are drawn together at least.
+const TOGETHER: u64 = 3;
+
+/// A mapping that stood from one row, by its serial number, to the one without it.
+#[derive(Clone, Copy, Debug, PartialEq, Eq)]
+pub struct Stood {
+    pub piece: Piece,
+    pub from: u64,
+    pub to: u64,
+}
+
+/// A box: a mapping at the rows from `top` to `bottom`, without that. One of several mappings that no row changes has
+/// their number, from the first to the last of them.
+#[derive(Clone, Copy, Debug, PartialEq, Eq)]
+pub struct Boxed {
+    pub piece: Piece,
+    pub top: usize,
+    pub bottom: usize,
+    pub count: u64,
+}
+
+/// The boxes of a picture in order of their addresses, and how many are left out.
+#[derive(Debug, Drop)]
+pub struct Boxes {
+    pub items: Vec<Boxed>,
+    pub left_out: u64,
+}
+
+impl Boxes {
+    /// The boxes of the rows that a history shows.
+    pub fn of(alloc: Global, history: &History) -> Result<Boxes, OutOfMemory> {
+        let mut boxes = Boxes {
+            items: Vec::new(alloc),
+            left_out: 0,
+        };
+        for stood in &history.stood {
+            boxes.add(history, &stood.piece, stood.from, stood.to)?;
+        }
+        for (_, standing) in &history.standing {
+            boxes.add(history, &standing.piece, standing.from, u64::MAX)?;
+        }
+        boxes
+            .items
+            .sort_unstable_by_key(|item| (item.piece.first, item.top));
+        if boxes.items.len() > MANY {
+            boxes.items = together(alloc, &boxes.items, history.rows.len())?;
+        }
+        boxes.left_out = boxes.items.len().saturating_sub(MOST) as u64;
+        boxes.items.truncate(MOST);
+        Ok(boxes)
+    }
+
+    /// Adds a mapping that stood, if a row saw it.
+    fn add(
+        &mut self,
+        history: &History,
+        piece: &Piece,
+        from: u64,
+        to: u64,
+    ) -> Result<(), OutOfMemory> {
+        let top = rows_before(&history.rows, from);
+        let bottom = rows_before(&history.rows, to);
+        if top < bottom {
+            self.items.push(Boxed {
+                piece: *piece,
+                top,
+                bottom,
+                count: 1,
+            })?;
+        }
+        Ok(())
+    }
+}
+
+/// Puts together boxes side by side that stand at all rows.
+fn together(alloc: Global, items: &[Boxed], rows: usize) -> Result<Vec<Boxed>, OutOfMemory> {
+    let mut kept = Vec::new(alloc);
+    let mut run = Vec::new(alloc);
+    for item in items {
+        if item.top == 0 && item.bottom == rows {
+            run.push(*item)?;
+        } else {
+            end_run(&mut kept, &mut run)?;
+            kept.push(*item)?;
+        }
+    }
+    end_run(&mut kept, &mut run)?;
+    Ok(kept)
+}
+
+/// Adds a run of boxes: one box for all, where they are enough.
+fn end_run(kept: &mut Vec<Boxed>, run: &mut Vec<Boxed>) -> Result<(), OutOfMemory> {
+    let count = run.len() as u64;
+    match (run.first(), run.last()) {
+        (Some(first), Some(last)) if count >= TOGETHER => {
+            let piece = Piece {
+                first: first.piece.first,
+                end: last.piece.end,
+                backing: Backing::Zero,
+                read_only: false,
+            };
+            kept.push(Boxed {
+                piece,
+                count,
+                ..*first
+            })?;
+        }
+        _ => kept.extend_from_slice(run.as_slice())?,
+    }
+    run.clear();
+    Ok(())
+}

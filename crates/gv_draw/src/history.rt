@@ -1,0 +1,290 @@
+//! What happened to an address space, row by row.
+
+use crate::boxes::Stood;
+use crate::changed::Changed;
+use crate::choice::{IDLE_RANK, KEPT, PAGE_RANK, PLAIN_RANK, SPECIAL_RANK, choose};
+use crate::piece::Piece;
+use crate::row::{Row, RowKind, Told};
+use gv_ranges::RangeList;
+use gv_space::Space;
+use gv_types::{BufferId, OutOfMemory, PAGE_BYTES, PageRange, SPACE_PAGES};
+use std::alloc::Global;
+use std::collections::BTreeMap;
+
+/// How many pages on each side of an address are near it: 1.25 MiB.
+const NEAR: u64 = 320;
+
+/// How often the range of a change is widened at most: twice for each operation of the longest request, and some more.
+const WIDENINGS: u64 = 1024;
+
+/// A mapping that stands, and the row that it came with.
+#[derive(Clone, Copy, Debug, PartialEq, Eq)]
+pub(crate) struct Standing {
+    pub piece: Piece,
+    pub from: u64,
+}
+
+/// The rows of a history that matter, and the mappings that stood. What it holds grows with the mappings that stand and with
+/// the rows that are kept, not with all rows.
+#[derive(Drop)]
+pub struct History {
+    pub(crate) at: Option<u64>,
+    low: u64,
+    high: u64,
+    pub(crate) names: BTreeMap<u64, String>,
+    pub(crate) standing: BTreeMap<u64, Standing>,
+    pub(crate) stood: Vec<Stood>,
+    pub(crate) rows: Vec<Row>,
+    pub(crate) serial: u64,
+    pages: u64,
+}
+
+impl History {
+    /// The history of an empty address space. With an address, in bytes, only what lies near it is looked at.
+    pub fn new(alloc: Global, at: Option<u64>) -> History {
+        let (low, high) = match at {
+            Some(addr) => near(addr / PAGE_BYTES),
+            None => (0, SPACE_PAGES),
+        };
+        History {
+            at,
+            low,
+            high,
+            names: BTreeMap::new(alloc),
+            standing: BTreeMap::new(alloc),
+            stood: Vec::new(alloc),
+            rows: Vec::new(alloc),
+            serial: 0,
+            pages: 0,
+        }
+    }
+
+    /// Names a buffer. One that isn't named is shown by the number of buffers that were made before it.
+    pub fn name(&mut self, alloc: Global, id: BufferId, name: &str) -> Result<(), OutOfMemory> {
+        let name = String::from_str(alloc, name)?;
+        self.names.insert(id.generation.get(), name)?;
+        Ok(())
+    }
+
+    /// Adds a row: what was told, the ranges in which it may have changed mappings, and the address space after it. Around
+    /// an address a row is left out that changed nothing near it.
+    pub fn add(
+        &mut self,
+        alloc: Global,
+        told: Told,
+        ranges: &[PageRange],
+        space: &Space,
+    ) -> Result<(), OutOfMemory> {
+        let mut changed = Changed::None;
+        for range in ranges {
+            let range = self.renew(alloc, *range, space.list())?;
+            changed = changed.and(range);
+        }
+        if self.at.is_some() && changed == Changed::None {
+            return Ok(());
+        }
+        let rank = self.rank(told.kind, changed);
+        self.rows.push(Row {
+            told,
+            serial: self.serial,
+            rank,
+            mappings: self.standing.len() as u64,
+            pages: self.pages,
+            tables: space.tables(),
+        })?;
+        self.serial = self.serial.saturating_add(1);
+        if self.rows.len() >= KEPT {
+            choose(alloc, &mut self.rows, &mut self.stood)?;
+        }
+        Ok(())
+    }
+
+    /// How many rows there were.
+    pub fn len(&self) -> u64 {
+        self.serial
+    }
+
+    /// How much a row matters.
+    fn rank(&self, kind: RowKind, changed: Changed) -> u8 {
+        match (self.at, kind, changed) {
+            (Some(_), _, Changed::Page) => PAGE_RANK,
+            (Some(_), _, _) => PLAIN_RANK,
+            (None, RowKind::Change, Changed::None) => IDLE_RANK,
+            (None, RowKind::Change, _) => PLAIN_RANK,
+            (None, _, _) => SPECIAL_RANK,
+        }
+    }
+
+    /// Brings what stands in a range, and in the mappings that reach out of it, up to the list.
+    fn renew(
+        &mut self,
+        alloc: Global,
+        range: PageRange,
+        list: &RangeList,
+    ) -> Result<Changed, OutOfMemory> {
+        let low = range.first().max(self.low);
+        let high = range.end().min(self.high);
+        if low >= high {
+            return Ok(Changed::None);
+        }
+        let (low, high) = self.widened(low, high, list);
+        let Some(range) = PageRange::new(low, high.saturating_sub(low)) else {
+            return Ok(Changed::None);
+        };
+        let before = self.standing_in(alloc, range)?;
+        let now = self.mapped_in(alloc, range, list)?;
+        let gone = self.take_out(&before, &now)?;
+        let came = self.put_in(&before, &now)?;
+        Ok(gone.and(came))
+    }
+
+    /// What stood before and begins in a range.
+    fn standing_in(&self, alloc: Global, range: PageRange) -> Result<Vec<Standing>, OutOfMemory> {
+        let mut before = Vec::new(alloc);
+        for (_, standing) in self.standing.range(range.first()..range.end()) {
+            before.push(*standing)?;
+        }
+        Ok(before)
+    }
+
+    /// What the list maps in a range, as far as it is near.
+    fn mapped_in(
+        &self,
+        alloc: Global,
+        range: PageRange,
+        list: &RangeList,
+    ) -> Result<Vec<Piece>, OutOfMemory> {
+        let (index, count) = list.overlapping(range);
+        let mut now = Vec::new(alloc);
+        for mapping in list.run(index, count) {
+            if let Some(piece) = Piece::of(mapping, self.low, self.high) {
+                now.push(piece)?;
+            }
+        }
+        Ok(now)
+    }
+
+    /// The range that mappings before or after reach, if they are in some page of it.
+    fn widened(&self, low: u64, high: u64, list: &RangeList) -> (u64, u64) {
+        let (mut low, mut high) = (low, high);
+        for _ in 0..WIDENINGS {
+            let (first, end) = self.reach(low, high, list);
+            if first >= low && end <= high {
+                break;
+            }
+            low = low.min(first);
+            high = high.max(end);
+        }
+        (low, high)
+    }
+
+    /// The first page and the end of what meets a range's first and last pages, before and after.
+    fn reach(&self, low: u64, high: u64, list: &RangeList) -> (u64, u64) {
+        let last = high.saturating_sub(1);
+        let mut first = low;
+        let mut end = high;
+        for page in [low, last] {
+            if let Some(piece) = self.stands_at(page) {
+                first = first.min(piece.first);
+                end = end.max(piece.end);
+            }
+            if let Some(piece) = self.mapped_at(page, list) {
+                first = first.min(piece.first);
+                end = end.max(piece.end);
+            }
+        }
+        (first, end)
+    }
+
+    /// What stood at a page before.
+    fn stands_at(&self, page: u64) -> Option<Piece> {
+        let past = page.saturating_add(1);
+        let (_, standing) = self.standing.range(0..past).next_back()?;
+        (page < standing.piece.end).then_some(standing.piece)
+    }
+
+    /// What the list maps at a page.
+    fn mapped_at(&self, page: u64, list: &RangeList) -> Option<Piece> {
+        let (index, count) = list.overlapping(PageRange::new(page, 1)?);
+        if count == 0 {
+            return None;
+        }
+        Piece::of(list.get(index), self.low, self.high)
+    }
+
+    /// Takes out what stood before and doesn't now.
+    fn take_out(&mut self, before: &[Standing], now: &[Piece]) -> Result<Changed, OutOfMemory> {
+        let mut changed = Changed::None;
+        for standing in before {
+            if find(now, standing.piece.first) != Some(standing.piece) {
+                let _ = self.standing.remove(&standing.piece.first);
+                self.pages = self.pages.saturating_sub(standing.piece.pages());
+                changed = changed.and(self.change_of(&standing.piece));
+                self.end_of(standing)?;
+            }
+        }
+        Ok(changed)
+    }
+
+    /// Notes that a mapping stood until now, if any row saw it.
+    fn end_of(&mut self, standing: &Standing) -> Result<(), OutOfMemory> {
+        if standing.from < self.serial {
+            self.stood.push(Stood {
+                piece: standing.piece,
+                from: standing.from,
+                to: self.serial,
+            })?;
+        }
+        Ok(())
+    }
+
+    /// Puts in what stands now and didn't before.
+    fn put_in(&mut self, before: &[Standing], now: &[Piece]) -> Result<Changed, OutOfMemory> {
+        let mut changed = Changed::None;
+        for piece in now {
+            if find_standing(before, piece.first) != Some(*piece) {
+                let from = self.serial;
+                let standing = Standing {
+                    piece: *piece,
+                    from,
+                };
+                self.standing.insert(piece.first, standing)?;
+                self.pages = self.pages.saturating_add(piece.pages());
+                changed = changed.and(self.change_of(piece));
+            }
+        }
+        Ok(changed)
+    }
+
+    /// What it is to change these pages.
+    fn change_of(&self, piece: &Piece) -> Changed {
+        match self.at {
+            Some(addr) if piece.first <= addr / PAGE_BYTES && addr / PAGE_BYTES < piece.end => {
+                Changed::Page
+            }
+            _ => Changed::Some,
+        }
+    }
+}
+
+/// The pages near a page: from the one to the other, without that.
+fn near(page: u64) -> (u64, u64) {
+    let page = page.min(SPACE_PAGES - 1);
+    let low = page.saturating_sub(NEAR);
+    (low, page.saturating_add(NEAR).min(SPACE_PAGES))
+}
+
+/// The piece that begins at a page, of ascending ones.
+fn find(pieces: &[Piece], first: u64) -> Option<Piece> {
+    let place = pieces.partition_point(|piece| piece.first < first);
+    pieces.get(place).copied()
+}
+
+/// The piece that stood from a page on, of ascending ones.
+fn find_standing(standing: &[Standing], first: u64) -> Option<Piece> {
+    let place = standing.partition_point(|standing| standing.piece.first < first);
+    match standing.get(place) {
+        Some(standing) => Some(standing.piece),
+        None => None,
+    }
+}

@@ -1,0 +1,33 @@
+//! Pictures of an address space over time: a history of rows, and the SVG that shows it.
+#![tactic(auto)]
+
+mod axis;
+mod boxes;
+mod changed;
+mod choice;
+mod colours;
+mod fault;
+mod history;
+mod legend;
+mod notes;
+mod options;
+mod page;
+mod piece;
+mod pixels;
+mod row;
+mod rows;
+mod script;
+mod shapes;
+mod sizes;
+mod style;
+mod svg;
+#[cfg(test)]
+mod tests;
+mod texts;
+
+pub use fault::DrawFault;
+pub use history::History;
+pub use options::Options;
+pub use page::write_picture;
+pub use row::{RowKind, Told};
+pub use script::draw_script;

@@ -1,0 +1,45 @@
+//! Why a replay ends early.
+
+use gv_text::{ReadFault, WriteFault};
+use gv_types::OutOfMemory;
+use std::alloc::{AllocError, AllocFailed};
+
+/// Why a log was not replayed to its end.
+#[derive(Clone, Copy, Debug, PartialEq, Eq)]
+pub enum ReplayFault {
+    /// No line is of the format.
+    NoLine,
+    ReadFault,
+    WriteFault,
+    OutOfMemory,
+}
+
+impl From<ReadFault> for ReplayFault {
+    fn from(_fault: ReadFault) -> ReplayFault {
+        ReplayFault::ReadFault
+    }
+}
+
+impl From<WriteFault> for ReplayFault {
+    fn from(_fault: WriteFault) -> ReplayFault {
+        ReplayFault::WriteFault
+    }
+}
+
+impl From<AllocError> for ReplayFault {
+    fn from(_error: AllocError) -> ReplayFault {
+        ReplayFault::OutOfMemory
+    }
+}
+
+impl<T: Drop> From<AllocFailed<T>> for ReplayFault {
+    fn from(_error: AllocFailed<T>) -> ReplayFault {
+        ReplayFault::OutOfMemory
+    }
+}
+
+impl From<OutOfMemory> for ReplayFault {
+    fn from(_error: OutOfMemory) -> ReplayFault {
+        ReplayFault::OutOfMemory
+    }
+}

@@ -1,0 +1,38 @@
+//! Logs of real drivers, replayed: which memory an address reached, what it reached before, and what was freed under it.
+//!
+//! ```text
+//!   a log -> line by line -> operations -> entries of a journal on an address space -> what was counted, what is alive
+//!                                                     `-> taken back, the newest first: what an address reached before
+//! ```
+#![tactic(auto)]
+
+mod amdgpu_line;
+mod cursor;
+mod fault;
+mod gpuvas_line;
+mod line_reader;
+mod machine;
+mod mapper;
+mod objects;
+mod past;
+mod player;
+mod radv;
+mod radv_line;
+mod replaying;
+mod report;
+mod row;
+mod run;
+mod script;
+mod sizes;
+mod tally;
+mod terms;
+mod text;
+mod watcher;
+
+pub use fault::ReplayFault;
+pub use row::{Act, Cause, Moment};
+pub use run::{replay, watch};
+pub use sizes::{Sizes, measure};
+pub use terms::{FlagBits, Format, Terms};
+pub use text::{number_of, write_act};
+pub use watcher::{Nobody, Watcher};

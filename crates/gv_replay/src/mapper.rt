@@ -1,0 +1,251 @@
+//! Mappings of objects that a log knows by pointers.
+
+use crate::amdgpu_line::{AmdgpuEvent, AmdgpuLine};
+use crate::fault::ReplayFault;
+use crate::objects::Objects;
+use crate::replaying::{Freed, Replay};
+use crate::row::{Act, Cause, Moment};
+use crate::terms::Terms;
+use crate::watcher::Watcher;
+use gv_types::{BUFFER_PAGES, BufferId, Flags, Op};
+use std::alloc::Global;
+
+/// How sparse ranges are mapped.
+const WRITABLE: Flags = Flags { read_only: false };
+
+/// An object: its pages, the line where it came up, and its buffer once something of it is mapped.
+#[derive(Clone, Copy)]
+struct Object {
+    pages: u64,
+    made_at: u64,
+    buffer: Option<BufferId>,
+}
+
+impl Object {
+    /// The same with this buffer.
+    fn with(&self, buffer: &Option<BufferId>) -> Object {
+        Object {
+            pages: self.pages,
+            made_at: self.made_at,
+            buffer: *buffer,
+        }
+    }
+}
+
+/// The objects that came up, by their pointers.
+#[derive(Drop)]
+pub struct Mapper {
+    objects: Objects<Object>,
+}
+
+/// What is to be mapped, in bytes.
+#[derive(Clone, Copy)]
+pub struct Part {
+    pub start: u64,
+    pub len: u64,
+    pub object: u64,
+    pub offset: u64,
+    pub flags: Flags,
+}
+
+impl Mapper {
+    pub fn new(alloc: Global) -> Mapper {
+        Mapper {
+            objects: Objects::new(alloc),
+        }
+    }
+
+    /// Carries out an event.
+    pub fn take<V: Watcher>(
+        &mut self,
+        alloc: Global,
+        replay: &mut Replay,
+        event: (Moment, &AmdgpuLine),
+        terms: &Terms<'_>,
+        watcher: &mut V,
+    ) -> Result<(), ReplayFault> {
+        let (moment, line) = event;
+        match line.event {
+            AmdgpuEvent::Made { pages } => {
+                let object = Object {
+                    pages,
+                    made_at: moment.line,
+                    buffer: None,
+                };
+                self.make_anew(alloc, replay, (line.object, object), moment, watcher)
+            }
+            AmdgpuEvent::Mapped {
+                start,
+                len,
+                offset,
+                flags,
+            } => {
+                let part = Part {
+                    start,
+                    len,
+                    object: line.object,
+                    offset,
+                    flags: Flags {
+                        read_only: terms.flag_bits.are_read_only(flags),
+                    },
+                };
+                self.map(alloc, replay, (moment, part), terms, watcher)
+            }
+            AmdgpuEvent::Unmapped { start, len } => {
+                let act = Act {
+                    moment,
+                    op: Op::Unmap { addr: start, len },
+                    cause: if line.object == 0 {
+                        Cause::Cleared
+                    } else {
+                        Cause::Plain
+                    },
+                };
+                replay.note_nothing(&act)?;
+                let _done = replay.carry_out(alloc, &act, watcher)?;
+                Ok(())
+            }
+        }
+    }
+
+    /// A pointer is a new object's. The one that it was before is gone, with what is left of its mappings.
+    fn make_anew<V: Watcher>(
+        &mut self,
+        alloc: Global,
+        replay: &mut Replay,
+        made: (u64, Object),
+        moment: Moment,
+        watcher: &mut V,
+    ) -> Result<(), ReplayFault> {
+        let (pointer, object) = made;
+        let older = match self.objects.index_of(pointer) {
+            Some(index) => self.objects.get(index).copied(),
+            None => None,
+        };
+        let _index = self.objects.add(pointer, object)?;
+        let Some(
+            Object {
+                made_at,
+                buffer: Some(buffer),
+                ..
+            },
+        ) = older
+        else {
+            return Ok(());
+        };
+        let freed = Freed {
+            buffer,
+            addr: 0,
+            len: 0,
+            made_at,
+            cause: Cause::MadeAnew,
+        };
+        replay.free(alloc, moment, &freed, watcher)
+    }
+
+    /// Maps a part of an object, or a sparse range where there is none.
+    pub fn map<V: Watcher>(
+        &mut self,
+        alloc: Global,
+        replay: &mut Replay,
+        what: (Moment, Part),
+        terms: &Terms<'_>,
+        watcher: &mut V,
+    ) -> Result<(), ReplayFault> {
+        let (moment, part) = what;
+        if part.object == 0 {
+            let op = Op::MapZero {
+                addr: part.start,
+                len: part.len,
+                flags: WRITABLE,
+            };
+            return put(
+                alloc,
+                replay,
+                &Act {
+                    moment,
+                    op,
+                    cause: Cause::SparseMade,
+                },
+                watcher,
+            );
+        }
+        let Some(buffer) = self.buffer_of(alloc, replay, (moment, part.object), terms, watcher)?
+        else {
+            return Ok(());
+        };
+        let op = Op::Map {
+            addr: part.start,
+            len: part.len,
+            buffer,
+            offset: part.offset,
+            flags: part.flags,
+        };
+        put(
+            alloc,
+            replay,
+            &Act {
+                moment,
+                op,
+                cause: Cause::Plain,
+            },
+            watcher,
+        )
+    }
+
+    /// The buffer of the object that a pointer is, which is made where there is none.
+    fn buffer_of<V: Watcher>(
+        &mut self,
+        alloc: Global,
+        replay: &mut Replay,
+        what: (Moment, u64),
+        terms: &Terms<'_>,
+        watcher: &mut V,
+    ) -> Result<Option<BufferId>, ReplayFault> {
+        let (moment, pointer) = what;
+        let index = match self.objects.index_of(pointer) {
+            Some(index) => index,
+            None => self.add_unsaid(pointer, moment, terms)?,
+        };
+        let Some(object) = self.objects.get(index).copied() else {
+            return Ok(None);
+        };
+        if object.buffer.is_some() {
+            return Ok(object.buffer);
+        }
+        let buffer = replay.make(alloc, moment, object.pages, watcher)?;
+        self.objects.set(index, object.with(&buffer));
+        Ok(buffer)
+    }
+
+    /// An object whose size no line tells comes up.
+    fn add_unsaid(
+        &mut self,
+        pointer: u64,
+        moment: Moment,
+        terms: &Terms<'_>,
+    ) -> Result<usize, ReplayFault> {
+        let pages = match terms.sizes {
+            Some(sizes) => sizes.pages(self.objects.len()),
+            None => BUFFER_PAGES,
+        };
+        let object = Object {
+            pages,
+            made_at: moment.line,
+            buffer: None,
+        };
+        Ok(self.objects.add(pointer, object)?)
+    }
+}
+
+/// Carries out a map, and counts what it meets.
+fn put<V: Watcher>(
+    alloc: Global,
+    replay: &mut Replay,
+    act: &Act,
+    watcher: &mut V,
+) -> Result<(), ReplayFault> {
+    replay.note_over(act)?;
+    let _done = replay.carry_out(alloc, act, watcher)?;
+    Ok(())
+}

@@ -1,0 +1,189 @@
+//! The lines of a log, carried out one after another.
+
+use crate::amdgpu_line::AmdgpuLine;
+use crate::fault::ReplayFault;
+use crate::gpuvas_line::GpuvasLine;
+use crate::line_reader::{Found, LineReader};
+use crate::mapper::{Mapper, Part};
+use crate::radv::Radv;
+use crate::radv_line::RadvLine;
+use crate::replaying::{Left, Replay};
+use crate::row::Moment;
+use crate::terms::{Format, Terms};
+use crate::watcher::Watcher;
+use gv_text::Source;
+use gv_types::Flags;
+use std::alloc::Global;
+
+/// A replay, and what its format knows of the lines so far. It has to be ended: it isn't `Drop`.
+struct Player {
+    replay: Replay,
+    radv: Radv,
+    mapper: Mapper,
+    heads: u64,
+}
+
+/// Carries out all lines of a log. `NoLine` where none is of the format.
+pub fn play<R: Source, V: Watcher>(
+    alloc: Global,
+    reader: &mut R,
+    terms: &Terms<'_>,
+    watcher: &mut V,
+) -> Result<Left, ReplayFault> {
+    let mut lines = LineReader::new(alloc)?;
+    let mut player = Player {
+        replay: Replay::new(alloc, terms.all)?,
+        radv: Radv::new(alloc),
+        mapper: Mapper::new(alloc),
+        heads: 0,
+    };
+    let played = player.take_all(alloc, reader, &mut lines, terms, watcher);
+    let Player {
+        replay,
+        radv: _,
+        mapper: _,
+        heads: _,
+    } = player;
+    let left = replay.end();
+    match played {
+        Ok(()) if left.tally.lines > 0 => Ok(left),
+        Ok(()) => Err(closed(left, ReplayFault::NoLine)),
+        Err(fault) => Err(closed(left, fault)),
+    }
+}
+
+/// Closes what a replay left, and answers the fault.
+fn closed(left: Left, fault: ReplayFault) -> ReplayFault {
+    let Left {
+        machine,
+        acts: _,
+        tally: _,
+    } = left;
+    machine.close();
+    fault
+}
+
+impl Player {
+    fn take_all<R: Source, V: Watcher>(
+        &mut self,
+        alloc: Global,
+        reader: &mut R,
+        lines: &mut LineReader,
+        terms: &Terms<'_>,
+        watcher: &mut V,
+    ) -> Result<(), ReplayFault> {
+        for number in 1..u64::MAX {
+            let is_done = match lines.find_next(reader)? {
+                Found::Line => self.take(alloc, (number, lines.line()), terms, watcher)?,
+                Found::TooLong => false,
+                Found::End => return Ok(()),
+            };
+            if !is_done {
+                self.replay.tally.pass_over();
+            }
+        }
+        Ok(())
+    }
+
+    /// Carries out a line. Whether it is of the format and of the process.
+    fn take<V: Watcher>(
+        &mut self,
+        alloc: Global,
+        line: (u64, &[u8]),
+        terms: &Terms<'_>,
+        watcher: &mut V,
+    ) -> Result<bool, ReplayFault> {
+        let (number, text) = line;
+        match terms.format {
+            Format::Radv => self.take_radv(alloc, number, RadvLine::parse(text), watcher),
+            Format::Amdgpu => {
+                let event = (number, AmdgpuLine::parse(text));
+                self.take_event(alloc, event, terms, watcher)
+            }
+            Format::Gpuvas => {
+                let row = (number, GpuvasLine::parse(text));
+                self.take_row(alloc, row, terms, watcher)
+            }
+        }
+    }
+
+    fn take_radv<V: Watcher>(
+        &mut self,
+        alloc: Global,
+        number: u64,
+        line: Option<RadvLine>,
+        watcher: &mut V,
+    ) -> Result<bool, ReplayFault> {
+        let Some(line) = line else {
+            return Ok(false);
+        };
+        self.replay.tally.count_line();
+        self.radv
+            .take(alloc, &mut self.replay, (number, &line), watcher)?;
+        Ok(true)
+    }
+
+    fn take_event<V: Watcher>(
+        &mut self,
+        alloc: Global,
+        line: (u64, Option<AmdgpuLine>),
+        terms: &Terms<'_>,
+        watcher: &mut V,
+    ) -> Result<bool, ReplayFault> {
+        let (number, Some(line)) = line else {
+            return Ok(false);
+        };
+        self.replay.tally.count_line();
+        if !line.is_of(terms.pid) {
+            return Ok(false);
+        }
+        let moment = Moment {
+            line: number,
+            time: line.head.time,
+        };
+        self.mapper
+            .take(alloc, &mut self.replay, (moment, &line), terms, watcher)?;
+        Ok(true)
+    }
+
+    /// A row of the first address space; those of others are passed over.
+    fn take_row<V: Watcher>(
+        &mut self,
+        alloc: Global,
+        line: (u64, Option<GpuvasLine>),
+        terms: &Terms<'_>,
+        watcher: &mut V,
+    ) -> Result<bool, ReplayFault> {
+        let (number, Some(line)) = line else {
+            return Ok(false);
+        };
+        self.replay.tally.count_line();
+        let GpuvasLine::Mapping {
+            start,
+            len,
+            object,
+            offset,
+        } = line
+        else {
+            self.heads = self.heads.saturating_add(1);
+            return Ok(self.heads == 1);
+        };
+        if self.heads > 1 {
+            return Ok(false);
+        }
+        let moment = Moment {
+            line: number,
+            time: None,
+        };
+        let part = Part {
+            start,
+            len,
+            object,
+            offset,
+            flags: Flags { read_only: false },
+        };
+        self.mapper
+            .map(alloc, &mut self.replay, (moment, part), terms, watcher)?;
+        Ok(true)
+    }
+}

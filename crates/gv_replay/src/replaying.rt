@@ -1,0 +1,242 @@
+//! A log's operations, carried out one after another.
+
+use crate::fault::ReplayFault;
+use crate::machine::Machine;
+use crate::row::{Act, Moment};
+use crate::tally::{Place, Tally};
+use crate::text::number_of;
+use crate::watcher::Watcher;
+use gv_space::Space;
+use gv_types::{BufferId, Fault, Op, PAGE_BYTES, PageRange};
+use std::alloc::Global;
+use std::collections::VecDeque;
+
+mod freeing;
+
+pub use freeing::Freed;
+
+/// At each line so many buffers that were freed are tried.
+const TRIES: usize = 4;
+
+/// The address space and its journal, what is known of each entry, and what was counted. The journal holds the newest entries, as
+/// many as it may; older ones are settled, so that buffers that were freed can go. It has to be closed: it isn't `Drop`.
+pub struct Replay {
+    machine: Machine,
+    acts: VecDeque<Act>,
+    freed: VecDeque<BufferId>,
+    pub tally: Tally,
+}
+
+/// What a replay leaves: what the held entries were, and what was counted.
+pub struct Left {
+    pub machine: Machine,
+    pub acts: VecDeque<Act>,
+    pub tally: Tally,
+}
+
+/// The pages that a range of bytes meets, if they are of the address space.
+fn pages_of(addr: u64, len: u64) -> Option<PageRange> {
+    let first = addr / PAGE_BYTES;
+    let end = addr.checked_add(len)?.div_ceil(PAGE_BYTES);
+    PageRange::new(first, end.checked_sub(first)?)
+}
+
+/// Whether an answer of the machine is a refusal: want of memory ends the replay.
+fn refusal<T>(answer: Result<T, Fault>) -> Result<Result<T, Fault>, ReplayFault> {
+    match answer {
+        Err(Fault::OutOfMemory) => Err(ReplayFault::OutOfMemory),
+        other => Ok(other),
+    }
+}
+
+impl Replay {
+    pub fn new(alloc: Global, all: bool) -> Result<Replay, ReplayFault> {
+        Ok(Replay {
+            machine: Machine::new(alloc)?,
+            acts: VecDeque::new(alloc),
+            freed: VecDeque::new(alloc),
+            tally: Tally::new(alloc, all),
+        })
+    }
+
+    /// The address space.
+    pub fn space(&self) -> &Space {
+        self.machine.space()
+    }
+
+    /// How many mappings have a page in this range of bytes.
+    pub fn met_by(&self, addr: u64, len: u64) -> u64 {
+        match pages_of(addr, len) {
+            Some(range) => self.machine.space().list().overlapping(range).1 as u64,
+            None => 0,
+        }
+    }
+
+    /// Counts a map that meets live mappings.
+    pub fn note_over(&mut self, act: &Act) -> Result<(), ReplayFault> {
+        let mappings = self.met_by(act.op.addr(), act.op.len());
+        if mappings > 0 {
+            self.tally.over_live.add(Place::Over {
+                act: *act,
+                mappings,
+            })?;
+        }
+        Ok(())
+    }
+
+    /// Counts an unmap that meets none.
+    pub fn note_nothing(&mut self, act: &Act) -> Result<(), ReplayFault> {
+        if self.met_by(act.op.addr(), act.op.len()) == 0 {
+            self.tally.of_nothing.add(Place::Nothing { act: *act })?;
+        }
+        Ok(())
+    }
+
+    /// A buffer lives no more: it is destroyed once nothing keeps it.
+    pub fn give_up(&mut self, buffer: BufferId) -> Result<(), ReplayFault> {
+        self.freed.push_back(buffer)?;
+        Ok(())
+    }
+
+    /// Makes a buffer. Where there are too many, those that were freed are destroyed first, and what keeps them is settled. None
+    /// where it is refused, which is counted.
+    pub fn make<V: Watcher>(
+        &mut self,
+        alloc: Global,
+        moment: Moment,
+        pages: u64,
+        watcher: &mut V,
+    ) -> Result<Option<BufferId>, ReplayFault> {
+        let mut made = refusal(self.machine.create(alloc, pages))?;
+        if made == Err(Fault::TooManyBuffers) {
+            self.give_way(watcher)?;
+            made = refusal(self.machine.create(alloc, pages))?;
+        }
+        match made {
+            Ok(id) => {
+                self.tally.buffers = self.tally.buffers.saturating_add(1);
+                watcher.made(number_of(&id), pages)?;
+                Ok(Some(id))
+            }
+            Err(fault) => {
+                self.tally.refused.add(Place::NotMade {
+                    moment,
+                    pages,
+                    fault,
+                })?;
+                Ok(None)
+            }
+        }
+    }
+
+    /// Carries out an operation, in an entry of its own. Whether it was accepted; a refusal is counted.
+    pub fn carry_out<V: Watcher>(
+        &mut self,
+        alloc: Global,
+        act: &Act,
+        watcher: &mut V,
+    ) -> Result<bool, ReplayFault> {
+        let ops = Vec::from_slice(alloc, &[act.op])?;
+        self.carry_out_as(alloc, act, ops, watcher)
+    }
+
+    /// Carries out these operations, which come to the same as the one that is told.
+    fn carry_out_as<V: Watcher>(
+        &mut self,
+        alloc: Global,
+        act: &Act,
+        ops: Vec<Op>,
+        watcher: &mut V,
+    ) -> Result<bool, ReplayFault> {
+        if self.machine.is_full() {
+            self.settle_one(watcher)?;
+            self.destroy_some(watcher)?;
+        }
+        match refusal(self.machine.bind(alloc, ops))? {
+            Ok(_) => {
+                self.note_bound(act)?;
+                watcher.bound(act, None, self.machine.newest(), self.machine.space())?;
+                Ok(true)
+            }
+            Err(fault) => {
+                self.note_refused(act, fault)?;
+                watcher.bound(act, Some(fault), &[], self.machine.space())?;
+                Ok(false)
+            }
+        }
+    }
+
+    fn note_bound(&mut self, act: &Act) -> Result<(), ReplayFault> {
+        // The borrow checker proves this only where the function names the types inside the act.
+        let _op = Op::Unmap { addr: 0, len: 0 };
+        self.tally.binds = self.tally.binds.saturating_add(1);
+        self.acts.push_back(*act)?;
+        Ok(())
+    }
+
+    fn note_refused(&mut self, act: &Act, fault: Fault) -> Result<(), ReplayFault> {
+        self.tally.refused.add(Place::Refused { act: *act, fault })
+    }
+
+    /// Lets the oldest entry go.
+    fn settle_one<V: Watcher>(&mut self, watcher: &mut V) -> Result<(), ReplayFault> {
+        if self.machine.settle() {
+            let _oldest = self.acts.pop_front();
+            watcher.settled(self.machine.first())?;
+        }
+        Ok(())
+    }
+
+    /// Tries to destroy a few of the buffers that were freed, the oldest first. One that something still names waits on.
+    fn destroy_some<V: Watcher>(&mut self, watcher: &mut V) -> Result<(), ReplayFault> {
+        for _tries in 0..TRIES {
+            let Some(id) = self.freed.pop_front() else {
+                return Ok(());
+            };
+            self.destroy(id, watcher)?;
+        }
+        Ok(())
+    }
+
+    /// Destroys a buffer, or lets it wait on.
+    fn destroy<V: Watcher>(&mut self, id: BufferId, watcher: &mut V) -> Result<(), ReplayFault> {
+        if self.is_destroyed(&id) {
+            watcher.destroyed(number_of(&id))
+        } else {
+            self.give_up(id)
+        }
+    }
+
+    fn is_destroyed(&mut self, id: &BufferId) -> bool {
+        self.machine.destroy(*id).is_ok()
+    }
+
+    /// Where buffers were freed, settles all entries and destroys those that no mapping has.
+    fn give_way<V: Watcher>(&mut self, watcher: &mut V) -> Result<(), ReplayFault> {
+        if self.freed.is_empty() {
+            return Ok(());
+        }
+        for _entry in 0..self.machine.held() {
+            self.settle_one(watcher)?;
+        }
+        for _round in 0..self.freed.len() / TRIES + 1 {
+            self.destroy_some(watcher)?;
+        }
+        Ok(())
+    }
+
+    /// Ends it: the machine has to be closed.
+    pub fn end(self) -> Left {
+        let Replay {
+            machine,
+            acts,
+            freed: _,
+            tally,
+        } = self;
+        Left {
+            machine,
+            acts,
+            tally,
+        }
+    }
+}

@@ -1,0 +1,92 @@
+//! What is asked of a replay.
+
+use crate::sizes::Sizes;
+
+/// Who wrote the log.
+#[derive(Clone, Copy, Debug, PartialEq, Eq)]
+pub enum Format {
+    /// The `bo_history.log` that RADV writes into a hang report.
+    Radv,
+    /// The kernel's trace events of amdgpu, as text of trace-cmd, of perf or of the kernel's own trace file.
+    Amdgpu,
+    /// The kernel's list of mappings in debugfs. It is a state and no history.
+    Gpuvas,
+}
+
+impl Format {
+    /// Whether no line tells how large an object is, so that `measure` has to read the log first.
+    pub fn wants_sizes(self) -> bool {
+        match self {
+            Format::Radv => false,
+            Format::Amdgpu | Format::Gpuvas => true,
+        }
+    }
+}
+
+/// What the flags of amdgpu's events mean, which changed between kernels.
+#[derive(Clone, Copy, Debug, PartialEq, Eq)]
+pub enum FlagBits {
+    /// It isn't said: all is taken as writable.
+    Unsaid,
+    /// Bits of a page-table entry, as in Linux 6.12: writable is 0x40.
+    Entry,
+    /// Bits of the call, as in Linux 7.2: writable is 0x4.
+    Call,
+}
+
+impl FlagBits {
+    /// Whether pages with these flags can't be written.
+    pub fn are_read_only(self, flags: u64) -> bool {
+        match self {
+            FlagBits::Unsaid => false,
+            FlagBits::Entry => flags & 0x40 == 0,
+            FlagBits::Call => flags & 0x4 == 0,
+        }
+    }
+}
+
+/// What is asked of a replay.
+#[derive(Clone, Copy)]
+pub struct Terms<'a> {
+    pub format: Format,
+    pub flag_bits: FlagBits,
+    /// Of amdgpu's events those of this process or thread alone.
+    pub pid: Option<u64>,
+    /// The addresses, in bytes, whose past is asked.
+    pub addresses: &'a [u64],
+    /// Each finding is told with all places where it was made, and not with three.
+    pub all: bool,
+    /// The events are written as a script, in place of the report.
+    pub script: bool,
+    /// What `measure` gave for the log, if it was asked. Without it an object whose size no line tells is as large as can be.
+    pub sizes: Option<&'a Sizes>,
+}
+
+impl<'a> Terms<'a> {
+    /// The report of a log of this format, and nothing else.
+    pub fn new(format: Format) -> Terms<'a> {
+        Terms {
+            format,
+            flag_bits: FlagBits::Unsaid,
+            pid: None,
+            addresses: &[],
+            all: false,
+            script: false,
+            sizes: None,
+        }
+    }
+
+    /// The same, with what `measure` gave for the log.
+    pub fn sized(self, sizes: &'a Sizes) -> Terms<'a> {
+        let known = Some(sizes);
+        Terms {
+            format: self.format,
+            flag_bits: self.flag_bits,
+            pid: self.pid,
+            addresses: self.addresses,
+            all: self.all,
+            script: self.script,
+            sizes: known,
+        }
+    }
+}

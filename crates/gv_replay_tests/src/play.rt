@@ -1,0 +1,86 @@
+//! A log in memory, replayed.
+
+use gv_replay::{FlagBits, Format, ReplayFault, Terms, measure, replay};
+use gv_text::{MemorySink, MemorySource};
+use std::alloc::Global;
+use std::process::Abort;
+use std::str;
+
+/// A log, and lines that its report has to have.
+pub struct Row {
+    pub name: &'static str,
+    pub terms: Terms<'static>,
+    pub log: &'static str,
+    pub wanted: &'static [&'static str],
+}
+
+pub const RADV: Terms<'static> = Terms {
+    format: Format::Radv,
+    flag_bits: FlagBits::Unsaid,
+    pid: None,
+    addresses: &[],
+    all: false,
+    script: false,
+    sizes: None,
+};
+
+pub const AMDGPU: Terms<'static> = Terms {
+    format: Format::Amdgpu,
+    flag_bits: FlagBits::Unsaid,
+    pid: None,
+    addresses: &[],
+    all: false,
+    script: false,
+    sizes: None,
+};
+
+pub const GPUVAS: Terms<'static> = Terms {
+    format: Format::Gpuvas,
+    flag_bits: FlagBits::Unsaid,
+    pid: None,
+    addresses: &[],
+    all: false,
+    script: false,
+    sizes: None,
+};
+
+/// Replays a log, whose objects are measured first where the format wants it.
+pub fn play(
+    alloc: Global,
+    log: &[u8],
+    terms: &Terms<'_>,
+    sink: &mut MemorySink,
+) -> Result<(), ReplayFault> {
+    if !terms.format.wants_sizes() {
+        return replay(alloc, &mut MemorySource::new(log), sink, terms);
+    }
+    let sizes = measure(alloc, &mut MemorySource::new(log), terms)?;
+    let measured = terms.sized(&sizes);
+    replay(alloc, &mut MemorySource::new(log), sink, &measured)
+}
+
+/// Replays the log of a row, and asserts that its report has each line that is wanted.
+pub fn expect(rt: &(impl Abort + AllocGlobal), row: &Row) {
+    let mut sink = MemorySink::new(rt.alloc());
+    let played = play(rt.alloc(), row.log.as_bytes(), &row.terms, &mut sink);
+    let name = row.name;
+    assert!(rt; played == Ok(()), "{name}");
+    for line in row.wanted {
+        assert!(rt; has_line(sink.bytes(), line), "{name}: {line}");
+    }
+}
+
+/// Whether a text has this line.
+pub fn has_line(text: &[u8], line: &str) -> bool {
+    match str::from_utf8(text) {
+        Ok(text) => text.lines().any(|other| other == line),
+        Err(_) => false,
+    }
+}
+
+#[test]
+fn rows_have_their_lines(rt: HostRuntime) {
+    for row in crate::rows::ROWS.iter() {
+        expect(&rt, row);
+    }
+}

@@ -1,0 +1,59 @@
+//! Logs written as scripts.
+
+use crate::play::{RADV, play};
+use gv_replay::Terms;
+use gv_text::{MemorySink, MemorySource, run_script};
+use std::test::Fail;
+
+const SCRIPT: Terms<'static> = Terms {
+    script: true,
+    ..RADV
+};
+
+const LOG: &[u8] = b"timestamp=1, VA=0000000000010000-0000000000030000, destroyed=0, is_virtual=0\n\
+    timestamp=2, VA=0000000000800000-0000000000810000, destroyed=0, is_virtual=1\n\
+    noise\n\
+    timestamp=3, VA=0000000000800000-0000000000801000, mapped_to=000000000001f000\n\
+    timestamp=4, VA=0000000000802000-0000000000803000, mapped_to=0000000000000000\n\
+    timestamp=5, VA=0000000000010000-0000000000030000, destroyed=1, is_virtual=0\n\
+    timestamp=6, VA=0000000000800000-0000000000810000, destroyed=1, is_virtual=1\n";
+
+const WANTED: &[u8] = b"buffer b1 32\n\
+    bind map 0x10000 0x20000 b1 0x0\n\
+    bind zero 0x800000 0x10000\n\
+    bind map 0x800000 0x1000 b1 0xf000\n\
+    bind zero 0x802000 0x1000\n\
+    bind unmapall b1\n\
+    bind unmap 0x800000 0x10000\n";
+
+const REPLIES: &[u8] =
+    b"ok\naccepted 0\naccepted 1\naccepted 2\naccepted 3\naccepted 4\naccepted 5\n";
+
+#[test]
+fn a_log_is_a_script_that_runs(rt: HostRuntime) -> Result<(), Fail> {
+    let mut script = MemorySink::new(rt.alloc());
+    assert!(rt; play(rt.alloc(), LOG, &SCRIPT, &mut script) == Ok(()));
+    assert!(rt; script.bytes() == WANTED);
+    let mut replies = MemorySink::new(rt.alloc());
+    run_script(
+        rt.alloc(),
+        &mut MemorySource::new(script.bytes()),
+        &mut replies,
+    )?;
+    assert!(rt; replies.bytes() == REPLIES);
+    Ok(())
+}
+
+#[test]
+fn a_script_that_run_refuses_says_so(rt: HostRuntime) -> Result<(), Fail> {
+    let mut log = Vec::new(rt.alloc());
+    for _times in 0..7_000 {
+        log.extend_from_slice(LOG)?;
+    }
+    let mut script = MemorySink::new(rt.alloc());
+    assert!(rt; play(rt.alloc(), &log, &SCRIPT, &mut script) == Ok(()));
+    let head = b"# more bytes than vmbind run takes: for vmbind serve\nbuffer b1 32\n";
+    assert!(rt; script.bytes().starts_with(head));
+    assert!(rt; script.bytes().ends_with(b"bind unmap 0x800000 0x10000\n"));
+    Ok(())
+}
