@@ -1,71 +1,113 @@
--- From what clap says of the words to what the program says.
-use Rattle.std.proofs.Common.{◌≡◌, ◌≢◌, ◌⊎◌, ℕ, List, [], ◌∷◌, true, Option, Some, None, option_map, Result, Ok, Err, refl, sym, subst, codes, inl, inr, ap, ◌∙◌, arith}
-use Rattle.std.specs.Prelude.{IsErrAnd}
-use Rattle.clap.specs.Kinds.{Kinds, HasKind, IsAmong}
-use Rattle.clap.specs.Simple.{App, HasMatchesOf, is_simple, subcommand_of, subcommand_rows_of}
-use Rattle.clap.specs.Walk.{Row, Text}
-use Rattle.clap.specs.Matches.{subcommand_name_of}
-use Rattle.clap.specs.declared.parser.matches.ArgMatches.{ArgMatches}
-use Rattle.clap.specs.declared.parser.matches.ArgMatches.TheViews.{out-ArgMatches}
-use Rattle.clap.specs.Takes.{takes}
-use Rattle.clap.specs.Faults.{fault_of, is_simple_and_free}
+-- From what the words are read as to what the program does.
+use Rattle.std.proofs.Common.{◌≡◌, ◌≢◌, ◌⊎◌, ℕ, List, [], ◌∷◌, length, Bool, true, false, Option, Some, None, IsSome, Result, Ok, Err, refl, sym, subst, codes, inl, inr, ap, ◌∙◌, arith}
+use Rattle.std.specs.Borrow.{Bor}
+use Rattle.clap.specs.Kinds.{IsAmong}
+use Rattle.clap.specs.Faults.{fault_of}
 use Rattle.clap.specs.Values.{kind_of}
 use Rattle.clap.proofs.OnLiterals.{clap_on_literals}
 use Rattle.clap.specs.declared.error.Error.{Error}
 use Rattle.clap.specs.declared.error.kind.ErrorKind.{ErrorKind}
 use Rattle.clap.specs.declared.error.kind.ErrorKind.TheVariants as kind
-use Rattle.gv_cli.specs.CommandLine.{AreReadAs, IsEntered, IsFaultOf, IsStatusOfKind, IsStatusOfOne, ReadsBy, command_line, entered}
+use Rattle.gv_types.specs.Limits.{IsFromOneTo}
+use Rattle.gv_text.specs.declared.fault.ScriptFault.{ScriptFault}
+use Rattle.gv_serve.specs.declared.fault.ServeFault.{ServeFault}
+use Rattle.gv_threads.specs.declared.fault.ThreadsFault.{ThreadsFault}
+use Rattle.gv_words.specs.CommandLine.{AreReadAs, IsEntered, IsTask, NamesFile, command_line, entered, file_named, most_queues, text_of}
+use Rattle.gv_words.specs.declared.words.Task.{Task}
+use Rattle.gv_words.specs.declared.words.Task.TheVariants.{Run, Serve, Replay, Draw, Compare, Threads}
+use Rattle.gv_words.specs.declared.words.WordsFault.{WordsFault}
+use Rattle.gv_words.specs.declared.words.WordsFault.TheVariants.{OutOfMemory}
+use Rattle.gv_cli.specs.CommandLine.{IsStatusOfKind, IsStatusOfOne}
+use Rattle.gv_cli.specs.Run.{HasRun, HasRunSome, HasRunThreads, exit_status, threads_status}
+use Rattle.gv_cli.specs.Serving.{HasServed, serve_status}
 use Rattle.gv_cli.specs.Status.{bad_words, broken_stream, done}
-use Rattle.gv_cli.specs.declared.words.Task.{Task}
-use Rattle.gv_cli.specs.declared.words.Task.TheVariants.{Run, Threads}
-use Rattle.gv_cli.specs.declared.words.WordsFault.{WordsFault}
-use Rattle.gv_cli.specs.declared.words.WordsFault.TheVariants.{Printed, OutOfMemory}
+use Rattle.gv_cli.specs.Task.{IsDone}
 
-is_exact : is_simple_and_free command_line ≡ true
-unfolding clap_on_literals
-is_exact = refl
+abbrev begins_with : Option (List ℕ) → ℕ
+begins_with (Some (letter ∷ more)) = letter
+begins_with other = 0
 
-is_exact_simple : is_simple command_line ≡ true
-unfolding clap_on_literals
-is_exact_simple = refl
+abbrev length_of : Option (List ℕ) → ℕ
+length_of (Some word) = length word
+length_of other = 0
 
-takes_run : (name : List ℕ) → takes command_line (name ∷ codes "run" ∷ []) ≡ true
-unfolding clap_on_literals
-takes_run name = refl
+apart : (a b : Option (List ℕ)) → begins_with a ≢ begins_with b → a ≡ b → ⊥
+apart a b other same = other (ap begins_with same)
 
--- what clap's clause says of the kinds of its errors holds at the program's command line
-pub at_command_line : (P : Kinds → Type 0) (words : List (List ℕ)) (app : App) → app ≡ command_line
-    → (is_simple_and_free app ≡ true → P (fault_of app words)) → P (fault_of command_line words)
-at_command_line P words app e given =
-    subst (λ a. P (fault_of a words)) e (given (ap is_simple_and_free e ∙ is_exact))
+longer : (a b : Option (List ℕ)) → length_of a ≢ length_of b → a ≡ b → ⊥
+longer a b other same = other (ap length_of same)
 
--- an error of clap's is among the kinds of the fault that it becomes
-pub reads_by : {T : Type 0} (kinds : Kinds) (error : Error) (r : Result T WordsFault)
-    → HasKind kinds error → IsErrAnd r (IsFaultOf error) → ReadsBy kinds r
-reads_by kinds error (Ok task) has given = absurd given
-reads_by kinds error (Err (Printed shown)) (inl memory) given = absurd (given.1 memory)
-reads_by kinds error (Err (Printed shown)) (inr among) given = rw given.0 among
-reads_by kinds error (Err OutOfMemory) has given = tt
+abbrev the_run : Option (List ℕ)
+the_run = Some (codes "run")
 
--- an error of clap's for want of memory is the program's
-pub no_memory_of : {T : Type 0} (error : Error) (r : Result T WordsFault)
-    → kind_of error ≡ kind.OutOfMemory → IsErrAnd r (IsFaultOf error)
-    → r ≡ Err OutOfMemory
-no_memory_of error (Ok task) memory given = absurd given
-no_memory_of error (Err (Printed shown)) memory given = absurd (given.1 memory)
-no_memory_of error (Err OutOfMemory) memory given = refl
+abbrev the_threads : Option (List ℕ)
+the_threads = Some (codes "threads")
 
--- of the word `run` clap refuses nothing, but for want of memory
-pub run_passes : (app : App) (words : List (List ℕ)) (name : List ℕ) → app ≡ command_line
-    → words ≡ name ∷ codes "run" ∷ [] → takes app words ≡ true
-run_passes app words name e f = rw (e, f) (takes_run name)
+no_text : (file : Option (Bor (List ℕ))) → text_of file ≡ None → file ≡ None
+no_text None is = refl
+no_text (Some text) is = absurd cc
+
+none_is_some : (o : Option (List ℕ)) → o ≡ None → IsSome o → ⊥
+none_is_some None is some = absurd cc
+none_is_some (Some text) is some = absurd cc
+
+module _ {R W : Type 0} (remaining : R → Option (List ℕ)) (read_failed : R → Bool) (written : W → Option (List ℕ)) (write_failed : W → Bool) (reader reader_after : R) (writer writer_after : W) where
+  abbrev Done : Task → ℕ → Type 0
+  Done = IsDone remaining read_failed written write_failed reader reader_after writer writer_after
+
+  -- the task of words that are read as `run` and name no file
+  pub run_done : (words : List (List ℕ)) (task : Task) (status : ℕ) → IsEntered (entered words) task → NamesFile words task → Done task status
+      → entered words ≡ the_run → file_named words ≡ None
+      → (answer : Result (Unit {0}) ScriptFault) × HasRun remaining read_failed written write_failed reader reader_after writer writer_after answer × (status ≡ exit_status answer)
+  run_done words (Run explain None) status is names did run none = did
+  run_done words (Run explain (Some file)) status is names did run none = absurd (let named : Some file.now ≡ None = names run ∙ none in cc)
+  run_done words (Serve json file) status is names did run none = absurd (apart (Some (codes "serve")) the_run (λ e. omega (arith, e)) (sym is ∙ run))
+  run_done words (Replay asked) status is names did run none = absurd (longer (Some (codes "replay")) the_run (λ e. omega (arith, e)) (sym is ∙ run))
+  run_done words (Draw at width file) status is names did run none = absurd (apart (Some (codes "draw")) the_run (λ e. omega (arith, e)) (sym is ∙ run))
+  run_done words (Compare first second) status is names did run none = absurd (apart (Some (codes "compare")) the_run (λ e. omega (arith, e)) (sym is ∙ run))
+  run_done words (Threads queues turns explain) status is names did run none = absurd (apart the_threads the_run (λ e. omega (arith, e)) (sym is ∙ run))
+
+  -- and of those that name a file
+  pub run_file_done : (words : List (List ℕ)) (task : Task) (status : ℕ) → IsEntered (entered words) task → NamesFile words task → Done task status
+      → entered words ≡ the_run → IsSome (file_named words)
+      → (reader_after ≡ reader) × HasRunSome written writer writer_after status
+  run_file_done words (Run explain None) status is names did run some = absurd (none_is_some (file_named words) (sym (names run)) some)
+  run_file_done words (Run explain (Some file)) status is names did run some = did
+  run_file_done words (Serve json file) status is names did run some = absurd (apart (Some (codes "serve")) the_run (λ e. omega (arith, e)) (sym is ∙ run))
+  run_file_done words (Replay asked) status is names did run some = absurd (longer (Some (codes "replay")) the_run (λ e. omega (arith, e)) (sym is ∙ run))
+  run_file_done words (Draw at width file) status is names did run some = absurd (apart (Some (codes "draw")) the_run (λ e. omega (arith, e)) (sym is ∙ run))
+  run_file_done words (Compare first second) status is names did run some = absurd (apart (Some (codes "compare")) the_run (λ e. omega (arith, e)) (sym is ∙ run))
+  run_file_done words (Threads queues turns explain) status is names did run some = absurd (apart the_threads the_run (λ e. omega (arith, e)) (sym is ∙ run))
+
+  -- the task of words that are read as `threads`
+  pub threads_done : (words : List (List ℕ)) (task : Task) (status : ℕ) → IsEntered (entered words) task → IsTask task → Done task status
+      → entered words ≡ the_threads
+      → (count : ℕ) × IsFromOneTo most_queues count × (answer : Result (Unit {0}) ThreadsFault)
+      × HasRunThreads remaining read_failed written write_failed reader reader_after writer writer_after count answer × (status ≡ threads_status answer)
+  threads_done words (Run explain file) status is fits did threads = absurd (is.1 threads)
+  threads_done words (Serve json file) status is fits did threads = absurd (apart (Some (codes "serve")) the_threads (λ e. omega (arith, e)) (sym is ∙ threads))
+  threads_done words (Replay asked) status is fits did threads = absurd (apart (Some (codes "replay")) the_threads (λ e. omega (arith, e)) (sym is ∙ threads))
+  threads_done words (Draw at width file) status is fits did threads = absurd (apart (Some (codes "draw")) the_threads (λ e. omega (arith, e)) (sym is ∙ threads))
+  threads_done words (Compare first second) status is fits did threads = absurd (apart (Some (codes "compare")) the_threads (λ e. omega (arith, e)) (sym is ∙ threads))
+  threads_done words (Threads queues turns explain) status is fits did threads = (queues, fits.0, did.0, did.1, did.2)
+
+  -- the task of the word `run` alone, and of `serve`
+  pub run_alone : (task : Task) (status : ℕ) → (◌≡◌ {A = Result Task WordsFault} (Ok task) (Ok (Run false None))) ⊎ (◌≡◌ {A = Result Task WordsFault} (Ok task) (Err OutOfMemory))
+      → Done task status → (answer : Result (Unit {0}) ScriptFault) × HasRun remaining read_failed written write_failed reader reader_after writer writer_after answer × (status ≡ exit_status answer)
+  run_alone task status (inl is) did = let same : task ≡ Run false None = cc in subst (λ t. Done t status) same did
+  run_alone task status (inr is) did = absurd cc
+
+  pub serve_alone : (task : Task) (status : ℕ) → (◌≡◌ {A = Result Task WordsFault} (Ok task) (Ok (Serve false None))) ⊎ (◌≡◌ {A = Result Task WordsFault} (Ok task) (Err OutOfMemory))
+      → Done task status → (answer : Result (Unit {0}) ServeFault) × HasServed remaining read_failed written write_failed reader reader_after writer writer_after answer × (status ≡ serve_status answer)
+  serve_alone task status (inl is) did = let same : task ≡ Serve false None = cc in subst (λ t. Done t status) same did
+  serve_alone task status (inr is) did = absurd cc
 
 version_asked : (name : List ℕ) → fault_of command_line (name ∷ codes "--version" ∷ []) ≡ kind.DisplayVersion ∷ []
 unfolding clap_on_literals
 version_asked name = refl
 
 -- of the word `--version` clap gives the version, and nothing else
-pub asks_for_version : (words : List (List ℕ)) (name : List ℕ) → words ≡ name ∷ codes "--version" ∷ []
+asks_for_version : (words : List (List ℕ)) (name : List ℕ) → words ≡ name ∷ codes "--version" ∷ []
     → fault_of command_line words ≡ kind.DisplayVersion ∷ []
 asks_for_version words name e = rw e (version_asked name)
 
@@ -81,44 +123,7 @@ version_is_shown words name error e among = elim (rw (asks_for_version words nam
   | inr none ↦ absurd none
 ]
 
-map_twice : {A B C : Type 0} (f : A → B) (g : B → C) (o : Option A) → option_map g (option_map f o) ≡ option_map (λ x. g (f x)) o
-map_twice f g None = refl
-map_twice f g (Some x) = refl
-
-entered_run : (name : List ℕ) → entered (name ∷ codes "run" ∷ []) ≡ Some (codes "run")
-unfolding clap_on_literals
-entered_run name = refl
-
-abbrev begins_with : Option (List ℕ) → ℕ
-begins_with (Some (letter ∷ more)) = letter
-begins_with other = 0
-
-pub run_apart : Some (codes "threads") ≡ Some (codes "run") → ⊥
-unfolding clap_on_literals
-run_apart same = let bad : ◌≡◌ {A = ℕ} 116 114 = ap begins_with same in omega (arith, bad)
-
--- what was found is found of the subcommand that clap enters
-pub entered_by : (app : App) (words : List (List ℕ)) (m : ArgMatches) → app ≡ command_line
-    → HasMatchesOf app words m → subcommand_name_of m ≡ entered words
-entered_by app words m e has =
-    let rows : subcommand_rows_of m ≡ subcommand_of app words = (has (ap is_simple e ∙ is_exact_simple)).1 in
-    sym (map_twice _ (λ (p : Text × List Row). p.0) (out-ArgMatches m).subcommand)
-    ∙ ap (option_map (λ (p : Text × List Row). p.0)) (rows ∙ ap (λ (a : App). subcommand_of a words) e)
-
-pub entered_threads : (name : Option (List ℕ)) (task : Task) → name ≡ Some (codes "threads") → task ≢ Run → IsEntered name task
-entered_threads name Run is other = absurd (other refl)
-entered_threads name (Threads asked turns) is other = is
-
--- of the word `run` clap enters `run`, and not `threads`
-pub run_is_not_threads : (app : App) (words : List (List ℕ)) (name : List ℕ) (m : ArgMatches) → app ≡ command_line → words ≡ name ∷ codes "run" ∷ []
-    → HasMatchesOf app words m → subcommand_name_of m ≡ Some (codes "threads") → ⊥
-run_is_not_threads app words name m e f has is =
-    run_apart (sym is ∙ entered_by app words m e has ∙ rw f (entered_run name))
-
--- words that are read as `run` are not of `threads`, and none of their errors is printed
-pub read_as_run_only : {T : Type 0} (words : List (List ℕ)) → AreReadAs (codes "run") words → entered words ≡ Some (codes "threads") → T
-read_as_run_only words read is = absurd (run_apart (sym is ∙ read.1))
-
+-- words that are read as a subcommand have no error that is printed
 pub read_has_no_error : {T : Type 0} (name : List ℕ) (words : List (List ℕ)) (error : Error)
     → AreReadAs name words → IsAmong (kind_of error) (fault_of command_line words) → T
 read_has_no_error name words error read among = absurd (subst (λ kinds. IsAmong (kind_of error) kinds) read.0 among)

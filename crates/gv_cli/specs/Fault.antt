@@ -4,11 +4,13 @@ use Rattle.gv_text.specs.declared.fault.ScriptFault.{ScriptFault}
 use Rattle.gv_text.specs.declared.fault.ScriptFault.TheVariants.{BadLine, ScriptTooLong, ReadFault, WriteFault, OutOfMemory}
 use Rattle.gv_queues.specs.declared.finishing.QueuesFault.{QueuesFault}
 use Rattle.gv_queues.specs.declared.finishing.QueuesFault.TheVariants.{NotMade, NotStarted, Disagree}
+use Rattle.gv_serve.specs.declared.fault.ServeFault.{ServeFault}
+use Rattle.gv_serve.specs.declared.fault.ServeFault.TheVariants as serve
 use Rattle.gv_threads.specs.declared.fault.ThreadsFault.{ThreadsFault}
 use Rattle.gv_threads.specs.declared.fault.ThreadsFault.TheVariants as threads
 use Rattle.gv_cli.specs.Status.{bad_queues, bad_script, bad_words, broken_stream, no_memory}
 use Rattle.gv_cli.specs.declared.fault.ProgramFault.{ProgramFault}
-use Rattle.gv_cli.specs.declared.fault.ProgramFault.TheVariants.{Script, Queues, ArgumentNotText}
+use Rattle.gv_cli.specs.declared.fault.ProgramFault.TheVariants.{Script, Queues, ArgumentNotText, NotOpened, NoFormat, NoFlags, NoAddress, NoLine}
 
 -- the exit status of a script that ended early
 abbrev pub script_status : ScriptFault → ℕ
@@ -29,6 +31,11 @@ abbrev pub status_of : ProgramFault → ℕ
 status_of (Script fault) = script_status fault
 status_of (Queues fault) = queues_status fault
 status_of ArgumentNotText = bad_words
+status_of NotOpened = broken_stream
+status_of NoFormat = bad_words
+status_of NoFlags = bad_words
+status_of NoAddress = bad_words
+status_of NoLine = bad_script
 
 -- the line on standard error, but for its line end
 abbrev pub line_of_fault : ProgramFault → List ℕ
@@ -41,8 +48,19 @@ line_of_fault (Queues NotMade) = codes "vmbind: out of memory"
 line_of_fault (Queues (NotStarted queue)) = codes "vmbind: worker not started " ++ decimal queue
 line_of_fault (Queues (Disagree queue)) = codes "vmbind: queues disagree " ++ decimal queue
 line_of_fault ArgumentNotText = codes "vmbind: argument is not text"
+line_of_fault NotOpened = codes "vmbind: file not opened"
+line_of_fault NoFormat = codes "vmbind: no such format"
+line_of_fault NoFlags = codes "vmbind: no such flags"
+line_of_fault NoAddress = codes "vmbind: not an address"
+line_of_fault NoLine = codes "vmbind: no line of this format"
 
 -- a threads script's fault as the program's
 abbrev pub of_threads : ThreadsFault → ProgramFault
 of_threads (threads.Script fault) = Script fault
 of_threads (threads.Queues fault) = Queues fault
+
+-- a dialogue's fault as the program's
+abbrev pub of_serve : ServeFault → ProgramFault
+of_serve serve.ReadFault = Script ReadFault
+of_serve serve.WriteFault = Script WriteFault
+of_serve serve.OutOfMemory = Script OutOfMemory

@@ -1,5 +1,5 @@
 -- What the program does with a script.
-use Rattle.std.specs.Prelude.{◌≡◌, ℕ, List, Bool, Option, IfErr, IfSome, Result, Ok, Err, OnOk}
+use Rattle.std.specs.Prelude.{◌≡◌, ◌⊎◌, ℕ, List, Bool, Option, IfErr, IfSome, Result, Ok, Err, OnOk}
 use Rattle.std.specs.Io.KnownBytes.{Appends}
 use Rattle.gv_text.specs.Reading.{TakesFew, TellsLength, TellsReads, TellsWrites}
 use Rattle.gv_text.specs.Script.{IsRun, StopsAt, IsStart}
@@ -9,7 +9,7 @@ use Rattle.gv_threads.specs.Ending.{HasNotBegun, RunsAs}
 use Rattle.gv_threads.specs.Running.{IsThreadsRun}
 use Rattle.gv_threads.specs.declared.fault.ThreadsFault.{ThreadsFault}
 use Rattle.gv_cli.specs.Fault.{of_threads, script_status, status_of}
-use Rattle.gv_cli.specs.Status.{done}
+use Rattle.gv_cli.specs.Status.{broken_stream, done}
 
 -- A script was run with this answer, as `run_script` says: of a reader before and after, of which these tell the bytes
 -- that are left and whether it has failed, and of a writer, of which these tell what was written and whether it has failed.
@@ -44,3 +44,10 @@ pub record HasRunThreads {R W : Type 0} (remaining : R → Option (List ℕ)) (r
 abbrev pub threads_status : Result (Unit {0}) ThreadsFault → ℕ
 threads_status (Ok finished) = done
 threads_status (Err fault) = status_of (of_threads fault)
+
+-- A script from a file was run: the text is that of a run of some script. Where the file can't be opened nothing is written.
+abbrev pub HasRunSome : {W : Type 0} → (W → Option (List ℕ)) → W → W → ℕ → Type 0
+HasRunSome written writer writer_after status =
+    ((status ≡ broken_stream) × (writer_after ≡ writer))
+    ⊎ ((answer : Result (Unit {0}) ScriptFault) × OnOk answer ((script text : List ℕ) × IsRun script text × Appends (written writer) (written writer_after) text)
+    × (status ≡ exit_status answer))

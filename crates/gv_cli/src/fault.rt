@@ -6,6 +6,7 @@ ghost use Rattle.gv_cli.specs.declared.fault.ProgramFault.TheVariants as fault;
 
 use crate::status::{BAD_QUEUES, BAD_SCRIPT, BAD_WORDS, BROKEN_STREAM, NO_MEMORY};
 use gv_queues::QueuesFault;
+use gv_serve::ServeFault;
 use gv_text::ScriptFault;
 use gv_threads::ThreadsFault;
 use std::alloc::AllocError;
@@ -21,6 +22,16 @@ pub enum ProgramFault {
     Queues(QueuesFault),
     /// An argument of the program is not UTF-8 text.
     ArgumentNotText,
+    /// A file that the words name can't be opened.
+    NotOpened,
+    /// The words name no format of logs.
+    NoFormat,
+    /// The words name no meaning of flags.
+    NoFlags,
+    /// An address in the words is no number.
+    NoAddress,
+    /// No line of a log is of its format.
+    NoLine,
 }
 
 impl ProgramFault {
@@ -31,7 +42,12 @@ impl ProgramFault {
         match self {
             ProgramFault::Script(fault) => script_status(fault),
             ProgramFault::Queues(fault) => queues_status(fault),
-            ProgramFault::ArgumentNotText => BAD_WORDS,
+            ProgramFault::ArgumentNotText
+            | ProgramFault::NoFormat
+            | ProgramFault::NoFlags
+            | ProgramFault::NoAddress => BAD_WORDS,
+            ProgramFault::NotOpened => BROKEN_STREAM,
+            ProgramFault::NoLine => BAD_SCRIPT,
         }
     }
 }
@@ -79,6 +95,11 @@ impl fmt::Display for ProgramFault {
                 write!(f, "vmbind: queues disagree {queue}")
             }
             ProgramFault::ArgumentNotText => write!(f, "vmbind: argument is not text"),
+            ProgramFault::NotOpened => write!(f, "vmbind: file not opened"),
+            ProgramFault::NoFormat => write!(f, "vmbind: no such format"),
+            ProgramFault::NoFlags => write!(f, "vmbind: no such flags"),
+            ProgramFault::NoAddress => write!(f, "vmbind: not an address"),
+            ProgramFault::NoLine => write!(f, "vmbind: no line of this format"),
         }
     }
 }
@@ -88,6 +109,20 @@ impl From<ScriptFault> for ProgramFault {
 
     fn from(fault: ScriptFault) -> ProgramFault {
         ProgramFault::Script(fault)
+    }
+}
+
+impl From<ServeFault> for ProgramFault {
+    ghost use Rattle.gv_cli.specs.Fault.{of_serve};
+
+    ghost from_gives = { λ serve program. program ≡ of_serve serve };
+
+    fn from(fault: ServeFault) -> ProgramFault {
+        match fault {
+            ServeFault::ReadFault => ProgramFault::Script(ScriptFault::ReadFault),
+            ServeFault::WriteFault => ProgramFault::Script(ScriptFault::WriteFault),
+            ServeFault::OutOfMemory => ProgramFault::Script(ScriptFault::OutOfMemory),
+        }
     }
 }
 
@@ -109,5 +144,20 @@ impl From<AllocError> for ProgramFault {
 
     fn from(_error: AllocError) -> ProgramFault {
         ProgramFault::Script(ScriptFault::OutOfMemory)
+    }
+}
+
+/// Prints the line of a fault, and gives its exit status.
+pub fn told<R: Eprint>(rt: &R, fault: ProgramFault) -> u8
+    ensures { result ≡ status_of fault }
+{
+    let _ = rt.eprintln(fault);
+    fault.status()
+}
+
+/// Prints why a line is bad, if that is asked and known.
+pub fn explain<R: Eprint>(rt: &R, asked: bool, why: String) {
+    if asked && !why.is_empty() {
+        let _ = rt.eprintln(why);
     }
 }

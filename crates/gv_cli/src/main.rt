@@ -1,12 +1,15 @@
 //! The program `vmbind`: a manager of a GPU address space, run by a script.
 #![tactic(auto)]
 
+mod comparing;
+mod drawing;
 mod fault;
-mod help;
+mod files;
 mod program;
+mod replaying;
+mod serving;
 mod stack;
 mod status;
-mod words;
 
 use program::program;
 use std::process::ExitCode;

@@ -1,34 +1,43 @@
 //! The program over any runtime.
-ghost use Rattle.std.specs.Prelude.{◌≡◌, ◌≢◌, ◌⊎◌, ◌∷◌, [], ℕ, List, Result, IfErr, codes};
+ghost use Rattle.std.specs.Prelude.{◌≡◌, ◌≢◌, ◌⊎◌, ◌∷◌, [], ℕ, List, Result, IfErr, None, IsSome, codes};
 ghost use Rattle.std.specs.IoError.{error_kind};
 ghost use Rattle.std.specs.declared.io.ErrorKind.TheVariants as stream;
 ghost use Rattle.gv_text.specs.declared.fault.ScriptFault.{ScriptFault};
 ghost use Rattle.clap.specs.Words.{fault_of, kind_of};
 ghost use Rattle.clap.specs.declared.error.kind.ErrorKind.TheVariants as kind;
 ghost use Rattle.gv_types.specs.Limits.{IsFromOneTo};
-ghost use Rattle.gv_cli.specs.CommandLine.{AreReadAs, AskForText, IsStatusOfOne, command_line, most_queues, words_of};
+ghost use Rattle.gv_words.specs.CommandLine.{AreReadAs, IsTask, command_line, file_named, most_queues, words_of};
+ghost use Rattle.gv_cli.specs.Task.{IsDone};
+ghost use Rattle.gv_cli.specs.CommandLine.{AskForText, IsStatusOfOne};
 ghost use Rattle.gv_cli.specs.Fault.{status_of};
 ghost use Rattle.gv_threads.specs.declared.fault.ThreadsFault.{ThreadsFault};
-ghost use Rattle.gv_cli.specs.Run.{HasRun, HasRunThreads, exit_status, threads_status};
+ghost use Rattle.gv_serve.specs.declared.fault.ServeFault.{ServeFault};
+ghost use Rattle.gv_cli.specs.Serving.{HasServed, serve_status};
+ghost use Rattle.gv_cli.specs.Run.{HasRun, HasRunSome, HasRunThreads, exit_status, threads_status};
 ghost use Rattle.gv_cli.specs.Status.{IsStatus, bad_words, broken_stream, done, no_memory};
 
-use crate::fault::ProgramFault;
+use crate::comparing::compare;
+use crate::drawing::{Picture, draw};
+use crate::fault::{ProgramFault, explain, told};
+use crate::files::opened;
+use crate::replaying::replay;
+use crate::serving::{serve, serve_file};
 use crate::stack::is_stack_there;
 use crate::status::{BAD_WORDS, DONE};
-use crate::words::{Task, WordsFault, read_words};
 use clap::Error;
-use gv_text::{ReadSource, ScriptFault, Sink, Source, WriteSink, run_script};
-use gv_threads::{RunTerms, run_threads};
-use std::rt::Env;
+use gv_text::{ReadSource, ScriptFault, Sink, Source, WriteSink, run_script_explained};
+use gv_threads::{RunTerms, run_threads_explained};
+use gv_words::{Task, WordsFault, read_words};
+use std::rt::{Env, Files};
 use std::sync::Wait;
 use std::thread::Threads;
 use std::{env, io};
 
-/// Does what the words of the command line ask for, over the standard streams and with threads, and gives the exit
-/// status. It may wait, for threads alone.
-pub fn program<R: Env + AllocGlobal + Input + Print + Eprint, T: Threads + Wait + Sync>(
+/// Does what the words of the command line ask for, over the standard streams, with the host's threads and files, and gives
+/// the exit status. It may wait, for threads alone.
+pub fn program<R: Env + AllocGlobal + Input + Print + Eprint, T: Threads + Wait + Sync + Files>(
     rt: &R,
-    threads: &T,
+    host: &T,
 ) -> u8
     ensures { IsStatus result }
 {
@@ -41,13 +50,13 @@ pub fn program<R: Env + AllocGlobal + Input + Print + Eprint, T: Threads + Wait 
     };
     let mut reader = ReadSource::new(rt.reader());
     let mut writer = WriteSink::new(io::writer(rt));
-    obey(rt, threads, words.as_slice(), &mut reader, &mut writer)
+    obey(rt, host, words.as_slice(), &mut reader, &mut writer)
 }
 
-/// Does what these words ask for, over these devices and with these threads, and gives the exit status.
-fn obey<R: AllocGlobal + Print + Eprint, T: Threads + Wait + Sync, S: Source, K: Sink>(
+/// Does what these words ask for, over these devices, with the host's threads and files, and gives the exit status.
+fn obey<R: AllocGlobal + Print + Eprint, T: Threads + Wait + Sync + Files, S: Source, K: Sink>(
     rt: &R,
-    threads: &T,
+    host: &T,
     words: &[String],
     reader: &mut S,
     writer: &mut K,
@@ -57,11 +66,20 @@ fn obey<R: AllocGlobal + Print + Eprint, T: Threads + Wait + Sync, S: Source, K:
         → ((result ≡ no_memory) × (reader.new ≡ reader.old) × (writer.new ≡ writer.old))
         ⊎ ((answer : Result (Unit {0}) ScriptFault) × HasRun S.remaining S.failed K.written K.failed
         reader.old reader.new writer.old writer.new answer × (result ≡ exit_status answer)) }
-    // So do all other words that are read as `run`.
-    ensures read_as_run { AreReadAs (codes "run") (words_of words.now)
+    // So do all other words that are read as `run` and name no file.
+    ensures read_as_run { AreReadAs (codes "run") (words_of words.now) → file_named (words_of words.now) ≡ None
         → ((result ≡ no_memory) × (reader.new ≡ reader.old) × (writer.new ≡ writer.old))
         ⊎ ((answer : Result (Unit {0}) ScriptFault) × HasRun S.remaining S.failed K.written K.failed
         reader.old reader.new writer.old writer.new answer × (result ≡ exit_status answer)) }
+    // Where they name a file, its script is run, and the reader stays as it is.
+    ensures run_file { AreReadAs (codes "run") (words_of words.now) → IsSome (file_named (words_of words.now))
+        → ((result ≡ no_memory) × (reader.new ≡ reader.old) × (writer.new ≡ writer.old))
+        ⊎ ((reader.new ≡ reader.old) × HasRunSome K.written writer.old writer.new result) }
+    // The word `serve` holds a dialogue.
+    ensures serve { (name : List ℕ) → words_of words.now ≡ name ∷ codes "serve" ∷ []
+        → ((result ≡ no_memory) × (reader.new ≡ reader.old) × (writer.new ≡ writer.old))
+        ⊎ ((answer : Result (Unit {0}) ServeFault) × HasServed S.remaining S.failed K.written K.failed
+        reader.old reader.new writer.old writer.new answer × (result ≡ serve_status answer)) }
     // Words that are read as `threads` run the threads script, on some number of queues that they may ask for.
     ensures threads { AreReadAs (codes "threads") (words_of words.now)
         → ((result ≡ no_memory) × (reader.new ≡ reader.old) × (writer.new ≡ writer.old))
@@ -82,12 +100,55 @@ fn obey<R: AllocGlobal + Print + Eprint, T: Threads + Wait + Sync, S: Source, K:
     ensures status { IsStatus result }
 {
     match read_words(rt.alloc(), words) {
-        Ok(Task::Run) => run(rt, reader, writer),
-        Ok(Task::Threads { queues, turns }) => {
-            run_with_threads(rt, threads, reader, writer, RunTerms { queues, turns })
-        }
+        Ok(task) => carry_out(rt, host, task, reader, writer),
         Err(WordsFault::Printed(error)) => printed(rt, &error),
         Err(WordsFault::OutOfMemory) => told(rt, ProgramFault::Script(ScriptFault::OutOfMemory)),
+    }
+}
+
+/// Does a task over these devices, and gives the exit status.
+fn carry_out<R: AllocGlobal + Print + Eprint, T: Threads + Wait + Sync + Files, S: Source, K: Sink>(
+    rt: &R,
+    host: &T,
+    task: Task<'_>,
+    reader: &mut S,
+    writer: &mut K,
+) -> u8
+    requires { IsTask task }
+    ensures done { IsDone S.remaining S.failed K.written K.failed reader.old reader.new writer.old writer.new task.entry result }
+    ensures status { IsStatus result }
+{
+    match task {
+        Task::Run {
+            explain,
+            file: None,
+        } => run(rt, explain, reader, writer),
+        Task::Run {
+            explain,
+            file: Some(path),
+        } => run_file(rt, host, explain, path, writer),
+        Task::Serve { json, file: None } => serve(rt, json, reader, writer),
+        Task::Serve {
+            json,
+            file: Some(path),
+        } => serve_file(rt, host, json, path, writer),
+        Task::Threads {
+            queues,
+            turns,
+            explain,
+        } => {
+            let asked = Asked {
+                queues,
+                turns,
+                explain,
+            };
+            run_with_threads(rt, host, reader, writer, asked)
+        }
+        Task::Replay(asked) => replay(rt, host, asked, reader, writer),
+        Task::Draw { at, width, file } => {
+            draw(rt, host, Picture { at, width, file }, reader, writer)
+        }
+        Task::Compare { first, second } => compare(rt, host, first, second, writer),
     }
 }
 
@@ -116,14 +177,48 @@ fn argument_fault(error: &io::Error) -> ProgramFault
 }
 
 /// Runs the script that the reader gives, and gives the exit status: that of the fault, if one is answered.
-fn run<R: AllocGlobal + Eprint, S: Source, K: Sink>(rt: &R, reader: &mut S, writer: &mut K) -> u8
+fn run<R: AllocGlobal + Eprint, S: Source, K: Sink>(
+    rt: &R,
+    explains: bool,
+    reader: &mut S,
+    writer: &mut K,
+) -> u8
     ensures { (answer : Result (Unit {0}) ScriptFault) × HasRun S.remaining S.failed K.written K.failed
         reader.old reader.new writer.old writer.new answer × (result ≡ exit_status answer) }
 {
-    match run_script(rt.alloc(), reader, writer) {
+    let mut why = String::new(rt.alloc());
+    match run_script_explained(rt.alloc(), reader, writer, &mut why) {
         Ok(()) => DONE,
-        Err(fault) => told(rt, ProgramFault::from(fault)),
+        Err(fault) => {
+            let status = told(rt, ProgramFault::from(fault));
+            explain(rt, explains, why);
+            status
+        }
     }
+}
+
+/// Runs the script of a file.
+fn run_file<R: AllocGlobal + Eprint, T: Files, K: Sink>(
+    rt: &R,
+    files: &T,
+    explains: bool,
+    path: &str,
+    writer: &mut K,
+) -> u8
+    ensures { HasRunSome K.written writer.old writer.new result }
+{
+    match opened(files, path) {
+        Ok(mut reader) => run(rt, explains, &mut reader, writer),
+        Err(fault) => told(rt, fault),
+    }
+}
+
+/// On how many queues a threads script is run, after how many turns requests are given up, and whether a bad line is explained.
+#[derive(Clone, Copy)]
+struct Asked {
+    queues: u64,
+    turns: u64,
+    explain: bool,
 }
 
 /// Runs the threads script that the reader gives, and gives the exit status: that of the fault, if one is answered.
@@ -132,16 +227,25 @@ fn run_with_threads<R: AllocGlobal + Eprint, T: Threads + Wait + Sync, S: Source
     threads: &T,
     reader: &mut S,
     writer: &mut K,
-    terms: RunTerms,
+    asked: Asked,
 ) -> u8
-    requires { IsFromOneTo most_queues terms.queues }
+    requires { IsFromOneTo most_queues asked.queues }
     ensures run { (answer : Result (Unit {0}) ThreadsFault) × HasRunThreads S.remaining S.failed K.written K.failed
-        reader.old reader.new writer.old writer.new terms.queues answer × (result ≡ threads_status answer) }
+        reader.old reader.new writer.old writer.new asked.queues answer × (result ≡ threads_status answer) }
     ensures status { IsStatus result }
 {
-    match run_threads(threads, rt.alloc(), reader, writer, terms) {
+    let mut why = String::new(rt.alloc());
+    let terms = RunTerms {
+        queues: asked.queues,
+        turns: asked.turns,
+    };
+    match run_threads_explained(threads, reader, writer, terms, &mut why) {
         Ok(()) => DONE,
-        Err(ended) => told(rt, ProgramFault::from(ended)),
+        Err(ended) => {
+            let status = told(rt, ProgramFault::from(ended));
+            explain(rt, asked.explain, why);
+            status
+        }
     }
 }
 
@@ -161,12 +265,4 @@ fn printed<R: Print + Eprint>(rt: &R, error: &Error) -> u8
         Ok(()) => DONE,
         Err(_) => told(rt, ProgramFault::Script(ScriptFault::WriteFault)),
     }
-}
-
-/// Prints the line of a fault, and gives its exit status.
-fn told<R: Eprint>(rt: &R, fault: ProgramFault) -> u8
-    ensures { result ≡ status_of fault }
-{
-    let _ = rt.eprintln(fault);
-    fault.status()
 }

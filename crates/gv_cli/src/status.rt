@@ -17,3 +17,6 @@ pub const NO_MEMORY: u8 = 4;
 
 /// The queues of a threads script did not start, or disagree.
 pub const BAD_QUEUES: u8 = 5;
+
+/// Two lists of mappings differ.
+pub const DIFFERENT: u8 = 1;

@@ -1,6 +1,7 @@
 //! The whole program over a runtime in memory.
 
 mod fake;
+mod wrong;
 
 use crate::fault::ProgramFault;
 use crate::program::program;
@@ -8,6 +9,7 @@ use fake::{Fake, Stream};
 use gv_queues::QueuesFault;
 use gv_threads::ThreadsFault;
 use std::process::Abort;
+use std::rt::Files;
 use std::sync::Wait;
 use std::test::Fail;
 use std::thread::Threads;
@@ -22,7 +24,7 @@ struct Outcome {
     errors: Vec<u8>,
 }
 
-fn ended<T: Threads + Wait + Sync>(threads: &T, runtime: Fake<'_>) -> Outcome {
+fn ended<T: Threads + Wait + Sync + Files>(threads: &T, runtime: Fake<'_>) -> Outcome {
     let status = program(&runtime, threads);
     let (output, errors) = runtime.written();
     Outcome {
@@ -205,10 +207,16 @@ fn tells_its_version(rt: HostRuntime) {
 
 #[test]
 fn refuses_words(rt: HostRuntime) {
-    let rows: [&[&[u8]]; 14] = [
+    let rows: [&[&[u8]]; 20] = [
         &[b"vmbind"],
         &[b"vmbind", b"walk"],
-        &[b"vmbind", b"run", b"extra"],
+        &[b"vmbind", b"run", b"file", b"extra"],
+        &[b"vmbind", b"run", b"--json"],
+        &[b"vmbind", b"replay"],
+        &[b"vmbind", b"replay", b"--format", b"radv", b"--pid", b"x"],
+        &[b"vmbind", b"draw", b"--width", b"0"],
+        &[b"vmbind", b"compare", b"one"],
+        &[b"vmbind", b"compare", b"one", b"two", b"three"],
         &[b"vmbind", b"run", b"--queues", b"1"],
         &[b"vmbind", b"--fast", b"run"],
         &[b"vmbind", b"threads"],

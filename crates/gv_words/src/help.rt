@@ -10,6 +10,83 @@ pub const PROGRAM: &str = "Manages the address space of a GPU by the lines of a 
 pub const RUN: &str =
     "Reads a script from standard input and writes its replies to standard output";
 
+/// What `serve` does.
+pub const SERVE: &str = "Answers the lines of standard input one after another, without end";
+
+/// What `--explain` says.
+pub const EXPLAIN: &str = "Says of a bad line what is wrong with it";
+
+/// What `--json` says.
+pub const JSON: &str = "Answers each line with a line of JSON";
+
+/// What `FILE` says.
+pub const FILE: &str = "The file to read in place of standard input";
+
+/// The lines of a dialogue.
+pub const SERVE_LINES: &str = "\
+Each line of 'vmbind run' is answered as there. Answers are written before the next read, so a program
+may wait for one before it sends the next line, over a pipe or at a terminal. There is no end to a
+dialogue but that of its input: a script may be of any length, and a line has at most 1048576 bytes.
+A bad line changes nothing and is answered
+  bad line K: REASON
+and a line for which memory is refused
+  out of memory
+and the dialogue goes on. It has more lines than a script:
+  put CLAUSE ; CLAUSE ..
+      Puts a request on its queue and carries nothing out: 'put N', its number, or 'refused FAULT'.
+  turn QUEUE
+      Goes on with a queue: its first request looks at its waits, and where all are reached it is bound
+      and its signals are raised. 'accepted N', 'refused K FAULT', 'waits NAME N have N' where it stays in
+      hand, or 'idle'.
+  giveup QUEUE
+      Gives up the request in hand, whose last look lacked: 'notready NAME N have N', or 'idle'.
+  show ENTRY
+      Prints what a journal item did, a line an operation, as 'bind' reads it.
+  past ADDR
+      Prints what the journal's items say of an address, newest first, and what lies under them:
+      'N live PLACE', 'N withdrawn PLACE' or 'none' for the place, then 'under PLACE'.
+A 'bind' on a queue where requests stand that were put is a bad line: 'turn' serves them.
+
+With --json each answer is one line of JSON, with the number of its line:
+  {\"line\":2,\"accepted\":0}";
+
+/// What `replay` does.
+pub const REPLAY: &str =
+    "Replays what a driver logged: what an address reached, and what was freed under it";
+
+/// What `--format` says.
+pub const FORMAT: &str = "Whose log it is: radv, amdgpu or gpuvas";
+
+/// What `--at` says, as often as it is given.
+pub const ADDRESSES: &str = "An address whose past is told, in bytes";
+
+/// What `--flags` says.
+pub const FLAGS: &str = "What flags of amdgpu's events mean: entry or call";
+
+/// What `--pid` says.
+pub const PID: &str = "The process whose events count";
+
+/// What `--all` says.
+pub const ALL: &str = "Tells all places of a finding, and not three";
+
+/// What `--script` says.
+pub const AS_SCRIPT: &str = "Writes a script in place of the report";
+
+/// What `draw` does.
+pub const DRAW: &str = "Runs a script and writes a picture of it, as SVG";
+
+/// What `--at` of a picture says.
+pub const AT: &str = "The address around which is drawn, in bytes";
+
+/// What `--width` says.
+pub const WIDTH: &str = "How many pixels wide the picture is, 1 to 16384; less than 900 is 900";
+
+/// What `compare` does.
+pub const COMPARE: &str = "Compares two lists of mappings, page by page";
+
+/// What a list is.
+pub const LIST: &str = "A file of mappings: the answer to 'map', or a kernel's gpuvas";
+
 /// What `threads` does.
 pub const THREADS: &str =
     "Reads a script whose requests are put on running queues, each with a thread of its own";
@@ -112,7 +189,7 @@ A FAULT is one of:
   Unaligned, Empty, OutOfSpace, Reserved, NoBuffer, OutOfBuffer, TooManyMappings
       of an operation, in this order
   TooManyOps, JournalFull, QueueSpent
-      of a request; OutOfMemory of either
+      of a request, the first two written with a 0 that is no operation's; OutOfMemory of either
   BadSize, TooManyBuffers, Mapped N, Kept N, InUse N
       of 'buffer' and 'destroy': N mappings in the list or in undo values, or N jobs
   NoEntry, NotABind, Withdrawn, Touched N, Crossed N

@@ -1,0 +1,76 @@
+//! Pictures.
+ghost use Rattle.gv_cli.specs.Status.{IsStatus};
+
+use crate::fault::{ProgramFault, told};
+use crate::files::{address, opened, read_all};
+use crate::status::DONE;
+use gv_draw::{DrawFault, Options, draw_script};
+use gv_text::{ScriptFault, Sink, Source, write_all};
+use std::alloc::Global;
+use std::rt::Files;
+
+/// What picture is asked: around an address if one is given, so many pixels wide, of the script of a file or of standard input.
+#[derive(Clone, Copy)]
+pub struct Picture<'a> {
+    pub at: Option<&'a str>,
+    pub width: u64,
+    pub file: Option<&'a str>,
+}
+
+/// Draws a script, and gives the exit status.
+pub fn draw<R: AllocGlobal + Eprint, T: Files, S: Source, K: Sink>(
+    rt: &R,
+    files: &T,
+    asked: Picture<'_>,
+    reader: &mut S,
+    writer: &mut K,
+) -> u8
+    ensures { IsStatus result }
+{
+    match drawn(rt.alloc(), files, asked, reader) {
+        Ok(picture) => shown(rt, writer, picture.as_str()),
+        Err(fault) => told(rt, fault),
+    }
+}
+
+/// Writes a text, and gives the exit status.
+pub fn shown<R: Eprint, K: Sink>(rt: &R, writer: &mut K, text: &str) -> u8
+    ensures { IsStatus result }
+{
+    match write_all(writer, text.as_bytes()) {
+        Ok(()) => DONE,
+        Err(_) => told(rt, ProgramFault::Script(ScriptFault::WriteFault)),
+    }
+}
+
+/// The picture.
+fn drawn<T: Files, S: Source>(
+    alloc: Global,
+    files: &T,
+    asked: Picture<'_>,
+    reader: &mut S,
+) -> Result<String, ProgramFault> {
+    let at = match asked.at {
+        Some(word) => Some(address(word)?),
+        None => None,
+    };
+    let script = match asked.file {
+        Some(path) => {
+            let mut file = opened(files, path)?;
+            read_all(alloc, &mut file)?
+        }
+        None => read_all(alloc, reader)?,
+    };
+    let options = Options {
+        at,
+        width: asked.width,
+    };
+    let mut picture = String::new(alloc);
+    match draw_script(alloc, script.as_slice(), &options, &mut picture) {
+        Ok(()) => Ok(picture),
+        Err(DrawFault::BadLine { line }) => {
+            Err(ProgramFault::Script(ScriptFault::BadLine { line }))
+        }
+        Err(DrawFault::OutOfMemory) => Err(ProgramFault::Script(ScriptFault::OutOfMemory)),
+    }
+}

@@ -1,0 +1,52 @@
+//! Files that the words name.
+ghost use Rattle.std.specs.Prelude.{◌≡◌, IfErr};
+
+use crate::fault::ProgramFault;
+use gv_lines::number_of;
+use gv_text::{ReadSource, ScriptFault, Source};
+use std::alloc::{AllocError, Global};
+use std::fs;
+use std::rt::Files;
+
+/// How many bytes one read may give.
+const CHUNK_LEN: usize = 1 << 13;
+
+/// A file that is read.
+pub fn opened<T: Files>(files: &T, path: &str) -> Result<ReadSource<T::File>, ProgramFault>
+    ensures { IfErr result (λ fault. fault ≡ ProgramFault.NotOpened) }
+{
+    match fs::open(files, path) {
+        Ok(file) => Ok(ReadSource::new(file)),
+        Err(_) => Err(ProgramFault::NotOpened),
+    }
+}
+
+/// All that a reader gives.
+pub fn read_all<S: Source>(alloc: Global, reader: &mut S) -> Result<Vec<u8>, ProgramFault> {
+    let mut bytes = Vec::new(alloc);
+    let mut chunk = [0u8; CHUNK_LEN];
+    for _reads in 0..u64::MAX {
+        let count = match reader.read(&mut chunk) {
+            Ok(count) => count,
+            Err(_) => return Err(ProgramFault::from(ScriptFault::ReadFault)),
+        };
+        if count == 0 {
+            break;
+        }
+        add(&mut bytes, &chunk, count)?;
+    }
+    Ok(bytes)
+}
+
+/// Adds the front of a chunk.
+fn add(bytes: &mut Vec<u8>, chunk: &[u8], count: usize) -> Result<(), AllocError> {
+    bytes.extend_from_slice(&chunk[..count.min(chunk.len())])
+}
+
+/// The address that a word is, in bytes: a number as in scripts.
+pub fn address(word: &str) -> Result<u64, ProgramFault> {
+    match number_of(word.as_bytes()) {
+        Some(addr) => Ok(addr),
+        None => Err(ProgramFault::NoAddress),
+    }
+}
