@@ -1,7 +1,7 @@
 //! A list in chunks beside the same mappings in one block.
 use crate::fixtures::mapping;
 use gv_chunks::{CHUNK, ChunkList};
-use gv_reference::Random;
+use gv_plain::Random;
 use gv_types::Mapping;
 use std::alloc::Global;
 use std::test::Fail;

@@ -1,5 +1,5 @@
-//! Tests of the crates below the space: ranges, split, page table, buffers; and of the lines of the script language. They stand
-//! in a crate of their own, so that none of those is proved a second time with them.
+//! Tests of the crates below the space: ranges, split, page table, buffers; of the lines of the script language; and of replies as
+//! JSON. They stand in a crate of their own, so that none of those is proved a second time with them.
 #![tactic(auto)]
 
 #[cfg(test)]
@@ -16,6 +16,10 @@ mod lines;
 mod no_lines;
 #[cfg(test)]
 mod ranges;
+#[cfg(test)]
+mod reasons;
+#[cfg(test)]
+mod replies;
 #[cfg(test)]
 mod requests;
 #[cfg(test)]

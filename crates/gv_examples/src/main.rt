@@ -3,11 +3,13 @@
 
 mod devices;
 mod failing;
+mod logs;
 mod pictures;
 #[cfg(test)]
 mod rows;
 
 use failing::{is_read_fault_told, is_write_fault_told};
+use gv_draw::{Options, draw_script};
 use gv_text::{MemorySink, MemorySource, run_script};
 use gv_threads::{RunTerms, run_threads};
 use gv_vm::QUEUES;
@@ -17,7 +19,7 @@ use std::sync::Wait;
 use std::thread::Threads;
 use std::{fs, io};
 
-const EXAMPLES: [&str; 11] = [
+const EXAMPLES: [&str; 12] = [
     "first",
     "replace",
     "keep",
@@ -29,6 +31,7 @@ const EXAMPLES: [&str; 11] = [
     "jobs",
     "timelines",
     "settle",
+    "igt",
 ];
 
 /// The examples for running queues, each with their number. Their replies are the same whichever queue is served first.
@@ -42,6 +45,9 @@ const LONGEST: &str = "buffers";
 
 /// The examples that the page of pictures draws, in its order.
 const PICTURES: [&str; 5] = ["first", "replace", "keep", "withdraw", "tables"];
+
+/// The scripts whose SVG lies beside them.
+const DRAWN: [&str; 2] = ["over-time", "withdraw"];
 
 fn main(rt: HostRuntime) -> io::Result<ExitCode> {
     let mut all_same = true;
@@ -57,10 +63,16 @@ fn main(rt: HostRuntime) -> io::Result<ExitCode> {
         println!(rt; "{name}: {word}")?;
         all_same = all_same && same;
     }
+    let reported = logs::are_reported(&rt)?;
+    all_same = all_same && reported;
     let drawn = are_drawn(&rt)?;
     let word = if drawn { "as wanted" } else { "OTHERWISE" };
     println!(rt; "pictures: {word}")?;
     all_same = all_same && drawn;
+    let shown = are_shown(&rt)?;
+    let word = if shown { "as wanted" } else { "OTHERWISE" };
+    println!(rt; "drawn: {word}")?;
+    all_same = all_same && shown;
     let told = are_failures_told(&rt)?;
     let word = if told { "as wanted" } else { "OTHERWISE" };
     println!(rt; "failing devices: {word}")?;
@@ -127,6 +139,21 @@ fn are_drawn(rt: &(impl Files + AllocGlobal)) -> io::Result<bool> {
         }
     }
     Ok(names.next().is_none())
+}
+
+/// Whether the SVG beside each of the drawn scripts is what the program draws.
+fn are_shown(rt: &(impl Files + AllocGlobal)) -> io::Result<bool> {
+    let alloc = rt.alloc();
+    for name in DRAWN {
+        let script = fs::read(rt, format!(in alloc; "{name}.vmb")?)?;
+        let wanted = fs::read_to_string(rt, format!(in alloc; "{name}.svg")?)?;
+        let mut svg = String::new(alloc);
+        let drawn = draw_script(alloc, script.as_slice(), &Options::default(), &mut svg);
+        if drawn.is_err() || svg.as_str() != wanted.as_str() {
+            return Ok(false);
+        }
+    }
+    Ok(true)
 }
 
 #[cfg(test)]

@@ -1,5 +1,6 @@
 //! Scripts from their bytes to their replies.
 mod many;
+mod reasons;
 
 use crate::devices::FailingSource;
 use crate::failing::{is_read_fault_told, is_write_fault_told};

@@ -1,16 +1,19 @@
-//! Scripts by chance, each run by `run_script` and by a model that is written from the definitions. Where the two differ, the
-//! script is shrunk and printed with its seed. The last line is 'N passed, M failed'.
+//! Scripts by chance, each run by `run_script` and by a model that is written from the definitions. Each reply is also written as
+//! JSON and read back. Where something differs, the script is shrunk and printed with its seed. The last line is 'N passed, M
+//! failed'.
 #![tactic(auto)]
 
 mod line;
 mod model;
 mod operation;
+mod replies;
 mod script;
 mod shape;
 mod shrink;
 mod trial;
 mod words;
 
+use replies::changed_reply;
 use script::by_chance;
 use shrink::shrunk;
 use std::alloc::AllocError;
@@ -57,6 +60,14 @@ fn try_all<R: Clock + Print + AllocGlobal>(rt: &R, plan: &Plan) -> io::Result<u6
 
 /// Tries the script of a seed. One that differs is printed.
 fn agrees<R: Print + AllocGlobal>(rt: &R, seed: u64) -> io::Result<bool> {
+    if let Some(said) = changed_reply(rt.alloc(), seed)? {
+        println!(rt;
+            "seed {seed}: JSON says something else than this reply to {}",
+            said.word
+        )?;
+        rt.print(said.text.as_str())?;
+        return Ok(false);
+    }
     let script = by_chance(rt.alloc(), seed)?;
     if Trial::new(rt.alloc(), &script)?.agrees() {
         return Ok(true);
@@ -70,6 +81,9 @@ fn agrees<R: Print + AllocGlobal>(rt: &R, seed: u64) -> io::Result<bool> {
     let line = trial.wanted.bad_line.unwrap_or(0);
     println!(rt; "and was to come to (bad line {line}, 0 for none)")?;
     print_text(rt, trial.wanted.text.as_bytes())?;
+    if let Some(changed) = trial.changed {
+        println!(rt; "and the JSON of line {changed} says something else")?;
+    }
     Ok(false)
 }
 

@@ -56,6 +56,8 @@ pub struct Model {
 #[derive(Drop)]
 pub struct Ending {
     pub text: String,
+    /// Where the reply to each line ends.
+    pub ends: Vec<usize>,
     pub bad_line: Option<u64>,
 }
 
@@ -106,6 +108,7 @@ impl Model {
 pub fn ending_of(alloc: Global, script: &[u8]) -> Result<Ending, AllocError> {
     let mut model = Model::new(alloc);
     let mut text = String::new(alloc);
+    let mut ends = Vec::new(alloc);
     let mut line = Vec::new(alloc);
     let mut number: u64 = 1;
     for byte in script {
@@ -114,23 +117,26 @@ pub fn ending_of(alloc: Global, script: &[u8]) -> Result<Ending, AllocError> {
             continue;
         }
         if !model.run_line(alloc, &line, &mut text)? {
-            return Ok(bad(text, number));
+            return Ok(bad(text, ends, number));
         }
+        ends.push(text.len())?;
         line.clear();
         number = number.saturating_add(1);
     }
     if !line.is_empty() {
-        return Ok(bad(text, number));
+        return Ok(bad(text, ends, number));
     }
     Ok(Ending {
         text,
+        ends,
         bad_line: None,
     })
 }
 
-fn bad(text: String, number: u64) -> Ending {
+fn bad(text: String, ends: Vec<usize>, number: u64) -> Ending {
     Ending {
         text,
+        ends,
         bad_line: Some(number),
     }
 }

@@ -2,7 +2,7 @@
 ghost use Rattle.std.specs.Prelude.{◌≤◌, ◌<◌, ◌^◌};
 
 use crate::model::Sight;
-use gv_reference::Random;
+use gv_plain::Random;
 use std::alloc::AllocError;
 use std::fmt::Write;
 

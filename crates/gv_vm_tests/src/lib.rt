@@ -19,6 +19,8 @@ mod jobs;
 #[cfg(test)]
 mod limits;
 #[cfg(test)]
+mod past;
+#[cfg(test)]
 mod refusals;
 #[cfg(test)]
 mod rounds;

@@ -73,7 +73,7 @@ fn counts_buffers(alloc: Global, world: &World, model: &Model) -> Result<bool, O
     let ground = &model.ground;
     for made in &ground.buffers {
         let id = &made.id;
-        let uses = gv_reference::count_of(ground.list.as_slice(), id);
+        let uses = gv_plain::count_of(ground.list.as_slice(), id);
         let kept = ground.history.kept(alloc, id)?;
         let wanted = if made.is_alive {
             (Some(made.pages), Some(uses), Some(kept))

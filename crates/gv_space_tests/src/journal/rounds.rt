@@ -5,7 +5,7 @@ ghost use Rattle.gv_journal.specs.State.{FitsSpace};
 use crate::journal::counts::{Counts, counts_of, kept_is_counted, uses_are_counted, without_kept};
 use crate::journal::harness::{Harness, Reply, Step, play};
 use gv_journal::{Item, ItemKind, Journal};
-use gv_reference::{Random, given};
+use gv_plain::{Random, given};
 use gv_space::Space;
 use gv_types::{Backing, Bounds, Entry, Limits, Mapping};
 use std::alloc::Global;

@@ -1,0 +1,285 @@
+//! Bad lines and what is said of them.
+use gv_lines::{explain, explain_serve};
+use std::alloc::Global;
+use std::test::Fail;
+
+type Row = (&'static [u8], &'static str);
+
+const BYTES: [Row; 17] = [
+    (
+        b"bind\tzero 0x0 0x1000",
+        "column 5: a tab; words are separated by one space",
+    ),
+    (
+        b"value t1\r",
+        "column 9: a carriage return; lines end with byte 10 alone",
+    ),
+    (
+        b"\r",
+        "column 1: a carriage return; lines end with byte 10 alone",
+    ),
+    (b"timeline t4 ", "column 12: a space at the end"),
+    (b"map  ", "column 5: a space at the end"),
+    (b" map", "column 1: a space at the start"),
+    (b" ", "column 1: a space at the start"),
+    (
+        b"at  0x0",
+        "column 4: a second space; words are separated by one space",
+    ),
+    (
+        b"# \x80",
+        "column 3: byte 0x80; all bytes are ASCII, also in a comment",
+    ),
+    (
+        b"\xef\xbb\xbfmap",
+        "column 1: byte 0xef; all bytes are ASCII, also in a comment",
+    ),
+    (
+        b"at \x00",
+        "column 4: byte 0x00; words have printable bytes alone",
+    ),
+    (
+        b"at \x7f",
+        "column 4: byte 0x7f; words have printable bytes alone",
+    ),
+    (
+        b"bind unmap 0x0 0x1000; map",
+        "column 22: ; at a word; a space stands before and behind ;",
+    ),
+    (
+        b"bind unmap 0x0 0x1000 ;map",
+        "column 23: ; at a word; a space stands before and behind ;",
+    ),
+    (
+        b"map # the list",
+        "column 5: a comment; it has a line of its own",
+    ),
+    (b"bind unmap 0x0 0x1000 ; ", "column 24: a space at the end"),
+    (b"job  ", "column 5: a space at the end"),
+];
+
+const BEGINNINGS: [Row; 19] = [
+    (b"bnid", "no such line: bnid; did you mean bind?"),
+    (b"BIND", "no such line: BIND; did you mean bind?"),
+    (b"Map", "no such line: Map; did you mean map?"),
+    (
+        b"buffers b 4",
+        "no such line: buffers; did you mean buffer?",
+    ),
+    (b"destory b", "no such line: destory; did you mean destroy?"),
+    (b"xyzzy", "no such line: xyzzy"),
+    (b"; map", "no such line: ;"),
+    (
+        b"abcdefghijklmnopqrstuvwxyzabcdefghijklmnopqrstuvwxyz",
+        "no such line: abcdefghijklmnopqrstuvwxyzabcdefghijklmn..",
+    ),
+    (b"put zero 0x0 0x1000", "put stands in vmbind serve alone"),
+    (b"turn 0", "turn stands in vmbind serve alone"),
+    (b"giveup 0", "giveup stands in vmbind serve alone"),
+    (b"show 0", "show stands in vmbind serve alone"),
+    (b"past 0x0", "past stands in vmbind serve alone"),
+    (
+        b"bind mpa 0x0 0x1000 b 0x0",
+        "column 6: no such clause: mpa; did you mean map?",
+    ),
+    (
+        b"bind queue 1 ; remove 0x0 0x1000",
+        "column 16: no such clause: remove",
+    ),
+    (
+        b"plan unmpa 0x0 0x1000",
+        "column 6: no such operation: unmpa; did you mean unmap?",
+    ),
+    (
+        b"plan unmapall b",
+        "column 6: unmapall; a plan has map, zero or unmap",
+    ),
+    (
+        b"job raed 0x0",
+        "column 5: no such access: raed; did you mean read?",
+    ),
+    (
+        b"job read 0x0 ; execute 0x0",
+        "column 16: no such access: execute",
+    ),
+];
+
+const FORMS: [Row; 18] = [
+    (
+        b"bind map 0x0 0x1000 b",
+        "column 23: no OFFSET; the form is map ADDR LEN NAME OFFSET",
+    ),
+    (
+        b"bind map 0x0 0x1000 ; map 0x0",
+        "column 21: no NAME; the form is map ADDR LEN NAME OFFSET",
+    ),
+    (
+        b"space 0x0 0x1000",
+        "column 18: no RSTART; the form is space START LEN RSTART RLEN",
+    ),
+    (b"at", "column 4: no ADDR; the form is at ADDR"),
+    (
+        b"plan",
+        "column 6: no OPERATION; the form is plan OPERATION",
+    ),
+    (
+        b"job",
+        "column 5: no ACCESS; the form is job ACCESS ; ACCESS ..",
+    ),
+    (b"job read", "column 10: no ADDR; the form is read ADDR"),
+    (b"map 0x0", "column 5: 0x0; nothing stands behind map"),
+    (b"uses b 1", "column 8: 1; nothing stands behind uses NAME"),
+    (
+        b"bind unmap 0x0 0x1000 ro",
+        "column 23: ro; nothing stands behind unmap ADDR LEN",
+    ),
+    (
+        b"bind zero 0x0 0x1000 ro ro",
+        "column 25: ro; nothing stands behind zero ADDR LEN",
+    ),
+    (
+        b"bind zero 0x0 0x1000 rw",
+        "column 22: rw; only ro may stand here",
+    ),
+    (
+        b"bind map 0x0 0x1000 b 0x0 RO",
+        "column 27: RO; only ro may stand here",
+    ),
+    (
+        b"plan zero 0x0 0x1000 readonly",
+        "column 22: readonly; only ro may stand here",
+    ),
+    (
+        b"bind ; unmap 0x0 0x1000",
+        "column 6: an empty clause; one stands on each side of ;",
+    ),
+    (
+        b"bind unmap 0x0 0x1000 ;",
+        "column 25: an empty clause; one stands on each side of ;",
+    ),
+    (
+        b"destroy b ; destroy c",
+        "column 11: ; stands between clauses and between accesses alone",
+    ),
+    (
+        b"bind queue 1 ; queue 1",
+        "column 16: a second queue clause; there is at most one",
+    ),
+];
+
+const NAMES: [Row; 6] = [
+    (b"buffer zero 1", "column 8: zero; zero is no name"),
+    (b"buffer Ring 1", "column 8: Ring; a name begins with a-z"),
+    (b"buffer 1b 1", "column 8: 1b; a name begins with a-z"),
+    (
+        b"buffer my-buf 1",
+        "column 10: my-buf; a name has a-z, 0-9 and _ alone",
+    ),
+    (
+        b"buffer a_3456789012345_7 1",
+        "column 8: a_3456789012345_7; a name has at most 16 bytes",
+    ),
+    (b"bind wait T 1", "column 11: T; a name begins with a-z"),
+];
+
+const NUMBERS: [Row; 18] = [
+    (
+        b"at 0xA000",
+        "column 6: 0xA000; hexadecimal digits are 0-9a-f",
+    ),
+    (b"at 0x1g", "column 7: 0x1g; hexadecimal digits are 0-9a-f"),
+    (b"at 04", "column 4: 04; a number has no leading zero"),
+    (b"at 0x", "column 4: 0x; digits 0-9a-f stand behind 0x"),
+    (b"at 0X10", "column 5: 0X10; hexadecimal begins with 0x"),
+    (
+        b"at 0x00000000000001000",
+        "column 4: 0x00000000000001000; at most 16 digits stand behind 0x",
+    ),
+    (
+        b"at 18446744073709551616",
+        "column 4: 18446744073709551616; a number is below 2^64",
+    ),
+    (b"at -1", "column 4: -1; a number has no sign"),
+    (b"at +1", "column 4: +1; a number has no sign"),
+    (
+        b"at 4_096",
+        "column 5: 4_096; decimal digits are 0-9, and hexadecimal begins with 0x",
+    ),
+    (
+        b"at 4,096",
+        "column 5: 4,096; decimal digits are 0-9, and hexadecimal begins with 0x",
+    ),
+    (
+        b"at 80a0",
+        "column 6: 80a0; decimal digits are 0-9, and hexadecimal begins with 0x",
+    ),
+    (
+        b"at top",
+        "column 4: top; a number is decimal, or 0x and digits 0-9a-f",
+    ),
+    (b"told 16", "column 6: 16; a queue is below 16"),
+    (b"bind queue 16", "column 12: 16; a queue is below 16"),
+    (
+        b"bind queue 0x1",
+        "column 12: 0x1; the number of a queue clause is decimal",
+    ),
+    (
+        b"bind queue 01",
+        "column 12: 01; a number has no leading zero",
+    ),
+    (
+        b"bind queue one",
+        "column 12: one; a number is decimal, or 0x and digits 0-9a-f",
+    ),
+];
+
+/// What is said of a line that is bad in a dialogue.
+const DIALOGUE: [Row; 5] = [
+    (b"turn", "column 6: no QUEUE; the form is turn QUEUE"),
+    (b"turn 16", "column 6: 16; a queue is below 16"),
+    (
+        b"put zero 0x0",
+        "column 14: no LEN; the form is zero ADDR LEN",
+    ),
+    (b"shwo 1", "no such line: shwo; did you mean show?"),
+    (b"past", "column 6: no ADDR; the form is past ADDR"),
+];
+
+/// What is said of a line of a script.
+fn said(alloc: Global, text: &[u8]) -> Result<String, Fail> {
+    let slip = explain(alloc, text).ok_or("a line of the language")?;
+    Ok(format!(in alloc; "{slip}")?)
+}
+
+#[test]
+fn says_why_lines_are_bad(rt: HostRuntime) -> Result<(), Fail> {
+    let alloc = rt.alloc();
+    let rows = BYTES.iter().chain(&BEGINNINGS).chain(&FORMS);
+    for (text, want) in rows.chain(&NAMES).chain(&NUMBERS) {
+        assert_eq!(rt; said(alloc, text)?.as_str(), *want);
+    }
+    Ok(())
+}
+
+#[test]
+fn says_why_lines_are_bad_in_a_dialogue(rt: HostRuntime) -> Result<(), Fail> {
+    let alloc = rt.alloc();
+    for (text, want) in &DIALOGUE {
+        let slip = explain_serve(alloc, text).ok_or("a line of a dialogue")?;
+        let said = format!(in alloc; "{slip}")?;
+        assert_eq!(rt; said.as_str(), *want);
+    }
+    Ok(())
+}
+
+#[test]
+fn says_nothing_of_good_lines(rt: HostRuntime) {
+    for text in [
+        b"".as_slice(),
+        b"# any text",
+        b"bind",
+        b"bind zero 0x0 0x1000 ro ; queue 15",
+    ] {
+        assert!(rt; explain(rt.alloc(), text).is_none());
+    }
+}
