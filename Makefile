@@ -10,7 +10,7 @@ SOURCES := crates.txt HANDLES $(shell find crates -type f \( -name '*.rt' -o -na
 build: vmbind
 
 vmbind: $(SOURCES)
-	@echo 'Proves the program and the fourteen crates below it, then builds it: 56 minutes of processor time, less where an'
+	@echo 'Proves the program and the crates below it, then builds it: an hour and a half of processor time, less where an'
 	@echo 'earlier run has left its proofs. "make run" shows the first example without them.'
 	@RT="$(RT)" tools/prove gv_cli
 	cd $(PROGRAM) && $(RT) run -- --help > /dev/null
@@ -32,13 +32,15 @@ try:
 
 # The gate: every proof from nothing, the must-fail edits, the tests and the programs. Before it, what no contract can
 # say: that the functions of the timelines wait for nobody (a function may wait only under a bound of that name), and that
-# the documents name what there is.
+# the documents name what there is. Behind it, a dialogue over two pipes with the program that was built, which says nothing
+# where all is well.
 # Where each core has 4 GiB of free memory, which no part was seen to hold, as many parts run at once as there are cores; else
 # the toolchain chooses, which reckons up to 7.4 GB for a part.
 LANES = $(shell awk -v cores="$$(nproc)" '/^MemAvailable:/ && $$2 >= cores * 4194304 { print cores }' /proc/meminfo 2>/dev/null)
 test: check-documents
 	@! grep -rnw Wait crates/gv_sync/src
 	RT_JOBS=$(LANES) $(RT) ci
+	@sh examples/dialogue.sh $(PROGRAM)/out/gv_cli > /dev/null
 
 # Paths, names of the code, links and counts in the documents.
 check-documents:
