@@ -20,10 +20,10 @@ fn zeros() -> Option<Place> {
     })
 }
 
-fn unmap(page: u64, count: u64) -> Op {
+fn unmap(page: u32, count: u32) -> Op {
     Op::Unmap {
-        addr: page * PAGE_BYTES,
-        len: count * PAGE_BYTES,
+        addr: u64::from(page) * PAGE_BYTES,
+        len: u64::from(count) * PAGE_BYTES,
     }
 }
 
