@@ -49,7 +49,7 @@ impl<'a> Slip<'a> {
     /// A line of over `LINE_LIMIT` bytes.
     pub fn too_long() -> Self {
         Slip {
-            column: LINE_LIMIT + 1,
+            column: LINE_LIMIT as u64 + 1,
             reason: Reason::Layout(Layout::TooLong),
         }
     }
@@ -60,6 +60,11 @@ impl<'a> Slip<'a> {
             column: (bytes as u64).saturating_add(1),
             reason: Reason::Layout(Layout::NoLineEnd),
         }
+    }
+
+    /// The column, where the text says it.
+    pub fn shown_column(&self) -> Option<u64> {
+        self.reason.has_column().then_some(self.column)
     }
 }
 
@@ -77,8 +82,7 @@ impl Reason<'_> {
 
 impl fmt::Display for Slip<'_> {
     fn fmt<W: fmt::Write>(&self, f: &mut fmt::Formatter<W>) -> fmt::Result {
-        let column = self.column;
-        if self.reason.has_column() {
+        if let Some(column) = self.shown_column() {
             write!(f, "column {column}: ")?;
         }
         let reason = &self.reason;

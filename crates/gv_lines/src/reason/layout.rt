@@ -2,7 +2,7 @@
 use std::fmt;
 
 /// How many bytes a line has at most, without its line end.
-pub const LINE_LIMIT: u64 = 1_048_576;
+pub const LINE_LIMIT: usize = 1_048_576;
 
 /// Why the bytes of a line are not words with one space between them.
 #[derive(Clone, Copy, Debug)]

@@ -37,6 +37,8 @@ pub enum Place<'a> {
     FirstPart { word: &'a [u8] },
     /// In a threads script a `bind` line stands before all questions.
     SecondPart,
+    /// In a dialogue a `bind` line stands where no request waits on its queue.
+    Busy { queue: u64 },
 }
 
 impl fmt::Display for Place<'_> {
@@ -62,6 +64,10 @@ impl fmt::Display for Place<'_> {
                 write!(f, "{word} stands before all bind lines and questions")
             }
             Place::SecondPart => f.write_str("bind stands before all questions"),
+            Place::Busy { queue } => write!(
+                f,
+                "requests wait on queue {queue}; turn {queue} serves them"
+            ),
         }
     }
 }
