@@ -13,4 +13,5 @@ mod space;
 mod stop;
 mod words;
 
+pub use object::Json;
 pub use reply::{write_bad, write_no_memory, write_reply};

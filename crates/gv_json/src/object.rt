@@ -15,13 +15,19 @@ pub struct Json {
 
 impl Json {
     /// An object that is the reply to the line of this number.
-    pub fn new(alloc: Global, line: u64) -> Result<Json, AllocError> {
+    pub(crate) fn new(alloc: Global, line: u64) -> Result<Json, AllocError> {
+        let mut json = Json::open(alloc)?;
+        json.number("line", line)?;
+        Ok(json)
+    }
+
+    /// An object with no member yet.
+    pub fn open(alloc: Global) -> Result<Json, AllocError> {
         let mut json = Json {
             out: json::Writer::new(Vec::new(alloc)),
             digits: String::new(alloc),
         };
         json.open_object()?;
-        json.number("line", line)?;
         Ok(json)
     }
 
