@@ -106,8 +106,11 @@ serve_line = with_rule (with_flag (new_app (codes "serve")) (codes "json")) file
 abbrev pub replay_options : App
 replay_options = with_rule (with_rule (with_rule (with_rule (new_app (codes "replay")) format_rule) addresses_rule) flags_rule) pid_rule
 
+abbrev pub replay_forms : App
+replay_forms = with_flag (with_flag (with_flag replay_options (codes "json")) (codes "script")) (codes "draw")
+
 abbrev pub replay_line : App
-replay_line = with_rule (with_flag (with_flag replay_options (codes "all")) (codes "script")) file_rule
+replay_line = with_rule (with_rule (with_flag replay_forms (codes "all")) width_rule) file_rule
 
 abbrev pub draw_line : App
 draw_line = with_rule (with_rule (with_rule (new_app (codes "draw")) at_rule) width_rule) file_rule

@@ -2,7 +2,7 @@
 ghost use Rattle.std.specs.Prelude.{◌≡◌, IfOk, false};
 ghost use Rattle.clap.specs.Words.{app_of, rule_of};
 ghost use Rattle.gv_words.specs.CommandLine.{file_rule, flag_rule, list_rule, format_rule, addresses_rule, flags_rule, pid_rule, at_rule, width_rule, queues_rule, turns_rule};
-ghost use Rattle.gv_words.specs.CommandLine.{IsLine, bare_line, compare_line, draw_line, replay_line, replay_options, run_line, serve_line, threads_line};
+ghost use Rattle.gv_words.specs.CommandLine.{IsLine, bare_line, compare_line, draw_line, replay_forms, replay_line, replay_options, run_line, serve_line, threads_line};
 
 use crate::help;
 use clap::builder::{ArgAction, ValueParser};
@@ -58,10 +58,20 @@ pub fn serve_command<'a>(alloc: Global) -> Result<Command<'a>, AllocError>
 pub fn replay_command<'a>(alloc: Global) -> Result<Command<'a>, AllocError>
     ensures { IfOk result (IsLine replay_line) }
 {
-    replay_options(alloc)?
+    replay_forms(alloc)?
         .arg(flag_arg(alloc, "all", help::ALL))?
-        .arg(flag_arg(alloc, "script", help::AS_SCRIPT))?
+        .arg(width_arg(alloc))?
         .arg(file_arg(alloc))
+}
+
+/// `replay` with its options and the forms of its answer.
+fn replay_forms<'a>(alloc: Global) -> Result<Command<'a>, AllocError>
+    ensures { IfOk result (IsLine replay_forms) }
+{
+    replay_options(alloc)?
+        .arg(flag_arg(alloc, "json", help::AS_JSON))?
+        .arg(flag_arg(alloc, "script", help::AS_SCRIPT))?
+        .arg(flag_arg(alloc, "draw", help::AS_PICTURE))
 }
 
 /// `replay` with its options.

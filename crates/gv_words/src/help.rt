@@ -69,8 +69,15 @@ pub const PID: &str = "The process whose events count";
 /// What `--all` says.
 pub const ALL: &str = "Tells all places of a finding, and not three";
 
+/// What `--json` of a log says.
+pub const AS_JSON: &str = "Writes the report as one line of JSON";
+
 /// What `--script` says.
 pub const AS_SCRIPT: &str = "Writes a script in place of the report";
+
+/// What `--draw` says.
+pub const AS_PICTURE: &str =
+    "Writes a picture in place of the report, as SVG, around the first address if one is given";
 
 /// What `draw` does.
 pub const DRAW: &str = "Runs a script and writes a picture of it, as SVG";

@@ -85,7 +85,11 @@ pub struct ReplayWords<'a> {
     pub flags: Option<&'a str>,
     pub pid: Option<u64>,
     pub all: bool,
+    pub json: bool,
     pub script: bool,
+    pub draw: bool,
+    /// How many pixels wide a picture is.
+    pub width: u64,
     pub file: Option<&'a str>,
 }
 
@@ -190,7 +194,10 @@ fn replay_of<'a>(alloc: Global, given: &ArgMatches<'a>) -> Result<Task<'a>, Allo
         flags: given.get_str("flags"),
         pid: given.get_one::<u64>("pid"),
         all: given.get_flag("all"),
+        json: given.get_flag("json"),
         script: given.get_flag("script"),
+        draw: given.get_flag("draw"),
+        width: given.get_one::<u64>("width").unwrap_or(MAX_WIDTH),
         file: given.get_str("file"),
     }))
 }
