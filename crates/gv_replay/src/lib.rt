@@ -6,14 +6,18 @@
 //! ```
 #![tactic(auto)]
 
+mod alive;
 mod amdgpu_line;
 mod cursor;
 mod fault;
 mod gpuvas_line;
+mod json_place;
+mod json_report;
 mod line_reader;
 mod machine;
 mod mapper;
 mod objects;
+mod outcome;
 mod past;
 mod player;
 mod radv;
@@ -33,6 +37,6 @@ pub use fault::ReplayFault;
 pub use row::{Act, Cause, Moment};
 pub use run::{replay, watch};
 pub use sizes::{Sizes, measure};
-pub use terms::{FlagBits, Format, Terms};
-pub use text::{number_of, write_act};
+pub use terms::{FlagBits, Form, Format, Terms};
+pub use text::{number_of, write_act, write_op, write_time};
 pub use watcher::{Nobody, Watcher};

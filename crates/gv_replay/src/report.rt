@@ -1,13 +1,11 @@
-//! The report of a replay.
+//! The report of a replay, as text.
 
-use crate::machine::Machine;
+use crate::alive::Alive;
+use crate::outcome::Outcome;
 use crate::past::Past;
 use crate::tally::{Finding, Tally};
 use crate::text::{write_act, write_entry, write_place};
-use gv_space::Space;
-use gv_types::{Backing, PAGE_BYTES};
-use std::alloc::{AllocError, Global};
-use std::collections::HashSet;
+use std::alloc::AllocError;
 use std::fmt::Write;
 
 /// Bytes of a KiB and of a MiB. Less than `FEW` of the latter are told as the former.
@@ -17,8 +15,18 @@ const MIB: u64 = 1 << 20;
 
 const FEW: u64 = 10;
 
+/// Writes what a replay came to.
+pub fn write_report(out: &mut String, outcome: &Outcome) -> Result<(), AllocError> {
+    write_tally(out, &outcome.tally)?;
+    write_alive(out, &outcome.alive)?;
+    for past in &outcome.pasts {
+        write_past(out, past, outcome.first)?;
+    }
+    Ok(())
+}
+
 /// Writes what was counted, and where each finding was made.
-pub fn write_tally(out: &mut String, tally: &Tally) -> Result<(), AllocError> {
+fn write_tally(out: &mut String, tally: &Tally) -> Result<(), AllocError> {
     let (binds, buffers, over) = (tally.binds, tally.buffers, tally.passed_over);
     writeln!(
         out,
@@ -48,24 +56,14 @@ fn write_finding(out: &mut String, name: &str, finding: &Finding) -> Result<(), 
 }
 
 /// Writes what is alive.
-pub fn write_alive(alloc: Global, out: &mut String, space: &Space) -> Result<(), AllocError> {
-    let mut buffers = HashSet::new(alloc);
-    let mut pages: u64 = 0;
-    let mut mappings: u64 = 0;
-    for mapping in space.list().iter() {
-        mappings = mappings.saturating_add(1);
-        pages = pages.saturating_add(mapping.range.count());
-        if let Backing::Buffer { id, .. } = mapping.backing {
-            let _is_new = buffers.insert(id.generation.get())?;
-        }
-    }
-    let count = buffers.len();
+fn write_alive(out: &mut String, alive: &Alive) -> Result<(), AllocError> {
+    let (mappings, buffers) = (alive.mappings, alive.buffers);
     write!(
         out,
-        "{mappings:>6} mappings alive at the end, of {count} buffers, "
+        "{mappings:>6} mappings alive at the end, of {buffers} buffers, "
     )?;
-    write_size(out, pages.saturating_mul(PAGE_BYTES))?;
-    let [four, three, two, one, zero] = space.tables();
+    write_size(out, alive.bytes)?;
+    let [four, three, two, one, zero] = alive.tables;
     writeln!(out, "; tables {four} {three} {two} {one} {zero}")
 }
 
@@ -81,7 +79,7 @@ fn write_size(out: &mut String, bytes: u64) -> Result<(), AllocError> {
 }
 
 /// Writes what an address reaches and reached before.
-pub fn write_past(out: &mut String, past: &Past, first: u64) -> Result<(), AllocError> {
+fn write_past(out: &mut String, past: &Past, first: u64) -> Result<(), AllocError> {
     let addr = past.addr;
     write!(out, "0x{addr:x}: ")?;
     write_entry(out, past.now, addr)?;

@@ -1,5 +1,6 @@
 //! What is asked of a replay.
 
+use crate::radv_line::cut;
 use crate::sizes::Sizes;
 
 /// Who wrote the log.
@@ -19,6 +20,14 @@ impl Format {
         match self {
             Format::Radv => false,
             Format::Amdgpu | Format::Gpuvas => true,
+        }
+    }
+
+    /// An address as the format writes it: RADV cuts it to 48 bits.
+    pub fn address(self, addr: u64) -> u64 {
+        match self {
+            Format::Radv => cut(addr),
+            Format::Amdgpu | Format::Gpuvas => addr,
         }
     }
 }
@@ -45,6 +54,17 @@ impl FlagBits {
     }
 }
 
+/// What is written of a replay.
+#[derive(Clone, Copy, Debug, PartialEq, Eq)]
+pub enum Form {
+    /// The report as text.
+    Report,
+    /// The report as one object of JSON on one line.
+    Json,
+    /// The operations as a script, in place of the report.
+    Script,
+}
+
 /// What is asked of a replay.
 #[derive(Clone, Copy)]
 pub struct Terms<'a> {
@@ -56,8 +76,7 @@ pub struct Terms<'a> {
     pub addresses: &'a [u64],
     /// Each finding is told with all places where it was made, and not with three.
     pub all: bool,
-    /// The events are written as a script, in place of the report.
-    pub script: bool,
+    pub form: Form,
     /// What `measure` gave for the log, if it was asked. Without it an object whose size no line tells is as large as can be.
     pub sizes: Option<&'a Sizes>,
 }
@@ -71,7 +90,7 @@ impl<'a> Terms<'a> {
             pid: None,
             addresses: &[],
             all: false,
-            script: false,
+            form: Form::Report,
             sizes: None,
         }
     }
@@ -85,7 +104,7 @@ impl<'a> Terms<'a> {
             pid: self.pid,
             addresses: self.addresses,
             all: self.all,
-            script: self.script,
+            form: self.form,
             sizes: known,
         }
     }

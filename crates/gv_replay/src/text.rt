@@ -17,7 +17,7 @@ pub fn number_of(id: &BufferId) -> u64 {
 }
 
 /// Writes the name of a buffer.
-fn write_buffer(out: &mut String, id: &BufferId) -> Result<(), AllocError> {
+pub fn write_buffer(out: &mut String, id: &BufferId) -> Result<(), AllocError> {
     let number = number_of(id);
     write!(out, "b{number}")
 }
@@ -62,11 +62,18 @@ pub fn write_moment(out: &mut String, moment: Moment) -> Result<(), AllocError> 
     let line = moment.line;
     write!(out, "line {line}")?;
     if let Some(time) = moment.time {
-        let seconds = time / SECOND;
-        let rest = time % SECOND / MICROSECOND;
-        write!(out, ", {seconds}.{rest:06} s")?;
+        out.push_str(", ")?;
+        write_time(out, time)?;
+        out.push_str(" s")?;
     }
     out.push_str(": ")
+}
+
+/// Writes a time in seconds, cut to microseconds.
+pub fn write_time(out: &mut String, time: u64) -> Result<(), AllocError> {
+    let seconds = time / SECOND;
+    let rest = time % SECOND / MICROSECOND;
+    write!(out, "{seconds}.{rest:06}")
 }
 
 /// Writes when an operation was, what it was, and why.
@@ -79,6 +86,12 @@ pub fn write_act(out: &mut String, act: &Act) -> Result<(), AllocError> {
     }
 }
 
+/// The byte of a buffer that an address reaches in a page of it.
+pub fn byte_of(page: u64, addr: u64) -> u64 {
+    page.wrapping_mul(PAGE_BYTES)
+        .wrapping_add(addr % PAGE_BYTES)
+}
+
 /// Writes what an address reaches, in bytes of its buffer.
 pub fn write_entry(out: &mut String, entry: Option<Entry>, addr: u64) -> Result<(), AllocError> {
     let Some(Entry { backing, flags }) = entry else {
@@ -86,9 +99,7 @@ pub fn write_entry(out: &mut String, entry: Option<Entry>, addr: u64) -> Result<
     };
     match backing {
         Backing::Buffer { id, page } => {
-            let byte = page
-                .wrapping_mul(PAGE_BYTES)
-                .wrapping_add(addr % PAGE_BYTES);
+            let byte = byte_of(page, addr);
             write_buffer(out, &id)?;
             write!(out, " 0x{byte:x}")?;
         }

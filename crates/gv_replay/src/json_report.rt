@@ -1,0 +1,93 @@
+//! The report of a replay as JSON.
+
+use crate::alive::Alive;
+use crate::json_place::JsonWriter;
+use crate::outcome::Outcome;
+use crate::past::{Before, Past};
+use crate::tally::{Finding, Tally};
+use std::alloc::{AllocError, Global};
+
+/// Writes what a replay came to: one object, on a line of its own.
+pub fn write_json(alloc: Global, out: &mut String, outcome: &Outcome) -> Result<(), AllocError> {
+    let mut writer = JsonWriter::new(alloc)?;
+    write_tally(&mut writer, &outcome.tally)?;
+    write_alive(&mut writer, &outcome.alive)?;
+    write_pasts(&mut writer, &outcome.pasts)?;
+    if outcome.first > 0 {
+        writer.json.number("first", outcome.first)?;
+    }
+    writer.finish(out)
+}
+
+/// The members of what was counted.
+fn write_tally(writer: &mut JsonWriter, tally: &Tally) -> Result<(), AllocError> {
+    writer.json.number("binds", tally.binds)?;
+    writer.json.number("buffers", tally.buffers)?;
+    writer.json.number("passed_over", tally.passed_over)?;
+    write_finding(writer, "over_live", &tally.over_live)?;
+    write_finding(writer, "of_nothing", &tally.of_nothing)?;
+    write_finding(writer, "still_reached", &tally.still_reached)?;
+    write_finding(writer, "to_no_memory", &tally.to_no_memory)?;
+    write_finding(writer, "refused", &tally.refused)
+}
+
+/// A finding under its key: its count, and its places.
+fn write_finding(writer: &mut JsonWriter, key: &str, finding: &Finding) -> Result<(), AllocError> {
+    writer.json.key(key)?;
+    writer.json.open_object()?;
+    writer.json.number("count", finding.count())?;
+    writer.json.key("places")?;
+    writer.json.open_list()?;
+    for place in finding.places() {
+        writer.place(place)?;
+    }
+    writer.json.close_list()?;
+    writer.json.close_object()
+}
+
+/// What is alive.
+fn write_alive(writer: &mut JsonWriter, alive: &Alive) -> Result<(), AllocError> {
+    writer.json.key("alive")?;
+    writer.json.open_object()?;
+    writer.json.number("mappings", alive.mappings)?;
+    writer.json.number("buffers", alive.buffers)?;
+    writer.json.number("bytes", alive.bytes)?;
+    writer.json.key("tables")?;
+    writer.json.open_list()?;
+    for count in &alive.tables {
+        writer.json.item(*count)?;
+    }
+    writer.json.close_list()?;
+    writer.json.close_object()
+}
+
+/// The list of the addresses that are asked.
+fn write_pasts(writer: &mut JsonWriter, pasts: &[Past]) -> Result<(), AllocError> {
+    writer.json.key("at")?;
+    writer.json.open_list()?;
+    for past in pasts {
+        write_past(writer, past)?;
+    }
+    writer.json.close_list()
+}
+
+/// An address: what it reaches, and what it reached before each line that covers it.
+fn write_past(writer: &mut JsonWriter, past: &Past) -> Result<(), AllocError> {
+    writer.json.open_object()?;
+    writer.json.address("addr", past.addr)?;
+    writer.entry("place", past.now, past.addr)?;
+    writer.json.key("before")?;
+    writer.json.open_list()?;
+    for before in &past.before {
+        write_before(writer, before, past.addr)?;
+    }
+    writer.json.close_list()?;
+    writer.json.close_object()
+}
+
+fn write_before(writer: &mut JsonWriter, before: &Before, addr: u64) -> Result<(), AllocError> {
+    writer.json.open_object()?;
+    writer.act(&before.act)?;
+    writer.entry("place", before.entry, addr)?;
+    writer.json.close_object()
+}

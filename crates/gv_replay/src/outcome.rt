@@ -1,0 +1,53 @@
+//! What a replay came to.
+
+use crate::alive::Alive;
+use crate::past::{Past, pasts_of};
+use crate::replaying::Left;
+use crate::tally::Tally;
+use crate::terms::Terms;
+use std::alloc::{AllocError, Global};
+
+/// What was counted, what is alive, and the past of each address that was asked.
+#[derive(Drop)]
+pub struct Outcome {
+    pub tally: Tally,
+    pub alive: Alive,
+    pub pasts: Vec<Past>,
+    /// How many binds are no longer held, so that no past has them.
+    pub first: u64,
+}
+
+impl Outcome {
+    /// What a replay left, which is closed.
+    pub fn of(alloc: Global, left: Left, terms: &Terms<'_>) -> Result<Outcome, AllocError> {
+        let Left {
+            mut machine,
+            mut acts,
+            tally,
+        } = left;
+        let first = machine.first();
+        let alive = Alive::of(alloc, machine.space());
+        let pasts = match addresses_of(alloc, terms) {
+            Ok(addresses) => pasts_of(alloc, &mut machine, &mut acts, &addresses),
+            Err(error) => Err(error),
+        };
+        machine.close();
+        let alive = alive?;
+        let pasts = pasts?;
+        Ok(Outcome {
+            tally,
+            alive,
+            pasts,
+            first,
+        })
+    }
+}
+
+/// The addresses that are asked, as the format writes them.
+fn addresses_of(alloc: Global, terms: &Terms<'_>) -> Result<Vec<u64>, AllocError> {
+    let mut addresses = Vec::new(alloc);
+    for addr in terms.addresses {
+        addresses.push(terms.format.address(*addr))?;
+    }
+    Ok(addresses)
+}
