@@ -1,7 +1,7 @@
 //! Devices that fail.
 
 use crate::play::RADV;
-use gv_replay::{ReplayFault, Terms, replay};
+use gv_replay::{Form, ReplayFault, Terms, replay};
 use gv_text::{MemorySink, MemorySource, ReadSource, WriteSink};
 use std::io;
 use std::io::{Read, Write};
@@ -54,10 +54,14 @@ fn a_failed_read_is_told(rt: HostRuntime) {
 #[test]
 fn a_failed_write_is_told(rt: HostRuntime) {
     let script = Terms {
-        script: true,
+        form: Form::Script,
         ..RADV
     };
-    for terms in [RADV, script] {
+    let json = Terms {
+        form: Form::Json,
+        ..RADV
+    };
+    for terms in [RADV, script, json] {
         let mut sink = WriteSink::new(Stuck);
         let played = replay(rt.alloc(), &mut MemorySource::new(MADE), &mut sink, &terms);
         assert!(rt; played == Err(ReplayFault::WriteFault));

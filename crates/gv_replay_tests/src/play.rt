@@ -1,6 +1,6 @@
 //! A log in memory, replayed.
 
-use gv_replay::{FlagBits, Format, ReplayFault, Terms, measure, replay};
+use gv_replay::{FlagBits, Form, Format, ReplayFault, Terms, measure, replay};
 use gv_text::{MemorySink, MemorySource};
 use std::alloc::Global;
 use std::process::Abort;
@@ -20,7 +20,7 @@ pub const RADV: Terms<'static> = Terms {
     pid: None,
     addresses: &[],
     all: false,
-    script: false,
+    form: Form::Report,
     sizes: None,
 };
 
@@ -30,7 +30,7 @@ pub const AMDGPU: Terms<'static> = Terms {
     pid: None,
     addresses: &[],
     all: false,
-    script: false,
+    form: Form::Report,
     sizes: None,
 };
 
@@ -40,7 +40,7 @@ pub const GPUVAS: Terms<'static> = Terms {
     pid: None,
     addresses: &[],
     all: false,
-    script: false,
+    form: Form::Report,
     sizes: None,
 };
 

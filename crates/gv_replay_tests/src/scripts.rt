@@ -1,12 +1,12 @@
 //! Logs written as scripts.
 
 use crate::play::{RADV, play};
-use gv_replay::Terms;
+use gv_replay::{Form, Terms};
 use gv_text::{MemorySink, MemorySource, run_script};
 use std::test::Fail;
 
 const SCRIPT: Terms<'static> = Terms {
-    script: true,
+    form: Form::Script,
     ..RADV
 };
 
