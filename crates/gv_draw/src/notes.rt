@@ -2,6 +2,7 @@
 
 use crate::boxes::Boxes;
 use crate::history::History;
+use crate::row::RowKind;
 use crate::sizes::write_count;
 use std::alloc::AllocError;
 use std::fmt::Write;
@@ -26,7 +27,11 @@ pub fn write_notes(
     words.push_str(
         "A seam between boxes of one colour is a split: nothing is joined to a neighbour. ",
     )?;
-    words.push_str("Yellow rows take something back, red ones are refused. ")?;
+    words.push_str(if has_freed(history) {
+        "Yellow rows take something back, red ones are refused or free memory. "
+    } else {
+        "Yellow rows take something back, red ones are refused. "
+    })?;
     if has_tables {
         words.push_str("tables: how many of the levels 4 to 0. ")?;
     }
@@ -43,4 +48,12 @@ pub fn write_notes(
         words.push_str("es are left out. ")?;
     }
     Ok(())
+}
+
+/// Whether some row shows memory that was freed.
+fn has_freed(history: &History) -> bool {
+    history
+        .rows
+        .iter()
+        .any(|row| row.told.kind == RowKind::Freed)
 }
