@@ -10,7 +10,7 @@ use Rattle.gv_threads.specs.declared.fault.ThreadsFault.{ThreadsFault}
 use Rattle.gv_threads.specs.declared.fault.ThreadsFault.TheVariants as threads
 use Rattle.gv_cli.specs.Status.{bad_queues, bad_script, bad_words, broken_stream, no_memory}
 use Rattle.gv_cli.specs.declared.fault.ProgramFault.{ProgramFault}
-use Rattle.gv_cli.specs.declared.fault.ProgramFault.TheVariants.{Script, Queues, ArgumentNotText, NotOpened, NoFormat, NoFlags, NoAddress, NoLine}
+use Rattle.gv_cli.specs.declared.fault.ProgramFault.TheVariants.{Script, Queues, ArgumentNotText, NotOpened, NoFormat, NoFlags, TwoForms, NoAddress, NoLine}
 
 -- the exit status of a script that ended early
 abbrev pub script_status : ScriptFault → ℕ
@@ -34,6 +34,7 @@ status_of ArgumentNotText = bad_words
 status_of NotOpened = broken_stream
 status_of NoFormat = bad_words
 status_of NoFlags = bad_words
+status_of TwoForms = bad_words
 status_of NoAddress = bad_words
 status_of NoLine = bad_script
 
@@ -51,6 +52,7 @@ line_of_fault ArgumentNotText = codes "vmbind: argument is not text"
 line_of_fault NotOpened = codes "vmbind: file not opened"
 line_of_fault NoFormat = codes "vmbind: no such format"
 line_of_fault NoFlags = codes "vmbind: no such flags"
+line_of_fault TwoForms = codes "vmbind: more than one form"
 line_of_fault NoAddress = codes "vmbind: not an address"
 line_of_fault NoLine = codes "vmbind: no line of this format"
 

@@ -28,6 +28,8 @@ pub enum ProgramFault {
     NoFormat,
     /// The words name no meaning of flags.
     NoFlags,
+    /// The words ask for a log in more than one form.
+    TwoForms,
     /// An address in the words is no number.
     NoAddress,
     /// No line of a log is of its format.
@@ -45,6 +47,7 @@ impl ProgramFault {
             ProgramFault::ArgumentNotText
             | ProgramFault::NoFormat
             | ProgramFault::NoFlags
+            | ProgramFault::TwoForms
             | ProgramFault::NoAddress => BAD_WORDS,
             ProgramFault::NotOpened => BROKEN_STREAM,
             ProgramFault::NoLine => BAD_SCRIPT,
@@ -98,6 +101,7 @@ impl fmt::Display for ProgramFault {
             ProgramFault::NotOpened => write!(f, "vmbind: file not opened"),
             ProgramFault::NoFormat => write!(f, "vmbind: no such format"),
             ProgramFault::NoFlags => write!(f, "vmbind: no such flags"),
+            ProgramFault::TwoForms => write!(f, "vmbind: more than one form"),
             ProgramFault::NoAddress => write!(f, "vmbind: not an address"),
             ProgramFault::NoLine => write!(f, "vmbind: no line of this format"),
         }

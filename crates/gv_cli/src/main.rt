@@ -5,6 +5,7 @@ mod comparing;
 mod drawing;
 mod fault;
 mod files;
+mod log_drawing;
 mod program;
 mod replaying;
 mod serving;

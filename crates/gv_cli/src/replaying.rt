@@ -3,8 +3,9 @@ ghost use Rattle.gv_cli.specs.Status.{IsStatus};
 
 use crate::fault::{ProgramFault, told};
 use crate::files::{address, opened, read_all};
+use crate::log_drawing::draw_log;
 use crate::status::DONE;
-use gv_replay::{FlagBits, Format, ReplayFault, Sizes, Terms, measure, replay as play};
+use gv_replay::{FlagBits, Form, Format, ReplayFault, Sizes, Terms, measure, replay as play};
 use gv_text::{MemorySource, ScriptFault, Sink, Source};
 use gv_words::ReplayWords;
 use std::alloc::Global;
@@ -19,6 +20,13 @@ impl From<ReplayFault> for ProgramFault {
             ReplayFault::OutOfMemory => ProgramFault::Script(ScriptFault::OutOfMemory),
         }
     }
+}
+
+/// What is asked of a log: its terms, and how many pixels wide it is drawn, if it is.
+#[derive(Clone, Copy)]
+struct Asked<'a> {
+    terms: Terms<'a>,
+    width: Option<u64>,
 }
 
 /// Replays a log, and gives the exit status.
@@ -46,18 +54,20 @@ fn replayed<T: Files, S: Source, K: Sink>(
     writer: &mut K,
 ) -> Result<(), ProgramFault> {
     let addresses = addresses_of(alloc, asked)?;
+    let (form, width) = form_of(asked)?;
     let terms = Terms {
         format: format_of(asked)?,
         flag_bits: flags_of(asked)?,
         pid: asked.pid,
         addresses: addresses.as_slice(),
         all: asked.all,
-        script: asked.script,
+        form,
         sizes: None,
     };
+    let wanted = Asked { terms, width };
     match asked.file {
-        Some(path) => replay_file(alloc, files, path, &terms, writer),
-        None => replay_input(alloc, reader, &terms, writer),
+        Some(path) => replay_file(alloc, files, path, &wanted, writer),
+        None => replay_input(alloc, reader, &wanted, writer),
     }
 }
 
@@ -66,42 +76,69 @@ fn replay_file<T: Files, K: Sink>(
     alloc: Global,
     files: &T,
     path: &str,
-    terms: &Terms<'_>,
+    asked: &Asked<'_>,
     writer: &mut K,
 ) -> Result<(), ProgramFault> {
     let mut log = opened(files, path)?;
-    if !terms.format.wants_sizes() {
-        return Ok(play(alloc, &mut log, writer, terms)?);
+    if !asked.terms.format.wants_sizes() {
+        return tell(alloc, &mut log, writer, asked);
     }
-    let sizes = measure(alloc, &mut log, terms)?;
+    let sizes = measure(alloc, &mut log, &asked.terms)?;
     let mut again = opened(files, path)?;
-    play_sized(alloc, &mut again, writer, terms, &sizes)
+    tell_sized(alloc, &mut again, writer, asked, &sizes)
 }
 
 /// The log of standard input, which is kept where it has to be read twice.
 fn replay_input<S: Source, K: Sink>(
     alloc: Global,
     reader: &mut S,
-    terms: &Terms<'_>,
+    asked: &Asked<'_>,
     writer: &mut K,
 ) -> Result<(), ProgramFault> {
-    if !terms.format.wants_sizes() {
-        return Ok(play(alloc, reader, writer, terms)?);
+    if !asked.terms.format.wants_sizes() {
+        return tell(alloc, reader, writer, asked);
     }
     let log = read_all(alloc, reader)?;
-    let sizes = measure(alloc, &mut MemorySource::new(&log), terms)?;
-    play_sized(alloc, &mut MemorySource::new(&log), writer, terms, &sizes)
+    let sizes = measure(alloc, &mut MemorySource::new(&log), &asked.terms)?;
+    tell_sized(alloc, &mut MemorySource::new(&log), writer, asked, &sizes)
 }
 
-fn play_sized<'a, S: Source, K: Sink>(
+fn tell_sized<'a, S: Source, K: Sink>(
     alloc: Global,
     log: &mut S,
     writer: &mut K,
-    terms: &Terms<'a>,
+    asked: &Asked<'a>,
     sizes: &'a Sizes,
 ) -> Result<(), ProgramFault> {
-    let sized = terms.sized(sizes);
-    Ok(play(alloc, log, writer, &sized)?)
+    let sized = Asked {
+        terms: asked.terms.sized(sizes),
+        width: asked.width,
+    };
+    tell(alloc, log, writer, &sized)
+}
+
+/// Writes a log in its form, or draws it.
+fn tell<S: Source, K: Sink>(
+    alloc: Global,
+    log: &mut S,
+    writer: &mut K,
+    asked: &Asked<'_>,
+) -> Result<(), ProgramFault> {
+    match asked.width {
+        Some(width) => Ok(draw_log(alloc, log, writer, &asked.terms, width)?),
+        None => Ok(play(alloc, log, writer, &asked.terms)?),
+    }
+}
+
+/// In which form a log is told, and how wide it is drawn, if it is. No two forms go together.
+fn form_of(asked: &ReplayWords<'_>) -> Result<(Form, Option<u64>), ProgramFault> {
+    match (asked.json, asked.script, asked.draw) {
+        (false, false, false) => Ok((Form::Report, None)),
+        (true, false, false) => Ok((Form::Json, None)),
+        (false, true, false) => Ok((Form::Script, None)),
+        (false, false, true) => Ok((Form::Report, Some(asked.width))),
+        _ => Err(ProgramFault::TwoForms),
+    }
 }
 
 /// The addresses whose past is asked.

@@ -1,6 +1,7 @@
 //! The whole program over a runtime in memory.
 
 mod fake;
+mod forms;
 mod wrong;
 
 use crate::fault::ProgramFault;

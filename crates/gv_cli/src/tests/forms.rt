@@ -1,0 +1,85 @@
+//! Logs in each of the forms in which they are told.
+
+use super::fake::{Fake, Stream};
+use super::{ended, expect, holds};
+
+const LOG: &[u8] = b"timestamp=1, VA=0000000000010000-0000000000012000, destroyed=0, is_virtual=0\n\
+    timestamp=2, VA=0000000000800000-0000000000802000, mapped_to=0000000000011000\n\
+    timestamp=3, VA=0000000000010000-0000000000012000, destroyed=1, is_virtual=0\n";
+
+#[test]
+fn tells_a_log_as_json(rt: HostRuntime) {
+    let words: [&[u8]; 5] = [b"vmbind", b"replay", b"--format", b"radv", b"--json"];
+    let got = ended(&rt, Fake::new(rt.alloc(), &words, Stream::Text(LOG)));
+    assert_eq!(rt; got.status, 0);
+    assert!(rt; got.output.starts_with(b"{\"binds\":2,\"buffers\":1,"));
+    assert!(rt; got.output.ends_with(b",\"at\":[]}\n"));
+    assert!(rt; got.errors.is_empty());
+}
+
+/// A row for each line, with its number, its operation, and what became of it; and the mappings with their buffers' names.
+#[test]
+fn draws_a_log(rt: HostRuntime) {
+    let words: [&[u8]; 7] = [
+        b"vmbind",
+        b"replay",
+        b"--format",
+        b"radv",
+        b"--draw",
+        b"--width",
+        b"1200",
+    ];
+    let got = ended(&rt, Fake::new(rt.alloc(), &words, Stream::Text(LOG)));
+    assert_eq!(rt; got.status, 0);
+    assert!(rt; got.errors.is_empty());
+    let output = got.output.as_slice();
+    assert!(rt; output.starts_with(b"<svg "));
+    assert!(rt; output.ends_with(b"</svg>\n"));
+    let parts: [&[u8]; 6] = [
+        b" width=\"1200\" ",
+        b">line 1: map 0x10000 0x2000 b1 0x0<",
+        b">0.000000 s (memory made)<",
+        b">OutOfBuffer<",
+        b">line 3: unmapall b1<",
+        b">b1",
+    ];
+    for (row, part) in parts.iter().enumerate() {
+        assert!(rt; holds(output, part), "at {row}");
+    }
+}
+
+/// Sizes are measured first where the format wants it, and the picture is around the first address.
+#[test]
+fn draws_a_log_around_an_address(rt: HostRuntime) {
+    let log = b"amdgpu_vm_bo_map: bo=0xf0, start=100, last=101, offset=0000000000, flags=70\n";
+    let words: [&[u8]; 9] = [
+        b"vmbind",
+        b"replay",
+        b"--format",
+        b"amdgpu",
+        b"--draw",
+        b"--at",
+        b"0x101000",
+        b"--at",
+        b"0x0",
+    ];
+    let got = ended(&rt, Fake::new(rt.alloc(), &words, Stream::Text(log)));
+    assert_eq!(rt; got.status, 0);
+    let output = got.output.as_slice();
+    assert!(rt; holds(output, b">Around 0x101000<"));
+    assert!(rt; holds(output, b">line 1: map 0x100000 0x2000 b1 0x0<"));
+}
+
+#[test]
+fn refuses_two_forms(rt: HostRuntime) {
+    let rows: [[&[u8]; 2]; 3] = [
+        [b"--json", b"--script"],
+        [b"--draw", b"--json"],
+        [b"--script", b"--draw"],
+    ];
+    for [first, second] in rows {
+        let words: [&[u8]; 6] = [b"vmbind", b"replay", b"--format", b"radv", first, second];
+        let got = ended(&rt, Fake::new(rt.alloc(), &words, Stream::Text(LOG)));
+        expect(&rt, &got, 2, b"", b"vmbind: more than one form\n");
+    }
+}
