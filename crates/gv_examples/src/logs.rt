@@ -1,7 +1,8 @@
-//! Composed logs of drivers beside their reports.
+//! Composed logs of drivers beside their reports, as text and as JSON.
 
-use gv_replay::{FlagBits, Format, Terms, measure, replay};
+use gv_replay::{FlagBits, Form, Format, Terms, measure, replay};
 use gv_text::{MemorySink, MemorySource};
+use std::alloc::Global;
 use std::rt::Files;
 use std::{fs, io};
 
@@ -20,7 +21,7 @@ const LOGS: [Log; 3] = [
             pid: None,
             addresses: &[0x8000_2161_3000],
             all: false,
-            script: false,
+            form: Form::Report,
             sizes: None,
         },
     },
@@ -32,7 +33,7 @@ const LOGS: [Log; 3] = [
             pid: Some(4242),
             addresses: &[0x8000_0010_5000],
             all: false,
-            script: false,
+            form: Form::Report,
             sizes: None,
         },
     },
@@ -44,7 +45,7 @@ const LOGS: [Log; 3] = [
             pid: None,
             addresses: &[0x8000_0000_7010],
             all: false,
-            script: false,
+            form: Form::Report,
             sizes: None,
         },
     },
@@ -63,17 +64,27 @@ pub fn are_reported(rt: &(impl Files + Print + AllocGlobal)) -> io::Result<bool>
     Ok(all_same)
 }
 
-/// Whether a log gives the report beside it.
+/// Whether a log gives the reports beside it.
 fn is_reported(rt: &(impl Files + AllocGlobal), log: &Log) -> io::Result<bool> {
     let alloc = rt.alloc();
     let name = log.name;
     let text = fs::read(rt, format!(in alloc; "logs/{name}.log")?)?;
-    let wanted = fs::read(rt, format!(in alloc; "logs/{name}.report")?)?;
-    let Ok(sizes) = measure(alloc, &mut MemorySource::new(&text), &log.terms) else {
-        return Ok(false);
+    let report = fs::read(rt, format!(in alloc; "logs/{name}.report")?)?;
+    let json = fs::read(rt, format!(in alloc; "logs/{name}.json")?)?;
+    let as_json = Terms {
+        form: Form::Json,
+        ..log.terms
     };
-    let terms = log.terms.sized(&sizes);
+    Ok(is_played(alloc, &text, &log.terms, &report) && is_played(alloc, &text, &as_json, &json))
+}
+
+/// Whether a log that is measured and replayed gives this.
+fn is_played(alloc: Global, log: &[u8], terms: &Terms<'_>, wanted: &[u8]) -> bool {
+    let Ok(sizes) = measure(alloc, &mut MemorySource::new(log), terms) else {
+        return false;
+    };
+    let terms = terms.sized(&sizes);
     let mut sink = MemorySink::new(alloc);
-    let played = replay(alloc, &mut MemorySource::new(&text), &mut sink, &terms);
-    Ok(played == Ok(()) && sink.bytes() == wanted.as_slice())
+    let played = replay(alloc, &mut MemorySource::new(log), &mut sink, &terms);
+    played == Ok(()) && sink.bytes() == wanted
 }
