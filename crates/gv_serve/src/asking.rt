@@ -55,10 +55,12 @@ fn say(session: &mut Session, reply: &str, out: &mut String) -> Result<(), LineF
 fn shown(alloc: Global, session: &Session, entry: u64) -> Result<String, AllocError> {
     let mut out = String::new(alloc);
     match session.world().vm().entry(entry) {
-        Some(HeldItem {
-            item,
-            is_withdrawn: _,
-        }) => write_kind(&mut out, session.buffers(), &item.kind)?,
+        Some(
+            HeldItem {
+                item,
+                is_withdrawn: _,
+            },
+        ) => write_kind(&mut out, session.buffers(), &item.kind)?,
         None => write_refused(&mut out, &Fault::NoEntry)?,
     }
     Ok(out)

@@ -12,7 +12,7 @@ use crate::fault::ServeFault;
 use crate::partial::Partial;
 use crate::talk::Talk;
 use gv_lines::split_once;
-use gv_text::{Sink, Source, WriteFault};
+use gv_text::{Sink, Source, WriteFault, tell_why};
 use gv_types::OutOfMemory;
 use std::alloc::Global;
 
@@ -176,11 +176,12 @@ impl Dialogue {
         ensures set { OnErr result (W.failed writer.new ≡ true) }
     {
         if !self.partial.is_empty() {
+            tell_why(&mut self.talk.reply, &self.partial.no_line_end());
             write_bad(
                 &mut self.talk.output,
                 writer,
                 self.talk.number,
-                b"no line end",
+                self.talk.reply.as_bytes(),
             )?;
         }
         self.talk.output.flush(writer)

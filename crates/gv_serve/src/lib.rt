@@ -14,5 +14,5 @@ mod talk;
 
 pub use dialogue::serve;
 pub use fault::ServeFault;
-pub use partial::LINE_LIMIT;
+pub use gv_lines::LINE_LIMIT;
 pub use spoken::serve_json;

@@ -2,11 +2,9 @@
 ghost use Rattle.std.specs.Prelude.{◌≡◌, ◌≤◌, ◌↔◌, ◌++◌, List, ℕ, [], IfOk, IfSome, IsTrue, MatchOption, length};
 ghost use Rattle.gv_serve.specs.Partial.{Holds, IsOver, line_limit};
 
+use gv_lines::{LINE_LIMIT, Slip};
 use std::alloc::{AllocError, Global};
 use std::marker::Model;
-
-/// The greatest number of bytes in a line, without its line end.
-pub const LINE_LIMIT: usize = 1_048_576;
 
 /// The bytes of a line so far. Of one that is too long nothing is kept.
 #[derive(Drop)]
@@ -75,6 +73,12 @@ impl Partial {
             return None;
         }
         Some(self.bytes.as_slice())
+    }
+
+    /// Why what stands behind the last line end is bad.
+    pub fn no_line_end(&self) -> Slip<'_> {
+        self.line()
+            .map_or(Slip::too_long(), |line| Slip::no_line_end(line.len()))
     }
 
     /// The next line begins.

@@ -3,9 +3,9 @@
 use crate::fault::ServeFault;
 use crate::line::serve_text;
 use crate::partial::Partial;
-use crate::reason::tell_reason;
+use crate::reason::why_bad;
 use gv_json::{write_bad, write_no_memory, write_reply};
-use gv_lines::{Slip, number_of, split_once};
+use gv_lines::{Slip, split_once};
 use gv_text::{LineFault, Output, Session, Sink, Source, WriteFault, tell_why};
 use std::alloc::{AllocError, Global};
 
@@ -21,8 +21,10 @@ pub fn serve_json<R: Source, W: Sink>(
 ) -> Result<(), ServeFault> {
     let mut speaker = Speaker {
         partial: Partial::new(alloc)?,
-        reply: String::new(alloc),
-        said: String::new(alloc),
+        saying: Saying {
+            reply: String::new(alloc),
+            json: String::new(alloc),
+        },
         output: Output::new(alloc),
         number: 1,
     };
@@ -32,13 +34,12 @@ pub fn serve_json<R: Source, W: Sink>(
     outcome
 }
 
-/// The line that is not at its end yet, the reply to the last line and its JSON, the text that is not written yet, and the number
-/// of the next line.
+/// The line that is not at its end yet, what is said of the last line, the text that is not written yet, and the number of the
+/// next line.
 #[derive(Drop)]
 struct Speaker {
     partial: Partial,
-    reply: String,
-    said: String,
+    saying: Saying,
     output: Output,
     number: u64,
 }
@@ -62,9 +63,9 @@ impl Speaker {
             self.hear(alloc, session, &chunk[..count], writer)?;
         }
         if !self.partial.is_empty() {
-            let slip = Slip::no_line_end(self.partial.line().map_or(0, |line| line.len()));
-            self.refuse(alloc, &slip);
-            self.output.push(writer, self.said.as_bytes())?;
+            let slip = self.partial.no_line_end();
+            self.saying.refuse(alloc, self.number, &slip);
+            self.output.push(writer, self.saying.json.as_bytes())?;
         }
         Ok(self.output.flush(writer)?)
     }
@@ -83,65 +84,65 @@ impl Speaker {
             self.answer(alloc, session);
             self.partial.clear();
             self.number = self.number.saturating_add(1);
-            self.output.push(writer, self.said.as_bytes())?;
+            self.output.push(writer, self.saying.json.as_bytes())?;
             rest = after;
         }
         self.partial.keep(rest);
         Ok(())
     }
 
-    /// Carries out the line that is kept, and says in JSON what it came to. Nothing for an empty line and a comment.
+    /// Answers the line that is kept.
     fn answer(&mut self, alloc: Global, session: &mut Session) {
-        self.said.clear();
+        match self.partial.line() {
+            Some(line) => self.saying.answer(alloc, session, self.number, line),
+            None => self.saying.refuse(alloc, self.number, &Slip::too_long()),
+        }
+    }
+}
+
+/// The reply to a line as text, and the same as JSON.
+#[derive(Drop)]
+struct Saying {
+    reply: String,
+    json: String,
+}
+
+impl Saying {
+    /// Carries out a line, and says in JSON what it came to. Nothing for an empty line and a comment.
+    fn answer(&mut self, alloc: Global, session: &mut Session, number: u64, line: &[u8]) {
+        self.json.clear();
         self.reply.clear();
-        let Some(line) = self.partial.line() else {
-            self.refuse(alloc, &Slip::too_long());
-            return;
-        };
         if line.is_empty() || line[0] == b'#' && line.is_ascii() {
             return;
         }
-        let number = self.number;
         let word = split_once(line, b' ').map_or(line, |parts| parts.0);
-        let answered = serve_text(alloc, session, line, &mut self.reply);
-        let said = match answered {
-            Ok(()) => write_reply(alloc, &mut self.said, number, word, self.reply.as_str()),
-            Err(LineFault::Bad) => {
-                tell_reason(alloc, session, line, &mut self.reply);
-                let reason = self.reply.as_str();
-                write_bad(alloc, &mut self.said, number, column_in(reason), reason)
+        match serve_text(alloc, session, line, &mut self.reply) {
+            Ok(()) => {
+                let reply = self.reply.as_str();
+                let said = write_reply(alloc, &mut self.json, number, word, reply);
+                self.settle(said);
             }
-            Err(LineFault::OutOfMemory) => write_no_memory(alloc, &mut self.said, number),
-        };
-        self.settle(said);
+            Err(LineFault::Bad) => self.refuse(alloc, number, &why_bad(alloc, session, line)),
+            Err(LineFault::OutOfMemory) => {
+                let said = write_no_memory(alloc, &mut self.json, number);
+                self.settle(said);
+            }
+        }
     }
 
     /// Says in JSON why a line is bad.
-    fn refuse(&mut self, alloc: Global, slip: &Slip<'_>) {
-        self.said.clear();
+    fn refuse(&mut self, alloc: Global, number: u64, slip: &Slip<'_>) {
+        self.json.clear();
         tell_why(&mut self.reply, slip);
         let reason = self.reply.as_str();
-        let said = write_bad(
-            alloc,
-            &mut self.said,
-            self.number,
-            column_in(reason),
-            reason,
-        );
+        let said = write_bad(alloc, &mut self.json, number, slip.shown_column(), reason);
         self.settle(said);
     }
 
     /// Where memory was refused, no half of a line is said.
     fn settle(&mut self, said: Result<(), AllocError>) {
         if said.is_err() {
-            self.said.clear();
+            self.json.clear();
         }
     }
-}
-
-/// The column that a reason names.
-fn column_in(reason: &str) -> Option<u64> {
-    let rest = reason.strip_prefix("column ")?;
-    let (digits, _) = split_once(rest.as_bytes(), b':')?;
-    number_of(digits)
 }

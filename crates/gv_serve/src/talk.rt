@@ -7,8 +7,9 @@ ghost use Rattle.gv_serve.specs.Partial.{line_limit, IsOver};
 
 use crate::bad::write_bad;
 use crate::line::serve_text;
-use crate::reason::tell_reason;
-use gv_text::{LineFault, Output, Session, Sink, WriteFault};
+use crate::reason::why_bad;
+use gv_lines::Slip;
+use gv_text::{LineFault, Output, Session, Sink, WriteFault, tell_why};
 use gv_types::OutOfMemory;
 use std::alloc::Global;
 
@@ -61,7 +62,7 @@ impl Talk {
         match serve_text(alloc, &mut self.session, line, &mut self.reply) {
             Ok(()) => self.output.push(writer, self.reply.as_bytes()),
             Err(LineFault::Bad) => {
-                tell_reason(alloc, &self.session, line, &mut self.reply);
+                tell_why(&mut self.reply, &why_bad(alloc, &self.session, line));
                 write_bad(&mut self.output, writer, number, self.reply.as_bytes())
             }
             Err(LineFault::OutOfMemory) => self.output.push(writer, b"out of memory\n"),
@@ -79,11 +80,7 @@ impl Talk {
     {
         let number = self.number;
         self.number = number.saturating_add(1);
-        write_bad(
-            &mut self.output,
-            writer,
-            number,
-            b"over 1,048,576 bytes in a line",
-        )
+        tell_why(&mut self.reply, &Slip::too_long());
+        write_bad(&mut self.output, writer, number, self.reply.as_bytes())
     }
 }

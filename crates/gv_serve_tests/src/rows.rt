@@ -7,7 +7,7 @@ pub struct Row {
     pub answers: &'static [u8],
 }
 
-pub const ROWS: [Row; 6] = [
+pub const ROWS: [Row; 7] = [
     Row {
         name: "lines of a script",
         input: b"buffer b 4\n# a comment\n\nbind map 0x0 0x4000 b 0x0\nat 0x1abc\n",
@@ -16,7 +16,7 @@ pub const ROWS: [Row; 6] = [
     Row {
         name: "it goes on after bad lines, and limits still come first",
         input: b"bnid\nspace 0x0 0x10000 0x0 0x0\nuses b\nlimits 2 2 2\nmap\nlimits 2 2 2\n",
-        answers: b"bad line 1: no such line\nok\nbad line 3: no such line\nok\nempty\nbad line 6: no such line\n",
+        answers: b"bad line 1: no such line: bnid; did you mean bind?\nok\nbad line 3: buffer b is not declared\nok\nempty\nbad line 6: limits stands before all other lines but space\n",
     },
     Row {
         name: "a bind that waits for a later signal",
@@ -26,16 +26,35 @@ pub const ROWS: [Row; 6] = [
     Row {
         name: "what stays in hand goes on once its wait is reached",
         input: b"timeline t\nput wait t 2\nturn 0\nraise t 2\nturn 0\ngiveup 0\nput unmapall c\nturn 16\nput map 0x0 0x1000\nbind\n",
-        answers: b"ok\nput 0\nwaits t 2 have 0\nt 2\naccepted 0\nidle\nbad line 7: no such line\nbad line 8: no such line\nbad line 9: no such line\naccepted 1\n",
+        answers: b"ok\nput 0\nwaits t 2 have 0\nt 2\naccepted 0\nidle\nbad line 7: buffer c is not declared\nbad line 8: column 6: 16; a queue is below 16\nbad line 9: column 20: no NAME; the form is map ADDR LEN NAME OFFSET\naccepted 1\n",
     },
     Row {
         name: "a bind needs its queue for itself",
         input: b"put\nbind\nbind queue 1\nturn 0\nbind\nput zero 0x1 0x1000\nturn 0\n",
-        answers: b"put 0\nbad line 2: no such line\naccepted 0\naccepted 1\naccepted 2\nput 2\nrefused 0 Unaligned\n",
+        answers: b"put 0\nbad line 2: requests wait on queue 0; turn 0 serves them\naccepted 0\naccepted 1\naccepted 2\nput 2\nrefused 0 Unaligned\n",
     },
     Row {
         name: "the last line has no line end",
         input: b"map\nmap",
         answers: b"empty\nbad line 2: no line end\n",
+    },
+    Row {
+        name: "what items did, and what they say of an address",
+        input: b"buffer b 4\nbuffer c 2\nbind map 0x0 0x4000 b 0x0\nbind unmap 0x1000 0x1000 ; zero 0x2000 0x1000 ro\nbind map 0x8000 0x1000 c 0x1000\nwithdraw 2\nbind\nshow 0\nshow 1\nshow 3\nshow 4\nshow 5\npast 0x1abc\npast 0x2abc\npast 0x8000\npast 0x20000\n",
+        answers: b"ok\nok\naccepted 0\naccepted 1\naccepted 2\nwithdrawn 2 as 3\naccepted 4\nmap 0x0 0x4000 b 0x0\nunmap 0x1000 0x1000\nzero 0x2000 0x1000 ro\nwithdrawal of 2\nempty\nrefused NoEntry\n1 live none\n0 live b 0000000000001abc rw\nunder none\n1 live zero ro\n0 live b 0000000000002abc rw\nunder none\n2 withdrawn c 0000000000001000 rw\nunder none\nunder none\n",
+    },
+];
+
+/// The same in JSON: one line for each that is no comment and not empty.
+pub const JSON_ROWS: [Row; 2] = [
+    Row {
+        name: "replies, bad lines, and no line end",
+        input: b"buffer b 4\n# a comment\n\nbind map 0x0 0x4000 b 0x0\nat 0x1abc\nat\t0x0\nturn 0\nbnid\n# \x80\nmap",
+        answers: b"{\"line\":1,\"ok\":true}\n{\"line\":4,\"accepted\":0}\n{\"line\":5,\"place\":{\"buffer\":\"b\",\"offset\":\"0x1abc\",\"ro\":false}}\n{\"line\":6,\"bad\":\"column 3: a tab; words are separated by one space\",\"column\":3}\n{\"line\":7,\"idle\":true}\n{\"line\":8,\"bad\":\"no such line: bnid; did you mean bind?\"}\n{\"line\":9,\"bad\":\"column 3: byte 0x80; all bytes are ASCII, also in a comment\",\"column\":3}\n{\"line\":10,\"bad\":\"no line end\"}\n",
+    },
+    Row {
+        name: "requests that wait",
+        input: b"timeline t\nput wait t 1\nturn 0\nbind\nraise t 1\nturn 0\n",
+        answers: b"{\"line\":1,\"ok\":true}\n{\"line\":2,\"put\":0}\n{\"line\":3,\"waits\":{\"timeline\":\"t\",\"value\":1,\"have\":0}}\n{\"line\":4,\"bad\":\"requests wait on queue 0; turn 0 serves them\"}\n{\"line\":5,\"timeline\":\"t\",\"value\":1}\n{\"line\":6,\"accepted\":0}\n",
     },
 ];

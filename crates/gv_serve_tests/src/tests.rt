@@ -1,7 +1,7 @@
 //! Dialogues over devices in memory.
 use crate::devices::{FailingSink, SlowSource};
-use crate::rows::ROWS;
-use gv_serve::{LINE_LIMIT, ServeFault, serve};
+use crate::rows::{JSON_ROWS, ROWS};
+use gv_serve::{LINE_LIMIT, ServeFault, serve, serve_json};
 use gv_text::{MemorySink, MemorySource, run_script};
 use std::process::Abort;
 use std::test::Fail;
@@ -22,6 +22,19 @@ fn rows_come_to_their_answers(rt: HostRuntime) {
             let mut sink = MemorySink::new(rt.alloc());
             let mut source = SlowSource::new(row.input, step, 1_000);
             let outcome = serve(rt.alloc(), &mut source, &mut sink);
+            assert!(rt; outcome == Ok(()), "{}", row.name);
+            assert!(rt; sink.bytes() == row.answers, "{}", row.name);
+        }
+    }
+}
+
+#[test]
+fn rows_come_to_their_json(rt: HostRuntime) {
+    for row in &JSON_ROWS {
+        for step in [1, 7, 1_000] {
+            let mut sink = MemorySink::new(rt.alloc());
+            let mut source = SlowSource::new(row.input, step, 1_000);
+            let outcome = serve_json(rt.alloc(), &mut source, &mut sink);
             assert!(rt; outcome == Ok(()), "{}", row.name);
             assert!(rt; sink.bytes() == row.answers, "{}", row.name);
         }
@@ -56,6 +69,20 @@ fn a_failed_write_ends_it(rt: HostRuntime) {
 }
 
 #[test]
+fn failed_devices_end_it_in_json(rt: HostRuntime) {
+    let mut sink = MemorySink::new(rt.alloc());
+    let mut source = SlowSource::new(b"idle", 4, 1);
+    let outcome = serve_json(rt.alloc(), &mut source, &mut sink);
+    assert!(rt; outcome == Err(ServeFault::ReadFault));
+    assert!(rt; sink.bytes().is_empty());
+    let mut full = FailingSink::new(rt.alloc(), 1);
+    let mut lines = SlowSource::new(b"map\nmap\nmap\n", 4, 100);
+    let outcome = serve_json(rt.alloc(), &mut lines, &mut full);
+    assert!(rt; outcome == Err(ServeFault::WriteFault));
+    assert!(rt; full.bytes() == b"{\"line\":1,\"mappings\":[]}\n".as_slice());
+}
+
+#[test]
 fn lines_of_the_greatest_length(rt: HostRuntime) -> Result<(), Fail> {
     let mut input = Vec::new(rt.alloc());
     input.extend_from_slice(b"map\n#")?;
@@ -68,7 +95,7 @@ fn lines_of_the_greatest_length(rt: HostRuntime) -> Result<(), Fail> {
         &rt,
         "long lines",
         &input,
-        b"empty\nbad line 3: over 1,048,576 bytes in a line\nempty\n",
+        b"empty\nbad line 3: a line of over 1048576 bytes\nempty\n",
     );
     Ok(())
 }
