@@ -21,8 +21,6 @@ mod shapes;
 mod sizes;
 mod style;
 mod svg;
-#[cfg(test)]
-mod tests;
 mod texts;
 
 pub use fault::DrawFault;
@@ -31,3 +29,4 @@ pub use options::Options;
 pub use page::write_picture;
 pub use row::{RowKind, Told};
 pub use script::draw_script;
+pub use svg::write_escaped;

@@ -1,4 +1,5 @@
 //! Scripts from their bytes to their replies.
+mod drawing;
 mod many;
 mod reasons;
 
