@@ -57,7 +57,7 @@ fn number(random: &mut Random) -> u64 {
 }
 
 fn one_of(random: &mut Random, words: &[&'static str]) -> &'static str {
-    let place = random.below(words.len() as u64);
+    let place = random.below((words.len() as u64).max(1));
     words.get(place as usize).copied().unwrap_or("b")
 }
 
