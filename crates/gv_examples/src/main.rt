@@ -19,7 +19,7 @@ use std::sync::Wait;
 use std::thread::Threads;
 use std::{fs, io};
 
-const EXAMPLES: [&str; 12] = [
+const EXAMPLES: [&str; 13] = [
     "first",
     "replace",
     "keep",
@@ -32,6 +32,7 @@ const EXAMPLES: [&str; 12] = [
     "timelines",
     "settle",
     "igt",
+    "over-time",
 ];
 
 /// The examples for running queues, each with their number. Their replies are the same whichever queue is served first.
