@@ -8,28 +8,18 @@ use gv_types::{Fault, Op, OutOfMemory, PageOp, PageRange};
 use std::alloc::{AllocError, Global};
 use std::fmt::Write;
 
-/// Replays a log and writes its picture, so many pixels wide: around the first address that is asked, if one is. Each line
-/// that is carried out or refused is a row.
+/// Replays a log and writes its picture. Each line that is carried out or refused is a row.
 pub fn draw_log<S: Source, K: Sink>(
     alloc: Global,
     log: &mut S,
     writer: &mut K,
     terms: &Terms<'_>,
-    width: u64,
+    options: &Options,
 ) -> Result<(), ReplayFault> {
-    let at = match terms.addresses.first() {
-        Some(addr) => Some(terms.format.address(*addr)),
-        None => None,
-    };
-    let mut drawing = LogDrawing::new(alloc, at);
+    let mut drawing = LogDrawing::new(alloc, options.at);
     watch(alloc, log, terms, &mut drawing)?;
     let mut picture = String::new(alloc);
-    write_picture(
-        alloc,
-        &mut drawing.history,
-        &Options { at, width },
-        &mut picture,
-    )?;
+    write_picture(alloc, &mut drawing.history, options, &mut picture)?;
     write_all(writer, picture.as_bytes())?;
     Ok(())
 }

@@ -5,6 +5,7 @@ use crate::fault::{ProgramFault, told};
 use crate::files::{address, opened, read_all};
 use crate::log_drawing::draw_log;
 use crate::status::DONE;
+use gv_draw::Options;
 use gv_replay::{FlagBits, Form, Format, ReplayFault, Sizes, Terms, measure, replay as play};
 use gv_text::{MemorySource, ScriptFault, Sink, Source};
 use gv_words::ReplayWords;
@@ -20,13 +21,6 @@ impl From<ReplayFault> for ProgramFault {
             ReplayFault::OutOfMemory => ProgramFault::Script(ScriptFault::OutOfMemory),
         }
     }
-}
-
-/// What is asked of a log: its terms, and how many pixels wide it is drawn, if it is.
-#[derive(Clone, Copy)]
-struct Asked<'a> {
-    terms: Terms<'a>,
-    width: Option<u64>,
 }
 
 /// Replays a log, and gives the exit status.
@@ -54,9 +48,11 @@ fn replayed<T: Files, S: Source, K: Sink>(
     writer: &mut K,
 ) -> Result<(), ProgramFault> {
     let addresses = addresses_of(alloc, asked)?;
-    let (form, width) = form_of(asked)?;
+    let format = format_of(asked)?;
+    let form = form_of(asked)?;
+    let picture = picture_of(asked, format, addresses.as_slice());
     let terms = Terms {
-        format: format_of(asked)?,
+        format,
         flag_bits: flags_of(asked)?,
         pid: asked.pid,
         addresses: addresses.as_slice(),
@@ -64,81 +60,130 @@ fn replayed<T: Files, S: Source, K: Sink>(
         form,
         sizes: None,
     };
-    let wanted = Asked { terms, width };
+    let telling = Telling { alloc, picture };
     match asked.file {
-        Some(path) => replay_file(alloc, files, path, &wanted, writer),
-        None => replay_input(alloc, reader, &wanted, writer),
+        Some(path) => telling.tell_file(files, path, &terms, writer),
+        None => telling.tell_input(reader, &terms, writer),
     }
 }
 
-/// The log of a file, which is read twice where its lines don't tell sizes.
-fn replay_file<T: Files, K: Sink>(
+/// How a log is told: as a picture, or in the form that its terms say.
+#[derive(Clone, Copy)]
+struct Telling {
     alloc: Global,
-    files: &T,
-    path: &str,
-    asked: &Asked<'_>,
-    writer: &mut K,
-) -> Result<(), ProgramFault> {
-    let mut log = opened(files, path)?;
-    if !asked.terms.format.wants_sizes() {
-        return tell(alloc, &mut log, writer, asked);
-    }
-    let sizes = measure(alloc, &mut log, &asked.terms)?;
-    let mut again = opened(files, path)?;
-    tell_sized(alloc, &mut again, writer, asked, &sizes)
+    picture: Option<Options>,
 }
 
-/// The log of standard input, which is kept where it has to be read twice.
-fn replay_input<S: Source, K: Sink>(
-    alloc: Global,
-    reader: &mut S,
-    asked: &Asked<'_>,
-    writer: &mut K,
-) -> Result<(), ProgramFault> {
-    if !asked.terms.format.wants_sizes() {
-        return tell(alloc, reader, writer, asked);
+impl Telling {
+    /// Tells the log of a file, which is read twice where its lines don't tell sizes.
+    fn tell_file<T: Files, K: Sink>(
+        self,
+        files: &T,
+        path: &str,
+        terms: &Terms<'_>,
+        writer: &mut K,
+    ) -> Result<(), ProgramFault> {
+        let mut log = opened(files, path)?;
+        if !terms.format.wants_sizes() {
+            return self.tell(&mut log, writer, terms);
+        }
+        let sizes = measure(self.alloc, &mut log, terms)?;
+        let mut again = opened(files, path)?;
+        match self.picture {
+            Some(options) => Ok(draw_log(
+                self.alloc,
+                &mut again,
+                writer,
+                &unasked(terms, &sizes),
+                &options,
+            )?),
+            None => play_sized(self.alloc, &mut again, writer, terms, &sizes),
+        }
     }
-    let log = read_all(alloc, reader)?;
-    let sizes = measure(alloc, &mut MemorySource::new(&log), &asked.terms)?;
-    tell_sized(alloc, &mut MemorySource::new(&log), writer, asked, &sizes)
+
+    /// Tells the log of standard input, which is kept where it has to be read twice.
+    fn tell_input<S: Source, K: Sink>(
+        self,
+        reader: &mut S,
+        terms: &Terms<'_>,
+        writer: &mut K,
+    ) -> Result<(), ProgramFault> {
+        if !terms.format.wants_sizes() {
+            return self.tell(reader, writer, terms);
+        }
+        let log = read_all(self.alloc, reader)?;
+        let sizes = measure(self.alloc, &mut MemorySource::new(&log), terms)?;
+        let mut again = MemorySource::new(&log);
+        match self.picture {
+            Some(options) => Ok(draw_log(
+                self.alloc,
+                &mut again,
+                writer,
+                &unasked(terms, &sizes),
+                &options,
+            )?),
+            None => play_sized(self.alloc, &mut again, writer, terms, &sizes),
+        }
+    }
+
+    /// Draws a log, or writes it in its form.
+    fn tell<S: Source, K: Sink>(
+        self,
+        log: &mut S,
+        writer: &mut K,
+        terms: &Terms<'_>,
+    ) -> Result<(), ProgramFault> {
+        match self.picture {
+            Some(options) => Ok(draw_log(self.alloc, log, writer, terms, &options)?),
+            None => Ok(play(self.alloc, log, writer, terms)?),
+        }
+    }
 }
 
-fn tell_sized<'a, S: Source, K: Sink>(
+/// Writes a log in its form, whose objects have these sizes.
+fn play_sized<'a, S: Source, K: Sink>(
     alloc: Global,
     log: &mut S,
     writer: &mut K,
-    asked: &Asked<'a>,
+    terms: &Terms<'a>,
     sizes: &'a Sizes,
 ) -> Result<(), ProgramFault> {
-    let sized = Asked {
-        terms: asked.terms.sized(sizes),
-        width: asked.width,
-    };
-    tell(alloc, log, writer, &sized)
+    let sized = terms.sized(sizes);
+    Ok(play(alloc, log, writer, &sized)?)
 }
 
-/// Writes a log in its form, or draws it.
-fn tell<S: Source, K: Sink>(
-    alloc: Global,
-    log: &mut S,
-    writer: &mut K,
-    asked: &Asked<'_>,
-) -> Result<(), ProgramFault> {
-    match asked.width {
-        Some(width) => Ok(draw_log(alloc, log, writer, &asked.terms, width)?),
-        None => Ok(play(alloc, log, writer, &asked.terms)?),
+/// The same terms for objects of these sizes, where no address is asked: a picture has its own.
+fn unasked<'s>(terms: &Terms<'_>, sizes: &'s Sizes) -> Terms<'s> {
+    Terms {
+        format: terms.format,
+        flag_bits: terms.flag_bits,
+        pid: terms.pid,
+        addresses: &[],
+        all: terms.all,
+        form: terms.form,
+        sizes: Some(sizes),
     }
 }
 
-/// In which form a log is told, and how wide it is drawn, if it is. No two forms go together.
-fn form_of(asked: &ReplayWords<'_>) -> Result<(Form, Option<u64>), ProgramFault> {
+/// In which form a log is told, if it isn't drawn. No two forms go together.
+fn form_of(asked: &ReplayWords<'_>) -> Result<Form, ProgramFault> {
     match (asked.json, asked.script, asked.draw) {
-        (false, false, false) => Ok((Form::Report, None)),
-        (true, false, false) => Ok((Form::Json, None)),
-        (false, true, false) => Ok((Form::Script, None)),
-        (false, false, true) => Ok((Form::Report, Some(asked.width))),
+        (false, false, _) => Ok(Form::Report),
+        (true, false, false) => Ok(Form::Json),
+        (false, true, false) => Ok(Form::Script),
         _ => Err(ProgramFault::TwoForms),
     }
+}
+
+/// The picture that is asked, around the first address if there is one.
+fn picture_of(asked: &ReplayWords<'_>, format: Format, addresses: &[u64]) -> Option<Options> {
+    if !asked.draw {
+        return None;
+    }
+    Some(Options {
+        at: addresses.first().map(|addr| format.address(*addr)),
+        width: asked.width,
+    })
 }
 
 /// The addresses whose past is asked.
