@@ -12,3 +12,4 @@ pub mod OverlapLemmas
 pub mod RestLemmas
 pub mod OverlappingLemmas
 pub mod IndexLemmas
+pub mod BehindLemmas

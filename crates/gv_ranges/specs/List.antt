@@ -1,5 +1,5 @@
 -- A list of mappings: what it says of a page, when it is in order, and where a range meets it.
-use Rattle.std.specs.Prelude.{ℕ, ◌≡◌, ◌+◌, ◌-◌, ◌<◌, ◌≤◌, IsTrue, if◌then◌else◌, Option, Some, None, List, [], ◌∷◌, take, drop, length}
+use Rattle.std.specs.Prelude.{ℕ, ◌≡◌, ◌+◌, ◌-◌, ◌<◌, ◌≤◌, nat_lt, IsTrue, if◌then◌else◌, Option, Some, None, List, [], ◌∷◌, take, drop, length}
 use Rattle.std.specs.List.{All}
 use Rattle.gv_types.specs.PageRange.{PageRangeState, end_of, covers, meets}
 use Rattle.gv_types.specs.Mapping.{part, IsMapping}
@@ -10,6 +10,11 @@ use Rattle.gv_types.specs.declared.mapping.Mapping.{Mapping}
 abbrev pub at : List Mapping → ℕ → Option Entry
 at [] page = None
 at (m ∷ ms) page = if covers m.range page then Some (part m page) else at ms page
+
+-- the first mapping that ends behind a page, if one does
+abbrev pub first_behind : List Mapping → ℕ → Option Mapping
+first_behind [] page = None
+first_behind (m ∷ ms) page = if nat_lt page (end_of m.range) then Some m else first_behind ms page
 
 -- from the page `low` on, each mapping begins where the one before it ends, or later
 abbrev pub IsLaidOutFrom : ℕ → List Mapping → Type 0

@@ -1,14 +1,14 @@
 //! Indices in a list in order that stands in chunks: the chunk by halving, and the index in it as in one slice.
-ghost use Rattle.std.specs.Prelude.{◌≡◌, ◌<◌, ◌≤◌, ◌+◌, length, take, drop, slice_index_or, vec_len};
+ghost use Rattle.std.specs.Prelude.{◌≡◌, ◌<◌, ◌≤◌, ◌+◌, length, take, drop, slice_index_or, vec_len, MatchOption, None, Some};
 ghost use Rattle.std.specs.List.{All};
 ghost use Rattle.std.specs.Global.{Vec};
 ghost use Rattle.gv_types.specs.Page.{PAGES};
 ghost use Rattle.gv_types.specs.PageRange.{end_of};
 ghost use Rattle.gv_types.specs.declared.mapping.Mapping.{Mapping};
 ghost use Rattle.gv_chunks.specs.Chunks.{chunks_joined, AreFilled, AreStarts, AreFirsts};
-ghost use Rattle.gv_ranges.specs.List.{at, IsLaidOut, IsOverlappingRun};
+ghost use Rattle.gv_ranges.specs.List.{at, first_behind, IsLaidOut, IsOverlappingRun};
 
-use crate::search::{count_begun, count_ended, entry_at, step_past};
+use crate::search::{count_begun, count_ended, entry_at, first_behind_in, step_past};
 use gv_chunks::chunk_list::Standing;
 use gv_types::{Entry, Mapping, PageRange, SPACE_PAGES};
 
@@ -47,6 +47,27 @@ pub(crate) fn entry_in(standing: Standing<'_>, page: u64) -> Option<Entry>
     }
     let chunk = chunk_of_page(standing.chunks, standing.firsts, page);
     entry_at(&standing.chunks[chunk], page)
+}
+
+/// The first mapping that ends behind `page`, of a list in order that stands in chunks.
+pub(crate) fn first_behind_of(standing: Standing<'_>, page: u64) -> Option<&Mapping>
+    requires filled { AreFilled standing.chunks.now }
+    requires firsts { AreFirsts standing.firsts.now standing.chunks.now }
+    requires laid_out { IsLaidOut (chunks_joined standing.chunks.now) }
+    ensures { MatchOption result (first_behind (chunks_joined standing.entry.chunks.now) page ≡ None)
+        (λ m. first_behind (chunks_joined standing.entry.chunks.now) page ≡ Some m.now) }
+{
+    if page >= SPACE_PAGES || standing.chunks.is_empty() {
+        return None;
+    }
+    let chunk = chunk_of_page(standing.chunks, standing.firsts, page);
+    if let Some(m) = first_behind_in(&standing.chunks[chunk], page) {
+        return Some(m);
+    }
+    if chunk + 1 < standing.chunks.len() {
+        return Some(&standing.chunks[chunk + 1][0]);
+    }
+    None
 }
 
 /// The last chunk that begins before `page`, given one before which all mappings do; that one, where it is the last. It

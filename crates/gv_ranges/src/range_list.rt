@@ -1,9 +1,9 @@
 //! The list of mappings of an address space, sorted and disjoint.
 ghost use Rattle.std.specs.Prelude.{◌≡◌, ◌+◌, ◌*◌, ◌<◌, ◌≤◌, [], length, take, drop, slice_index_or};
-ghost use Rattle.std.specs.Prelude.{max, OnOk, OnErr};
+ghost use Rattle.std.specs.Prelude.{max, MatchOption, None, Some, OnOk, OnErr};
 ghost use Rattle.gv_types.specs.declared.mapping.Mapping.{Mapping};
 
-use crate::chunk_search::{entry_in, overlapping_in};
+use crate::chunk_search::{entry_in, first_behind_of, overlapping_in};
 use crate::run::Run;
 use gv_chunks::ChunkList;
 use gv_types::{Entry, Mapping, OutOfMemory, PageRange};
@@ -29,7 +29,7 @@ impl Model for RangeList {
 
 impl RangeList {
     ghost use Rattle.std.specs.List.{splice};
-    ghost use Rattle.gv_ranges.specs.List.{at, run, IsLaidOut, IsOverlappingRun, IsUnchangedList};
+    ghost use Rattle.gv_ranges.specs.List.{at, first_behind, run, IsLaidOut, IsOverlappingRun, IsUnchangedList};
 
     /// A list of no mapping, which takes no memory.
     pub fn new(alloc: Global) -> RangeList
@@ -103,6 +103,14 @@ impl RangeList {
         ensures { result ≡ at self.now.mappings page }
     {
         entry_in(self.list.chunks(), page)
+    }
+
+    /// The first mapping that ends behind a page: the one that holds it, or else the next one. One search.
+    pub fn first_behind(&self, page: u64) -> Option<&Mapping>
+        ensures { MatchOption result (first_behind self.now.mappings page ≡ None)
+            (λ m. first_behind self.now.mappings page ≡ Some m.now) }
+    {
+        first_behind_of(self.list.chunks(), page)
     }
 
     /// The index of the first mapping that meets the range, and how many mappings do. Where none
