@@ -4,6 +4,7 @@ use Rattle.gv_types.specs.Fault.{carried_by}
 use Rattle.gv_types.specs.declared.fault.OutOfMemory.{OutOfMemory as WantOfMemory}
 use Rattle.gv_vm.specs.Step.{IsStep}
 use Rattle.gv_vm.specs.declared.event.Event.{Event}
+use Rattle.gv_vm.specs.declared.event.Reply.{Reply}
 use Rattle.gv_vm.specs.declared.event.Reply.TheVariants.{Created, Put, Rewound, Withdrawn, Settled, Raised, Begun, Refused}
 use Rattle.gv_vm.specs.declared.world.turn.Turn.{Turn}
 use Rattle.gv_vm.specs.declared.world.turn.Turn.TheVariants.{Told, Waits, Idle}
@@ -29,15 +30,19 @@ made_in (Some (Ok (Created id))) = c_buffer id
 made_in reply = no_buffer
 
 -- the number that a reply carries, or that of its fault, and else 0
+abbrev pub number_said : Reply → ℕ
+number_said (Rewound item) = item
+number_said (Withdrawn item) = item
+number_said (Settled count) = count
+number_said (Raised point now) = now
+number_said (Begun job places) = job
+number_said (Put number) = number
+number_said (Refused fault) = unwrap_or (carried_by fault) 0
+number_said reply = 0
+
 abbrev pub number_in : Answer → ℕ
-number_in (Some (Ok (Rewound item))) = item
-number_in (Some (Ok (Withdrawn item))) = item
-number_in (Some (Ok (Settled count))) = count
-number_in (Some (Ok (Raised point now))) = now
-number_in (Some (Ok (Begun job places))) = job
-number_in (Some (Ok (Put number))) = number
-number_in (Some (Ok (Refused fault))) = unwrap_or (carried_by fault) 0
-number_in reply = 0
+number_in (Some (Ok reply)) = number_said reply
+number_in answer = 0
 
 -- what a turn came to, where the request that it is asked for has this number
 abbrev pub turned : ℕ → Result Turn WantOfMemory → RequestOutcome

@@ -1,5 +1,5 @@
 -- What calls answer that change nothing.
-use Rattle.std.specs.Prelude.{◌≡◌, ℕ, ◌==◌, nat_lt, List, [], ◌∷◌, map, length, slice_index, Option, Some, None}
+use Rattle.std.specs.Prelude.{◌≡◌, ℕ, ◌==◌, nat_lt, Bool, true, false, List, [], ◌∷◌, map, length, slice_index, Option, Some, None}
 use Rattle.gv_types.specs.Fault.{number_of}
 use Rattle.gv_types.specs.declared.fault.Fault.TheVariants.{NoBuffer}
 use Rattle.gv_types.specs.declared.mapping.BufferId.{BufferId}
@@ -20,17 +20,37 @@ use Rattle.gv_c.specs.declared.held.Held.{Held}
 abbrev pub found_in : List Mapping → ℕ → Translation
 found_in ms address = c_place (place_at ms address) (run_of ms address)
 
+-- where an address leads, and nothing of how far
+abbrev pub walked_in : List Mapping → ℕ → Translation
+walked_in ms address = c_place (place_at ms address) 0
+
+abbrev pub look_in : Bool → List Mapping → ℕ → Translation
+look_in true ms address = walked_in ms address
+look_in false ms address = found_in ms address
+
+abbrev pub IsFoundBy : (List Mapping → ℕ → Translation) → Option Held → ℕ → ℕ → Translation → Type 0
+IsFoundBy look None address status new = (status ≡ no_vm) × (new ≡ c_place None 0)
+IsFoundBy look (Some held) address status new = (status ≡ ok) × (new ≡ look held.world.vm.space.mappings address)
+
 abbrev pub IsFound : Option Held → ℕ → ℕ → Translation → Type 0
-IsFound None address status new = (status ≡ no_vm) × (new ≡ c_place None 0)
-IsFound (Some held) address status new = (status ≡ ok) × (new ≡ found_in held.world.vm.space.mappings address)
+IsFound held address status new = IsFoundBy (look_in false) held address status new
+
+abbrev pub IsWalked : Option Held → ℕ → ℕ → Translation → Type 0
+IsWalked held address status new = IsFoundBy (look_in true) held address status new
 
 -- each of so many, where there is a place for each
-abbrev pub AreFound : Option Held → List ℕ → List Translation → ℕ → List Translation → Type 0
-AreFound None addresses old status new = (status ≡ no_vm) × (new ≡ old)
-AreFound (Some held) addresses old status new =
+abbrev pub AreFoundBy : (List Mapping → ℕ → Translation) → Option Held → List ℕ → List Translation → ℕ → List Translation → Type 0
+AreFoundBy look None addresses old status new = (status ≡ no_vm) × (new ≡ old)
+AreFoundBy look (Some held) addresses old status new =
     either (length addresses == length old)
-    ((status ≡ ok) × (new ≡ map (found_in held.world.vm.space.mappings) addresses))
+    ((status ≡ ok) × (new ≡ map (look held.world.vm.space.mappings) addresses))
     ((status ≡ bad_argument) × (new ≡ old))
+
+abbrev pub AreFound : Option Held → List ℕ → List Translation → ℕ → List Translation → Type 0
+AreFound held addresses old status new = AreFoundBy (look_in false) held addresses old status new
+
+abbrev pub AreWalked : Option Held → List ℕ → List Translation → ℕ → List Translation → Type 0
+AreWalked held addresses old status new = AreFoundBy (look_in true) held addresses old status new
 
 abbrev pub IsValue : Option Held → ℕ → ℕ → ℕ → Type 0
 IsValue None timeline status value = (status ≡ no_vm) × (value ≡ 0)

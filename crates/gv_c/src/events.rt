@@ -3,7 +3,7 @@ ghost use Rattle.std.specs.Prelude.{◌≡◌};
 ghost use Rattle.gv_vm.specs.declared.event.Event.TheVariants.{Create, Destroy, Rewind, Withdraw, Settle, JobEnd, Raise};
 ghost use Rattle.gv_c.specs.Values.{id_of};
 ghost use Rattle.gv_c.specs.Statuses.{status_of};
-ghost use Rattle.gv_c.specs.Calls.{Answers, made_in, number_in};
+ghost use Rattle.gv_c.specs.Calls.{Answers, made_in, number_in, number_said};
 
 use crate::handle::Handle;
 use crate::status::of_reply;
@@ -116,13 +116,22 @@ pub fn number_of(reply: &Option<Result<Reply, OutOfMemory>>) -> u64
     ensures { result ≡ number_in reply.now }
 {
     match reply {
-        Some(Ok(Reply::Rewound { item })) => *item,
-        Some(Ok(Reply::Withdrawn { item })) => *item,
-        Some(Ok(Reply::Settled { count })) => *count,
-        Some(Ok(Reply::Raised { now, .. })) => *now,
-        Some(Ok(Reply::Begun { job, .. })) => *job,
-        Some(Ok(Reply::Put { number })) => *number,
-        Some(Ok(Reply::Refused { fault })) => fault.carried().unwrap_or(0),
+        Some(Ok(reply)) => number_said(reply),
+        _ => 0,
+    }
+}
+
+fn number_said(reply: &Reply) -> u64
+    ensures { result ≡ number_said reply.now }
+{
+    match reply {
+        Reply::Rewound { item } => *item,
+        Reply::Withdrawn { item } => *item,
+        Reply::Settled { count } => *count,
+        Reply::Raised { now, .. } => *now,
+        Reply::Begun { job, .. } => *job,
+        Reply::Put { number } => *number,
+        Reply::Refused { fault } => fault.carried().unwrap_or(0),
         _ => 0,
     }
 }

@@ -1,7 +1,7 @@
 //! Calls that change nothing, and write a value.
 ghost use Rattle.std.specs.Prelude.{◌≡◌, length, map};
 ghost use Rattle.gv_c.specs.Values.{id_of};
-ghost use Rattle.gv_c.specs.Reading.{found_in, IsFound, AreFound, IsValue, AreUses, uses_in, AreTables, AreEntries};
+ghost use Rattle.gv_c.specs.Reading.{found_in, walked_in, look_in, IsFound, AreFound, IsWalked, AreWalked, IsValue, AreUses, uses_in, AreTables, AreEntries};
 
 use crate::found::{BufferUses, TableCounts, Translation};
 use crate::handle::Handle;
@@ -9,10 +9,10 @@ use crate::status::{BAD_ARGUMENT, NO_VM, OK, of};
 use crate::values::Buffer;
 use gv_space::Space;
 use gv_types::{BufferId, Fault};
-use gv_vm::Vm;
+use gv_vm::{Stretch, Vm};
 use std::alloc::Global;
 
-/// Where an address leads, and for how many bytes from there on.
+/// Where an address leads, and for how many bytes from there on: one search in the list.
 #[unsafe(no_mangle)]
 pub extern "C" fn vmbind_translate(
     alloc: Global,
@@ -47,7 +47,7 @@ pub extern "C" fn vmbind_translate_many(
         return NO_VM;
     };
     let status = if addresses.len() == translations.len() {
-        find_all(held.world.vm(), addresses, translations);
+        look_all(held.world.vm(), addresses, translations, false);
         OK
     } else {
         BAD_ARGUMENT
@@ -56,20 +56,83 @@ pub extern "C" fn vmbind_translate_many(
     status
 }
 
-/// Where an address leads.
+/// Where an address leads by the page table: at most five steps. How far is not looked for: `run` is 0.
+#[unsafe(no_mangle)]
+pub extern "C" fn vmbind_walk(
+    alloc: Global,
+    vm: &mut Handle,
+    address: u64,
+    translation: &mut Translation,
+) -> u32
+    ensures walked { IsWalked vm.old.value address result translation.new }
+    ensures same { vm.new.value ≡ vm.old.value }
+{
+    let Some(held) = vm.take(alloc) else {
+        *translation = Translation::of(None, 0);
+        return NO_VM;
+    };
+    *translation = walked(held.world.vm(), address);
+    vm.put(held);
+    OK
+}
+
+/// Where so many addresses lead by the page table. The two lists have to be equally long.
+#[unsafe(no_mangle)]
+pub extern "C" fn vmbind_walk_many(
+    alloc: Global,
+    vm: &mut Handle,
+    addresses: &[u64],
+    translations: &mut [Translation],
+) -> u32
+    ensures walked { AreWalked vm.old.value addresses.now translations.old result translations.new }
+    ensures same { vm.new.value ≡ vm.old.value }
+{
+    let Some(held) = vm.take(alloc) else {
+        return NO_VM;
+    };
+    let status = if addresses.len() == translations.len() {
+        look_all(held.world.vm(), addresses, translations, true);
+        OK
+    } else {
+        BAD_ARGUMENT
+    };
+    vm.put(held);
+    status
+}
+
+/// Where an address leads, and how far, by one search in the list.
 fn found(vm: &Vm, address: u64) -> Translation
     ensures { result ≡ found_in vm.now.space.mappings address }
 {
-    Translation::of(vm.translate(address), vm.run_at(address))
+    let Stretch { place, run } = vm.find(address);
+    Translation::of(place, run)
+}
+
+/// Where an address leads by the page table.
+fn walked(vm: &Vm, address: u64) -> Translation
+    ensures { result ≡ walked_in vm.now.space.mappings address }
+{
+    Translation::of(vm.translate(address), 0)
+}
+
+/// The one or the other.
+fn look(vm: &Vm, address: u64, walks: bool) -> Translation
+    ensures { result ≡ look_in walks vm.now.space.mappings address }
+{
+    if walks {
+        walked(vm, address)
+    } else {
+        found(vm, address)
+    }
 }
 
 /// Where each of so many addresses leads.
-fn find_all(vm: &Vm, addresses: &[u64], translations: &mut [Translation])
+fn look_all(vm: &Vm, addresses: &[u64], translations: &mut [Translation], walks: bool)
     requires { length addresses.now ≡ length translations.old }
-    ensures { translations.new ≡ map (found_in vm.now.space.mappings) addresses.now }
+    ensures { translations.new ≡ map (look_in walks vm.now.space.mappings) addresses.now }
 {
     for k in 0..addresses.len() {
-        translations[k] = found(vm, addresses[k]);
+        translations[k] = look(vm, addresses[k], walks);
     }
 }
 

@@ -23,9 +23,9 @@ use Rattle.gv_text.proofs.AlikeEvents.{once_only, are_ample}
 use Rattle.gv_text.proofs.AlikeReplies.{said_alike}
 use Rattle.gv_text.proofs.AlikeStates.{AreAlikeStates, WriteAlike, moved_states, goes_on}
 
-refused_job : (list : Vec Access Global) (w : WorldState) → many_fault w.vm.running (length list.items) ≡ Some TooManyAccesses → step w (JobBegin list) (Refused TooManyAccesses) w
+refused_job : (list : Vec Access Global) (w : WorldState) → many_fault w.vm.jobs (length list.items) ≡ Some TooManyAccesses → step w (JobBegin list) (Refused TooManyAccesses) w
 refused_job list w many = (
-  ap (λ (o : Option Fault). first_of o (accesses_fault w.vm.space.mappings w.vm.running.begun w.vm.space.buffers 0 list.items)) many,
+  ap (λ (o : Option Fault). first_of o (accesses_fault w.vm.space.mappings w.vm.jobs.begun w.vm.space.buffers 0 list.items)) many,
   refl,
 )
 
@@ -36,8 +36,8 @@ too_many_alike accesses s s' t t' w w' alike here many lacks =
     let run = does.carried_out.under_way in
     let one = once_only (JobBegin here.list) run.events does.replies s.world t.world run.asked run.ran does.carried_out.done in
     let ample = are_ample does.replies (ap (λ (x : Written). x.lacking) (sym does.written) ∙ lacks) in
-    let fault : many_fault s'.world.vm.running (length here.list.items) ≡ Some TooManyAccesses =
-    subst (λ (l : List Access). many_fault s'.world.vm.running (length l) ≡ Some TooManyAccesses) (sym here.list_is) many.0 in
+    let fault : many_fault s'.world.vm.jobs (length here.list.items) ≡ Some TooManyAccesses =
+    subst (λ (l : List Access). many_fault s'.world.vm.jobs (length l) ≡ Some TooManyAccesses) (sym here.list_is) many.0 in
     let stays : StaysAlike one.0 (Refused TooManyAccesses) t.world s'.world =
     step_alike s.world s'.world alike.worlds (JobBegin here.list) (JobBegin here.list) one.0 (Refused TooManyAccesses) t.world s'.world refl
     (subst (λ (rs : List Reply). AreAmple rs) one.1 ample).0 tt one.2 (refused_job here.list s'.world fault) in

@@ -99,7 +99,7 @@ pub record BeginsJob (accesses : List Access) (s : SessionState) (w : Written) (
 -- it is refused for the number of its accesses alone, whatever memory there is for them
 abbrev pub HasTooMany : List Access → SessionState → Written → SessionState → Type 0
 HasTooMany accesses s w t =
-    (many_fault s.world.vm.running (length accesses) ≡ Some TooManyAccesses) × Answers (refused_reply TooManyAccesses) s w t
+    (many_fault s.world.vm.jobs (length accesses) ≡ Some TooManyAccesses) × Answers (refused_reply TooManyAccesses) s w t
 
 -- A request of the line's clauses is put on its queue and served.
 pub record Serves (clauses : List Clause) (s : SessionState) (w : Written) (t : SessionState) : Type 0 where

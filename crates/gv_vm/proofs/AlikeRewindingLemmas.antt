@@ -63,7 +63,7 @@ module _ (w w' : WorldState) (alike : AreAlikeWorlds w w') where
       (λ done. rewind_allowed w x done.item done.done) (λ done. rewind_allowed w' x' done.item done.done)
       (λ done done'.
       let vm = vm_rewound w.vm w'.vm alike.vm x.vm x'.vm done.done.rewound done'.done.rewound
-      (ap (λ (z : WorldState). z.vm.running) done.done.state) (ap (λ (z : WorldState). z.vm.running) done'.done.state)
+      (ap (λ (z : WorldState). z.vm.jobs) done.done.state) (ap (λ (z : WorldState). z.vm.jobs) done'.done.state)
       (ap (λ (z : WorldState). z.vm.told) done.done.state) (ap (λ (z : WorldState). z.vm.told) done'.done.state) in
       let number : done.item ≡ done'.item = done.done.number_is ∙ next_alike x.vm.journal x'.vm.journal vm.journal ∙ sym done'.done.number_is in
       moved r r' (Rewound done.item) (Rewound done'.item) x x' done.is done'.is
@@ -83,7 +83,7 @@ module _ (w w' : WorldState) (alike : AreAlikeWorlds w w') where
         replies = ap (λ n. Withdrawn n) number;
         worlds = vms_alike w w' alike x x' (entries_state w x done.done.state) (entries_state w' x' done'.done.state)
             (vm_withdrawn w.vm w'.vm alike.vm x.vm x'.vm entry done.done.room done'.done.room done.done.withdrawn done'.done.withdrawn
-            (ap (λ (z : WorldState). z.vm.running) done.done.state) (ap (λ (z : WorldState). z.vm.running) done'.done.state)
+            (ap (λ (z : WorldState). z.vm.jobs) done.done.state) (ap (λ (z : WorldState). z.vm.jobs) done'.done.state)
             (ap (λ (z : WorldState). z.vm.told) done.done.state) (ap (λ (z : WorldState). z.vm.told) done'.done.state));
       }))
 
@@ -101,6 +101,6 @@ module _ (w w' : WorldState) (alike : AreAlikeWorlds w w') where
         replies = ap (λ n. Settled n) number;
         worlds = vms_alike w w' alike x x' (entries_state w x done.done.state) (entries_state w' x' done'.done.state)
             (vm_settled w.vm w'.vm alike.vm x.vm x'.vm to done.done.settled done'.done.settled
-            (ap (λ (z : WorldState). z.vm.running) done.done.state) (ap (λ (z : WorldState). z.vm.running) done'.done.state)
+            (ap (λ (z : WorldState). z.vm.jobs) done.done.state) (ap (λ (z : WorldState). z.vm.jobs) done'.done.state)
             (ap (λ (z : WorldState). z.vm.told) done.done.state) (ap (λ (z : WorldState). z.vm.told) done'.done.state));
       }))

@@ -52,13 +52,13 @@ module _ (w w' : WorldState) (alike : AreAlikeWorlds w w') where
       StaysAlike r r' x x'
   begin_step accesses accesses' r r' x x' same is is' =
       call_pair w w' alike (JobBegin accesses) (JobBegin accesses') r r' x x' (begin_cases w x accesses r is) (begin_cases w' x' accesses' r' is')
-      (ap (begin_fault w'.vm.space w'.vm.running) same)
+      (ap (begin_fault w'.vm.space w'.vm.jobs) same)
       (λ done. done.begun.allowed) (λ done. done.begun.allowed)
       (λ done done'.
       let job : Job = record { number = done.number; places = done.places } in
       let job' : Job = record { number = done'.number; places = done'.places } in
-      let now' : IsBegun w'.vm.space x'.vm.space w'.vm.running x'.vm.running accesses.items job' =
-      subst (λ asked. IsBegun w'.vm.space x'.vm.space w'.vm.running x'.vm.running asked job') (sym same) done'.begun.begun in
+      let now' : IsBegun w'.vm.space x'.vm.space w'.vm.jobs x'.vm.jobs accesses.items job' =
+      subst (λ asked. IsBegun w'.vm.space x'.vm.space w'.vm.jobs x'.vm.jobs asked job') (sym same) done'.begun.begun in
       moved r r' (Begun done.number done.places) (Begun done'.number done'.places) x x' done.is done'.is
       (record {
         replies = (
@@ -75,7 +75,7 @@ module _ (w w' : WorldState) (alike : AreAlikeWorlds w w') where
       (λ done. done.ended.allowed) (λ done. done.ended.allowed)
       (λ done done'.
       let one : done.job ≡ done'.job = done.ended.job_is ∙ sym done'.ended.job_is in
-      let now' = subst (λ k. IsEnded w'.vm.space x'.vm.space w'.vm.running x'.vm.running k) (sym one) done'.ended.ended in
+      let now' = subst (λ k. IsEnded w'.vm.space x'.vm.space w'.vm.jobs x'.vm.jobs k) (sym one) done'.ended.ended in
       moved r r' (Ended done.job) (Ended done'.job) x x' done.is done'.is
       (record {
         replies = ap (λ k. Ended k) one;
@@ -114,7 +114,7 @@ module _ (w w' : WorldState) (alike : AreAlikeWorlds w w') where
 -- a world is the same as itself
 pub AreAlikeWorlds-itself : (w : WorldState) → AreAlikeWorlds w w
 AreAlikeWorlds-itself w = record {
-  vm = record { space = refl; journal = refl; running = refl; told = refl };
+  vm = record { space = refl; journal = refl; jobs = refl; told = refl };
   numbers = refl;
   depth = refl;
   queues = refl;

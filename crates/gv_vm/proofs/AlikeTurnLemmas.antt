@@ -76,7 +76,7 @@ module _ (w w' : WorldState) (alike : AreAlikeWorlds w w') where
             (record {
               space = alike.vm.space;
               journal = alike.vm.journal;
-              running = alike.vm.running;
+              jobs = alike.vm.jobs;
               told = ap (λ told. with_outcome told n outcome) alike.vm.told ∙ ap (with_outcome w'.vm.told n) one;
             }) alike.numbers
             (ap (λ (q : BareQueue). let y : BareQueue = record q { hand = None } in y) (queue_alike w w' alike n)),

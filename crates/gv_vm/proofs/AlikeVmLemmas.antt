@@ -36,7 +36,7 @@ use Rattle.gv_vm.specs.declared.outcome.Outcome.{Outcome}
 use Rattle.gv_vm.specs.declared.outcome.Outcome.TheVariants.{Accepted, NotReady, Refused as RefusedAt}
 
 pub AreAlikeVms-sym : (v v' : VmState) → AreAlikeVms v v' → AreAlikeVms v' v
-AreAlikeVms-sym v v' alike = record { space = sym alike.space; journal = sym alike.journal; running = sym alike.running; told = sym alike.told }
+AreAlikeVms-sym v v' alike = record { space = sym alike.space; journal = sym alike.journal; jobs = sym alike.jobs; told = sym alike.told }
 
 abbrev rewind_of : List BareItem → Option Fault
 rewind_of [] = Some NoEntry
@@ -76,8 +76,8 @@ module _ (v v' : VmState) (alike : AreAlikeVms v v') where
   event_fault_alike (Withdraw entry) = withdraw_fault_alike v.space v'.space v.journal v'.journal alike.space alike.journal entry
   event_fault_alike (Settle to) = settle_fault_alike v.journal v'.journal alike.journal to
   event_fault_alike (JobBegin accesses) =
-      ap (λ (s : SpaceState). begin_fault s v.running accesses.items) alike.space ∙ ap (λ (r : JobsState). begin_fault v'.space r accesses.items) alike.running
-  event_fault_alike (JobEnd job) = ap (λ (r : JobsState). end_fault r job) alike.running
+      ap (λ (s : SpaceState). begin_fault s v.jobs accesses.items) alike.space ∙ ap (λ (r : JobsState). begin_fault v'.space r accesses.items) alike.jobs
+  event_fault_alike (JobEnd job) = ap (λ (r : JobsState). end_fault r job) alike.jobs
   event_fault_alike (Put queue request) = refl
   event_fault_alike (Take queue) = refl
   event_fault_alike (Look queue) = refl
@@ -95,28 +95,28 @@ module _ (v v' : VmState) (alike : AreAlikeVms v v') where
           ap (λ (m : VmState). m.space) rest ∙ ap (λ (s : SpaceState). record s { buffers = w.space.buffers }) alike.space
           ∙ ap (λ (t : BuffersState). record v'.space { buffers = t }) table ∙ sym (ap (λ (m : VmState). m.space) rest');
       journal = ap (λ (m : VmState). bare_journal m.journal) rest ∙ alike.journal ∙ sym (ap (λ (m : VmState). bare_journal m.journal) rest');
-      running = ap (λ (m : VmState). m.running) rest ∙ alike.running ∙ sym (ap (λ (m : VmState). m.running) rest');
+      jobs = ap (λ (m : VmState). m.jobs) rest ∙ alike.jobs ∙ sym (ap (λ (m : VmState). m.jobs) rest');
       told = ap (λ (m : VmState). m.told) rest ∙ alike.told ∙ sym (ap (λ (m : VmState). m.told) rest');
     }
 
     -- only the jobs changed, and what they hold
-    other_jobs : HasOtherJobs v w → HasOtherJobs v' w' → w.space.buffers ≡ w'.space.buffers → w.running ≡ w'.running → AreAlikeVms w w'
-    other_jobs rest rest' table running = record {
+    other_jobs : HasOtherJobs v w → HasOtherJobs v' w' → w.space.buffers ≡ w'.space.buffers → w.jobs ≡ w'.jobs → AreAlikeVms w w'
+    other_jobs rest rest' table jobs = record {
       space =
           ap (λ (m : VmState). m.space) rest ∙ ap (λ (s : SpaceState). record s { buffers = w.space.buffers }) alike.space
           ∙ ap (λ (t : BuffersState). record v'.space { buffers = t }) table ∙ sym (ap (λ (m : VmState). m.space) rest');
       journal = ap (λ (m : VmState). bare_journal m.journal) rest ∙ alike.journal ∙ sym (ap (λ (m : VmState). bare_journal m.journal) rest');
-      running = running;
+      jobs = jobs;
       told = ap (λ (m : VmState). m.told) rest ∙ alike.told ∙ sym (ap (λ (m : VmState). m.told) rest');
     }
 
     -- only the space and the journal changed
     pub other_entries : (w.space ≡ w'.space) × (bare_journal w.journal ≡ bare_journal w'.journal) →
-        w.running ≡ v.running → w'.running ≡ v'.running → w.told ≡ v.told → w'.told ≡ v'.told → AreAlikeVms w w'
+        w.jobs ≡ v.jobs → w'.jobs ≡ v'.jobs → w.told ≡ v.told → w'.told ≡ v'.told → AreAlikeVms w w'
     other_entries entries running running' told told' = record {
       space = entries.0;
       journal = entries.1;
-      running = running ∙ alike.running ∙ sym running';
+      jobs = running ∙ alike.jobs ∙ sym running';
       told = told ∙ alike.told ∙ sym told';
     }
 
@@ -135,17 +135,17 @@ module _ (v v' : VmState) (alike : AreAlikeVms v v') where
     destroyed_alike id gone gone' rest rest' = other_buffers rest rest' (gone ∙ ap (without id) table_alike ∙ sym gone')
 
     -- a job began
-    pub places_alike : (accesses : List Access) (job job' : Job) → IsBegun v.space w.space v.running w.running accesses job → IsBegun v'.space w'.space v'.running w'.running accesses job' →
+    pub places_alike : (accesses : List Access) (job job' : Job) → IsBegun v.space w.space v.jobs w.jobs accesses job → IsBegun v'.space w'.space v'.jobs w'.jobs accesses job' →
         job.places.items ≡ job'.places.items
     places_alike accesses job job' begun begun' =
         some_same job.places.items job'.places.items
         (begun.places ∙ ap (λ (ms : List Mapping). map (λ (a : Access). place_at ms a.addr) accesses) list_alike ∙ sym begun'.places)
 
-    pub job_number_alike : (accesses : List Access) (job job' : Job) → IsBegun v.space w.space v.running w.running accesses job → IsBegun v'.space w'.space v'.running w'.running accesses job' →
+    pub job_number_alike : (accesses : List Access) (job job' : Job) → IsBegun v.space w.space v.jobs w.jobs accesses job → IsBegun v'.space w'.space v'.jobs w'.jobs accesses job' →
         job.number ≡ job'.number
-    job_number_alike accesses job job' begun begun' = begun.number ∙ ap (λ (r : JobsState). r.begun) alike.running ∙ sym begun'.number
+    job_number_alike accesses job job' begun begun' = begun.number ∙ ap (λ (r : JobsState). r.begun) alike.jobs ∙ sym begun'.number
 
-    pub begun_alike : (accesses : List Access) (job job' : Job) → IsBegun v.space w.space v.running w.running accesses job → IsBegun v'.space w'.space v'.running w'.running accesses job' →
+    pub begun_alike : (accesses : List Access) (job job' : Job) → IsBegun v.space w.space v.jobs w.jobs accesses job → IsBegun v'.space w'.space v'.jobs w'.jobs accesses job' →
         HasOtherJobs v w → HasOtherJobs v' w' → AreAlikeVms w w'
     begun_alike accesses job job' begun begun' rest rest' =
         let number : job.number ≡ job'.number = job_number_alike accesses job job' begun begun' in
@@ -155,34 +155,34 @@ module _ (v v' : VmState) (alike : AreAlikeVms v v') where
         ∙ ap (λ (ps : List Place). let j : JobState = record { number = job'.number; places = ps } in j) places in
         other_jobs rest rest'
         (ap (λ (s : SpaceState). s.buffers) begun.space
-        ∙ ap (λ (s : SpaceState). all_held s.mappings v.running.begun accesses s.buffers) alike.space
-        ∙ ap (λ (r : JobsState). all_held v'.space.mappings r.begun accesses v'.space.buffers) alike.running
+        ∙ ap (λ (s : SpaceState). all_held s.mappings v.jobs.begun accesses s.buffers) alike.space
+        ∙ ap (λ (r : JobsState). all_held v'.space.mappings r.begun accesses v'.space.buffers) alike.jobs
         ∙ ap (λ (s : SpaceState). s.buffers) (sym begun'.space))
         (begun.jobs
-        ∙ ap (λ (r : JobsState). let x : JobsState = record { begun = r.begun + 1; jobs = r.jobs ++ job_state job ∷ [] } in x) alike.running
-        ∙ ap (λ (j : JobState). let x : JobsState = record { begun = v'.running.begun + 1; jobs = v'.running.jobs ++ j ∷ [] } in x) one
+        ∙ ap (λ (r : JobsState). let x : JobsState = record { begun = r.begun + 1; running = r.running ++ job_state job ∷ [] } in x) alike.jobs
+        ∙ ap (λ (j : JobState). let x : JobsState = record { begun = v'.jobs.begun + 1; running = v'.jobs.running ++ j ∷ [] } in x) one
         ∙ sym begun'.jobs)
 
     -- one ended
-    pub ended_alike : (job : ℕ) → IsEnded v.space w.space v.running w.running job → IsEnded v'.space w'.space v'.running w'.running job → HasOtherJobs v w → HasOtherJobs v' w' → AreAlikeVms w w'
+    pub ended_alike : (job : ℕ) → IsEnded v.space w.space v.jobs w.jobs job → IsEnded v'.space w'.space v'.jobs w'.jobs job → HasOtherJobs v w → HasOtherJobs v' w' → AreAlikeVms w w'
     ended_alike job ended ended' rest rest' =
         other_jobs rest rest'
         (ap (λ (s : SpaceState). s.buffers) ended.space ∙ ap (left_everywhere job) table_alike ∙ ap (λ (s : SpaceState). s.buffers) (sym ended'.space))
-        (ended.jobs ∙ ap (λ (r : JobsState). let x : JobsState = record r { jobs = without_job job r.jobs } in x) alike.running ∙ sym ended'.jobs)
+        (ended.jobs ∙ ap (λ (r : JobsState). let x : JobsState = record r { running = without_job job r.running } in x) alike.jobs ∙ sym ended'.jobs)
 
     -- the newest item was taken back, one was withdrawn, some were settled
     pub vm_rewound : IsRewound v.space w.space v.journal w.journal → IsRewound v'.space w'.space v'.journal w'.journal →
-        w.running ≡ v.running → w'.running ≡ v'.running → w.told ≡ v.told → w'.told ≡ v'.told → AreAlikeVms w w'
+        w.jobs ≡ v.jobs → w'.jobs ≡ v'.jobs → w.told ≡ v.told → w'.told ≡ v'.told → AreAlikeVms w w'
     vm_rewound done done' = other_entries (rewound_alike v.space v'.space v.journal v'.journal alike.space alike.journal w.space w'.space w.journal w'.journal done done')
 
     pub vm_withdrawn : (n : ℕ) → w.space.room ≡ v.space.room → w'.space.room ≡ v'.space.room → IsWithdrawn v.space w.space v.journal w.journal n → IsWithdrawn v'.space w'.space v'.journal w'.journal n →
-        w.running ≡ v.running → w'.running ≡ v'.running → w.told ≡ v.told → w'.told ≡ v'.told → AreAlikeVms w w'
+        w.jobs ≡ v.jobs → w'.jobs ≡ v'.jobs → w.told ≡ v.told → w'.told ≡ v'.told → AreAlikeVms w w'
     vm_withdrawn n room room' done done' =
         other_entries (withdrawn_alike v.space v'.space v.journal v'.journal alike.space alike.journal w.space w'.space w.journal w'.journal n
         (room ∙ ap (λ (s : SpaceState). s.room) alike.space ∙ sym room') done done')
 
     pub vm_settled : (to : ℕ) → IsSettled v.space w.space v.journal w.journal to → IsSettled v'.space w'.space v'.journal w'.journal to →
-        w.running ≡ v.running → w'.running ≡ v'.running → w.told ≡ v.told → w'.told ≡ v'.told → AreAlikeVms w w'
+        w.jobs ≡ v.jobs → w'.jobs ≡ v'.jobs → w.told ≡ v.told → w'.told ≡ v'.told → AreAlikeVms w w'
     vm_settled to done done' = other_entries (settled_alike v.space v'.space v.journal v'.journal alike.space alike.journal w.space w'.space w.journal w'.journal to done done')
 
     module _ (queue number : ℕ) (request request' : Request) (seen : List ℕ) (same : bare_request request ≡ bare_request request') where
@@ -231,6 +231,6 @@ module _ (v v' : VmState) (alike : AreAlikeVms v v') where
           record {
             space = entries.0;
             journal = entries.1;
-            running = done.running ∙ alike.running ∙ sym done'.running;
+            jobs = done.jobs ∙ alike.jobs ∙ sym done'.jobs;
             told = done.told ∙ ap (λ told. with_outcome told queue outcome) alike.told ∙ ap (with_outcome v'.told queue) one ∙ sym done'.told;
           }

@@ -154,7 +154,7 @@ without_none number (j ∷ js) none =
     ] none
 
 -- why no whole job is refused
-few_from_none : (r : JobsState) (count : ℕ) → many_fault r count ≡ None → length r.jobs < most_running
+few_from_none : (r : JobsState) (count : ℕ) → many_fault r count ≡ None → length r.running < most_running
 few_from_none r count none = grind arith
 
 made_from_none : (r : JobsState) (count : ℕ) → many_fault r count ≡ None → r.begun < most_begun
@@ -162,7 +162,7 @@ made_from_none r count none = grind arith
 
 -- no whole job is refused: there is room for one more
 pub record HasRoomForOne (r : JobsState) : Type 0 where
-  pub few : length r.jobs < most_running
+  pub few : length r.running < most_running
   pub made : r.begun < most_begun
 
 pub room_from_none : (r : JobsState) (count : ℕ) → many_fault r count ≡ None → HasRoomForOne r
@@ -170,13 +170,13 @@ room_from_none r count none = record { few = few_from_none r count none; made = 
 
 -- a job more, with the next number
 pub AreRunning-more : (r : JobsState) (places : List Place) → AreRunning r → HasRoomForOne r →
-    AreRunning (record { begun = r.begun + 1; jobs = r.jobs ++ record { number = r.begun; places = places } ∷ [] })
+    AreRunning (record { begun = r.begun + 1; running = r.running ++ record { number = r.begun; places = places } ∷ [] })
 AreRunning-more r places running room =
     let j : JobState = record { number = r.begun; places = places } in
-    let older : All (λ j. j.number < r.begun + 1) r.jobs = All-weaker (λ j. j.number < r.begun) (λ j. j.number < r.begun + 1) (λ j h. omega (arith, h)) r.jobs running.below in
+    let older : All (λ j. j.number < r.begun + 1) r.running = All-weaker (λ j. j.number < r.begun) (λ j. j.number < r.begun + 1) (λ j h. omega (arith, h)) r.running running.below in
     let newest : r.begun < r.begun + 1 = omega arith in
     record {
-      few = omega (arith, room.few, length-append r.jobs (j ∷ []));
-      below = All-push (λ j. j.number < r.begun + 1) r.jobs j older newest;
+      few = omega (arith, room.few, length-append r.running (j ∷ []));
+      below = All-push (λ j. j.number < r.begun + 1) r.running j older newest;
       made = omega (arith, room.made);
     }

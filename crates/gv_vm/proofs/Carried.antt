@@ -58,11 +58,11 @@ all_told_still told queue more xs less all = All-weaker (λ x. WasTold x.item.ki
 
 -- a queue was told something more, and nothing else changed
 pub IsVm-told : (v : VmState) (queue : ℕ) (outcome : Outcome) (told : List (List Outcome)) → IsVm v → queue < 16 → told ≡ with_outcome v.told queue outcome →
-    IsVm (record { space = v.space; journal = v.journal; running = v.running; told = told })
+    IsVm (record { space = v.space; journal = v.journal; jobs = v.jobs; told = told })
 IsVm-told v queue outcome told holds less is =
     let within : queue < length v.told = omega (arith, holds.queues) in
-    subst (λ (x : List (List Outcome)). IsVm (record { space = v.space; journal = v.journal; running = v.running; told = x })) (sym is)
-    (IsVm-of v.space v.journal v.running (with_outcome v.told queue outcome) (fits_space v holds) holds.buffers_counted.used holds.buffers_counted.held
+    subst (λ (x : List (List Outcome)). IsVm (record { space = v.space; journal = v.journal; jobs = v.jobs; told = x })) (sym is)
+    (IsVm-of v.space v.journal v.jobs (with_outcome v.told queue outcome) (fits_space v holds) holds.buffers_counted.used holds.buffers_counted.held
     (all_told_still v.told queue outcome (entries v.journal) within holds.told_matches_journal) holds.waits_were_reached
     (length-set v.told queue (told_to v.told queue ++ outcome ∷ []) ∙ holds.queues))
 
@@ -113,15 +113,15 @@ turn_from_none limit told queue number none = grind arith
 pub IsVm-carried_out : (v : VmState) (t : SpaceState) (j : JournalState) (queue number : ℕ) (request : Request) (sights : List Sight) (outcome : Outcome) (told : List (List Outcome)) → IsVm v →
     FitsSpace t j → IsSpace t → CameTo (roomless v.space) (roomless t) v.journal j queue number request (seen_by sights) outcome → queue < 16 → tell_fault v.space.limits.told v.told queue number ≡ None →
     map (λ r. r.point) sights ≡ request.waits.items → All (λ r. r.point.value ≤ r.number) sights → told ≡ with_outcome v.told queue outcome →
-    IsVm (record { space = t; journal = j; running = v.running; told = told })
+    IsVm (record { space = t; journal = j; jobs = v.jobs; told = told })
 IsVm-carried_out v t j queue number request sights outcome told holds fits space came less none points reached is =
     let within : queue < length v.told = omega (arith, holds.queues) in
     let turn : number ≡ length (told_to v.told queue) = turn_from_none v.space.limits.told v.told queue number none in
     let saw : AllZip (λ (p : Point) n. p.value ≤ n) request.waits.items (seen_by sights) =
     subst (λ (ps : List Point). AllZip (λ (p : Point) n. p.value ≤ n) ps (seen_by sights)) points (saw_waits sights reached) in
-    subst (λ (x : List (List Outcome)). IsVm (record { space = t; journal = j; running = v.running; told = x })) (sym is)
-    (IsVm-of t j v.running (with_outcome v.told queue outcome) fits space
-    (came_held (roomless v.space) (roomless t) v.journal j queue number request (seen_by sights) outcome v.running.jobs came holds.buffers_counted.held)
+    subst (λ (x : List (List Outcome)). IsVm (record { space = t; journal = j; jobs = v.jobs; told = x })) (sym is)
+    (IsVm-of t j v.jobs (with_outcome v.told queue outcome) fits space
+    (came_held (roomless v.space) (roomless t) v.journal j queue number request (seen_by sights) outcome v.jobs.running came holds.buffers_counted.held)
     (came_told (roomless v.space) (roomless t) v.journal j queue number request (seen_by sights) outcome v.told came within turn holds.told_matches_journal)
     (came_saw (roomless v.space) (roomless t) v.journal j queue number request (seen_by sights) outcome came saw holds.waits_were_reached)
     (length-set v.told queue (told_to v.told queue ++ outcome ∷ []) ∙ holds.queues))

@@ -194,14 +194,14 @@ AreHeld-more law ms t js j accesses held none found =
       places = All-push Holds js j still (places_held law ms j.number 0 t accesses j.places none found);
     }
 
-pub AreHeld-begun : (law : ChangedBufferIsFound) (old new : SpaceState) (before after : JobsState) (accesses : List Access) (job : Job) → AreHeld old.buffers before.jobs →
-    accesses_fault old.mappings before.begun old.buffers 0 accesses ≡ None → IsBegun old new before after accesses job → AreHeld new.buffers after.jobs
+pub AreHeld-begun : (law : ChangedBufferIsFound) (old new : SpaceState) (before after : JobsState) (accesses : List Access) (job : Job) → AreHeld old.buffers before.running →
+    accesses_fault old.mappings before.begun old.buffers 0 accesses ≡ None → IsBegun old new before after accesses job → AreHeld new.buffers after.running
 AreHeld-begun law old new before after accesses job held none begun =
     let j : JobState = record { number = before.begun; places = job.places.items } in
-    let jobs : after.jobs ≡ before.jobs ++ j ∷ [] =
-    ap (λ (r : JobsState). r.jobs) begun.jobs ∙ ap (λ (n : ℕ). before.jobs ++ record { number = n; places = job.places.items } ∷ []) begun.number in
-    subst (λ (t : BuffersState). AreHeld t after.jobs) (sym (ap (λ (s : SpaceState). s.buffers) begun.space))
-    (subst (AreHeld (all_held old.mappings before.begun accesses old.buffers)) (sym jobs) (AreHeld-more law old.mappings old.buffers before.jobs j accesses held none begun.places))
+    let jobs : after.running ≡ before.running ++ j ∷ [] =
+    ap (λ (r : JobsState). r.running) begun.jobs ∙ ap (λ (n : ℕ). before.running ++ record { number = n; places = job.places.items } ∷ []) begun.number in
+    subst (λ (t : BuffersState). AreHeld t after.running) (sym (ap (λ (s : SpaceState). s.buffers) begun.space))
+    (subst (AreHeld (all_held old.mappings before.begun accesses old.buffers)) (sym jobs) (AreHeld-more law old.mappings old.buffers before.running j accesses held none begun.places))
 
 runs-without : (js : List JobState) (number job : ℕ) → job ≢ number → Runs js job → Runs (without_job number js) job
 runs-without [] number job apart h = h
@@ -257,11 +257,11 @@ runs_below (j ∷ js) job begun below h =
     ] refl h
 
 -- the next number is that of no user
-pub next_uses_nothing : (t : BuffersState) (r : JobsState) → AreHeld t r.jobs → AreRunning r → All (IsNoUser r.begun) t.live
+pub next_uses_nothing : (t : BuffersState) (r : JobsState) → AreHeld t r.running → AreRunning r → All (IsNoUser r.begun) t.live
 next_uses_nothing t r held running =
-    All-weaker (UsersAre (Runs r.jobs)) (IsNoUser r.begun)
-    (λ b h. All-weaker (λ u. Runs r.jobs u.job) (λ u. u.job ≢ r.begun)
-    (λ u g same. let less : u.job < r.begun = runs_below r.jobs u.job r.begun running.below g in absurd (omega (arith, same))) b.users h) t.live held.users
+    All-weaker (UsersAre (Runs r.running)) (IsNoUser r.begun)
+    (λ b h. All-weaker (λ u. Runs r.running u.job) (λ u. u.job ≢ r.begun)
+    (λ u g same. let less : u.job < r.begun = runs_below r.running u.job r.begun running.below g in absurd (omega (arith, same))) b.users h) t.live held.users
 
 -- what a refused job held is given up, and the space is as it was
 pub given_up : (old mid new : SpaceState) (job : ℕ) → mid ≡ record old { buffers = mid.buffers } → left_everywhere job mid.buffers ≡ left_everywhere job old.buffers →

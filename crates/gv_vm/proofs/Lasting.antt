@@ -15,15 +15,15 @@ use Rattle.gv_vm.specs.declared.event.Reply.{Reply}
 use Rattle.gv_vm.specs.declared.event.Reply.TheVariants.{Idle, Put as IsPut, NotPut, Taken, Reached, Lacking, Told, Raised, Created, Destroyed, Rewound, Withdrawn, Settled, Begun, Ended, Found, Refused}
 
 abbrev running_in : WorldState → JobsState
-running_in w = w.vm.running
+running_in w = w.vm.jobs
 
 abbrev running_by : VmState → JobsState
-running_by v = v.running
+running_by v = v.jobs
 
 -- what lasts of one job
 pub record Lasts (number : ℕ) (old new : JobsState) : Type 0 where
   pub begun : old.begun ≤ new.begun
-  pub places : places_in new.jobs number ≡ places_in old.jobs number
+  pub places : places_in new.running number ≡ places_in old.running number
 
 lasts : (number : ℕ) (old new : JobsState) → new ≡ old → Lasts number old new
 lasts number old new is = subst (λ (r : JobsState). Lasts number old r) (sym is) (record { begun = omega arith; places = refl })
@@ -57,16 +57,16 @@ places_without other number (x ∷ js) apart =
       ])
     ] refl
 
-step_lasts : (number : ℕ) (old new : WorldState) (event : Event) (reply : Reply) → step old event reply new → number < old.vm.running.begun → event ≢ JobEnd number → Lasts number old.vm.running new.vm.running
+step_lasts : (number : ℕ) (old new : WorldState) (event : Event) (reply : Reply) → step old event reply new → number < old.vm.jobs.begun → event ≢ JobEnd number → Lasts number old.vm.jobs new.vm.jobs
 step_lasts number old new (JobBegin accesses) (Begun job places) st below other =
     let apart : job ≢ number = λ same. absurd (omega (arith, same, st.begun.number, below)) in
-    subst (λ (r : JobsState). Lasts number old.vm.running r) (sym st.begun.jobs) (record {
+    subst (λ (r : JobsState). Lasts number old.vm.jobs r) (sym st.begun.jobs) (record {
       begun = omega arith;
-      places = places_more old.vm.running.jobs (record { number = job; places = places.items }) number apart;
+      places = places_more old.vm.jobs.running (record { number = job; places = places.items }) number apart;
     })
 step_lasts number old new (JobEnd asked) (Ended job) st below other =
     let apart : job ≢ number = λ same. other (ap (λ (k : ℕ). JobEnd k) (sym st.job_is ∙ same)) in
-    subst (λ (r : JobsState). Lasts number old.vm.running r) (sym st.ended.jobs) (record { begun = omega arith; places = places_without job number old.vm.running.jobs apart })
+    subst (λ (r : JobsState). Lasts number old.vm.jobs r) (sym st.ended.jobs) (record { begun = omega arith; places = places_without job number old.vm.jobs.running apart })
 step_lasts number old new (Pay n) (Raised point now) st below other = lasts number _ _ (ap running_in st.state)
 step_lasts number old new (Raise asked) (Raised point now) st below other = lasts number _ _ (ap running_in st.state)
 step_lasts number old new (Put n request) (IsPut put) st below other = lasts number _ _ (ap running_in st.state)
@@ -74,7 +74,7 @@ step_lasts number old new (Put n request) (NotPut fault back) st below other = l
 step_lasts number old new (Take n) (Taken told) st below other = lasts number _ _ (ap running_in st.state)
 step_lasts number old new (Look n) (Reached point seen) st below other = lasts number _ _ (ap running_in st.state)
 step_lasts number old new (Look n) (Lacking point have) st below other = lasts number _ _ (ap running_in st.state)
-step_lasts number old new (Bind n) (Told told outcome) st below other = lasts number _ _ st.vm.running
+step_lasts number old new (Bind n) (Told told outcome) st below other = lasts number _ _ st.vm.jobs
 step_lasts number old new (GiveUp n) (Told told outcome) st below other = lasts number _ _ (ap running_in st.state)
 step_lasts number old new (Create size) (Created id) st below other = lasts number _ _ (ap running_by st.vm)
 step_lasts number old new (Destroy id) Destroyed st below other = lasts number _ _ (ap running_by st.vm)
@@ -86,11 +86,11 @@ step_lasts number old new event Idle st below other = lasts number _ _ (ap runni
 step_lasts number old new event (Refused fault) st below other = lasts number _ _ (ap running_in st.1)
 step_lasts number old new event reply st below other = absurd st
 
-pub keeps_places : (old new : WorldState) (events : List Event) (replies : List Reply) (number : ℕ) → IsRunOf old events replies new → number < old.vm.running.begun →
-    All (λ event. event ≢ JobEnd number) events → places_in new.vm.running.jobs number ≡ places_in old.vm.running.jobs number
-keeps_places old new [] [] number ran below others = ap (λ (w : WorldState). places_in w.vm.running.jobs number) ran
+pub keeps_places : (old new : WorldState) (events : List Event) (replies : List Reply) (number : ℕ) → IsRunOf old events replies new → number < old.vm.jobs.begun →
+    All (λ event. event ≢ JobEnd number) events → places_in new.vm.jobs.running number ≡ places_in old.vm.jobs.running number
+keeps_places old new [] [] number ran below others = ap (λ (w : WorldState). places_in w.vm.jobs.running number) ran
 keeps_places old new (event ∷ events) (reply ∷ replies) number ran below others =
-    let here : Lasts number old.vm.running ran.0.vm.running = step_lasts number old ran.0 event reply ran.1 below (All-head (λ e. e ≢ JobEnd number) event events others) in
+    let here : Lasts number old.vm.jobs ran.0.vm.jobs = step_lasts number old ran.0 event reply ran.1 below (All-head (λ e. e ≢ JobEnd number) event events others) in
     keeps_places ran.0 new events replies number ran.3 (omega (arith, here.begun, below)) (All-tail (λ e. e ≢ JobEnd number) event events others) ∙ here.places
 keeps_places old new [] (reply ∷ replies) number ran below others = absurd ran
 keeps_places old new (event ∷ events) [] number ran below others = absurd ran

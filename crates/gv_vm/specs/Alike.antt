@@ -34,7 +34,7 @@ bare_queue q = record { put = q.put; waiting = map bare_request q.waiting; hand 
 pub record AreAlikeVms (v v' : VmState) : Type 0 where
   pub space : v.space ≡ v'.space
   pub journal : bare_journal v.journal ≡ bare_journal v'.journal
-  pub running : v.running ≡ v'.running
+  pub jobs : v.jobs ≡ v'.jobs
   pub told : v.told ≡ v'.told
 
 pub record AreAlikeWorlds (w w' : WorldState) : Type 0 where

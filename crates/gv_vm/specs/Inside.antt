@@ -6,7 +6,7 @@ use Rattle.gv_vm.specs.declared.jobs.Job.{Job}
 use Rattle.gv_vm.specs.declared.jobs.Jobs.TheInside.{Inside}
 
 abbrev pub running_of : Inside → JobsState
-running_of j = record { begun = j.begun; jobs = map job_state j.running.items }
+running_of j = record { begun = j.begun; running = map job_state j.running.items }
 
 -- the jobs stand in the order of their numbers
 abbrev pub AreAscending : List Job → Type 0

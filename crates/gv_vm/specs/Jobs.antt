@@ -25,7 +25,7 @@ pub record JobState : Type 0 where
 -- what contracts see of `Jobs`: how many jobs were ever begun, and those that run, in the order in which they began
 pub record JobsState : Type 0 where
   pub begun : ℕ
-  pub jobs : List JobState
+  pub running : List JobState
 
 -- so many jobs run at most
 abbrev pub most_running : ℕ
@@ -40,7 +40,7 @@ abbrev pub most_begun : ℕ
 most_begun = 2 ^ 64 - 1
 
 abbrev pub no_jobs : JobsState
-no_jobs = record { begun = 0; jobs = [] }
+no_jobs = record { begun = 0; running = [] }
 
 abbrev pub has_number : ℕ → JobState → Bool
 has_number number j = j.number == number
@@ -99,7 +99,7 @@ all_held ms job (access ∷ later) t = all_held ms job later (access_held ms job
 abbrev pub many_fault : JobsState → ℕ → Option Fault
 many_fault r count =
     if nat_lt most_accesses count then Some TooManyAccesses
-    else if nat_le most_running (length r.jobs) || nat_le most_begun r.begun then Some TooManyJobs
+    else if nat_le most_running (length r.running) || nat_le most_begun r.begun then Some TooManyJobs
     else None
 
 -- why a job with these accesses can't begin, where memory suffices
@@ -125,16 +125,16 @@ job_state job = record { number = job.number; places = job.places.items }
 pub record IsBegun (old new : SpaceState) (before after : JobsState) (accesses : List Access) (job : Job) : Type 0 where
   pub number : job.number ≡ before.begun
   pub places : map Some job.places.items ≡ map (λ access. place_at old.mappings access.addr) accesses
-  pub jobs : after ≡ record { begun = before.begun + 1; jobs = before.jobs ++ job_state job ∷ [] }
+  pub jobs : after ≡ record { begun = before.begun + 1; running = before.running ++ job_state job ∷ [] }
   pub space : new ≡ record old { buffers = all_held old.mappings before.begun accesses old.buffers }
 
 -- why a job can't end
 abbrev pub end_fault : JobsState → ℕ → Option Fault
-end_fault r number = if runs r.jobs number then None else Some NoJob
+end_fault r number = if runs r.running number then None else Some NoJob
 
 -- a job ended: neither it nor what it held is there
 pub record IsEnded (old new : SpaceState) (before after : JobsState) (number : ℕ) : Type 0 where
-  pub jobs : after ≡ record before { jobs = without_job number before.jobs }
+  pub jobs : after ≡ record before { running = without_job number before.running }
   pub space : new ≡ record old { buffers = left_everywhere number old.buffers }
 
 -- the job is among the users of the buffer behind a place; a zero needs none
@@ -150,6 +150,6 @@ pub record AreHeld (t : BuffersState) (js : List JobState) : Type 0 where
 
 -- what always holds of the running jobs: few of them, each with a number of its own below those of later ones
 pub record AreRunning (r : JobsState) : Type 0 where
-  pub few : length r.jobs < most_running + 1
-  pub below : All (λ j. j.number < r.begun) r.jobs
+  pub few : length r.running < most_running + 1
+  pub below : All (λ j. j.number < r.begun) r.running
   pub made : r.begun < most_begun + 1

@@ -73,5 +73,5 @@ TimelinesFollowRaises =
 -- a job keeps its places until it ends, whatever is unmapped or taken back meanwhile, and no other job gets its number
 abbrev pub JobsKeepTheirPlaces : Type 0
 JobsKeepTheirPlaces =
-    (old new : WorldState) (events : List Event) (replies : List Reply) (number : ℕ) → IsRunOf old events replies new → number < old.vm.running.begun
-    → All (λ event. event ≢ JobEnd number) events → places_in new.vm.running.jobs number ≡ places_in old.vm.running.jobs number
+    (old new : WorldState) (events : List Event) (replies : List Reply) (number : ℕ) → IsRunOf old events replies new → number < old.vm.jobs.begun
+    → All (λ event. event ≢ JobEnd number) events → places_in new.vm.jobs.running number ≡ places_in old.vm.jobs.running number

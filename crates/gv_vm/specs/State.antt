@@ -20,7 +20,7 @@ use Rattle.gv_vm.specs.declared.outcome.Outcome.TheVariants.{Accepted}
 pub record VmState : Type 0 where
   pub space : SpaceState
   pub journal : JournalState
-  pub running : JobsState
+  pub jobs : JobsState
   pub told : List (List Outcome)
 
 -- The room for mappings isn't told: a machine's is told as the limit, which no list passes.
@@ -33,7 +33,7 @@ new_vm area limits =
     record {
       space = roomless (new_space area limits);
       journal = record { limit = limits.items; first = 0; items = [] };
-      running = no_jobs;
+      jobs = no_jobs;
       told = replicate queues [];
     }
 
@@ -42,7 +42,7 @@ new_vm area limits =
 pub record BuffersCounted (v : VmState) : Type 0 where
   pub used : IsSpace v.space
   pub kept : AreKept v.space (kept_by v.journal.items)
-  pub held : AreHeld v.space.buffers v.running.jobs
+  pub held : AreHeld v.space.buffers v.jobs.running
 
 -- the queue of a Bind was told, at its number, that it is this entry
 abbrev pub WasTold : ItemKind → ℕ → List (List Outcome) → Type 0
@@ -81,4 +81,4 @@ HasOtherBuffers old new = new ≡ record old { space = record old.space { buffer
 
 -- only the jobs are others, and what they hold
 abbrev pub HasOtherJobs : VmState → VmState → Type 0
-HasOtherJobs old new = new ≡ record old { space = record old.space { buffers = new.space.buffers }; running = new.running }
+HasOtherJobs old new = new ≡ record old { space = record old.space { buffers = new.space.buffers }; jobs = new.jobs }

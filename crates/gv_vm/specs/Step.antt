@@ -221,15 +221,15 @@ pub record IsSettledNow (old : WorldState) (to count : ℕ) (new : WorldState) :
   pub state : HasOtherEntries old new
 
 pub record IsBegunNow (old : WorldState) (accesses : List Access) (job : Job) (new : WorldState) : Type 0 where
-  pub allowed : begin_fault old.vm.space old.vm.running accesses ≡ None
-  pub begun : IsBegun old.vm.space new.vm.space old.vm.running new.vm.running accesses job
+  pub allowed : begin_fault old.vm.space old.vm.jobs accesses ≡ None
+  pub begun : IsBegun old.vm.space new.vm.space old.vm.jobs new.vm.jobs accesses job
   pub vm : HasOtherJobs old.vm new.vm
   pub state : new ≡ record old { vm = new.vm }
 
 pub record IsEndedNow (old : WorldState) (asked job : ℕ) (new : WorldState) : Type 0 where
-  pub allowed : end_fault old.vm.running asked ≡ None
+  pub allowed : end_fault old.vm.jobs asked ≡ None
   pub job_is : job ≡ asked
-  pub ended : IsEnded old.vm.space new.vm.space old.vm.running new.vm.running job
+  pub ended : IsEnded old.vm.space new.vm.space old.vm.jobs new.vm.jobs job
   pub vm : HasOtherJobs old.vm new.vm
   pub state : new ≡ record old { vm = new.vm }
 
@@ -245,8 +245,8 @@ event_fault v (Destroy id) = destroy_fault v.space.buffers id
 event_fault v Rewind = rewind_fault v.journal.items
 event_fault v (Withdraw entry) = withdraw_fault v.space v.journal entry
 event_fault v (Settle to) = settle_fault v.journal to
-event_fault v (JobBegin accesses) = begin_fault v.space v.running accesses.items
-event_fault v (JobEnd job) = end_fault v.running job
+event_fault v (JobBegin accesses) = begin_fault v.space v.jobs accesses.items
+event_fault v (JobEnd job) = end_fault v.jobs job
 event_fault v _ = None
 
 -- From `old` the world may give this reply to the event and go on to `new`.
@@ -284,7 +284,7 @@ MayGrow w (Bind queue) = CanBind w queue
 MayGrow w (GiveUp queue) = CanGiveUp w queue
 MayGrow w (Create pages) = create_fault w.vm.space.buffers pages ≡ None
 MayGrow w (Withdraw entry) = entry_fault w.vm.journal entry ≡ None
-MayGrow w (JobBegin accesses) = IsBeginRefused w.vm.space w.vm.running accesses.items OutOfMemory
+MayGrow w (JobBegin accesses) = IsBeginRefused w.vm.space w.vm.jobs accesses.items OutOfMemory
 MayGrow w _ = ⊥
 
 -- What a world answers to an event: a reply of a step; or want of memory, at an event that may grow, and all is as it was.

@@ -41,7 +41,7 @@ CameTo s t old new queue number request seen (NotReady point have) = ⊥
 -- A request was carried out, and its queue was told at the next number what it came to. The jobs run on.
 pub record IsBoundAndTold (old new : VmState) (queue number : ℕ) (request : Request) (seen : List ℕ) (outcome : Outcome) : Type 0 where
   pub came : CameTo old.space new.space old.journal new.journal queue number request seen outcome
-  pub running : new.running ≡ old.running
+  pub jobs : new.jobs ≡ old.jobs
   pub told : new.told ≡ with_outcome old.told queue outcome
 
 -- what the points saw

@@ -5,7 +5,7 @@ use Rattle.gv_vm.specs.declared.vm.Vm.TheInside.{Inside}
 
 -- its parts, with the room that there is
 abbrev pub parts_of : Inside → VmState
-parts_of v = record { space = v.space; journal = v.journal; running = v.jobs; told = lists_of v.told }
+parts_of v = record { space = v.space; journal = v.journal; jobs = v.jobs; told = lists_of v.told }
 
 abbrev pub vm_of : Inside → VmState
 vm_of v = record (parts_of v) { space = roomless v.space }

@@ -67,7 +67,7 @@ impl Jobs {
     /// No job. It takes no memory.
     pub fn new(alloc: Global) -> Jobs
         ensures none { result ≡ no_jobs }
-        ensures held { (t : BuffersState) → All (λ b. b.users ≡ []) t.live → AreHeld t result.jobs }
+        ensures held { (t : BuffersState) → All (λ b. b.users ≡ []) t.live → AreHeld t result.running }
     {
         Jobs {
             begun: 0,
@@ -77,7 +77,7 @@ impl Jobs {
 
     /// Where the accesses of a running job led when it began. None where no such job runs.
     pub fn places(&self, number: u64) -> Option<&[Place]>
-        ensures { option_copied result ≡ places_in self.now.jobs number }
+        ensures { option_copied result ≡ places_in self.now.running number }
     {
         match place_of(&self.running, number) {
             Some(place) => Some(self.running[place].places.as_slice()),
@@ -94,13 +94,13 @@ impl Jobs {
         space: &mut Space,
         accesses: &[Access],
     ) -> Result<Job, Fault>
-        requires { AreHeld space.old.buffers self.old.jobs }
+        requires { AreHeld space.old.buffers self.old.running }
         ensures none { OnOk result (begin_fault space.old self.old accesses.now ≡ None) }
         ensures begun { IfOk result (IsBegun space.old space.new self.old self.new accesses.now) }
         ensures refused { IfErr result (IsBeginRefused space.old self.old accesses.now) }
         ensures unchanged { OnErr result (self.new ≡ self.old) }
         ensures space { OnErr result (space.new ≡ space.old) }
-        ensures held { AreHeld space.new.buffers self.new.jobs }
+        ensures held { AreHeld space.new.buffers self.new.running }
         ensures kept { (ms : List Mapping) → AreKept space.old ms → AreKept space.new ms }
     {
         laws::lookups();
@@ -120,13 +120,13 @@ impl Jobs {
 
     /// Ends a job, and gives up what it holds. `NoJob` exactly where no such job runs. It takes no memory.
     pub fn end(&mut self, space: &mut Space, number: u64) -> Result<(), Fault>
-        requires { AreHeld space.old.buffers self.old.jobs }
+        requires { AreHeld space.old.buffers self.old.running }
         ensures fault { MatchOption (end_fault self.old number)
             (IsOk result) (λ fault. result ≡ Err fault) }
         ensures ended { OnOk result (IsEnded space.old space.new self.old self.new number) }
         ensures unchanged { OnErr result (self.new ≡ self.old) }
         ensures space { OnErr result (space.new ≡ space.old) }
-        ensures held { AreHeld space.new.buffers self.new.jobs }
+        ensures held { AreHeld space.new.buffers self.new.running }
         ensures kept { (ms : List Mapping) → AreKept space.old ms → AreKept space.new ms }
     {
         laws::lookups();
@@ -187,7 +187,7 @@ impl Jobs {
         ensures number { IfOk result (λ job. job.number ≡ self.old.begun) }
         ensures places { IfOk result (λ job. job.places.items ≡ places.items) }
         ensures jobs { IfOk result (λ job. self.new
-            ≡ record { begun = self.old.begun + 1; jobs = self.old.jobs ++ job_state job ∷ [] }) }
+            ≡ record { begun = self.old.begun + 1; running = self.old.running ++ job_state job ∷ [] }) }
         ensures err { OnErr result (self.new ≡ self.old) }
     {
         let number = self.begun;
@@ -203,9 +203,9 @@ impl Jobs {
 
     /// Takes a job off the running ones. Whether it ran.
     fn remove(&mut self, number: u64) -> bool
-        ensures ran { result ≡ runs self.old.jobs number }
-        ensures jobs { self.new ≡ record self.old { jobs = without_job number self.old.jobs } }
-        ensures gone { All (λ j. j.number ≢ number) self.new.jobs }
+        ensures ran { result ≡ runs self.old.running number }
+        ensures jobs { self.new ≡ record self.old { running = without_job number self.old.running } }
+        ensures gone { All (λ j. j.number ≢ number) self.new.running }
     {
         match place_of(&self.running, number) {
             Some(place) => {

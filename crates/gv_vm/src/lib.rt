@@ -29,7 +29,7 @@ mod world;
 pub use event::{Event, Looked, Reply};
 pub use jobs::{Access, Job, MAX_ACCESSES, MAX_RUNNING};
 pub use outcome::{NotTold, Outcome};
-pub use places::{Place, Target};
+pub use places::{Place, Stretch, Target};
 pub use sizes::Sizes;
 pub use told::QUEUES;
 pub use vm::{PastItem, Vm};

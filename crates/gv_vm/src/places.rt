@@ -3,13 +3,12 @@ ghost use Rattle.std.specs.Prelude.{◌≡◌, ◌<◌, ◌≤◌, ◌/◌, nat_
 ghost use Rattle.gv_types.specs.Page.{PAGES, bytes_per_page};
 ghost use Rattle.gv_types.specs.PageRange.{covers, end_of};
 ghost use Rattle.gv_types.specs.Operation.{own_part, range_of};
+ghost use Rattle.gv_ranges.specs.List.{at, IsLaidOut};
 ghost use Rattle.gv_vm.specs.Places.{place_at, place_by, place_of, run_of, stretch_end, target_of, HasBytes};
 
 use gv_ranges::RangeList;
 use gv_space::Space;
-use gv_types::{
-    Backing, BufferId, Entry, Flags, Mapping, PAGE_BYTES, PageOp, PageRange, SPACE_PAGES,
-};
+use gv_types::{Backing, BufferId, Entry, Flags, PAGE_BYTES, PageOp, SPACE_PAGES};
 
 /// What stands behind one byte of the address space: a byte of a buffer, or a zero.
 #[derive(Clone, Copy, Debug, PartialEq, Eq)]
@@ -23,6 +22,14 @@ pub enum Target {
 pub struct Place {
     pub target: Target,
     pub flags: Flags,
+}
+
+/// Where an address leads, and for how many bytes from there on the addresses lead on as it does: to the end of its mapping, or
+/// where none holds its page, to nothing up to the next mapping or the end of the address space. 0 past that end.
+#[derive(Clone, Copy, Debug, PartialEq, Eq)]
+pub struct Stretch {
+    pub place: Option<Place>,
+    pub run: u64,
 }
 
 impl Target {
@@ -89,43 +96,45 @@ pub fn place_by(op: &PageOp, addr: u64) -> Option<Place>
     }
 }
 
-/// How many bytes from an address on lead on as it does: to the end of its mapping, or where none holds its page, to nothing up to
-/// the next mapping or the end of the address space. 0 past that end. One search in the list.
-pub fn run_at(space: &Space, addr: u64) -> u64
-    ensures { result ≡ run_of space.now.mappings addr }
+/// Where an address, in bytes, leads, and for how many bytes from there on the addresses lead on as it does. One search in the
+/// list.
+pub fn find(space: &Space, addr: u64) -> Stretch
+    ensures place { result.place ≡ place_at space.now.mappings addr }
+    ensures run { result.run ≡ run_of space.now.mappings addr }
 {
+    let list = space.list();
     let page = addr / PAGE_BYTES;
     if page >= SPACE_PAGES {
-        return 0;
+        return Stretch {
+            place: None,
+            run: 0,
+        };
     }
-    stretch_end(space.list(), page) * PAGE_BYTES - addr
-}
-
-/// Where the stretch of a page ends.
-fn stretch_end(list: &RangeList, page: u64) -> u64
-    requires { page < PAGES }
-    ensures end { result ≡ stretch_end list.now.mappings page }
-    ensures behind { page < result }
-    ensures in_space { result ≤ PAGES }
-{
-    let (index, _) = list.overlapping(PageRange::between(page, page + 1));
-    if index < list.len() {
-        behind(list.get(index), page)
-    } else {
-        SPACE_PAGES
+    let (entry, end) = held_until(list, page);
+    let run = end * PAGE_BYTES - addr;
+    let Some(entry) = entry else {
+        return Stretch { place: None, run };
+    };
+    Stretch {
+        place: Some(Place::of(entry, addr % PAGE_BYTES)),
+        run,
     }
 }
 
-/// Where the stretch of a page ends, if this is the first mapping that doesn't end before it.
-fn behind(mapping: &Mapping, page: u64) -> u64
-    ensures end { result ≡ (if nat_lt page mapping.now.range.first then mapping.now.range.first else end_of mapping.now.range) }
-    ensures behind { page < end_of mapping.now.range → page < result }
-    ensures in_space { result ≤ PAGES }
+/// What a page holds, and where its stretch ends.
+fn held_until(list: &RangeList, page: u64) -> (Option<Entry>, u64)
+    requires page { page < PAGES }
+    requires laid_out { IsLaidOut list.now.mappings }
+    ensures entry { result.0 ≡ at list.now.mappings page }
+    ensures end { result.1 ≡ stretch_end list.now.mappings page }
+    ensures behind { page < result.1 }
+    ensures in_space { result.1 ≤ PAGES }
 {
-    let first = mapping.range.first();
-    if page < first {
-        first
-    } else {
-        mapping.range.end()
+    let Some(m) = list.first_behind(page) else {
+        return (None, SPACE_PAGES);
+    };
+    if page < m.range.first() {
+        return (None, m.range.first());
     }
+    (Some(m.part(page)), m.range.end())
 }

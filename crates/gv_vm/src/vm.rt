@@ -13,7 +13,7 @@ ghost use Rattle.gv_vm.specs.Told.{IsBoundAndTold, seen_by};
 use crate::dispatch::{dispatch, seen_of};
 use crate::jobs::{Access, Job, Jobs};
 use crate::outcome::{NotTold, Outcome};
-use crate::places::{Place, run_at, translate};
+use crate::places::{Place, Stretch, find, translate};
 use crate::told::{Told, nothing_told, prepare, tell};
 use gv_journal::{Item, Journal, ReadyRequest};
 use gv_space::Space;
@@ -135,12 +135,14 @@ impl Vm {
         translate(&self.space, addr)
     }
 
-    /// How many bytes from an address on lead on as it does: to the end of its mapping, or where none holds its page, to nothing
-    /// up to the next mapping or the end of the address space. 0 past that end.
-    pub fn run_at(&self, addr: u64) -> u64
-        ensures { result ≡ run_of self.now.space.mappings addr }
+    /// Where an address, in bytes, leads, by the list, and for how many bytes from there on the addresses lead on as it does: to
+    /// the end of its mapping, or where none holds its page, to nothing up to the next mapping or the end of the address space.
+    /// 0 past that end. One search.
+    pub fn find(&self, addr: u64) -> Stretch
+        ensures place { result.place ≡ place_at self.now.space.mappings addr }
+        ensures run { result.run ≡ run_of self.now.space.mappings addr }
     {
-        run_at(&self.space, addr)
+        find(&self.space, addr)
     }
 
     /// The split steps of an operation, as `Space::plan` gives them; nothing changes.
@@ -162,11 +164,11 @@ impl Vm {
     /// `TooManyAccesses` over 256, `TooManyJobs` where 1,024 run or 2^64 - 1 were begun, then per access `Unmapped`,
     /// `WriteToReadOnly`, `Conflict` and `OutOfMemory`. After a refusal nothing is held and no number is used.
     pub fn job_begin(&mut self, alloc: Global, accesses: &[Access]) -> Result<Job, Fault>
-        ensures none { OnOk result (begin_fault self.old.space self.old.running accesses.now ≡ None) }
+        ensures none { OnOk result (begin_fault self.old.space self.old.jobs accesses.now ≡ None) }
         ensures begun { IfOk result
-            (IsBegun self.old.space self.new.space self.old.running self.new.running accesses.now) }
+            (IsBegun self.old.space self.new.space self.old.jobs self.new.jobs accesses.now) }
         ensures rest { OnOk result (HasOtherJobs self.old self.new) }
-        ensures refused { IfErr result (IsBeginRefused self.old.space self.old.running accesses.now) }
+        ensures refused { IfErr result (IsBeginRefused self.old.space self.old.jobs accesses.now) }
         ensures err { OnErr result (self.new ≡ self.old) }
     {
         let begun = self.jobs.begin(alloc, &mut self.space, accesses);
@@ -178,17 +180,17 @@ impl Vm {
     /// Where the accesses of a running job led when it began, whatever was unmapped or taken back since. None where no such job
     /// runs.
     pub fn job_places(&self, number: u64) -> Option<&[Place]>
-        ensures { option_copied result ≡ places_in self.now.running.jobs number }
+        ensures { option_copied result ≡ places_in self.now.jobs.running number }
     {
         self.jobs.places(number)
     }
 
     /// Ends a job, and gives up what it holds. `NoJob` exactly where no such job runs. It takes no memory.
     pub fn job_end(&mut self, number: u64) -> Result<(), Fault>
-        ensures fault { MatchOption (end_fault self.old.running number)
+        ensures fault { MatchOption (end_fault self.old.jobs number)
             (IsOk result) (λ fault. result ≡ Err fault) }
         ensures ended { OnOk result
-            (IsEnded self.old.space self.new.space self.old.running self.new.running number) }
+            (IsEnded self.old.space self.new.space self.old.jobs self.new.jobs number) }
         ensures rest { HasOtherJobs self.old self.new }
         ensures err { OnErr result (self.new ≡ self.old) }
     {

@@ -19,7 +19,7 @@ returns-then-are_too_many-clause-done c =
     let many : most_accesses < length c.args.accesses = search rules in
     let same : length (map access_named c.args.accesses) ≡ length c.args.accesses = length-map c.args.accesses access_named in
     wrote_plain (Runs (line.Job c.args.accesses)) s c.begin.new.self (refused_reply TooManyAccesses) c.args.out.now c.write_refused.new.out c.in_ok-write_refused.ensures
-    (inr (too_many s.world.vm.running (length (map access_named c.args.accesses)) (subst (λ (n : ℕ). most_accesses < n) (sym same) many), (refl, c.begin.ensures)))
+    (inr (too_many s.world.vm.jobs (length (map access_named c.args.accesses)) (subst (λ (n : ℕ). most_accesses < n) (sym same) many), (refl, c.begin.ensures)))
 
 pub returns-clause-done : goal.returns-clause-done
 returns-clause-done c =

@@ -13,10 +13,10 @@ invariant_of-self-2 c =
     let js : List Job = c.self.inside.running.items in
     let job : Job = record { number = r.begun; places = c.in_ok-kept.kept } in
     let items : c.push_reserved.new.self.items ≡ js ++ job ∷ [] = c.push_reserved.ensures.items ∙ ap (λ (xs : List Job). xs ++ job ∷ []) c.reserve.ensures.items in
-    let jobs : map job_state c.push_reserved.new.self.items ≡ r.jobs ++ job_state job ∷ [] = ap (map job_state) items ∙ map-append job_state js (job ∷ []) in
-    let more : AreRunning (record { begun = r.begun + 1; jobs = r.jobs ++ job_state job ∷ [] }) =
+    let jobs : map job_state c.push_reserved.new.self.items ≡ r.running ++ job_state job ∷ [] = ap (map job_state) items ∙ map-append job_state js (job ∷ []) in
+    let more : AreRunning (record { begun = r.begun + 1; running = r.running ++ job_state job ∷ [] }) =
     AreRunning-more r c.in_ok-kept.kept.items c.self.invariant.running (room_from_none r 0 (subst (λ (q : JobsState). many_fault q 0 ≡ None) (sym c.self.view_is) c.requires)) in
     record {
-      running = subst (λ (rs : List JobState). AreRunning (record { begun = r.begun + 1; jobs = rs })) (sym jobs) more;
+      running = subst (λ (rs : List JobState). AreRunning (record { begun = r.begun + 1; running = rs })) (sym jobs) more;
       ascending = subst AreAscending (sym items) (all_pairs_push (λ (a b : Job). a.number < b.number) js job c.self.invariant.ascending (below_next js r.begun c.self.invariant.running.below));
     }

@@ -29,5 +29,5 @@ returns-in-Err-clause-held c =
     subst (λ (job : ℕ). left_everywhere job c.args.space.now.buffers ≡ c.args.space.now.buffers) (sym begun)
     (c.leaving.ensures.nothing c.args.space.now.buffers c.args.self.now.begun (next_uses_nothing c.args.space.now.buffers c.args.self.now c.requires c.many_fault.ensures.running)) in
     given_up c.args.space.now c.hold_and_add.new.space c.leave.new.self c.self.inside.begun c.in-Err.ensures.rest left c.leave.ensures.state nothing in
-    subst (λ (s : SpaceState). AreHeld s.buffers c.hold_and_add.new.self.jobs) (sym space)
-    (subst (λ (r : JobsState). AreHeld c.args.space.now.buffers r.jobs) (sym c.in-Err.ensures.unchanged) c.requires)
+    subst (λ (s : SpaceState). AreHeld s.buffers c.hold_and_add.new.self.running) (sym space)
+    (subst (λ (r : JobsState). AreHeld c.args.space.now.buffers r.running) (sym c.in-Err.ensures.unchanged) c.requires)

@@ -12,10 +12,10 @@ returns-in-Some c =
     let at : IsAt js c.args.number c.in-Some.place = subst (λ (xs : List Job). IsAt xs c.args.number c.in-Some.place) c.deref.ensures.value c.in-Some.ensures.some in
     ap (λ (ps : List Place). Some ps) (c.as_slice.ensures.value ∙ ap (λ (j : Job). j.places.items) c.index.ensures)
     ∙ sym (places_at js c.args.number c.in-Some.place _ c.self.invariant.ascending at)
-    ∙ ap (λ (r : JobsState). places_in r.jobs c.args.number) c.self.view_is
+    ∙ ap (λ (r : JobsState). places_in r.running c.args.number) c.self.view_is
 
 pub returns-in-None : goal.returns-in-None
 returns-in-None c =
     let js : List Job = c.self.inside.running.items in
     let none : runs (map job_state js) c.args.number ≡ false = subst (λ (xs : List Job). runs (map job_state xs) c.args.number ≡ false) c.deref.ensures.value c.in-None.ensures.none in
-    sym (places_absent (map job_state js) c.args.number none) ∙ ap (λ (r : JobsState). places_in r.jobs c.args.number) c.self.view_is
+    sym (places_absent (map job_state js) c.args.number none) ∙ ap (λ (r : JobsState). places_in r.running c.args.number) c.self.view_is

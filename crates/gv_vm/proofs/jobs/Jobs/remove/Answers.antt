@@ -12,8 +12,8 @@ pub returns-in-None-clause-jobs : goal.returns-in-None-clause-jobs
 returns-in-None-clause-jobs c =
     let none : runs (map job_state c.self.inside.running.items) c.args.number ≡ false =
     subst (λ (xs : List Job). runs (map job_state xs) c.args.number ≡ false) c.deref.ensures.value c.in-None.ensures.none in
-    let same : runs c.args.self.now.jobs c.args.number ≡ false = sym (ap (λ (r : JobsState). runs r.jobs c.args.number) c.self.view_is) ∙ none in
-    ap (λ (rs : List JobState). (let r : JobsState = record c.args.self.now { jobs = rs } in r)) (sym (without_none c.args.number c.args.self.now.jobs same))
+    let same : runs c.args.self.now.running c.args.number ≡ false = sym (ap (λ (r : JobsState). runs r.running c.args.number) c.self.view_is) ∙ none in
+    ap (λ (rs : List JobState). (let r : JobsState = record c.args.self.now { running = rs } in r)) (sym (without_none c.args.number c.args.self.now.running same))
 
 pub invariant_of-self : goal.invariant_of-self
 invariant_of-self c =
@@ -34,7 +34,7 @@ pub returns-in-Some-clause-ran : goal.returns-in-Some-clause-ran
 returns-in-Some-clause-ran c =
     let js : List Job = c.self.inside.running.items in
     let at : IsAt js c.args.number c.in-Some.place = subst (λ (xs : List Job). IsAt xs c.args.number c.in-Some.place) c.deref.ensures.value c.in-Some.ensures.some in
-    sym (present js c.args.number c.in-Some.place at) ∙ ap (λ (r : JobsState). runs r.jobs c.args.number) c.self.view_is
+    sym (present js c.args.number c.in-Some.place at) ∙ ap (λ (r : JobsState). runs r.running c.args.number) c.self.view_is
 
 pub returns-in-Some-clause-jobs : goal.returns-in-Some-clause-jobs
 returns-in-Some-clause-jobs c =
@@ -42,8 +42,8 @@ returns-in-Some-clause-jobs c =
     let at : IsAt js c.args.number c.in-Some.place = subst (λ (xs : List Job). IsAt xs c.args.number c.in-Some.place) c.deref.ensures.value c.in-Some.ensures.some in
     let left : map job_state c.remove-ended.new.self.items ≡ without_job c.args.number (map job_state js) =
     ap (map job_state) c.remove-ended.ensures.items ∙ removed js c.args.number c.in-Some.place c.self.invariant.ascending at in
-    ap (λ (rs : List JobState). (let r : JobsState = record { begun = c.self.inside.begun; jobs = rs } in r)) left
-    ∙ ap (λ (r : JobsState). (let q : JobsState = record r { jobs = without_job c.args.number r.jobs } in q)) c.self.view_is
+    ap (λ (rs : List JobState). (let r : JobsState = record { begun = c.self.inside.begun; running = rs } in r)) left
+    ∙ ap (λ (r : JobsState). (let q : JobsState = record r { running = without_job c.args.number r.running } in q)) c.self.view_is
 
 pub returns-in-Some-clause-gone : goal.returns-in-Some-clause-gone
 returns-in-Some-clause-gone c =

@@ -15,5 +15,5 @@ invariant_of-self c =
 
 pub returns-clause-begun : goal.returns-clause-begun
 returns-clause-begun c =
-    subst (λ (v : VmState). IfOk c.begin-begun.result (IsBegun v.space (roomless c.begin-begun.new.space) v.running c.begin-begun.new.self c.args.accesses.now)) c.self.view_is
+    subst (λ (v : VmState). IfOk c.begin-begun.result (IsBegun v.space (roomless c.begin-begun.new.space) v.jobs c.begin-begun.new.self c.args.accesses.now)) c.self.view_is
     (begun_if c.self.inside.space c.begin-begun.new.space c.self.inside.jobs c.begin-begun.new.self c.args.accesses.now c.begin-begun.result c.begin-begun.ensures.begun)
