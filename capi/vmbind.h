@@ -304,7 +304,7 @@ vmbind_status vmbind_entry(struct vmbind_vm *vm, uint64_t entry, struct vmbind_e
 /* What stands behind an address or a mapping: nothing, a buffer, or zeros. */
 enum { VMBIND_NOTHING = 0, VMBIND_BUFFER = 1, VMBIND_ZEROS = 2 };
 
-/* Where an address leads, by the page table.
+/* Where an address leads. The list of mappings and the page table always say the same of it.
  *   VMBIND_NOTHING  run                         no mapping holds its page
  *   VMBIND_BUFFER   flags, run, buffer, byte    this byte of the buffer
  *   VMBIND_ZEROS    flags, run                  a zero
@@ -318,13 +318,21 @@ struct vmbind_translation {
   uint64_t byte;
 };
 
-/* Any address is answered; one that leads nowhere is no fault. */
+/* By one search in the list. Any address is answered; one that leads nowhere is no fault. */
 vmbind_status vmbind_translate(struct vmbind_vm *vm, uint64_t address, struct vmbind_translation *translation);
 
 /* The same for each of an array of addresses, in one call.
  *   VMBIND_BAD_ARGUMENT   the counts differ; nothing is written */
 vmbind_status vmbind_translate_many(struct vmbind_vm *vm, const uint64_t *addresses, size_t address_count,
                                     struct vmbind_translation *translations, size_t translation_count);
+
+/* By the page table, in at most five steps: faster, and without looking how far: `run` is 0. */
+vmbind_status vmbind_walk(struct vmbind_vm *vm, uint64_t address, struct vmbind_translation *translation);
+
+/* The same for each of an array of addresses, in one call.
+ *   VMBIND_BAD_ARGUMENT   the counts differ; nothing is written */
+vmbind_status vmbind_walk_many(struct vmbind_vm *vm, const uint64_t *addresses, size_t address_count,
+                               struct vmbind_translation *translations, size_t translation_count);
 
 /* A mapping (drm_gpuva in DRM GPUVM). For VMBIND_ZEROS buffer and offset are 0; one of kind VMBIND_NOTHING is none, and all 0. */
 struct vmbind_mapping {

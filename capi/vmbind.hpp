@@ -215,6 +215,14 @@ public:
   void translate_many(span<const std::uint64_t> addresses, span<vmbind::translation> into) const {
     ok(vmbind_translate_many(&vm_, addresses.data(), addresses.size(), into.data(), into.size()));
   }
+  vmbind::translation walk(std::uint64_t address) const {
+    vmbind::translation found{};
+    ok(vmbind_walk(&vm_, address, &found));
+    return found;
+  }
+  void walk_many(span<const std::uint64_t> addresses, span<vmbind::translation> into) const {
+    ok(vmbind_walk_many(&vm_, addresses.data(), addresses.size(), into.data(), into.size()));
+  }
   std::vector<mapping> mappings() const {
     return listed<mapping>([&](mapping *list, std::size_t room, std::uint64_t *count, std::uint64_t *total) {
       return vmbind_mappings(&vm_, 0, list, room, count, total);

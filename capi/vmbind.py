@@ -197,6 +197,9 @@ _entry = _declare("entry", _u64, _to(_Info), c.c_void_p, _size, _to(_u64))
 _translate = _declare("translate", _u64, c.c_void_p)
 _translate.argtypes = c.c_void_p, _u64, c.c_void_p   # bare addresses: a third of the time
 _translate_many = _declare("translate_many", c.c_void_p, _size, c.c_void_p, _size)
+_walk = _declare("walk", _u64, c.c_void_p)
+_walk.argtypes = _translate.argtypes
+_walk_many = _declare("walk_many", c.c_void_p, _size, c.c_void_p, _size)
 _mappings = _declare("mappings", _u64, c.c_void_p, _size, _to(_u64), _to(_u64))
 _tables = _declare("tables", _to(_Counts))
 _plan = _declare("plan", _to(Op), c.c_void_p, _size, _to(_u64), _to(_u64))
@@ -396,25 +399,39 @@ class Vm:
     # Looking
 
     def translate(self, address):
-        """The Translation of an address, in bytes."""
-        place = Translation()
-        if not 0 <= address <= _MOST:
-            _number(address)
-        status = _translate(self._at, address, _address_of(place))
-        if status:
-            raise Refused(status)
-        return place
+        """The Translation of an address, in bytes, by one search in the list."""
+        return self._looked(_translate, address)
+
+    def walk(self, address):
+        """The same by the page table, faster and without how far: its run is 0."""
+        return self._looked(_walk, address)
 
     def translate_many(self, addresses, out=None):
         """The Translations of many addresses, as an array. `addresses` is any row of numbers; a buffer of unsigned 64-bit
         numbers (array.array("Q"), numpy.uint64) is read where it lies. `out` may be an earlier answer of as many, which is
         written again."""
+        return self._looked_all(_translate_many, addresses, out)
+
+    def walk_many(self, addresses, out=None):
+        """The same by the page table, as walk is to translate."""
+        return self._looked_all(_walk_many, addresses, out)
+
+    def _looked(self, look, address):
+        place = Translation()
+        if not 0 <= address <= _MOST:
+            _number(address)
+        status = look(self._at, address, _address_of(place))
+        if status:
+            raise Refused(status)
+        return place
+
+    def _looked_all(self, look_all, addresses, out):
         numbers, count = _numbers(addresses)
         if out is None:
             out = (Translation * count)()
         elif not isinstance(out, c.Array) or out._type_ is not Translation:
             raise TypeError("an array of Translations is wanted")
-        self._check(_translate_many(self._vm, numbers, count, out, len(out)))
+        self._check(look_all(self._vm, numbers, count, out, len(out)))
         return out
 
     def mappings(self):

@@ -47,6 +47,9 @@ static void on_empty(struct vmbind_vm *vm) {
   SPOIL(translation); CALL(NO_VM, translate, vm, 0, &translation); ZERO(translation);
   SPOIL(translations); CALL(NO_VM, translate_many, vm, addresses, 2, translations, 1);
   CHECK(is_stale(translations, sizeof translations));
+  SPOIL(translation); CALL(NO_VM, walk, vm, 0, &translation); ZERO(translation);
+  SPOIL(translations); CALL(NO_VM, walk_many, vm, addresses, 2, translations, 1);
+  CHECK(is_stale(translations, sizeof translations));
   SPOIL(mappings); SPOIL(a); SPOIL(b); CALL(NO_VM, mappings, vm, 0, mappings, 2, &a, &b); ZERO(a); ZERO(b);
   CHECK(is_stale(mappings, sizeof mappings));
   SPOIL(counts); CALL(NO_VM, tables, vm, &counts); ZERO(counts);
@@ -275,11 +278,22 @@ static void picture(void) {
     SPOIL(t);
     CALL(OK, translate, &vm, rows[k].address, &t);
     if (!CHECK(!memcmp(&t, &wanted, sizeof t)) || !CHECK(!memcmp(&t, &many[k], sizeof t))) printf("  address %zu\n", k);
+    wanted.run = 0;
+    SPOIL(t);
+    CALL(OK, walk, &vm, rows[k].address, &t);
+    if (!CHECK(!memcmp(&t, &wanted, sizeof t))) printf("  walk of address %zu\n", k);
   }
+  SPOIL(many);
+  CALL(OK, walk_many, &vm, addresses, COUNT(rows), many, COUNT(rows));
+  CHECK(is_stale(many + COUNT(rows), sizeof *many));
+  for (size_t k = 0; k < COUNT(rows); k++) CHECK(many[k].kind == rows[k].kind && many[k].byte == rows[k].byte && many[k].run == 0);
   SPOIL(many);
   CALL(BAD_ARGUMENT, translate_many, &vm, addresses, 3, many, 2);
   CHECK(is_stale(many, sizeof many));
   CALL(OK, translate_many, &vm, NULL, 0, NULL, 0);
+  CALL(BAD_ARGUMENT, walk_many, &vm, addresses, 3, many, 2);
+  CHECK(is_stale(many, sizeof many));
+  CALL(OK, walk_many, &vm, NULL, 0, NULL, 0);
   CALL(OK, rewind, &vm, &n);
   CHECK(n == 1);
   CALL(OK, mappings, &vm, 0, list, 4, &count, &total);
@@ -290,6 +304,9 @@ static void picture(void) {
   CALL(OK, bind, &vm, &request, &outcome);
   struct vmbind_translation zeros = { VMBIND_ZEROS, VMBIND_READ_ONLY, 0x1fff, { 0, 0, 0 }, 0 };
   CALL(OK, translate, &vm, 0x8001, &t);
+  CHECK(!memcmp(&t, &zeros, sizeof t));
+  zeros.run = 0;
+  CALL(OK, walk, &vm, 0x8001, &t);
   CHECK(!memcmp(&t, &zeros, sizeof t));
   CALL(OK, mappings, &vm, 1, list, 1, &count, &total);
   CHECK(count == 1 && list[0].kind == VMBIND_ZEROS && list[0].flags == VMBIND_READ_ONLY && list[0].offset == 0 && list[0].buffer.made == 0);

@@ -139,6 +139,9 @@ def many():
     rows = array.array("Q", numbers)
     for given in (numbers, tuple(numbers), iter(numbers), rows, memoryview(rows), memoryview(rows.tobytes()).cast("Q")):
         check(list(vm.translate_many(given)) == wanted, f"many of {type(given)}")
+    by_table = [(it.kind, it.flags, it.buffer, it.byte, 0) for it in wanted]
+    for walked in ([vm.walk(it) for it in numbers], vm.walk_many(rows)):
+        check([(it.kind, it.flags, it.buffer, it.byte, it.run) for it in walked] == by_table, "the page table says the same")
     out = vm.translate_many(rows)
     vm.rewind()
     check(vm.translate_many(rows, out) is out and not any(out), "written again")

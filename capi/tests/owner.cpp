@@ -47,6 +47,7 @@ static void calls() {
   const std::uint64_t addresses[3] = {0, 0x8000, 0x1000};
   std::array<vmbind::translation, 3> found;
   vm.translate_many(addresses, found);
+  CHECK(vm.walk(0x2abc).byte == 0x2abc && vm.walk(0x2abc).run == 0);
   CHECK(found[0].kind == VMBIND_BUFFER && found[1].kind == VMBIND_ZEROS && found[1].flags == VMBIND_READ_ONLY && found[2].run == 0x1000);
   CHECK(thrown([&] { vm.translate_many({1, 2}, found); }).status == VMBIND_BAD_ARGUMENT);
   CHECK(vm.mappings().size() == 3 && vm.mappings()[1].start == 0x2000 && vm.tables()[0] == 1);

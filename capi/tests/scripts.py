@@ -153,6 +153,10 @@ class Session:
             wanted.run = min([it.start for it in mappings if it.start > address] + [vmbind.END]) - address
         if found != wanted:
             raise AssertionError(f"address {address:#x} leads to {found}, and by the list to {wanted}")
+        walked = self.vm.walk(address)
+        walked.run = wanted.run
+        if walked != wanted:
+            raise AssertionError(f"address {address:#x} leads to {walked} by the page table, and by the list to {wanted}")
         return found
 
     def do_at(self, address):

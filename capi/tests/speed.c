@@ -6,7 +6,7 @@
 #include <time.h>
 
 #define PAGE VMBIND_PAGE
-enum { RUNS = 7, CALLS = 100000, MOST = 4096 };
+enum { RUNS = 7, CALLS = 100000, MOST = 4096, STRIDE = 16, MAPPED = 8 };
 
 static struct vmbind_vm vm = VMBIND_INIT;
 static struct vmbind_buffer buffer;
@@ -37,7 +37,14 @@ static void bind(const struct vmbind_op *ops, size_t count) {
   ok(vmbind_bind(&vm, &request, &outcome));
 }
 
-/* `mappings` of one page each, every other page, of which a request has 256; nothing can be taken back. */
+/* A map of so many pages to as many of the buffer, or an unmap. */
+static struct vmbind_op edit(uint64_t first, uint64_t count, int maps) {
+  struct vmbind_op map = { VMBIND_MAP, 0, first * PAGE, count * PAGE, buffer, first * PAGE };
+  struct vmbind_op unmap = { VMBIND_UNMAP, 0, first * PAGE, count * PAGE, { 0, 0, 0 }, 0 };
+  return maps ? map : unmap;
+}
+
+/* So many mappings of 8 pages, each 16 pages behind the one before, of which a request has 256; nothing can be taken back. */
 static void fill(uint64_t count) {
   struct vmbind_config config = VMBIND_CONFIG_DEFAULT;
   struct vmbind_op ops[256];
@@ -48,12 +55,12 @@ static void fill(uint64_t count) {
   mappings = count;
   for (uint64_t k = 0; k < count;) {
     size_t here = 0;
-    for (; here < 256 && k < count; here++, k++) ops[here] = (struct vmbind_op){ VMBIND_MAP, 0, k * 2 * PAGE, PAGE, buffer, k * PAGE };
+    for (; here < 256 && k < count; here++, k++) ops[here] = edit(k * STRIDE, MAPPED, 1);
     bind(ops, here);
   }
   ok(vmbind_journal(&vm, &n, &n));
   ok(vmbind_settle(&vm, n, &n));
-  for (size_t k = 0; k < MOST; k++) addresses[k] = chance(count) * 2 * PAGE + chance(PAGE);
+  for (size_t k = 0; k < MOST; k++) addresses[k] = chance(count) * STRIDE * PAGE + chance(MAPPED * PAGE);
 }
 
 static void nothing(int k) { ok(vmbind_timeline_value(&vm, (uint64_t)k % 64, &sum)); }
@@ -68,10 +75,36 @@ static void any_place(int k) {
   sum += translations[0].byte;
 }
 
-static void bind_one(int k) {
-  uint64_t page = chance(mappings * 2);
-  struct vmbind_op op = { VMBIND_MAP, 0, page * PAGE, (1 + (uint64_t)k % 29) * PAGE, buffer, page * PAGE };
-  bind(&op, 1);
+static void walk_one(int k) {
+  ok(vmbind_walk(&vm, addresses[0] + (uint64_t)k % 8, &translations[0]));
+  sum += translations[0].byte;
+}
+
+static void walk_any(int k) {
+  ok(vmbind_walk(&vm, addresses[k % MOST], &translations[0]));
+  sum += translations[0].byte;
+}
+
+/* What gv_bench takes for a bind: maps and unmaps of 1 to 29 pages anywhere in a list of mappings of 8 pages, half of the pages free. */
+enum { TURNS = 96, ROUNDS = 20 };
+
+/* A run binds so many requests of one operation, which are then taken back. */
+static void measure_binds(void) {
+  double least = 0;
+  struct vmbind_op ops[TURNS];
+  uint64_t entry;
+  for (int round = 0; round < ROUNDS; round++) {
+    for (int k = 0; k < TURNS; k++) {
+      uint64_t first = chance(mappings * STRIDE), count = 1 + chance(29);
+      ops[k] = edit(first, count, chance(2) == 0);
+    }
+    double start = now();
+    for (int k = 0; k < TURNS; k++) bind(&ops[k], 1);
+    double took = (now() - start) / TURNS;
+    if (round == 0 || took < least) least = took;
+    for (int k = 0; k < TURNS; k++) ok(vmbind_rewind(&vm, &entry));
+  }
+  printf("%-24s %9llu mappings %8.1f ns\n", "bind of one operation", (unsigned long long)mappings, least);
 }
 
 static void measure(const char *name, void (*call)(int), int calls) {
@@ -85,15 +118,17 @@ static void measure(const char *name, void (*call)(int), int calls) {
   printf("%-24s %9llu mappings %8.1f ns\n", name, (unsigned long long)mappings, least);
 }
 
-static void measure_many(void) {
+typedef vmbind_status many(struct vmbind_vm *, const uint64_t *, size_t, struct vmbind_translation *, size_t);
+
+static void measure_many(const char *name, many *call) {
   double least = 0;
   for (int run = 0; run < RUNS; run++) {
     double start = now();
-    for (int k = 0; k < CALLS / MOST; k++) ok(vmbind_translate_many(&vm, addresses, MOST, translations, MOST));
+    for (int k = 0; k < CALLS / MOST; k++) ok(call(&vm, addresses, MOST, translations, MOST));
     double took = (now() - start) / (CALLS / MOST * MOST);
     if (run == 0 || took < least) least = took;
   }
-  printf("%-24s %9llu mappings %8.1f ns an address\n", "translate_many", (unsigned long long)mappings, least);
+  printf("%-24s %9llu mappings %8.1f ns an address\n", name, (unsigned long long)mappings, least);
 }
 
 int main(void) {
@@ -102,8 +137,11 @@ int main(void) {
     measure("timeline_value", nothing, CALLS);
     measure("translate, one page", one_place, CALLS);
     measure("translate, at random", any_place, CALLS);
-    measure_many();
-    measure("bind of one map", bind_one, 2000);
+    measure_many("translate_many", vmbind_translate_many);
+    measure("walk, one page", walk_one, CALLS);
+    measure("walk, at random", walk_any, CALLS);
+    measure_many("walk_many", vmbind_walk_many);
+    measure_binds();
   }
   return vmbind_destroy(&vm) != VMBIND_OK || sum == 1;
 }

@@ -30,5 +30,6 @@ def measure(name, call, calls, each=1):
 
 measure("value", lambda: vm.value(3), 20000)
 measure("translate", lambda: vm.translate(0x2abc), 20000)
+measure("walk", lambda: vm.walk(0x2abc), 20000)
 measure("translate_many, each", lambda: vm.translate_many(rows, out), 20, len(rows))
 measure("bind and rewind", there_and_back, 2000)
