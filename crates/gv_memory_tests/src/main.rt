@@ -4,10 +4,11 @@
 //! `gv_memory_tests script DUMMIES` the script on its standard input, behind so many requests for memory that nobody
 //! needs: in runs in each of which the same request counted from the start is refused, the refused one so moves through
 //! the row. Beside the rows of events on a world there are `space`, `journal` and `queues`, which call these by
-//! themselves, and `replies`, a script whose replies are written by hand.
+//! themselves, and `replies` and `dialogue`, lines whose answers are written by hand.
 #![tactic(auto)]
 
 mod act;
+mod dialogue;
 mod fold;
 mod journal;
 mod play;
@@ -29,8 +30,8 @@ use std::sync::Wait;
 use std::thread::Threads;
 use std::{env, io};
 
-/// The rows of calls on a space, on a journal and on running queues, and of a script with its replies.
-const APART: [&str; 4] = ["space", "journal", "queues", "replies"];
+/// The rows of calls on a space, on a journal and on running queues, of a script with its replies, and of a dialogue.
+const APART: [&str; 5] = ["space", "journal", "queues", "replies", "dialogue"];
 
 /// More requests for memory than stand before the one that is refused.
 const PAST_THE_REFUSED: u32 = 1_000;
@@ -135,6 +136,7 @@ fn apart<R: Threads + Wait + Sync>(rt: &R, alloc: Global, name: &str) -> Result<
         "journal" => journal::play(alloc),
         "queues" => queues::play(rt, alloc),
         "replies" => replies::play(alloc),
+        "dialogue" => dialogue::play(alloc),
         _ => Err(Wrong::NoRow),
     }
 }
