@@ -6,8 +6,6 @@ mod listing;
 mod objects;
 mod report;
 mod row;
-#[cfg(test)]
-mod tests;
 mod walk;
 
 pub use fault::{CompareFault, Which};

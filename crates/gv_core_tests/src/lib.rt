@@ -1,11 +1,13 @@
-//! Tests of the crates below the space: ranges, split, page table, buffers; of the lines of the script language; and of replies as
-//! JSON. They stand in a crate of their own, so that none of those is proved a second time with them.
+//! Tests of the crates below the space: ranges, split, page table, buffers; of the lines of the script language; of replies as
+//! JSON; and of lists compared. They stand in a crate of their own, so that none of those is proved a second time with them.
 #![tactic(auto)]
 
 #[cfg(test)]
 mod buffers;
 #[cfg(test)]
 mod chunks;
+#[cfg(test)]
+mod comparing;
 #[cfg(test)]
 mod fixtures;
 #[cfg(test)]

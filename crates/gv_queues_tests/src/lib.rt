@@ -1,4 +1,4 @@
-//! Tests of running queues. They stand in a crate of their own, so that the queues aren't proved a second time with them.
+//! Tests of timelines and of running queues. They stand in a crate of their own, so that neither is proved a second time with them.
 #![tactic(auto)]
 
 #[cfg(test)]
@@ -21,5 +21,7 @@ mod row;
 mod rows;
 #[cfg(test)]
 mod running;
+#[cfg(test)]
+mod timelines;
 #[cfg(test)]
 mod waiting;

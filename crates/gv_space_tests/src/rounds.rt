@@ -90,6 +90,47 @@ impl Watch for Judge {
     }
 }
 
+/// Two operations of which both are taken back, or both given up.
+fn play_nested(
+    alloc: Global,
+    space: &mut Space,
+    judge: &mut Judge,
+    choice: &Choice,
+    stay: Stay,
+) -> Result<(), Fault> {
+    let ops = choice.ops();
+    let _played = nested(alloc, space, judge, &ops, stay)?;
+    Ok(())
+}
+
+/// What two operations took out comes back.
+fn play_restored(
+    alloc: Global,
+    space: &mut Space,
+    judge: &mut Judge,
+    choice: &Choice,
+    stays: bool,
+) -> Result<(), Fault> {
+    let range = choice.range;
+    let restored = [Restored { range, stays }];
+    bring_back(alloc, space, judge, &choice.ops(), &restored)
+}
+
+/// Plays what a way has.
+fn play_way(
+    alloc: Global,
+    space: &mut Space,
+    judge: &mut Judge,
+    choice: &Choice,
+    way: Way,
+) -> Result<(), Fault> {
+    match way {
+        Way::TakeBack => play_nested(alloc, space, judge, choice, Stay::Neither),
+        Way::GiveUp => play_nested(alloc, space, judge, choice, Stay::Both),
+        Way::BringBack { stays } => play_restored(alloc, space, judge, choice, stays),
+    }
+}
+
 /// Plays a round on a space. What was missed.
 fn round(
     alloc: Global,
@@ -98,19 +139,7 @@ fn round(
     choice: &Choice,
     way: Way,
 ) -> Result<Option<Miss>, Fault> {
-    let ops = choice.ops();
-    match way {
-        Way::TakeBack => {
-            nested(alloc, space, judge, &ops, Stay::Neither)?;
-        }
-        Way::GiveUp => {
-            nested(alloc, space, judge, &ops, Stay::Both)?;
-        }
-        Way::BringBack { stays } => {
-            let range = choice.range;
-            bring_back(alloc, space, judge, &ops, &[Restored { range, stays }])?;
-        }
-    }
+    play_way(alloc, space, judge, choice, way)?;
     judge.see(alloc, space)?;
     Ok(judge.miss)
 }

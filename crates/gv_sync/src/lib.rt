@@ -11,6 +11,3 @@ pub use clock::Clock;
 pub use marks::Mark;
 pub use sights::{Lacking, Reached};
 pub use timelines::{MAX_TIMELINES, Seat, SyncFault, Timelines};
-
-#[cfg(test)]
-mod tests;

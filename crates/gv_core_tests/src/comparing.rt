@@ -1,6 +1,6 @@
 //! Lists whose differences are worked out by hand.
 
-use crate::{CompareFault, Which, compare};
+use gv_compare::{CompareFault, Which, compare};
 use std::process::Abort;
 
 /// Four pages of a ring buffer, and four of zeros.

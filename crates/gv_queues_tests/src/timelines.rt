@@ -1,7 +1,8 @@
+//! Timelines: what one thread sees of them, and two.
 ghost use Rattle.std.specs.Prelude.{◌≡◌, ◌≤◌, ◌<◌};
 ghost use Rattle.gv_sync.specs.Seats.{IsSeatOf, timeline_count, first_seat};
 
-use crate::{Clock, Lacking, Reached, Seat, Timelines, laws};
+use gv_sync::{Clock, Lacking, Reached, Seat, Timelines, laws};
 use gv_types::Point;
 use std::test::Fail;
 use std::thread;
