@@ -32,6 +32,7 @@ mod tally;
 mod terms;
 mod text;
 mod watcher;
+mod whereabouts;
 
 pub use fault::ReplayFault;
 pub use row::{Act, Cause, Moment};

@@ -6,6 +6,7 @@ use crate::row::{Act, Moment};
 use crate::tally::{Place, Tally};
 use crate::text::number_of;
 use crate::watcher::Watcher;
+use crate::whereabouts::Whereabouts;
 use gv_space::Space;
 use gv_types::{BufferId, Fault, Op, PAGE_BYTES, PageRange};
 use std::alloc::Global;
@@ -14,6 +15,9 @@ use std::collections::VecDeque;
 mod freeing;
 
 pub use freeing::Freed;
+
+/// So many ranges of a buffer may be known beside twice as many as it has mappings.
+const SLACK: u64 = 64;
 
 /// At each line so many buffers that were freed are tried.
 const TRIES: usize = 4;
@@ -24,6 +28,7 @@ pub struct Replay {
     machine: Machine,
     acts: VecDeque<Act>,
     freed: VecDeque<BufferId>,
+    whereabouts: Whereabouts,
     pub tally: Tally,
 }
 
@@ -55,6 +60,7 @@ impl Replay {
             machine: Machine::new(alloc)?,
             acts: VecDeque::new(alloc),
             freed: VecDeque::new(alloc),
+            whereabouts: Whereabouts::new(alloc),
             tally: Tally::new(alloc, all),
         })
     }
@@ -155,6 +161,7 @@ impl Replay {
         match refusal(self.machine.bind(alloc, ops))? {
             Ok(_) => {
                 self.note_bound(act)?;
+                self.note_mapped(alloc, act)?;
                 watcher.bound(act, None, self.machine.newest(), self.machine.space())?;
                 Ok(true)
             }
@@ -172,6 +179,35 @@ impl Replay {
         self.tally.binds = self.tally.binds.saturating_add(1);
         self.acts.push_back(*act)?;
         Ok(())
+    }
+
+    /// Keeps where a buffer was mapped.
+    fn note_mapped(&mut self, alloc: Global, act: &Act) -> Result<(), ReplayFault> {
+        let Op::Map {
+            addr,
+            len,
+            buffer,
+            ..
+        } = act.op
+        else {
+            return Ok(());
+        };
+        let Some(range) = pages_of(addr, len) else {
+            return Ok(());
+        };
+        let known = self.whereabouts.add(alloc, &buffer, range)? as u64;
+        let uses = self.machine.space().uses(buffer).unwrap_or(0);
+        if known > uses.saturating_mul(2).saturating_add(SLACK) {
+            let ranges = self.mapped(alloc, &buffer)?;
+            self.whereabouts.set(&buffer, ranges);
+        }
+        Ok(())
+    }
+
+    /// The ranges of a buffer's mappings, ascending.
+    fn mapped(&self, alloc: Global, buffer: &BufferId) -> Result<Vec<PageRange>, ReplayFault> {
+        let list = self.machine.space().list();
+        Ok(self.whereabouts.mapped(alloc, list, buffer)?)
     }
 
     fn note_refused(&mut self, act: &Act, fault: Fault) -> Result<(), ReplayFault> {
@@ -201,6 +237,7 @@ impl Replay {
     /// Destroys a buffer, or lets it wait on.
     fn destroy<V: Watcher>(&mut self, id: BufferId, watcher: &mut V) -> Result<(), ReplayFault> {
         if self.is_destroyed(&id) {
+            self.whereabouts.forget(&id);
             watcher.destroyed(number_of(&id))
         } else {
             self.give_up(id)
@@ -231,6 +268,7 @@ impl Replay {
             machine,
             acts,
             freed: _,
+            whereabouts: _,
             tally,
         } = self;
         Left {

@@ -5,7 +5,7 @@ use crate::fault::ReplayFault;
 use crate::row::{Act, Cause, Moment};
 use crate::tally::Place;
 use crate::watcher::Watcher;
-use gv_types::{BufferId, Op, PAGE_BYTES};
+use gv_types::{BufferId, Op, PAGE_BYTES, PageRange};
 use std::alloc::Global;
 
 /// A request has at most so many operations.
@@ -31,6 +31,14 @@ impl Freed {
             cause: self.cause,
         }
     }
+
+    /// How many of these ranges lie in its own one.
+    fn own_of(&self, mapped: &[PageRange]) -> u64 {
+        let Some(own) = pages_of(self.addr, self.len) else {
+            return 0;
+        };
+        mapped.iter().filter(|range| range.lies_in(own)).count() as u64
+    }
 }
 
 impl Replay {
@@ -43,15 +51,15 @@ impl Replay {
         freed: &Freed,
         watcher: &mut V,
     ) -> Result<(), ReplayFault> {
-        let own = self.own_pieces(alloc, freed)?;
+        let mapped = self.mapped(alloc, &freed.buffer)?;
         let uses = self.machine.space().uses(freed.buffer).unwrap_or(0);
-        let others = uses.saturating_sub(own.len() as u64);
+        let others = uses.saturating_sub(freed.own_of(mapped.as_slice()));
         if others > 0 {
             self.note_reached(moment, freed, others)?;
         }
         if uses > 0 {
             let act = freed.act(moment);
-            let ops = ops_of(alloc, &act, own, others)?;
+            let ops = ops_of(alloc, &act, mapped.as_slice(), uses)?;
             self.carry_out_as(alloc, &act, ops, watcher)?;
         }
         self.give_up(freed.buffer)
@@ -72,31 +80,25 @@ impl Replay {
             mappings,
         })
     }
-
-    /// Unmaps of the mappings of a buffer that lie in its own range.
-    fn own_pieces(&self, alloc: Global, freed: &Freed) -> Result<Vec<Op>, ReplayFault> {
-        let mut pieces = Vec::new(alloc);
-        let Some(range) = pages_of(freed.addr, freed.len) else {
-            return Ok(pieces);
-        };
-        let list = self.machine.space().list();
-        let (index, count) = list.overlapping(range);
-        for mapping in list.run(index, count) {
-            if mapping.backing.is_of(freed.buffer) && mapping.range.lies_in(range) {
-                pieces.push(Op::Unmap {
-                    addr: mapping.range.first().saturating_mul(PAGE_BYTES),
-                    len: mapping.range.count().saturating_mul(PAGE_BYTES),
-                })?;
-            }
-        }
-        Ok(pieces)
-    }
 }
 
-/// The unmaps of a buffer's own mappings where it has no others, so that the list isn't searched for those. Else its unmap.
-fn ops_of(alloc: Global, act: &Act, own: Vec<Op>, others: u64) -> Result<Vec<Op>, ReplayFault> {
-    if others == 0 && own.len() <= MAX_PIECES {
-        return Ok(own);
+/// Unmaps of a buffer's mappings, where these ranges are those of all and one request has room for them. Else its unmap, which
+/// searches the whole list for them.
+fn ops_of(
+    alloc: Global,
+    act: &Act,
+    mapped: &[PageRange],
+    uses: u64,
+) -> Result<Vec<Op>, ReplayFault> {
+    if mapped.len() as u64 != uses || mapped.len() > MAX_PIECES {
+        return Ok(Vec::from_slice(alloc, &[act.op])?);
     }
-    Ok(Vec::from_slice(alloc, &[act.op])?)
+    let mut ops = Vec::new(alloc);
+    for range in mapped {
+        ops.push(Op::Unmap {
+            addr: range.first().saturating_mul(PAGE_BYTES),
+            len: range.count().saturating_mul(PAGE_BYTES),
+        })?;
+    }
+    Ok(ops)
 }
