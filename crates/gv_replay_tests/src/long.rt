@@ -1,4 +1,4 @@
-//! A log of 100,000 lines against the counts that must come.
+//! Logs of many lines against the counts that must come.
 
 use crate::play::{RADV, has_line, play};
 use gv_replay::Terms;
@@ -63,6 +63,56 @@ fn long_log_comes_to_its_counts(rt: HostRuntime) -> Result<(), Fail> {
         "  line 100000, 0.000019 s: unmapall b20000 (memory freed): b20000 0x10 before",
         "  line 99997, 0.000019 s: map 0x80000000 0x1000 b20000 0x0 (sparse bound): none before",
         "  the first 34464 binds are no longer held",
+    ];
+    for line in wanted {
+        assert!(rt; has_line(sink.bytes(), line), "{line}");
+    }
+    Ok(())
+}
+
+/// Memory of so many pages from an address on is made, each of its pages is bound to a tile so many times, and it is freed.
+fn write_bound(log: &mut String, start: u64, pages: u64, times: u64) -> Result<(), AllocError> {
+    let end = start.saturating_add(pages.saturating_mul(0x1000));
+    writeln!(
+        log,
+        "timestamp=1, VA={start:016x}-{end:016x}, destroyed=0, is_virtual=0"
+    )?;
+    for bind in 0..times.saturating_mul(pages) {
+        let page = bind % pages.max(1);
+        let tile = page.saturating_mul(0x2000).saturating_add(0x8000_0000);
+        let next = tile.saturating_add(0x1000);
+        let to = page.saturating_mul(0x1000).saturating_add(start);
+        writeln!(
+            log,
+            "timestamp=1, VA={tile:016x}-{next:016x}, mapped_to={to:016x}"
+        )?;
+    }
+    writeln!(
+        log,
+        "timestamp=1, VA={start:016x}-{end:016x}, destroyed=1, is_virtual=0"
+    )
+}
+
+/// More mappings than a request has operations, and more binds than are kept of a buffer.
+#[test]
+fn freed_memory_with_many_tiles(rt: HostRuntime) -> Result<(), Fail> {
+    let mut log = String::new(rt.alloc());
+    write_bound(&mut log, 0x1_0000_0000, 300, 3)?;
+    write_bound(&mut log, 0x1_0000_0000, 100, 5)?;
+    let terms = Terms {
+        addresses: &[0x8000_0010],
+        ..RADV
+    };
+    let mut sink = MemorySink::new(rt.alloc());
+    assert!(rt; play(rt.alloc(), log.as_bytes(), &terms, &mut sink) == Ok(()));
+    let wanted = [
+        "  1404 binds of 2 buffers, 0 lines passed over",
+        "     2 freed buffers that other mappings still reached",
+        "         line 902, 0.000000 s: b1, made at line 1, 300 pages: 300 mappings",
+        "         line 1404, 0.000000 s: b2, made at line 903, 100 pages: 100 mappings",
+        "     0 refused",
+        "0x80000010: none",
+        "  line 1404, 0.000000 s: unmapall b2 (memory freed): b2 0x10 before",
     ];
     for line in wanted {
         assert!(rt; has_line(sink.bytes(), line), "{line}");
