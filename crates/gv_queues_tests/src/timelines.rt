@@ -51,7 +51,7 @@ fn one_thread_on_timelines(rt: HostRuntime) -> Result<(), Fail> {
 }
 
 /// Nobody raised a timeline before its first seat.
-#[tactic(auto, using(crate::proofs::Rises::replicated))]
+#[tactic(auto, using(crate::proofs::Fresh::replicated))]
 fn value_at_first(timelines: &Timelines, seat: &mut Seat, timeline: u64) -> u64
     requires first { seat.old ≡ first_seat timelines.now }
     requires named { timeline < timeline_count timelines.now }
