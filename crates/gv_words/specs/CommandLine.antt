@@ -103,8 +103,11 @@ run_line = with_rule (with_flag (new_app (codes "run")) (codes "explain")) file_
 abbrev pub serve_line : App
 serve_line = with_rule (with_flag (new_app (codes "serve")) (codes "json")) file_rule
 
+abbrev pub replay_asked : App
+replay_asked = with_rule (with_rule (new_app (codes "replay")) format_rule) addresses_rule
+
 abbrev pub replay_options : App
-replay_options = with_rule (with_rule (with_rule (with_rule (new_app (codes "replay")) format_rule) addresses_rule) flags_rule) pid_rule
+replay_options = with_rule (with_rule replay_asked flags_rule) pid_rule
 
 abbrev pub replay_forms : App
 replay_forms = with_flag (with_flag (with_flag replay_options (codes "json")) (codes "script")) (codes "draw")
@@ -129,10 +132,13 @@ IsLine line command = (app_of command ≡ line) × ((out-Command command).has_gl
 abbrev pub bare_line : App
 bare_line = on_top (λ s. record s { has_version = true; subcommand_required = true }) (new_app (codes "vmbind"))
 
--- its subcommands; help may be asked for everywhere
+-- with its first subcommands
+abbrev pub first_lines : App
+first_lines = with_subcommand (with_subcommand (with_subcommand bare_line run_line.top) serve_line.top) replay_line.top
+
+-- with all its subcommands; help may be asked for everywhere
 abbrev pub command_line : App
-command_line = with_subcommand (with_subcommand (with_subcommand (with_subcommand (with_subcommand (with_subcommand bare_line
-    run_line.top) serve_line.top) replay_line.top) draw_line.top) compare_line.top) threads_line.top
+command_line = with_subcommand (with_subcommand (with_subcommand first_lines draw_line.top) compare_line.top) threads_line.top
 
 -- so many queues, and turns, as running queues and their gate take them
 abbrev pub IsTask : Task → Type 0

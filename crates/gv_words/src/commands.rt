@@ -2,7 +2,7 @@
 ghost use Rattle.std.specs.Prelude.{◌≡◌, IfOk, false};
 ghost use Rattle.clap.specs.Words.{app_of, rule_of};
 ghost use Rattle.gv_words.specs.CommandLine.{file_rule, flag_rule, list_rule, format_rule, addresses_rule, flags_rule, pid_rule, at_rule, width_rule, queues_rule, turns_rule};
-ghost use Rattle.gv_words.specs.CommandLine.{IsLine, bare_line, compare_line, draw_line, replay_forms, replay_line, replay_options, run_line, serve_line, threads_line};
+ghost use Rattle.gv_words.specs.CommandLine.{IsLine, bare_line, compare_line, draw_line, replay_asked, replay_forms, replay_line, replay_options, run_line, serve_line, threads_line};
 
 use crate::help;
 use clap::builder::{ArgAction, ValueParser};
@@ -78,12 +78,19 @@ fn replay_forms<'a>(alloc: Global) -> Result<Command<'a>, AllocError>
 fn replay_options<'a>(alloc: Global) -> Result<Command<'a>, AllocError>
     ensures { IfOk result (IsLine replay_options) }
 {
+    replay_asked(alloc)?
+        .arg(flags_arg(alloc))?
+        .arg(pid_arg(alloc))
+}
+
+/// `replay` with the format and the addresses that are asked.
+fn replay_asked<'a>(alloc: Global) -> Result<Command<'a>, AllocError>
+    ensures { IfOk result (IsLine replay_asked) }
+{
     Command::new(alloc, "replay")
         .about(help::REPLAY)
         .arg(format_arg(alloc))?
-        .arg(addresses_arg(alloc))?
-        .arg(flags_arg(alloc))?
-        .arg(pid_arg(alloc))
+        .arg(addresses_arg(alloc))
 }
 
 /// `draw` and its words.

@@ -1,7 +1,7 @@
 //! What the words ask for.
 ghost use Rattle.std.specs.Prelude.{◌≡◌, ◌≢◌, ◌⊎◌, ◌∷◌, [], ℕ, List, IfOk, Ok, Err, None, Some, codes, false};
 ghost use Rattle.clap.specs.Words.{app_of, fault_of, found_of, kind_of, rows_of, subcommand_name_of};
-ghost use Rattle.gv_words.specs.CommandLine.{IsEntered, IsFaultOf, IsTask, NamesFile, ReadsBy, command_line, entered, words_of};
+ghost use Rattle.gv_words.specs.CommandLine.{IsEntered, IsFaultOf, IsTask, NamesFile, ReadsBy, command_line, entered, first_lines, words_of};
 ghost use Rattle.gv_words.specs.CommandLine.{IsCompare, IsDraw, IsReplay, IsRunOf, IsServeOf, IsTaskOf, IsThreads};
 ghost use Rattle.gv_words.specs.declared.words.WordsFault.TheVariants as words;
 
@@ -223,14 +223,21 @@ fn compare_of<'a>(given: &ArgMatches<'a>) -> Task<'a>
     }
 }
 
-/// The whole command line.
-fn command<'a>(alloc: Global) -> Result<Command<'a>, AllocError>
-    ensures { IfOk result (λ command. app_of command ≡ command_line) }
+/// The command line with its first subcommands.
+fn first_commands<'a>(alloc: Global) -> Result<Command<'a>, AllocError>
+    ensures { IfOk result (λ command. app_of command ≡ first_lines) }
 {
     bare_command(alloc)
         .subcommand(run_command(alloc)?)?
         .subcommand(serve_command(alloc)?)?
-        .subcommand(replay_command(alloc)?)?
+        .subcommand(replay_command(alloc)?)
+}
+
+/// The whole command line.
+fn command<'a>(alloc: Global) -> Result<Command<'a>, AllocError>
+    ensures { IfOk result (λ command. app_of command ≡ command_line) }
+{
+    first_commands(alloc)?
         .subcommand(draw_command(alloc)?)?
         .subcommand(compare_command(alloc)?)?
         .subcommand(threads_command(alloc)?)
