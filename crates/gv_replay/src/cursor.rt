@@ -43,12 +43,20 @@ impl<'a> Cursor<'a> {
 
     /// A number of 1 to 16 hexadecimal digits, without `0x`.
     pub fn hex(&mut self) -> Option<u64> {
-        let (digits, rest) = self.rest.split_at(hex_len(self.rest));
-        if digits.is_empty() || digits.len() > HEX_DIGITS {
+        let mut value: u64 = 0;
+        let mut len: usize = 0;
+        for (at, byte) in self.rest.iter().enumerate() {
+            let Some(digit) = hex_digit(*byte) else {
+                break;
+            };
+            value = (value << 4) | u64::from(digit);
+            len = at.saturating_add(1);
+        }
+        if len == 0 || len > HEX_DIGITS {
             return None;
         }
-        self.rest = rest;
-        Some(hex_of(digits))
+        self.rest = self.rest.get(len..)?;
+        Some(value)
     }
 
     /// A decimal number below 2^64.
@@ -67,30 +75,13 @@ fn decimal_len(text: &[u8]) -> usize
     end.unwrap_or(text.len())
 }
 
-/// How many hexadecimal digits a text begins with.
-fn hex_len(text: &[u8]) -> usize
-    ensures { result ≤ length text.now }
-{
-    let end = text.iter().position(|byte| !byte.is_ascii_hexdigit());
-    end.unwrap_or(text.len())
-}
-
-/// The number of at most 16 hexadecimal digits.
-fn hex_of(digits: &[u8]) -> u64 {
-    let mut value: u64 = 0;
-    for digit in digits {
-        value = (value << 4) | u64::from(digit_value(*digit));
-    }
-    value
-}
-
-/// The value of a hexadecimal digit, and 0 for another byte.
-fn digit_value(byte: u8) -> u8 {
+/// The value of a hexadecimal digit.
+fn hex_digit(byte: u8) -> Option<u8> {
     match byte {
-        b'0'..=b'9' => byte - b'0',
-        b'a'..=b'f' => byte - b'a' + 10,
-        b'A'..=b'F' => byte - b'A' + 10,
-        _ => 0,
+        b'0'..=b'9' => Some(byte - b'0'),
+        b'a'..=b'f' => Some(byte - b'a' + 10),
+        b'A'..=b'F' => Some(byte - b'A' + 10),
+        _ => None,
     }
 }
 
@@ -104,7 +95,7 @@ pub fn decimal_of(digits: &[u8]) -> Option<u64> {
         if !digit.is_ascii_digit() {
             return None;
         }
-        let digit = u64::from(digit_value(*digit));
+        let digit = u64::from(*digit - b'0');
         value = value.checked_mul(10)?.checked_add(digit)?;
     }
     Some(value)

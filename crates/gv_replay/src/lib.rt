@@ -31,6 +31,7 @@ mod sizes;
 mod tally;
 mod terms;
 mod text;
+mod waiting;
 mod watcher;
 mod whereabouts;
 

@@ -49,6 +49,11 @@ impl Machine {
         self.journal.first()
     }
 
+    /// The number of the next entry.
+    pub fn next(&self) -> u64 {
+        self.journal.next()
+    }
+
     /// How many entries are held.
     pub fn held(&self) -> usize {
         self.journal.items().len()

@@ -5,6 +5,7 @@ use crate::machine::Machine;
 use crate::row::{Act, Moment};
 use crate::tally::{Place, Tally};
 use crate::text::number_of;
+use crate::waiting::FreedBuffers;
 use crate::watcher::Watcher;
 use crate::whereabouts::Whereabouts;
 use gv_space::Space;
@@ -19,7 +20,7 @@ pub use freeing::Freed;
 /// So many ranges of a buffer may be known beside twice as many as it has mappings.
 const SLACK: u64 = 64;
 
-/// At each line so many buffers that were freed are tried.
+/// At each line at most so many buffers that were freed are tried.
 const TRIES: usize = 4;
 
 /// The address space and its journal, what is known of each entry, and what was counted. The journal holds the newest entries, as
@@ -27,7 +28,7 @@ const TRIES: usize = 4;
 pub struct Replay {
     machine: Machine,
     acts: VecDeque<Act>,
-    freed: VecDeque<BufferId>,
+    freed: FreedBuffers,
     whereabouts: Whereabouts,
     pub tally: Tally,
 }
@@ -59,7 +60,7 @@ impl Replay {
         Ok(Replay {
             machine: Machine::new(alloc)?,
             acts: VecDeque::new(alloc),
-            freed: VecDeque::new(alloc),
+            freed: FreedBuffers::new(alloc),
             whereabouts: Whereabouts::new(alloc),
             tally: Tally::new(alloc, all),
         })
@@ -98,9 +99,9 @@ impl Replay {
         Ok(())
     }
 
-    /// A buffer lives no more: it is destroyed once nothing keeps it.
+    /// A buffer lives no more: it is destroyed once nothing keeps it, for which the entries so far have to be settled.
     pub fn give_up(&mut self, buffer: BufferId) -> Result<(), ReplayFault> {
-        self.freed.push_back(buffer)?;
+        self.freed.add(buffer, self.machine.next())?;
         Ok(())
     }
 
@@ -223,10 +224,11 @@ impl Replay {
         Ok(())
     }
 
-    /// Tries to destroy a few of the buffers that were freed, the oldest first. One that something still names waits on.
+    /// Tries to destroy a few of the buffers that were freed and that no entry keeps, the oldest first. One that a mapping
+    /// still has waits on.
     fn destroy_some<V: Watcher>(&mut self, watcher: &mut V) -> Result<(), ReplayFault> {
         for _tries in 0..TRIES {
-            let Some(id) = self.freed.pop_front() else {
+            let Some(id) = self.freed.take_due(self.machine.first()) else {
                 return Ok(());
             };
             self.destroy(id, watcher)?;
@@ -250,7 +252,7 @@ impl Replay {
 
     /// Where buffers were freed, settles all entries and destroys those that no mapping has.
     fn give_way<V: Watcher>(&mut self, watcher: &mut V) -> Result<(), ReplayFault> {
-        if self.freed.is_empty() {
+        if self.freed.len() == 0 {
             return Ok(());
         }
         for _entry in 0..self.machine.held() {
