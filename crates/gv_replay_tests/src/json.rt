@@ -16,7 +16,7 @@ const JSON: Terms<'static> = Terms {
 
 #[test]
 fn rows_have_their_object(rt: HostRuntime) {
-    for row in ROWS.iter() {
+    for row in &ROWS {
         expect(&rt, row);
     }
 }

@@ -1,14 +1,14 @@
 //! Rows for each kind of finding and of place as JSON. The lines that are wanted are written from the rules.
 
-use crate::play::{AMDGPU, RADV, Row};
-use gv_replay::{FlagBits, Form, Terms};
+use crate::play::{Asked, OF_AMDGPU, OF_RADV, Row};
+use gv_replay::{FlagBits, Form};
 
-pub const ROWS: [Row; 3] = [
+pub static ROWS: [Row; 3] = [
     Row {
         name: "maps over live mappings and unmaps of nothing",
-        terms: Terms {
+        asked: Asked {
             form: Form::Json,
-            ..RADV
+            ..OF_RADV
         },
         log: "timestamp=1, VA=0000000000010000-0000000000030000, destroyed=0, is_virtual=0\n\
             timestamp=2, VA=0000000000018000-0000000000019000, destroyed=0, is_virtual=1\n\
@@ -30,10 +30,10 @@ pub const ROWS: [Row; 3] = [
     },
     Row {
         name: "memory that is freed and reached, a bind to none, refusals, and a past",
-        terms: Terms {
+        asked: Asked {
             form: Form::Json,
             addresses: &[0x80_0010],
-            ..RADV
+            ..OF_RADV
         },
         log: FREED,
         wanted: &[
@@ -57,11 +57,11 @@ pub const ROWS: [Row; 3] = [
     },
     Row {
         name: "lines without times, read-only pages and zeros",
-        terms: Terms {
+        asked: Asked {
             form: Form::Json,
             flag_bits: FlagBits::Entry,
             addresses: &[0x10_0010, 0x20_0000],
-            ..AMDGPU
+            ..OF_AMDGPU
         },
         log: "amdgpu_vm_bo_map: bo=0xf0, start=100, last=100, offset=0000000000, flags=10\n\
             amdgpu_vm_bo_map: bo=(nil), start=200, last=200, offset=0000000000, flags=40\n",

@@ -4,6 +4,8 @@
 #[cfg(test)]
 mod devices;
 #[cfg(test)]
+mod going;
+#[cfg(test)]
 mod hostile;
 #[cfg(test)]
 mod json;

@@ -9,10 +9,57 @@ use std::str;
 /// A log, and lines that its report has to have.
 pub struct Row {
     pub name: &'static str,
-    pub terms: Terms<'static>,
+    pub asked: Asked,
     pub log: &'static str,
     pub wanted: &'static [&'static str],
 }
+
+/// What is asked of a row, but for sizes: tables of it are plain data.
+#[derive(Clone, Copy)]
+pub struct Asked {
+    pub format: Format,
+    pub flag_bits: FlagBits,
+    pub pid: Option<u64>,
+    pub addresses: &'static [u64],
+    pub all: bool,
+    pub form: Form,
+}
+
+impl Asked {
+    fn terms(&self) -> Terms<'static> {
+        Terms {
+            format: self.format,
+            flag_bits: self.flag_bits,
+            pid: self.pid,
+            addresses: self.addresses,
+            all: self.all,
+            form: self.form,
+            sizes: None,
+        }
+    }
+}
+
+/// Nothing but the report of a log of RADV's.
+pub const OF_RADV: Asked = Asked {
+    format: Format::Radv,
+    flag_bits: FlagBits::Unsaid,
+    pid: None,
+    addresses: &[],
+    all: false,
+    form: Form::Report,
+};
+
+/// The same of one of amdgpu's.
+pub const OF_AMDGPU: Asked = Asked {
+    format: Format::Amdgpu,
+    ..OF_RADV
+};
+
+/// The same of a kernel's list.
+pub const OF_GPUVAS: Asked = Asked {
+    format: Format::Gpuvas,
+    ..OF_RADV
+};
 
 pub const RADV: Terms<'static> = Terms {
     format: Format::Radv,
@@ -62,7 +109,8 @@ pub fn play(
 /// Replays the log of a row, and asserts that its report has each line that is wanted.
 pub fn expect(rt: &(impl Abort + AllocGlobal), row: &Row) {
     let mut sink = MemorySink::new(rt.alloc());
-    let played = play(rt.alloc(), row.log.as_bytes(), &row.terms, &mut sink);
+    let terms = row.asked.terms();
+    let played = play(rt.alloc(), row.log.as_bytes(), &terms, &mut sink);
     let name = row.name;
     assert!(rt; played == Ok(()), "{name}");
     for line in row.wanted {
@@ -80,7 +128,7 @@ pub fn has_line(text: &[u8], line: &str) -> bool {
 
 #[test]
 fn rows_have_their_lines(rt: HostRuntime) {
-    for row in crate::rows::ROWS.iter() {
+    for row in &crate::rows::ROWS {
         expect(&rt, row);
     }
 }

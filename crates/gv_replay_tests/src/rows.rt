@@ -1,14 +1,14 @@
 //! Rows for each kind of line and each trap of a format. The lines that are wanted are written from the rules.
 
-use crate::play::{AMDGPU, GPUVAS, RADV, Row};
-use gv_replay::{FlagBits, Terms};
+use crate::play::{Asked, OF_AMDGPU, OF_GPUVAS, OF_RADV, Row};
+use gv_replay::FlagBits;
 
-pub const ROWS: [Row; 20] = [
+pub static ROWS: [Row; 20] = [
     Row {
         name: "an end within a page is that page's",
-        terms: Terms {
+        asked: Asked {
             addresses: &[0x8000_0000_2fff, 0x8000_0000_3000],
-            ..RADV
+            ..OF_RADV
         },
         log: "timestamp=1000, VA=0000800000000000-0000800000002154, destroyed=0, is_virtual=0\n",
         wanted: &[
@@ -21,18 +21,18 @@ pub const ROWS: [Row; 20] = [
     },
     Row {
         name: "addresses are cut to 48 bits, those that are asked too",
-        terms: Terms {
+        asked: Asked {
             addresses: &[0xffff_8000_0000_0010],
-            ..RADV
+            ..OF_RADV
         },
         log: "timestamp=1, VA=ffff800000000000-ffff800000001000, destroyed=0, is_virtual=0\n",
         wanted: &["0x800000000010: b1 0x10"],
     },
     Row {
         name: "an end that is cut to 0 is the end of all addresses",
-        terms: Terms {
+        asked: Asked {
             addresses: &[0xffff_ffff_f000],
-            ..RADV
+            ..OF_RADV
         },
         log: "timestamp=1, VA=0000fffffffe0000-0000000000000000, destroyed=0, is_virtual=0\n",
         wanted: &[
@@ -42,9 +42,9 @@ pub const ROWS: [Row; 20] = [
     },
     Row {
         name: "a tile reaches the memory that its address lies in, and zeros once it is unbound",
-        terms: Terms {
+        asked: Asked {
             addresses: &[0x80_0010],
-            ..RADV
+            ..OF_RADV
         },
         log: "timestamp=1, VA=0000000000010000-0000000000030000, destroyed=0, is_virtual=0\n\
             timestamp=2, VA=0000000000800000-0000000000810000, destroyed=0, is_virtual=1\n\
@@ -61,7 +61,7 @@ pub const ROWS: [Row; 20] = [
     },
     Row {
         name: "an address at the end of memory lies in none, and neither does one before it",
-        terms: RADV,
+        asked: OF_RADV,
         log: "timestamp=1, VA=0000000000010000-0000000000030000, destroyed=0, is_virtual=0\n\
             timestamp=2, VA=0000000000800000-0000000000801000, mapped_to=0000000000030000\n\
             timestamp=3, VA=0000000000800000-0000000000801000, mapped_to=000000000000f000\n",
@@ -73,7 +73,7 @@ pub const ROWS: [Row; 20] = [
     },
     Row {
         name: "memory that is freed takes its tiles along",
-        terms: RADV,
+        asked: OF_RADV,
         log: "timestamp=1, VA=0000000000010000-0000000000030000, destroyed=0, is_virtual=0\n\
             timestamp=2, VA=0000000000800000-0000000000801000, mapped_to=0000000000010000\n\
             timestamp=3, VA=0000000000900000-0000000000901000, mapped_to=0000000000011000\n\
@@ -88,7 +88,7 @@ pub const ROWS: [Row; 20] = [
     },
     Row {
         name: "memory that only its own range reaches is freed without a finding",
-        terms: RADV,
+        asked: OF_RADV,
         log: "timestamp=1, VA=0000000000010000-0000000000030000, destroyed=0, is_virtual=0\n\
             timestamp=2, VA=0000000000018000-0000000000019000, destroyed=0, is_virtual=1\n\
             timestamp=3, VA=0000000000010000-0000000000030000, destroyed=1, is_virtual=0\n",
@@ -101,7 +101,7 @@ pub const ROWS: [Row; 20] = [
     },
     Row {
         name: "what lived in the range of new memory lives no more",
-        terms: RADV,
+        asked: OF_RADV,
         log: "timestamp=1, VA=0000000000010000-0000000000030000, destroyed=0, is_virtual=0\n\
             timestamp=2, VA=0000000000020000-0000000000040000, destroyed=0, is_virtual=0\n\
             timestamp=3, VA=0000000000800000-0000000000801000, mapped_to=0000000000018000\n\
@@ -116,7 +116,7 @@ pub const ROWS: [Row; 20] = [
     },
     Row {
         name: "what isn't of the format is passed over",
-        terms: RADV,
+        asked: OF_RADV,
         log: "timestamp=1, VA=0000000000010000-0000000000030000, destroyed=0, is_virtual=0\r\n\
             timestamp=1, VA=00000000000030000-0000000000040000, destroyed=0, is_virtual=0\n\
             timestamp=1, VA=0000000000040000-0000000000030000, destroyed=0, is_virtual=0\n\
@@ -129,7 +129,7 @@ pub const ROWS: [Row; 20] = [
     },
     Row {
         name: "three places a finding",
-        terms: RADV,
+        asked: OF_RADV,
         log: "timestamp=1, VA=0000000000010000-0000000000011000, destroyed=1, is_virtual=1\n\
             timestamp=2, VA=0000000000010000-0000000000011000, destroyed=1, is_virtual=1\n\
             timestamp=3, VA=0000000000010000-0000000000011000, destroyed=1, is_virtual=1\n\
@@ -143,7 +143,10 @@ pub const ROWS: [Row; 20] = [
     },
     Row {
         name: "all places of a finding",
-        terms: Terms { all: true, ..RADV },
+        asked: Asked {
+            all: true,
+            ..OF_RADV
+        },
         log: "timestamp=1, VA=0000000000010000-0000000000011000, destroyed=1, is_virtual=1\n\
             timestamp=2, VA=0000000000010000-0000000000011000, destroyed=1, is_virtual=1\n\
             timestamp=3, VA=0000000000010000-0000000000011000, destroyed=1, is_virtual=1\n\
@@ -156,9 +159,9 @@ pub const ROWS: [Row; 20] = [
     },
     Row {
         name: "both pages of an event are inside its range, and a size is the greatest end",
-        terms: Terms {
+        asked: Asked {
             addresses: &[0x10_1fff],
-            ..AMDGPU
+            ..OF_AMDGPU
         },
         log: "game-1 [000] 1.5: amdgpu_vm_bo_map: bo=0xf0, start=100, last=101, offset=0000003000, flags=70\n\
             game-1 [000] 1.500001: amdgpu_vm_bo_map: bo=0xf0, start=200, last=200, offset=0000000000, flags=70\n\
@@ -172,9 +175,9 @@ pub const ROWS: [Row; 20] = [
     },
     Row {
         name: "what has no object is sparse, and a clear leaves the rests that the split rule gives",
-        terms: Terms {
+        asked: Asked {
             addresses: &[0x10_3000],
-            ..AMDGPU
+            ..OF_AMDGPU
         },
         log: "game-1 [000] 1.0: amdgpu_vm_bo_map: bo=0xf0, start=100, last=103, offset=0000000000, flags=70\n\
             game-1 [000] 2.0: amdgpu_vm_bo_unmap: bo=(nil), start=101, last=102, offset=0000000000, flags=70\n\
@@ -189,9 +192,9 @@ pub const ROWS: [Row; 20] = [
     },
     Row {
         name: "an event of another process is passed over",
-        terms: Terms {
+        asked: Asked {
             pid: Some(42),
-            ..AMDGPU
+            ..OF_AMDGPU
         },
         log: "game-42 [000] 1.0: amdgpu_vm_bo_map: bo=0xf0, start=100, last=103, offset=0000000000, flags=70\n\
             a b-7-43 (     42) [000] ..... 1.0: amdgpu_vm_bo_map: bo=0xf0, start=104, last=104, offset=0000000000, flags=70\n\
@@ -206,10 +209,10 @@ pub const ROWS: [Row; 20] = [
     },
     Row {
         name: "the flags of one kernel",
-        terms: Terms {
+        asked: Asked {
             flag_bits: FlagBits::Entry,
             addresses: &[0x10_0000, 0x20_0000],
-            ..AMDGPU
+            ..OF_AMDGPU
         },
         log: "amdgpu_vm_bo_map: bo=0xf0, start=100, last=100, offset=0000000000, flags=40\n\
             amdgpu_vm_bo_map: bo=0xf0, start=200, last=200, offset=0000000000, flags=4\n",
@@ -217,10 +220,10 @@ pub const ROWS: [Row; 20] = [
     },
     Row {
         name: "the flags of another kernel",
-        terms: Terms {
+        asked: Asked {
             flag_bits: FlagBits::Call,
             addresses: &[0x10_0000, 0x20_0000],
-            ..AMDGPU
+            ..OF_AMDGPU
         },
         log: "amdgpu_vm_bo_map: bo=0xf0, start=100, last=100, offset=0000000000, flags=40\n\
             amdgpu_vm_bo_map: bo=0xf0, start=200, last=200, offset=0000000000, flags=4\n",
@@ -228,7 +231,7 @@ pub const ROWS: [Row; 20] = [
     },
     Row {
         name: "an object is as large as the line that makes it says",
-        terms: AMDGPU,
+        asked: OF_AMDGPU,
         log: "amdgpu_bo_create: bo=0xf0, pages=2, type=1\n\
             amdgpu_vm_bo_map: bo=0xf0, start=100, last=102, offset=0000000000, flags=40\n",
         wanted: &[
@@ -238,7 +241,7 @@ pub const ROWS: [Row; 20] = [
     },
     Row {
         name: "events that are cut, and ends before starts, are passed over",
-        terms: AMDGPU,
+        asked: OF_AMDGPU,
         log: "amdgpu_vm_bo_map: bo=0xf0, start=100, last=100, offset=0000000000, flags=40\n\
             amdgpu_vm_bo_map: bo=0xf0, start=100, last=ff, offset=0000000000, flags=40\n\
             amdgpu_vm_bo_map: bo=0xf0, start=100, last=0, offset=0000000000, flags=40\n\
@@ -249,9 +252,9 @@ pub const ROWS: [Row; 20] = [
     },
     Row {
         name: "a list of mappings, of its first address space",
-        terms: Terms {
+        asked: Asked {
             addresses: &[0x3000],
-            ..GPUVAS
+            ..OF_GPUVAS
         },
         log: "DRM GPU VA space (a) [0x0;0x1]\n\
             | 0x3000 | 0x4000 | 0x7000 | 0xf0 | 0x1000\n\
@@ -269,7 +272,7 @@ pub const ROWS: [Row; 20] = [
     },
     Row {
         name: "rows that overlap",
-        terms: GPUVAS,
+        asked: OF_GPUVAS,
         log: "| 0x3000 | 0x4000 | 0x7000 | 0xf0 | 0x0\n\
             | 0x4000 | 0x1000 | 0x5000 | 0xf1 | 0x0\n",
         wanted: &["         line 2: map 0x4000 0x1000 b2 0x0: 1 mapping"],
