@@ -115,6 +115,17 @@ impl History {
         }
     }
 
+    /// What of a range is near, with the mappings that reach out of it.
+    fn near(&self, range: PageRange, list: &RangeList) -> Option<PageRange> {
+        let low = range.first().max(self.low);
+        let high = range.end().min(self.high);
+        if low >= high {
+            return None;
+        }
+        let (low, high) = self.widened(low, high, list);
+        PageRange::new(low, high.saturating_sub(low))
+    }
+
     /// Brings what stands in a range, and in the mappings that reach out of it, up to the list.
     fn renew(
         &mut self,
@@ -122,13 +133,7 @@ impl History {
         range: PageRange,
         list: &RangeList,
     ) -> Result<Changed, OutOfMemory> {
-        let low = range.first().max(self.low);
-        let high = range.end().min(self.high);
-        if low >= high {
-            return Ok(Changed::None);
-        }
-        let (low, high) = self.widened(low, high, list);
-        let Some(range) = PageRange::new(low, high.saturating_sub(low)) else {
+        let Some(range) = self.near(range, list) else {
             return Ok(Changed::None);
         };
         let before = self.standing_in(alloc, range)?;
