@@ -10,7 +10,6 @@ use crate::ready::ReadyRequest;
 use crate::refusal::{Refusal, whole};
 use crate::restoring::restore_all;
 use crate::settling::first_crossing;
-use crate::touching::first_touched;
 use crate::undoing::revert_all;
 use gv_space::Space;
 use gv_types::Fault;
@@ -57,7 +56,7 @@ impl Journal {
     ghost use Rattle.gv_journal.specs.State.{FitsSpace};
     ghost use Rattle.gv_journal.specs.Verdict.{verdict, full_fault, IsRefused};
     ghost use Rattle.gv_journal.specs.Settling.{settle_fault, later, crosses, IsSettled};
-    ghost use Rattle.gv_journal.specs.Withdrawing.{item_at, found_fault, withdraw_fault, IsWithdrawRefused, IsWithdrawn, GrowsForWithdrawal};
+    ghost use Rattle.gv_journal.specs.Withdrawing.{withdraw_fault, IsWithdrawRefused, IsWithdrawn, GrowsForWithdrawal};
     ghost use Rattle.gv_journal.specs.Applying.{all_do, GrowsFor};
     ghost use Rattle.gv_journal.specs.Binding.{IsBound, IsApplied, IsRewound};
 
@@ -214,31 +213,6 @@ impl Journal {
         self.item_store.mark(index, Some(number));
         self.item_store.push(Item { kind, undos }, note);
         Ok(number)
-    }
-
-    /// The index among the held items of an item that can be withdrawn, if there is room for one more.
-    fn find_entry(&self, entry: u64) -> Result<usize, Fault>
-        ensures accepted { OnOk result (found_fault self.now entry (item_at self.now entry) ≡ None) }
-        ensures refused { IfErr result (λ fault. found_fault self.now entry (item_at self.now entry) ≡ Some fault) }
-        ensures index { IfOk result (λ index. (self.now.first + index ≡ entry) × (index < length self.now.items)) }
-    {
-        if entry < self.first || self.next() <= entry {
-            return Err(Fault::NoEntry);
-        }
-        let (items, notes) = (self.item_store.items(), self.item_store.notes());
-        let index = (entry - self.first) as usize;
-        let ItemKind::Bind { done, .. } = &items[index].kind else {
-            return Err(Fault::NotABind);
-        };
-        let own = &notes[index];
-        if own.is_withdrawn() {
-            return Err(Fault::Withdrawn);
-        }
-        let from = index + 1;
-        match first_touched(&items[from..], &notes[from..], own, done, entry + 1) {
-            Some(by) => Err(Fault::Touched { by }),
-            None => Ok(index),
-        }
     }
 
     /// Settles the items below a number: what their undo values keep is given up and they go, so they can't be taken back or

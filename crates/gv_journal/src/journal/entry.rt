@@ -1,13 +1,13 @@
 //! One item of a journal.
-ghost use Rattle.std.specs.Prelude.{◌≡◌, Some, None, IfSome, IfNone, is_some};
+ghost use Rattle.std.specs.Prelude.{◌≡◌, ◌+◌, ◌<◌, length, Some, None, IfSome, IfNone, IfOk, IfErr, OnOk, is_some};
 ghost use Rattle.std.specs.Option.{option_map, option_and_then};
 
 use super::Journal;
-use crate::item::Item;
+use crate::item::{Item, ItemKind};
 use crate::note::Note;
-use crate::touching::{first_taken_by, last_covering};
+use crate::touching::{first_taken_by, first_touched, last_covering};
 use gv_space::Space;
-use gv_types::{Entry, PageOp, SPACE_PAGES};
+use gv_types::{Entry, Fault, PageOp, SPACE_PAGES};
 
 /// An item that a journal holds, and whether a later item withdraws it.
 pub struct HeldItem<'a> {
@@ -25,11 +25,11 @@ pub struct Said {
 impl Journal {
     ghost use Rattle.gv_types.specs.Page.{IsPage};
     ghost use Rattle.gv_journal.specs.Items.{entries, is_withdrawn, done_by};
-    ghost use Rattle.gv_journal.specs.Notes.{extent_of};
+    ghost use Rattle.gv_journal.specs.Notes.{extent_of, notes_of};
     ghost use Rattle.gv_journal.specs.History.{base};
     ghost use Rattle.gv_journal.specs.Saying.{last_covering, live_taken};
     ghost use Rattle.gv_journal.specs.State.{FitsSpace};
-    ghost use Rattle.gv_journal.specs.Withdrawing.{item_at};
+    ghost use Rattle.gv_journal.specs.Withdrawing.{item_at, found_fault};
 
     /// The item with this number, if it is held.
     pub fn entry(&self, number: u64) -> Option<HeldItem<'_>>
@@ -110,5 +110,39 @@ impl Journal {
         let (items, notes) = (self.item_store.items(), self.item_store.notes());
         let index = (number - self.first) as usize;
         Some((&items[index], &notes[index]))
+    }
+
+    /// The notes beside the items held, that of the oldest one first.
+    fn notes(&self) -> &[Note]
+        ensures value { result.now ≡ notes_of (entries self.now) }
+        ensures beside { length result.now ≡ length self.now.items }
+    {
+        self.item_store.notes()
+    }
+
+    /// The index among the held items of an item that can be withdrawn, if there is room for one more.
+    pub(super) fn find_entry(&self, entry: u64) -> Result<usize, Fault>
+        ensures accepted { OnOk result (found_fault self.now entry (item_at self.now entry) ≡ None) }
+        ensures refused { IfErr result (λ fault. found_fault self.now entry (item_at self.now entry) ≡ Some fault) }
+        ensures index { IfOk result (λ index. (self.now.first + index ≡ entry) × (index < length self.now.items)) }
+    {
+        let first = self.first();
+        if entry < first || self.next() <= entry {
+            return Err(Fault::NoEntry);
+        }
+        let (items, notes) = (self.items(), self.notes());
+        let index = (entry - first) as usize;
+        let ItemKind::Bind { done, .. } = &items[index].kind else {
+            return Err(Fault::NotABind);
+        };
+        let own = &notes[index];
+        if own.is_withdrawn() {
+            return Err(Fault::Withdrawn);
+        }
+        let from = index + 1;
+        match first_touched(&items[from..], &notes[from..], own, done, entry + 1) {
+            Some(by) => Err(Fault::Touched { by }),
+            None => Ok(index),
+        }
     }
 }
