@@ -24,15 +24,45 @@ struct Lists {
     made: u64,
 }
 
-/// How many changes, the most taken out and put in, and whether at the end: lists that grow at their end, grow anywhere, stay as long as
-/// they are, change by runs longer than chunks, and shrink until they hold little.
-const PHASES: [(u32, u64, u64, bool); 6] = [
-    (600, 1, 2, true),
-    (800, 2, 3, false),
-    (400, 4, 4, false),
-    (60, 400, 400, false),
-    (1_500, 3, 2, false),
-    (40, 400, 1, false),
+/// Lists that grow at their end, grow anywhere, stay as long as they are, change by runs longer than chunks, and shrink until they hold
+/// little.
+const PHASES: [Phase; 6] = [
+    Phase {
+        rounds: 600,
+        most_out: 1,
+        most_in: 2,
+        at_end: true,
+    },
+    Phase {
+        rounds: 800,
+        most_out: 2,
+        most_in: 3,
+        at_end: false,
+    },
+    Phase {
+        rounds: 400,
+        most_out: 4,
+        most_in: 4,
+        at_end: false,
+    },
+    Phase {
+        rounds: 60,
+        most_out: 400,
+        most_in: 400,
+        at_end: false,
+    },
+    Phase {
+        rounds: 1_500,
+        most_out: 3,
+        most_in: 2,
+        at_end: false,
+    },
+    Phase {
+        rounds: 40,
+        most_out: 400,
+        most_in: 1,
+        at_end: false,
+    },
 ];
 
 /// Whether the list has these mappings and no others, chunk by chunk, no chunk is empty, and chunks are few.
@@ -117,14 +147,8 @@ fn lists_in_chunks_are_as_in_one_block(rt: HostRuntime) -> Result<(), Fail> {
             block: Vec::new(rt.alloc()),
             made: 0,
         };
-        for (rounds, most_out, most_in, at_end) in PHASES {
-            let phase = Phase {
-                rounds,
-                most_out,
-                most_in,
-                at_end,
-            };
-            play(rt.alloc(), &mut lists, &phase, &mut random)?;
+        for phase in &PHASES {
+            play(rt.alloc(), &mut lists, phase, &mut random)?;
         }
         assert!(rt; holds(&lists.list, &lists.block), "seed {seed}");
     }

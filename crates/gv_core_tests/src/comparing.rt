@@ -59,11 +59,11 @@ fn finds_what_differs(rt: HostRuntime) {
             "0000000000000000 0000000000001000 a 0000000000000000 rw | a 0000000000001000 rw\n1 page differs\n",
         ),
     ];
-    for (first, second, pages, text) in rows {
+    for (first, second, pages, text) in &rows {
         let mut out = String::new(rt.alloc());
         let told = compare(rt.alloc(), first.as_bytes(), second.as_bytes(), &mut out);
-        assert_eq!(rt; told, Ok(pages));
-        assert_eq!(rt; out.as_str(), text);
+        assert_eq!(rt; told, Ok(*pages));
+        assert_eq!(rt; out.as_str(), *text);
     }
 }
 
@@ -112,8 +112,8 @@ fn names_the_line_that_is_wrong(rt: HostRuntime) {
             },
         ),
     ];
-    for (text, fault) in rows {
-        expect_fault(&rt, text.as_bytes(), fault);
+    for (text, fault) in &rows {
+        expect_fault(&rt, text.as_bytes(), *fault);
     }
     expect_fault(&rt, b"\x80\xff\n".as_slice(), first(1));
 }

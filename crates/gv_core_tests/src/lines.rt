@@ -128,8 +128,8 @@ fn shown(alloc: Global, text: &[u8]) -> Result<String, Fail> {
 
 #[test]
 fn reads_plain_lines(rt: HostRuntime) -> Result<(), Fail> {
-    for (text, want) in PLAIN_LINES {
-        assert_eq!(rt; shown(rt.alloc(), text)?.as_str(), want);
+    for (text, want) in &PLAIN_LINES {
+        assert_eq!(rt; shown(rt.alloc(), text)?.as_str(), *want);
     }
     Ok(())
 }

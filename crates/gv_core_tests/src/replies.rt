@@ -1,6 +1,7 @@
 //! Replies as JSON: each kind, what is of no kind, and what has to be escaped.
 use gv_json::{write_bad, write_no_memory, write_reply};
 use std::alloc::Global;
+use std::process::Abort;
 use std::test::Fail;
 
 /// The first word of a line, its reply's text, and the members of its JSON behind the line's number.
@@ -222,12 +223,19 @@ fn is_written(alloc: Global, row: &Row) -> Result<bool, Fail> {
     Ok(got == wanted)
 }
 
-#[test]
-fn each_reply_has_its_json(rt: HostRuntime) -> Result<(), Fail> {
-    for row in LONE.iter().chain(&LISTS).chain(&STRANGE) {
+/// Asserts that the reply of each row has its JSON.
+fn expect_written(rt: &(impl Abort + AllocGlobal), rows: &[Row]) -> Result<(), Fail> {
+    for row in rows {
         assert!(rt; is_written(rt.alloc(), row)?, "{}", row.1);
     }
     Ok(())
+}
+
+#[test]
+fn each_reply_has_its_json(rt: HostRuntime) -> Result<(), Fail> {
+    expect_written(&rt, &LONE)?;
+    expect_written(&rt, &LISTS)?;
+    expect_written(&rt, &STRANGE)
 }
 
 #[test]
