@@ -61,35 +61,61 @@ fn entries_go_by_events(rt: HostRuntime) -> Result<(), Fail> {
     end
 }
 
+/// Asserts what one event answers.
+fn expect(
+    rt: &impl Abort,
+    alloc: Global,
+    world: &mut World,
+    event: Event,
+    reply: &Reply,
+) -> Result<(), Fail> {
+    assert!(rt; answer(alloc, world, event)? == *reply);
+    Ok(())
+}
+
+/// Asserts what a request on a queue comes to.
+fn expect_bound(
+    rt: &impl Abort,
+    alloc: Global,
+    world: &mut World,
+    (queue, ops): (u64, &[Op]),
+    reply: &Reply,
+) -> Result<(), Fail> {
+    assert!(rt; bound(alloc, world, queue, ops)? == *reply);
+    Ok(())
+}
+
 fn entries(rt: &impl Abort, alloc: Global, world: &mut World) -> Result<(), Fail> {
-    assert!(rt; bound(alloc, world, 3, &[zero(0)])? == accepted(0, 0));
-    let none = Outcome::Refused {
+    let outcome = Outcome::Refused {
         op: 0,
         fault: Fault::Empty,
     };
-    assert!(rt;
-        bound(alloc, world, 3, &[empty(0)])?
-            == Reply::Told {
-                number: 1,
-                outcome: none
-            }
+    let none = Reply::Told { number: 1, outcome };
+    expect_bound(rt, alloc, world, (3, &[zero(0)]), &accepted(0, 0))?;
+    expect_bound(rt, alloc, world, (3, &[empty(0)]), &none)?;
+    expect_bound(rt, alloc, world, (15, &[]), &accepted(0, 1))?;
+    assert_eq!(rt;
+        [world.vm().told(3).len(), world.vm().told(0).len()],
+        [2, 0]
     );
-    assert!(rt; bound(alloc, world, 15, &[])? == accepted(0, 1));
-    assert_eq!(rt; world.vm().told(3).len(), 2);
-    assert_eq!(rt; world.vm().told(0).len(), 0);
-    assert!(rt;
-        answer(alloc, world, Event::Withdraw { entry: 0 })? == Reply::Withdrawn { item: 2 }
-    );
-    assert!(rt; answer(alloc, world, Event::Withdraw { entry: 0 })? == refused(Fault::Withdrawn));
-    assert!(rt; answer(alloc, world, Event::Withdraw { entry: 9 })? == refused(Fault::NoEntry));
-    assert!(rt;
-        answer(alloc, world, Event::Settle { to: 1 })? == refused(Fault::Crossed { by: 2 })
-    );
-    assert!(rt; answer(alloc, world, Event::Settle { to: 3 })? == Reply::Settled { count: 3 });
-    assert!(rt; answer(alloc, world, Event::Settle { to: 2 })? == refused(Fault::NoEntry));
-    assert!(rt; answer(alloc, world, Event::Rewind)? == refused(Fault::NoEntry));
-    assert!(rt; bound(alloc, world, 3, &[zero(0)])? == accepted(2, 3));
-    Ok(())
+    entries_go(rt, alloc, world)?;
+    expect_bound(rt, alloc, world, (3, &[zero(0)]), &accepted(2, 3))
+}
+
+/// Two entries, of which the first is withdrawn, and all are settled.
+fn entries_go(rt: &impl Abort, alloc: Global, world: &mut World) -> Result<(), Fail> {
+    let crossed = refused(Fault::Crossed { by: 2 });
+    let no_entry = refused(Fault::NoEntry);
+    let withdrawn = Reply::Withdrawn { item: 2 };
+    let settled = Reply::Settled { count: 3 };
+    let twice = refused(Fault::Withdrawn);
+    expect(rt, alloc, world, Event::Withdraw { entry: 0 }, &withdrawn)?;
+    expect(rt, alloc, world, Event::Withdraw { entry: 0 }, &twice)?;
+    expect(rt, alloc, world, Event::Withdraw { entry: 9 }, &no_entry)?;
+    expect(rt, alloc, world, Event::Settle { to: 1 }, &crossed)?;
+    expect(rt, alloc, world, Event::Settle { to: 3 }, &settled)?;
+    expect(rt, alloc, world, Event::Settle { to: 2 }, &no_entry)?;
+    expect(rt, alloc, world, Event::Rewind, &no_entry)
 }
 
 fn place(id: BufferId, byte: u64) -> Place {
@@ -111,28 +137,50 @@ fn jobs(rt: &impl Abort, alloc: Global, world: &mut World) -> Result<(), Fail> {
     let Reply::Created { id } = answer(alloc, world, Event::Create { pages: 1 })? else {
         return Err("buffer".into());
     };
-    assert!(rt; bound(alloc, world, 0, &[map_run(0, 1, &id, 0)])? == accepted(0, 0));
+    let map = [map_run(0, 1, &id, 0)];
+    expect_bound(rt, alloc, world, (0, &map), &accepted(0, 0))?;
     for job in 0..2 {
         let accesses = vec![in alloc; read(0, 5)]?;
         let places = vec![in alloc; place(id, 5)]?;
-        assert!(rt;
-            answer(alloc, world, Event::JobBegin { accesses })? == Reply::Begun { job, places }
-        );
+        let begun = Reply::Begun { job, places };
+        expect(rt, alloc, world, Event::JobBegin { accesses }, &begun)?;
     }
     let accesses = vec![in alloc; write(0, 0)]?;
-    assert!(rt;
-        answer(alloc, world, Event::JobBegin { accesses })? == refused(Fault::Conflict { job: 0 })
-    );
-    let found = Some(place(id, 7));
-    assert!(rt;
-        answer(alloc, world, Event::Translate { addr: 7 })? == Reply::Found { place: found }
-    );
-    assert!(rt; answer(alloc, world, Event::Rewind)? == Reply::Rewound { item: 0 });
-    assert!(rt; answer(alloc, world, Event::Destroy { id })? == refused(Fault::InUse { jobs: 2 }));
+    let conflict = refused(Fault::Conflict { job: 0 });
+    expect(rt, alloc, world, Event::JobBegin { accesses }, &conflict)?;
+    jobs_end(rt, alloc, world, &id)
+}
+
+/// Two jobs hold a buffer until both have ended.
+fn jobs_end(rt: &impl Abort, alloc: Global, world: &mut World, id: &BufferId) -> Result<(), Fail> {
+    let found = Reply::Found {
+        place: Some(place(*id, 7)),
+    };
+    let in_use = refused(Fault::InUse { jobs: 2 });
+    expect(rt, alloc, world, Event::Translate { addr: 7 }, &found)?;
+    expect(rt, alloc, world, Event::Rewind, &Reply::Rewound { item: 0 })?;
+    expect(rt, alloc, world, Event::Destroy { id: *id }, &in_use)?;
     for job in 0..2 {
-        assert!(rt; answer(alloc, world, Event::JobEnd { job })? == Reply::Ended { job });
-        assert!(rt; answer(alloc, world, Event::JobEnd { job })? == refused(Fault::NoJob));
+        expect(
+            rt,
+            alloc,
+            world,
+            Event::JobEnd { job },
+            &Reply::Ended { job },
+        )?;
+        expect(
+            rt,
+            alloc,
+            world,
+            Event::JobEnd { job },
+            &refused(Fault::NoJob),
+        )?;
     }
-    assert!(rt; answer(alloc, world, Event::Destroy { id })? == Reply::Destroyed);
-    Ok(())
+    expect(
+        rt,
+        alloc,
+        world,
+        Event::Destroy { id: *id },
+        &Reply::Destroyed,
+    )
 }

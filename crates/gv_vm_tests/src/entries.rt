@@ -24,25 +24,46 @@ fn withdrawals_follow_what_touches(rt: HostRuntime) -> Result<(), Fail> {
 fn withdrawals(rt: &impl Abort, alloc: Global, vm: &mut Vm) -> Result<(), Fail> {
     let a = vm.create(alloc, 4)?;
     let b = vm.create(alloc, 2)?;
-    let first = bind(alloc, vm, 0, &[map_run(0, 4, &a, 0)])?;
-    assert_eq!(rt; first, Outcome::Accepted { entry: 0 });
-    let second = bind(alloc, vm, 1, &[map_run(1, 2, &b, 0)])?;
-    assert_eq!(rt; second, Outcome::Accepted { entry: 1 });
-    assert_eq!(rt; vm.withdraw(alloc, 0), Err(Fault::Touched { by: 1 }));
-    assert_eq!(rt; vm.withdraw(alloc, 1), Ok(2));
+    let bound = [
+        bind(alloc, vm, 0, &[map_run(0, 4, &a, 0)])?,
+        bind(alloc, vm, 1, &[map_run(1, 2, &b, 0)])?,
+    ];
+    assert_eq!(rt;
+        bound,
+        [
+            Outcome::Accepted { entry: 0 },
+            Outcome::Accepted { entry: 1 }
+        ]
+    );
+    let touched = [vm.withdraw(alloc, 0), vm.withdraw(alloc, 1)];
+    assert_eq!(rt; touched, [Err(Fault::Touched { by: 1 }), Ok(2)]);
     assert_eq!(rt; vm.translate(0x1abc), byte_of(a, 0x1abc));
     assert_eq!(rt; vm.withdraw(alloc, 0), Ok(3));
-    assert_eq!(rt; vm.translate(0x1abc), None);
-    assert_eq!(rt; vm.space().list().len(), 0);
-    assert_eq!(rt; vm.withdraw(alloc, 1), Err(Fault::Withdrawn));
-    assert_eq!(rt; vm.withdraw(alloc, 2), Err(Fault::NotABind));
-    assert_eq!(rt; vm.withdraw(alloc, 9), Err(Fault::NoEntry));
-    assert_eq!(rt; vm.rewind(), Ok(3));
-    assert_eq!(rt; vm.rewind(), Ok(2));
-    assert_eq!(rt; vm.translate(0x1abc), byte_of(b, 0xabc));
-    assert_eq!(rt; vm.translate(0x3abc), byte_of(a, 0x3abc));
-    assert_eq!(rt; vm.translate(1 << 57), None);
+    assert_eq!(rt; (vm.translate(0x1abc), vm.space().list().len()), (None, 0));
+    withdrawals_back(rt, alloc, vm, a, b);
     Ok(())
+}
+
+/// Both are withdrawn: what else is refused, and what comes back.
+fn withdrawals_back(rt: &impl Abort, alloc: Global, vm: &mut Vm, a: BufferId, b: BufferId) {
+    let refused = [
+        vm.withdraw(alloc, 1),
+        vm.withdraw(alloc, 2),
+        vm.withdraw(alloc, 9),
+    ];
+    let faults = [
+        Err(Fault::Withdrawn),
+        Err(Fault::NotABind),
+        Err(Fault::NoEntry),
+    ];
+    assert_eq!(rt; refused, faults);
+    assert_eq!(rt; [vm.rewind(), vm.rewind()], [Ok(3), Ok(2)]);
+    let found = [
+        vm.translate(0x1abc),
+        vm.translate(0x3abc),
+        vm.translate(1 << 57),
+    ];
+    assert_eq!(rt; found, [byte_of(b, 0xabc), byte_of(a, 0x3abc), None]);
 }
 
 #[test]
@@ -54,21 +75,21 @@ fn settled_entries_are_gone(rt: HostRuntime) -> Result<(), Fail> {
 }
 
 fn settlings(rt: &impl Abort, alloc: Global, vm: &mut Vm) -> Result<(), Fail> {
+    let first = bind(alloc, vm, 0, &[zero(0)])?;
     assert_eq!(rt;
-        bind(alloc, vm, 0, &[zero(0)])?,
-        Outcome::Accepted { entry: 0 }
+        (first, vm.withdraw(alloc, 0)),
+        (Outcome::Accepted { entry: 0 }, Ok(1))
     );
-    assert_eq!(rt; vm.withdraw(alloc, 0), Ok(1));
-    assert_eq!(rt; vm.settle(1), Err(Fault::Crossed { by: 1 }));
-    assert_eq!(rt; vm.settle(3), Err(Fault::NoEntry));
-    assert_eq!(rt; vm.settle(2), Ok(2));
-    assert_eq!(rt; vm.settle(2), Ok(0));
-    assert_eq!(rt; vm.settle(1), Err(Fault::NoEntry));
+    let refused = [vm.settle(1), vm.settle(3)];
+    assert_eq!(rt;
+        refused,
+        [Err(Fault::Crossed { by: 1 }), Err(Fault::NoEntry)]
+    );
+    let settled = [vm.settle(2), vm.settle(2), vm.settle(1)];
+    assert_eq!(rt; settled, [Ok(2), Ok(0), Err(Fault::NoEntry)]);
     assert_eq!(rt; vm.items().len(), 0);
-    assert_eq!(rt;
-        bind(alloc, vm, 1, &[zero(0)])?,
-        Outcome::Accepted { entry: 2 }
-    );
+    let next = bind(alloc, vm, 1, &[zero(0)])?;
+    assert_eq!(rt; next, Outcome::Accepted { entry: 2 });
     Ok(())
 }
 
@@ -87,11 +108,11 @@ fn settled_map(rt: &impl Abort, alloc: Global, vm: &mut Vm) -> Result<(), Fail> 
         Outcome::Accepted { entry: 0 }
     );
     assert_eq!(rt; vm.settle(1), Ok(1));
+    let next = bind(alloc, vm, 1, &[zero(0)])?;
     assert_eq!(rt;
-        bind(alloc, vm, 1, &[zero(0)])?,
-        Outcome::Accepted { entry: 1 }
+        (next, vm.withdraw(alloc, 1)),
+        (Outcome::Accepted { entry: 1 }, Ok(2))
     );
-    assert_eq!(rt; vm.withdraw(alloc, 1), Ok(2));
     assert_eq!(rt; vm.translate(0), byte_of(id, 0));
     assert_eq!(rt; vm.destroy(id), Err(Fault::Mapped { count: 1 }));
     Ok(())

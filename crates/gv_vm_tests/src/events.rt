@@ -191,34 +191,42 @@ fn signals(rt: &impl Abort, alloc: Global, world: &mut World) -> Result<(), Fail
     play(rt, alloc, world, events, &replies)
 }
 
-fn signal_events(alloc: Global) -> Result<Vec<Event>, Fail> {
+/// A request that waits for what isn't reached, and is given up: it pays nothing.
+fn given_up_events(alloc: Global) -> Result<Vec<Event>, Fail> {
     let queue = 1;
-    let early = timed(alloc, &[zero(0)], &[at(0, 3)], &[at(0, 9)])?;
-    let refused = timed(alloc, &[zero(0), empty(0)], &[], &[at(0, 9)])?;
-    let late = timed(alloc, &[zero(0)], &[at(0, 3)], &[at(0, 7), at(0, 4)])?;
+    let request = timed(alloc, &[zero(0)], &[at(0, 3)], &[at(0, 9)])?;
     let events = vec![in alloc;
         Event::Raise { point: at(0, 1) },
         Event::Raise { point: at(1, 1) },
-        Event::Put {
-            queue,
-            request: early
-        },
+        Event::Put { queue, request },
         Event::Take { queue },
         Event::Look { queue },
         Event::GiveUp { queue },
         Event::Pay { queue },
-        Event::Put {
-            queue,
-            request: refused
-        },
+    ]?;
+    Ok(events)
+}
+
+/// A request that is refused: it pays nothing.
+fn refused_events(alloc: Global) -> Result<Vec<Event>, Fail> {
+    let queue = 1;
+    let request = timed(alloc, &[zero(0), empty(0)], &[], &[at(0, 9)])?;
+    let events = vec![in alloc;
+        Event::Put { queue, request },
         Event::Take { queue },
         Event::Bind { queue },
         Event::Pay { queue },
         Event::Raise { point: at(0, 5) },
-        Event::Put {
-            queue,
-            request: late
-        },
+    ]?;
+    Ok(events)
+}
+
+/// A request whose wait is reached: it pays its two signals, which stay when it is taken back.
+fn paid_events(alloc: Global) -> Result<Vec<Event>, Fail> {
+    let queue = 1;
+    let request = timed(alloc, &[zero(0)], &[at(0, 3)], &[at(0, 7), at(0, 4)])?;
+    let events = vec![in alloc;
+        Event::Put { queue, request },
         Event::Take { queue },
         Event::Look { queue },
         Event::Bind { queue },
@@ -227,5 +235,12 @@ fn signal_events(alloc: Global) -> Result<Vec<Event>, Fail> {
         Event::Rewind,
         Event::Raise { point: at(0, 0) },
     ]?;
+    Ok(events)
+}
+
+fn signal_events(alloc: Global) -> Result<Vec<Event>, Fail> {
+    let mut events = given_up_events(alloc)?;
+    events.extend(refused_events(alloc)?)?;
+    events.extend(paid_events(alloc)?)?;
     Ok(events)
 }

@@ -5,6 +5,7 @@ use gv_buffers::Usage;
 use gv_types::{Bounds, BufferId, Fault, Flags, Limits, Op, PAGE_BYTES, Point, Request};
 use gv_vm::{Access, NotTold, Outcome, Vm};
 use std::alloc::{AllocError, Global};
+use std::process::Abort;
 use std::test::Fail;
 
 /// A machine of all pages, with the greatest limits.
@@ -13,6 +14,18 @@ pub fn whole(alloc: Global) -> Result<Vm, Fail> {
         Ok(vm) => Ok(vm),
         Err(_) => Err("memory".into()),
     }
+}
+
+/// Binds request `number` of queue 0, and asserts that it is accepted as this entry.
+pub fn accept(
+    rt: &impl Abort,
+    alloc: Global,
+    vm: &mut Vm,
+    (number, entry): (u64, u64),
+    ops: &[Op],
+) -> Result<(), Fail> {
+    assert_eq!(rt; bind(alloc, vm, number, ops)?, Outcome::Accepted { entry });
+    Ok(())
 }
 
 /// A map of one page to a page of a buffer.

@@ -1,7 +1,7 @@
 //! Jobs, and what they hold.
-use crate::fixtures::{bind, map, read, whole, write, zero};
+use crate::fixtures::{accept, map, read, whole, write, zero};
 use gv_types::{BufferId, Fault, Flags};
-use gv_vm::{Job, Outcome, Place, Target, Vm};
+use gv_vm::{Access, Job, Place, Target, Vm};
 use std::alloc::Global;
 use std::process::Abort;
 use std::test::Fail;
@@ -21,6 +21,26 @@ fn is_refused(begun: &Begun, fault: Fault) -> bool {
         Ok(_) => false,
         Err(other) => *other == fault,
     }
+}
+
+/// Begins a job of these accesses, and asserts its number and its places.
+fn begin(
+    rt: &impl Abort,
+    alloc: Global,
+    vm: &mut Vm,
+    accesses: &[Access],
+    (number, places): (u64, &[Place]),
+) {
+    assert!(rt; begins(&vm.job_begin(alloc, accesses), number, places));
+}
+
+/// Asserts that a job of these accesses is refused.
+fn refuse(rt: &impl Abort, alloc: Global, vm: &mut Vm, accesses: &[Access], fault: Fault) {
+    assert!(rt; is_refused(&vm.job_begin(alloc, accesses), fault));
+}
+
+fn in_use(jobs: u64) -> Result<(), Fault> {
+    Err(Fault::InUse { jobs })
 }
 
 fn zeros() -> Place {
@@ -48,27 +68,26 @@ fn refused_job_holds_nothing(rt: HostRuntime) -> Result<(), Fail> {
 fn refusals(rt: &impl Abort, alloc: Global, vm: &mut Vm) -> Result<(), Fail> {
     let id = vm.create(alloc, 2)?;
     let ops = [zero(0), map(1, &id, 0, true), map(2, &id, 1, false)];
-    assert_eq!(rt; bind(alloc, vm, 0, &ops)?, Outcome::Accepted { entry: 0 });
-    let read_only = vm.job_begin(alloc, &[read(2, 0), write(1, 0)]);
-    assert!(rt; is_refused(&read_only, Fault::WriteToReadOnly { access: 1 }));
-    assert!(rt; begins(&vm.job_begin(alloc, &[read(0, 0)]), 0, &[zeros()]));
-    assert!(rt;
-        begins(
-            &vm.job_begin(alloc, &[write(2, 4)]),
-            1,
-            &[byte_of(id, 4100, false)]
-        )
+    accept(rt, alloc, vm, (0, 0), &ops)?;
+    let to_read_only = [read(2, 0), write(1, 0)];
+    refuse(
+        rt,
+        alloc,
+        vm,
+        &to_read_only,
+        Fault::WriteToReadOnly { access: 1 },
     );
-    let conflict = vm.job_begin(alloc, &[read(1, 0)]);
-    assert!(rt; is_refused(&conflict, Fault::Conflict { job: 1 }));
-    assert_eq!(rt; vm.job_end(1), Ok(()));
-    assert_eq!(rt; vm.job_end(1), Err(Fault::NoJob));
-    assert!(rt;
-        is_refused(
-            &vm.job_begin(alloc, &[read(3, 0)]),
-            Fault::Unmapped { access: 0 }
-        )
+    begin(rt, alloc, vm, &[read(0, 0)], (0, &[zeros()]));
+    begin(
+        rt,
+        alloc,
+        vm,
+        &[write(2, 4)],
+        (1, &[byte_of(id, 4100, false)]),
     );
+    refuse(rt, alloc, vm, &[read(1, 0)], Fault::Conflict { job: 1 });
+    assert_eq!(rt; [vm.job_end(1), vm.job_end(1)], [Ok(()), Err(Fault::NoJob)]);
+    refuse(rt, alloc, vm, &[read(3, 0)], Fault::Unmapped { access: 0 });
     Ok(())
 }
 
@@ -82,31 +101,19 @@ fn job_keeps_its_buffer_alive(rt: HostRuntime) -> Result<(), Fail> {
 
 fn two_readers(rt: &impl Abort, alloc: Global, vm: &mut Vm) -> Result<(), Fail> {
     let id = vm.create(alloc, 1)?;
-    assert_eq!(rt;
-        bind(alloc, vm, 0, &[map(0, &id, 0, false)])?,
-        Outcome::Accepted { entry: 0 }
-    );
-    assert!(rt;
-        begins(
-            &vm.job_begin(alloc, &[read(0, 0)]),
-            0,
-            &[byte_of(id, 0, false)]
-        )
-    );
-    assert!(rt;
-        begins(
-            &vm.job_begin(alloc, &[read(0, 0)]),
-            1,
-            &[byte_of(id, 0, false)]
-        )
-    );
-    assert_eq!(rt; vm.rewind(), Ok(0));
-    assert_eq!(rt; vm.translate(0), None);
-    assert_eq!(rt; vm.destroy(id), Err(Fault::InUse { jobs: 2 }));
-    assert_eq!(rt; vm.job_end(0), Ok(()));
-    assert_eq!(rt; vm.destroy(id), Err(Fault::InUse { jobs: 1 }));
-    assert_eq!(rt; vm.job_end(1), Ok(()));
-    assert_eq!(rt; vm.destroy(id), Ok(()));
+    accept(rt, alloc, vm, (0, 0), &[map(0, &id, 0, false)])?;
+    let places = [byte_of(id, 0, false)];
+    begin(rt, alloc, vm, &[read(0, 0)], (0, &places));
+    begin(rt, alloc, vm, &[read(0, 0)], (1, &places));
+    assert_eq!(rt; (vm.rewind(), vm.translate(0)), (Ok(0), None));
+    let ended = [
+        vm.destroy(id),
+        vm.job_end(0),
+        vm.destroy(id),
+        vm.job_end(1),
+        vm.destroy(id),
+    ];
+    assert_eq!(rt; ended, [in_use(2), Ok(()), in_use(1), Ok(()), Ok(())]);
     assert_eq!(rt; vm.rewind(), Err(Fault::NoEntry));
     Ok(())
 }
@@ -121,25 +128,12 @@ fn job_is_no_conflict_to_itself(rt: HostRuntime) -> Result<(), Fail> {
 
 fn reads_and_writes(rt: &impl Abort, alloc: Global, vm: &mut Vm) -> Result<(), Fail> {
     let id = vm.create(alloc, 1)?;
-    assert_eq!(rt;
-        bind(alloc, vm, 0, &[map(0, &id, 0, false)])?,
-        Outcome::Accepted { entry: 0 }
-    );
-    let place = byte_of(id, 0, false);
-    assert!(rt;
-        begins(
-            &vm.job_begin(alloc, &[read(0, 0), write(0, 0), read(0, 0)]),
-            0,
-            &[place, place, place]
-        )
-    );
-    assert!(rt;
-        is_refused(
-            &vm.job_begin(alloc, &[read(0, 0)]),
-            Fault::Conflict { job: 0 }
-        )
-    );
+    accept(rt, alloc, vm, (0, 0), &[map(0, &id, 0, false)])?;
+    let places = [byte_of(id, 0, false); 3];
+    let twice = [read(0, 0), write(0, 0), read(0, 0)];
+    begin(rt, alloc, vm, &twice, (0, &places));
+    refuse(rt, alloc, vm, &[read(0, 0)], Fault::Conflict { job: 0 });
     assert_eq!(rt; vm.job_end(0), Ok(()));
-    assert!(rt; begins(&vm.job_begin(alloc, &[read(0, 0)]), 1, &[place]));
+    begin(rt, alloc, vm, &[read(0, 0)], (1, &places[..1]));
     Ok(())
 }

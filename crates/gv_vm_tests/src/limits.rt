@@ -1,5 +1,5 @@
 //! The greatest numbers of jobs and accesses.
-use crate::fixtures::{bind, read, whole, zero};
+use crate::fixtures::{accept, bind, read, whole, zero};
 use gv_types::Fault;
 use gv_vm::{Access, Job, MAX_ACCESSES, MAX_RUNNING, Outcome, Vm};
 use std::alloc::Global;
@@ -22,20 +22,14 @@ fn no_more_jobs_run(rt: HostRuntime) -> Result<(), Fail> {
 }
 
 fn many_jobs(rt: &impl Abort, alloc: Global, vm: &mut Vm) -> Result<(), Fail> {
-    assert_eq!(rt;
-        bind(alloc, vm, 0, &[zero(0)])?,
-        Outcome::Accepted { entry: 0 }
-    );
+    accept(rt, alloc, vm, (0, 0), &[zero(0)])?;
     for number in 0..MAX_RUNNING as u64 {
         assert_eq!(rt; number_of(&vm.job_begin(alloc, &[read(0, 0)])), Ok(number));
     }
-    assert_eq!(rt;
-        number_of(&vm.job_begin(alloc, &[read(0, 0)])),
-        Err(Fault::TooManyJobs)
-    );
-    assert_eq!(rt; vm.job_end(0), Ok(()));
-    assert_eq!(rt; number_of(&vm.job_begin(alloc, &[read(0, 0)])), Ok(1024));
-    assert_eq!(rt; vm.job_end(0), Err(Fault::NoJob));
+    let full = number_of(&vm.job_begin(alloc, &[read(0, 0)]));
+    assert_eq!(rt; (full, vm.job_end(0)), (Err(Fault::TooManyJobs), Ok(())));
+    let next = number_of(&vm.job_begin(alloc, &[read(0, 0)]));
+    assert_eq!(rt; (next, vm.job_end(0)), (Ok(1024), Err(Fault::NoJob)));
     Ok(())
 }
 

@@ -27,6 +27,10 @@ fn unmap(page: u32, count: u32) -> Op {
     }
 }
 
+fn accepted<const N: usize>(entries: [u64; N]) -> [Outcome; N] {
+    entries.map(|entry| Outcome::Accepted { entry })
+}
+
 fn live(entry: u64, place: Option<Place>) -> PastItem {
     PastItem {
         entry,
@@ -69,50 +73,43 @@ fn over_one_another(rt: &impl Abort, alloc: Global, vm: &mut Vm) -> Result<(), F
     says(rt, alloc, vm, 0x1abc, &[], None)?;
     let a = vm.create(alloc, 4)?;
     let b = vm.create(alloc, 2)?;
-    assert_eq!(rt;
-        bind(alloc, vm, 0, &[map_run(0, 4, &a, 0)])?,
-        Outcome::Accepted { entry: 0 }
-    );
-    assert_eq!(rt;
-        bind(alloc, vm, 1, &[map(1, &b, 1, false)])?,
-        Outcome::Accepted { entry: 1 }
-    );
-    assert_eq!(rt;
-        bind(alloc, vm, 2, &[unmap(1, 2)])?,
-        Outcome::Accepted { entry: 2 }
-    );
+    let (old, new) = (live(0, byte_of(a, 0x1abc)), live(1, byte_of(b, 0x1abc)));
+    let at_start = [live(3, byte_of(b, 0)), live(0, byte_of(a, 0))];
+    let at_end = [live(0, byte_of(a, 0x3fff))];
+    let unders = [byte_of(b, 0x1abc), byte_of(a, 0x2000), byte_of(a, 0x3000)];
     // Two operations on page 1: the last one decides, and page 0 is covered by the first alone.
     let twice = [map_run(0, 2, &b, 0), zero(1)];
-    assert_eq!(rt; bind(alloc, vm, 3, &twice)?, Outcome::Accepted { entry: 3 });
-    let (old, new) = (live(0, byte_of(a, 0x1abc)), live(1, byte_of(b, 0x1abc)));
-    says(
-        rt,
-        alloc,
-        vm,
-        0x1abc,
-        &[live(3, zeros()), live(2, None), new, old],
-        None,
-    )?;
-    says(
-        rt,
-        alloc,
-        vm,
-        0x0,
-        &[live(3, byte_of(b, 0)), live(0, byte_of(a, 0))],
-        None,
-    )?;
-    says(rt, alloc, vm, 0x3fff, &[live(0, byte_of(a, 0x3fff))], None)?;
-    says(rt, alloc, vm, 0x4000, &[], None)?;
-    says(rt, alloc, vm, 1 << 57, &[], None)?;
-    says(rt, alloc, vm, u64::MAX, &[], None)?;
+    let bound = [
+        bind(alloc, vm, 0, &[map_run(0, 4, &a, 0)])?,
+        bind(alloc, vm, 1, &[map(1, &b, 1, false)])?,
+        bind(alloc, vm, 2, &[unmap(1, 2)])?,
+        bind(alloc, vm, 3, &twice)?,
+    ];
+    assert_eq!(rt; bound, accepted([0, 1, 2, 3]));
+    let all = [live(3, zeros()), live(2, None), new, old];
+    says(rt, alloc, vm, 0x1abc, &all, None)?;
+    says(rt, alloc, vm, 0x0, &at_start, None)?;
+    says(rt, alloc, vm, 0x3fff, &at_end, None)?;
+    for addr in [0x4000, 1 << 57, u64::MAX] {
+        says(rt, alloc, vm, addr, &[], None)?;
+    }
     assert_eq!(rt; vm.rewind(), Ok(3));
     says(rt, alloc, vm, 0x1abc, &[live(2, None), new, old], None)?;
-    // What is settled lies under the rest: now page 1 was b's, and page 2 is still a's there.
     assert_eq!(rt; vm.settle(2), Ok(2));
-    says(rt, alloc, vm, 0x1abc, &[live(2, None)], byte_of(b, 0x1abc))?;
-    says(rt, alloc, vm, 0x2000, &[live(2, None)], byte_of(a, 0x2000))?;
-    says(rt, alloc, vm, 0x3000, &[], byte_of(a, 0x3000))?;
+    under_settled(rt, alloc, vm, &unders)?;
     Ok(())
+}
+
+/// What is settled lies under the rest: now page 1 was b's, and pages 2 and 3 are still a's there.
+fn under_settled(
+    rt: &impl Abort,
+    alloc: Global,
+    vm: &Vm,
+    unders: &[Option<Place>; 3],
+) -> Result<(), Fail> {
+    says(rt, alloc, vm, 0x1abc, &[live(2, None)], unders[0])?;
+    says(rt, alloc, vm, 0x2000, &[live(2, None)], unders[1])?;
+    says(rt, alloc, vm, 0x3000, &[], unders[2])
 }
 
 #[test]

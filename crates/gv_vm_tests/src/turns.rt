@@ -23,16 +23,18 @@ fn numbers(rt: &impl Abort, alloc: Global, vm: &mut Vm) -> Result<(), Fail> {
             assert!(rt; request.ops.as_slice() == &[zero(1)][..]);
         }
     }
-    assert_eq!(rt;
+    let bound = [
         bind(alloc, vm, 0, &[zero(0)]),
-        Ok(Outcome::Accepted { entry: 0 })
-    );
-    assert_eq!(rt;
         bind(alloc, vm, 0, &[zero(0)]),
-        Err(Fault::OutOfTurn { next: 1 })
+    ];
+    assert_eq!(rt;
+        bound,
+        [
+            Ok(Outcome::Accepted { entry: 0 }),
+            Err(Fault::OutOfTurn { next: 1 })
+        ]
     );
-    assert_eq!(rt; vm.told(0).len(), 1);
-    assert_eq!(rt; vm.items().len(), 1);
-    assert_eq!(rt; vm.space().list().len(), 1);
+    let held = [vm.told(0).len(), vm.items().len(), vm.space().list().len()];
+    assert_eq!(rt; held, [1, 1, 1]);
     Ok(())
 }
