@@ -45,10 +45,13 @@ fn a_mapping_comes_and_goes(rt: HostRuntime) -> Result<(), Fail> {
     let alloc = rt.alloc();
     let vm = &mut Handle::none(alloc);
     let mut buffer = Buffer::none();
-    assert_eq!(rt; vmbind_buffer_create(alloc, vm, 4, &mut buffer), 65);
-    assert_eq!(rt; vmbind_create(alloc, vm, &CONFIG), 0);
-    assert_eq!(rt; vmbind_create(alloc, vm, &CONFIG), 66);
-    assert_eq!(rt; vmbind_buffer_create(alloc, vm, 4, &mut buffer), 0);
+    let made = [
+        vmbind_buffer_create(alloc, vm, 4, &mut buffer),
+        vmbind_create(alloc, vm, &CONFIG),
+        vmbind_create(alloc, vm, &CONFIG),
+        vmbind_buffer_create(alloc, vm, 4, &mut buffer),
+    ];
+    assert_eq!(rt; made, [65, 0, 66, 0]);
     let ops = &[map(buffer)];
     let request = BindRequest {
         queue: 1,
@@ -57,22 +60,24 @@ fn a_mapping_comes_and_goes(rt: HostRuntime) -> Result<(), Fail> {
         signals: &[],
     };
     let mut outcome = RequestOutcome::none();
-    assert_eq!(rt; vmbind_bind(alloc, vm, &request, &mut outcome), 0);
-    assert_eq!(rt; outcome.kind, ACCEPTED);
+    let bound = vmbind_bind(alloc, vm, &request, &mut outcome);
+    assert_eq!(rt; (bound, outcome.kind), (0, ACCEPTED));
     let mut at = Translation::of(None, 0);
-    assert_eq!(rt; vmbind_translate(alloc, vm, 0x6abc, &mut at), 0);
-    assert_eq!(rt; at.byte, 0x2abc);
-    assert_eq!(rt; at.run, 0x1544);
-    assert_eq!(rt; vmbind_translate(alloc, vm, 0x1000, &mut at), 0);
-    assert_eq!(rt; at.run, 0x3000);
+    let inside = vmbind_translate(alloc, vm, 0x6abc, &mut at);
+    assert_eq!(rt; (inside, at.byte, at.run), (0, 0x2abc, 0x1544));
+    let before = vmbind_translate(alloc, vm, 0x1000, &mut at);
+    assert_eq!(rt; (before, at.run), (0, 0x3000));
     let mut number = 0;
-    assert_eq!(rt; vmbind_buffer_destroy(alloc, vm, buffer, &mut number), 10);
-    assert_eq!(rt; number, 1);
-    assert_eq!(rt; vmbind_rewind(alloc, vm, &mut number), 0);
-    assert_eq!(rt; vmbind_rewind(alloc, vm, &mut number), 17);
-    assert_eq!(rt; vmbind_buffer_destroy(alloc, vm, buffer, &mut number), 0);
-    assert_eq!(rt; vmbind_destroy(alloc, vm), 0);
-    assert_eq!(rt; vmbind_destroy(alloc, vm), 65);
+    let mapped = vmbind_buffer_destroy(alloc, vm, buffer, &mut number);
+    assert_eq!(rt; (mapped, number), (10, 1));
+    let gone = [
+        vmbind_rewind(alloc, vm, &mut number),
+        vmbind_rewind(alloc, vm, &mut number),
+        vmbind_buffer_destroy(alloc, vm, buffer, &mut number),
+        vmbind_destroy(alloc, vm),
+        vmbind_destroy(alloc, vm),
+    ];
+    assert_eq!(rt; gone, [0, 17, 0, 0, 65]);
     Ok(())
 }
 
@@ -92,20 +97,27 @@ fn a_request_waits(rt: HostRuntime) -> Result<(), Fail> {
         signals: &[],
     };
     let mut outcome = RequestOutcome::none();
-    assert_eq!(rt; vmbind_bind(alloc, vm, &request, &mut outcome), 68);
-    assert_eq!(rt; outcome.kind, PENDING);
-    assert_eq!(rt; outcome.point.value, 3);
+    let bound = vmbind_bind(alloc, vm, &request, &mut outcome);
+    assert_eq!(rt;
+        (bound, outcome.kind, outcome.point.value),
+        (68, PENDING, 3)
+    );
     let mut number = 9;
-    assert_eq!(rt; vmbind_submit(alloc, vm, &request, &mut number), 0);
-    assert_eq!(rt; number, 1);
-    assert_eq!(rt; vmbind_serve(alloc, vm, 0, 1, &mut outcome), 68);
-    assert_eq!(rt; outcome.kind, GIVEN_UP);
-    assert_eq!(rt; vmbind_timeline_raise(alloc, vm, 1, 3, &mut number), 0);
-    assert_eq!(rt; vmbind_serve(alloc, vm, 0, 0, &mut outcome), 0);
-    assert_eq!(rt; outcome.number, 1);
-    assert_eq!(rt; vmbind_serve(alloc, vm, 0, 0, &mut outcome), 67);
-    assert_eq!(rt; vmbind_serve(alloc, vm, 2, 0, &mut outcome), 64);
-    assert_eq!(rt; vmbind_timeline_raise(alloc, vm, 2, 3, &mut number), 64);
+    let put = vmbind_submit(alloc, vm, &request, &mut number);
+    assert_eq!(rt; (put, number), (0, 1));
+    let given_up = vmbind_serve(alloc, vm, 0, 1, &mut outcome);
+    assert_eq!(rt; (given_up, outcome.kind), (68, GIVEN_UP));
+    let served = [
+        vmbind_timeline_raise(alloc, vm, 1, 3, &mut number),
+        vmbind_serve(alloc, vm, 0, 0, &mut outcome),
+    ];
+    assert_eq!(rt; (served, outcome.number), ([0, 0], 1));
+    let refused = [
+        vmbind_serve(alloc, vm, 0, 0, &mut outcome),
+        vmbind_serve(alloc, vm, 2, 0, &mut outcome),
+        vmbind_timeline_raise(alloc, vm, 2, 3, &mut number),
+    ];
+    assert_eq!(rt; refused, [67, 64, 64]);
     Ok(())
 }
 
@@ -127,8 +139,8 @@ fn what_is_none_is_refused(rt: HostRuntime) -> Result<(), Fail> {
         waits: &[],
         signals: &[],
     };
-    assert_eq!(rt; vmbind_bind(alloc, vm, &request, &mut outcome), 6);
-    assert_eq!(rt; outcome.kind, REFUSED);
+    let bound = vmbind_bind(alloc, vm, &request, &mut outcome);
+    assert_eq!(rt; (bound, outcome.kind), (6, REFUSED));
     let kind = &[Operation {
         kind: 5,
         ..map(Buffer::none())
@@ -139,8 +151,8 @@ fn what_is_none_is_refused(rt: HostRuntime) -> Result<(), Fail> {
         waits: &[],
         signals: &[],
     };
-    assert_eq!(rt; vmbind_bind(alloc, vm, &request, &mut outcome), 64);
-    assert_eq!(rt; outcome.kind, 0);
+    let bound = vmbind_bind(alloc, vm, &request, &mut outcome);
+    assert_eq!(rt; (bound, outcome.kind), (64, 0));
     Ok(())
 }
 
@@ -170,13 +182,9 @@ fn lists_are_written_as_far_as_there_is_room(rt: HostRuntime) -> Result<(), Fail
     assert_eq!(rt; vmbind_bind(alloc, vm, &request, &mut outcome), 0);
     let (mut count, mut total) = (0, 0);
     let list = &mut [ListedMapping::none(); 3];
-    assert_eq!(rt;
-        vmbind_mappings(alloc, vm, 1, list, &mut count, &mut total),
-        0
-    );
-    assert_eq!(rt; (count, total), (1, 2));
-    assert_eq!(rt; list[0].start, 0x10000);
-    assert_eq!(rt; list[1].kind, 0);
+    let listed = vmbind_mappings(alloc, vm, 1, list, &mut count, &mut total);
+    assert_eq!(rt; (listed, count, total), (0, 1, 2));
+    assert_eq!(rt; (list[0].start, list[1].kind), (0x10000, 0));
     let mut number = 0;
     assert_eq!(rt; vmbind_withdraw(alloc, vm, 0, &mut number), 0);
     let mut info = EntryInfo {
@@ -188,12 +196,10 @@ fn lists_are_written_as_far_as_there_is_room(rt: HostRuntime) -> Result<(), Fail
         of: 9,
     };
     let asked = &mut [zeros; 1];
-    assert_eq!(rt; vmbind_entry(alloc, vm, 0, &mut info, asked, &mut count), 0);
-    assert_eq!(rt; (info.kind, info.withdrawn, info.ops, count), (1, 1, 2, 1));
-    assert_eq!(rt;
-        vmbind_entry(alloc, vm, 2, &mut info, asked, &mut count),
-        17
-    );
-    assert_eq!(rt; (info.kind, count), (0, 0));
+    let shown = vmbind_entry(alloc, vm, 0, &mut info, asked, &mut count);
+    let seen = (info.kind, info.withdrawn, info.ops, count);
+    assert_eq!(rt; (shown, seen), (0, (1, 1, 2, 1)));
+    let none = vmbind_entry(alloc, vm, 2, &mut info, asked, &mut count);
+    assert_eq!(rt; (none, info.kind, count), (17, 0, 0));
     Ok(())
 }
