@@ -144,16 +144,68 @@ fn round(
     Ok(judge.miss)
 }
 
-/// Plays rounds on places of `unit` pages each, from the page `first` on. How many were played, up to the first in which
-/// something was missed, and what that is.
-fn play(alloc: Global, first: u64, unit: u64) -> Result<(u64, Option<Miss>), Fail> {
+/// What a round came to: the model of the space after it, what was missed, and whether the judge saw all that he had to.
+#[derive(Drop)]
+struct Played {
+    model: Model,
+    miss: Option<Miss>,
+    saw_all: bool,
+}
+
+/// Plays the round of this number on a space that is as the model says.
+fn play_one(
+    alloc: Global,
+    space: &mut Space,
+    model: Model,
+    random: &mut Random,
+    number: u64,
+) -> Result<Played, Fail> {
     // The borrow checker proves this only where the function names the types inside the models and the operations.
     let _backing = Backing::Zero;
     let _op: Option<PageOp> = None;
-    let pages = unit.saturating_mul(PLACES);
+    let way = way_of(number);
+    let looks = looks_of(way);
+    let choice = Choice::new(random, &model.setting)?;
+    let course = course_of(alloc, model, &choice)?;
+    let mut judge = Judge {
+        course,
+        looks,
+        seen: 0,
+        miss: None,
+    };
+    let miss = round(alloc, space, &mut judge, &choice, way)?;
+    Ok(Played {
+        saw_all: judge.seen == looks.len(),
+        model: judge.course.at_last(way),
+        miss,
+    })
+}
+
+/// A space of so many pages from `first` on.
+fn space_of(alloc: Global, first: u64, pages: u64) -> Result<Space, Fail> {
     let bounds = Bounds::new(first, pages, 0, 0).ok_or("bounds")?;
     let limits = Limits::new(2, 1_000, 1, 1).ok_or("limits")?;
-    let mut space = Space::new(alloc, bounds, limits)?;
+    Ok(Space::new(alloc, bounds, limits)?)
+}
+
+/// Plays rounds on a space that is as the model says. How many were played, up to the first in which something was missed, and
+/// what that is.
+fn play_all(alloc: Global, space: &mut Space, model: Model) -> Result<(u64, Option<Miss>), Fail> {
+    let mut model = model;
+    let mut random = Random::new(1);
+    for number in 0..ROUNDS {
+        let played = play_one(alloc, space, model, &mut random, number)?;
+        if played.miss.is_some() || !played.saw_all {
+            return Ok((number, played.miss));
+        }
+        model = played.model;
+    }
+    Ok((ROUNDS, None))
+}
+
+/// Plays rounds on places of `unit` pages each, from the page `first` on.
+fn play(alloc: Global, first: u64, unit: u64) -> Result<(u64, Option<Miss>), Fail> {
+    let mut space = space_of(alloc, first, unit.saturating_mul(PLACES))?;
     let size = unit.saturating_mul(100);
     let buffers = [space.create(alloc, size)?, space.create(alloc, size)?];
     let setting = Setting {
@@ -161,26 +213,8 @@ fn play(alloc: Global, first: u64, unit: u64) -> Result<(u64, Option<Miss>), Fai
         unit,
         buffers,
     };
-    let mut model = Model::new(alloc, setting)?;
-    let mut random = Random::new(1);
-    for number in 0..ROUNDS {
-        let way = way_of(number);
-        let looks = looks_of(way);
-        let choice = Choice::new(&mut random, &setting)?;
-        let course = course_of(alloc, model, &choice)?;
-        let mut judge = Judge {
-            course,
-            looks,
-            seen: 0,
-            miss: None,
-        };
-        let miss = round(alloc, &mut space, &mut judge, &choice, way)?;
-        if miss.is_some() || judge.seen != looks.len() {
-            return Ok((number, miss));
-        }
-        model = judge.course.at_last(way);
-    }
-    Ok((ROUNDS, None))
+    let model = Model::new(alloc, setting)?;
+    play_all(alloc, &mut space, model)
 }
 
 #[test]
