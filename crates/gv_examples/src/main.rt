@@ -1,14 +1,9 @@
 //! Runs the examples, and compares what they come to with the replies that are wanted.
 #![tactic(auto)]
 
-mod devices;
-mod failing;
 mod logs;
 mod pictures;
-#[cfg(test)]
-mod rows;
 
-use failing::{is_read_fault_told, is_write_fault_told};
 use gv_draw::{Options, draw_script};
 use gv_text::{MemorySink, MemorySource, run_script};
 use gv_threads::{RunTerms, run_threads};
@@ -41,9 +36,6 @@ const THREADS_EXAMPLES: [(&str, u64); 1] = [("threads", 2)];
 /// Enough turns for a request to wait for any other of an example.
 const TURNS: u64 = 1_000_000_000;
 
-/// The longest example, which is run on devices that fail at each of their calls.
-const LONGEST: &str = "buffers";
-
 /// The examples that the page of pictures draws, in its order.
 const PICTURES: [&str; 5] = ["first", "replace", "keep", "withdraw", "tables"];
 
@@ -74,10 +66,6 @@ fn main(rt: HostRuntime) -> io::Result<ExitCode> {
     let word = if shown { "as wanted" } else { "OTHERWISE" };
     println!(rt; "drawn: {word}")?;
     all_same = all_same && shown;
-    let told = are_failures_told(&rt)?;
-    let word = if told { "as wanted" } else { "OTHERWISE" };
-    println!(rt; "failing devices: {word}")?;
-    all_same = all_same && told;
     Ok(if all_same {
         ExitCode::SUCCESS
     } else {
@@ -118,14 +106,6 @@ fn is_answered_by_queues<R: Files + AllocGlobal + Threads + Wait + Sync>(
     Ok(ended.is_ok() && sink.bytes() == wanted.as_slice())
 }
 
-/// Whether a read or a write that fails is told, at each call that the longest example makes.
-fn are_failures_told(rt: &(impl Files + AllocGlobal)) -> io::Result<bool> {
-    let alloc = rt.alloc();
-    let script = fs::read(rt, format!(in alloc; "{LONGEST}.vmb")?)?;
-    let replies = fs::read(rt, format!(in alloc; "{LONGEST}.replies")?)?;
-    Ok(is_read_fault_told(alloc, &script) && is_write_fault_told(alloc, &script, &replies))
-}
-
 /// Whether the pictures of the page are what the program answers.
 fn are_drawn(rt: &(impl Files + AllocGlobal)) -> io::Result<bool> {
     let page = fs::read_to_string(rt, "pictures.md")?;
@@ -156,6 +136,3 @@ fn are_shown(rt: &(impl Files + AllocGlobal)) -> io::Result<bool> {
     }
     Ok(true)
 }
-
-#[cfg(test)]
-mod tests;

@@ -1,6 +1,6 @@
 //! Dialogues over devices in memory.
-use crate::devices::{FailingSink, SlowSource};
-use crate::rows::{JSON_ROWS, ROWS};
+use crate::devices::{FailingSink, FailingSource};
+use crate::dialogue_rows::{JSON_ROWS, ROWS};
 use gv_serve::{LINE_LIMIT, ServeFault, serve, serve_json};
 use gv_text::{MemorySink, MemorySource, run_script};
 use std::process::Abort;
@@ -20,7 +20,7 @@ fn rows_come_to_their_answers(rt: HostRuntime) {
         expect(&rt, row.name, row.input, row.answers);
         for step in [1, 2, 7] {
             let mut sink = MemorySink::new(rt.alloc());
-            let mut source = SlowSource::new(row.input, step, 1_000);
+            let mut source = FailingSource::new(row.input, step, 1_000);
             let outcome = serve(rt.alloc(), &mut source, &mut sink);
             assert!(rt; outcome == Ok(()), "{}", row.name);
             assert!(rt; sink.bytes() == row.answers, "{}", row.name);
@@ -33,7 +33,7 @@ fn rows_come_to_their_json(rt: HostRuntime) {
     for row in &JSON_ROWS {
         for step in [1, 7, 1_000] {
             let mut sink = MemorySink::new(rt.alloc());
-            let mut source = SlowSource::new(row.input, step, 1_000);
+            let mut source = FailingSource::new(row.input, step, 1_000);
             let outcome = serve_json(rt.alloc(), &mut source, &mut sink);
             assert!(rt; outcome == Ok(()), "{}", row.name);
             assert!(rt; sink.bytes() == row.answers, "{}", row.name);
@@ -53,7 +53,7 @@ fn a_dialogue_without_bad_lines_is_a_run(rt: HostRuntime) -> Result<(), Fail> {
 #[test]
 fn answers_are_written_before_the_next_read(rt: HostRuntime) {
     let mut sink = MemorySink::new(rt.alloc());
-    let mut source = SlowSource::new(b"map\nmap\nm", 4, 3);
+    let mut source = FailingSource::new(b"map\nmap\nm", 4, 3);
     let outcome = serve(rt.alloc(), &mut source, &mut sink);
     assert!(rt; outcome == Err(ServeFault::ReadFault));
     assert!(rt; sink.bytes() == b"empty\nempty\n".as_slice());
@@ -61,8 +61,8 @@ fn answers_are_written_before_the_next_read(rt: HostRuntime) {
 
 #[test]
 fn a_failed_write_ends_it(rt: HostRuntime) {
-    let mut sink = FailingSink::new(rt.alloc(), 1);
-    let mut source = SlowSource::new(b"map\nmap\nmap\n", 4, 100);
+    let mut sink = FailingSink::new(rt.alloc(), usize::MAX, 1);
+    let mut source = FailingSource::new(b"map\nmap\nmap\n", 4, 100);
     let outcome = serve(rt.alloc(), &mut source, &mut sink);
     assert!(rt; outcome == Err(ServeFault::WriteFault));
     assert!(rt; sink.bytes() == b"empty\n".as_slice());
@@ -71,12 +71,12 @@ fn a_failed_write_ends_it(rt: HostRuntime) {
 #[test]
 fn failed_devices_end_it_in_json(rt: HostRuntime) {
     let mut sink = MemorySink::new(rt.alloc());
-    let mut source = SlowSource::new(b"idle", 4, 1);
+    let mut source = FailingSource::new(b"idle", 4, 1);
     let outcome = serve_json(rt.alloc(), &mut source, &mut sink);
     assert!(rt; outcome == Err(ServeFault::ReadFault));
     assert!(rt; sink.bytes().is_empty());
-    let mut full = FailingSink::new(rt.alloc(), 1);
-    let mut lines = SlowSource::new(b"map\nmap\nmap\n", 4, 100);
+    let mut full = FailingSink::new(rt.alloc(), usize::MAX, 1);
+    let mut lines = FailingSource::new(b"map\nmap\nmap\n", 4, 100);
     let outcome = serve_json(rt.alloc(), &mut lines, &mut full);
     assert!(rt; outcome == Err(ServeFault::WriteFault));
     assert!(rt; full.bytes() == b"{\"line\":1,\"mappings\":[]}\n".as_slice());

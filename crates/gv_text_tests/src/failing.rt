@@ -10,7 +10,7 @@ pub fn is_read_fault_told(alloc: Global, script: &[u8]) -> bool {
 
 /// Whether a read that fails after so many is told, and nothing is written.
 fn read_fails(alloc: Global, script: &[u8], reads: usize) -> bool {
-    let mut source = FailingSource::new(script, reads);
+    let mut source = FailingSource::new(script, 1, reads);
     let mut sink = MemorySink::new(alloc);
     let outcome = run_script(alloc, &mut source, &mut sink);
     outcome == Err(ScriptFault::ReadFault) && sink.bytes().is_empty()
@@ -24,7 +24,7 @@ pub fn is_write_fault_told(alloc: Global, script: &[u8], replies: &[u8]) -> bool
 
 /// Whether a script of these replies writes as many bytes of them as its device takes writes, and tells whether one failed.
 fn write_fails(alloc: Global, script: &[u8], replies: &[u8], writes: usize) -> bool {
-    let mut sink = FailingSink::new(alloc, writes);
+    let mut sink = FailingSink::new(alloc, 1, writes);
     let outcome = run_script(alloc, &mut MemorySource::new(script), &mut sink);
     let wanted = if writes < replies.len() {
         Err(ScriptFault::WriteFault)

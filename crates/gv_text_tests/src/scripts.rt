@@ -1,11 +1,8 @@
 //! Scripts from their bytes to their replies.
-mod drawing;
-mod many;
-mod reasons;
 
 use crate::devices::FailingSource;
 use crate::failing::{is_read_fault_told, is_write_fault_told};
-use crate::rows::{BAD_LINES, EDITS, REQUESTS};
+use crate::rows::{BAD_LINES, EDITS, REQUESTS, Row};
 use gv_text::{MemorySink, MemorySource, SCRIPT_LIMIT, ScriptFault, WriteSink, run_script};
 use std::io;
 use std::io::Write;
@@ -36,11 +33,17 @@ fn ends(bad_line: Option<u64>) -> Result<(), ScriptFault> {
     }
 }
 
+/// Runs the script of each row, and asserts what it comes to.
+fn expect_rows(rt: &(impl Abort + AllocGlobal), rows: &[Row]) {
+    for row in rows {
+        expect(rt, row.name, row.script, ends(row.bad_line), row.replies);
+    }
+}
+
 #[test]
 fn rows_come_to_their_replies(rt: HostRuntime) {
-    for row in EDITS.iter().chain(&REQUESTS) {
-        expect(&rt, row.name, row.script, ends(row.bad_line), row.replies);
-    }
+    expect_rows(&rt, &EDITS);
+    expect_rows(&rt, &REQUESTS);
 }
 
 #[test]
@@ -105,7 +108,7 @@ fn longest_script_is_read(rt: HostRuntime) -> Result<(), Fail> {
 #[test]
 fn script_is_read_in_as_many_reads_as_it_has_bytes(rt: HostRuntime) -> Result<(), Fail> {
     let comment = vec![in rt.alloc(); b'\n'; SCRIPT_LIMIT]?;
-    let mut source = FailingSource::new(&comment, SCRIPT_LIMIT + 2);
+    let mut source = FailingSource::new(&comment, 1, SCRIPT_LIMIT + 2);
     let mut sink = MemorySink::new(rt.alloc());
     run_script(rt.alloc(), &mut source, &mut sink)?;
     assert_eq!(rt; source.reads_left(), 1);
@@ -115,6 +118,19 @@ fn script_is_read_in_as_many_reads_as_it_has_bytes(rt: HostRuntime) -> Result<()
 #[test]
 fn failed_read_writes_nothing(rt: HostRuntime) {
     assert!(rt; is_read_fault_told(rt.alloc(), HOLE));
+}
+
+/// Each worked row on devices that fail at each of their calls.
+#[test]
+fn failing_devices_are_told_of_each_row(rt: HostRuntime) {
+    for row in REQUESTS.iter().filter(|row| row.bad_line.is_none()) {
+        assert!(rt; is_read_fault_told(rt.alloc(), row.script), "{}", row.name);
+        assert!(rt;
+            is_write_fault_told(rt.alloc(), row.script, row.replies),
+            "{}",
+            row.name
+        );
+    }
 }
 
 #[test]

@@ -1,0 +1,21 @@
+//! Tests of scripts, of pictures and of dialogues: the worked rows, scripts at the limits, and devices that fail, from bytes to replies.
+#![tactic(auto)]
+
+#[cfg(test)]
+mod devices;
+#[cfg(test)]
+mod dialogue_rows;
+#[cfg(test)]
+mod dialogues;
+#[cfg(test)]
+mod drawing;
+#[cfg(test)]
+mod failing;
+#[cfg(test)]
+mod many;
+#[cfg(test)]
+mod reasons;
+#[cfg(test)]
+mod rows;
+#[cfg(test)]
+mod scripts;
