@@ -5,9 +5,9 @@ use Rattle.gv_serve.specs.declared.fault.ServeFault.{ServeFault}
 use Rattle.gv_threads.specs.declared.fault.ThreadsFault.{ThreadsFault}
 use Rattle.gv_words.specs.declared.words.Task.{Task}
 use Rattle.gv_words.specs.declared.words.Task.TheVariants.{Run, Serve, Replay, Draw, Compare, Threads}
-use Rattle.gv_cli.specs.Run.{HasRun, HasRunSome, HasRunThreads, exit_status, threads_status}
-use Rattle.gv_cli.specs.Serving.{HasServed, serve_status}
-use Rattle.gv_cli.specs.Status.{IsStatus}
+use Rattle.gv_program.specs.Run.{HasRun, HasRunSome, HasRunThreads, exit_status, threads_status}
+use Rattle.gv_program.specs.Serving.{HasServed, serve_status}
+use Rattle.gv_program.specs.Status.{IsStatus}
 
 -- A task was done with this status: of a reader before and after, of which these tell the bytes that are left and whether it has
 -- failed, and of a writer, of which these tell what was written and whether it has failed. Of replies in JSON, files of lines,

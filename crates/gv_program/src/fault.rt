@@ -1,8 +1,8 @@
 //! What the program says of a failure: a line on standard error, and an exit status.
 ghost use Rattle.std.specs.Prelude.{◌≡◌, Some};
 ghost use Rattle.gv_text.specs.declared.fault.ScriptFault.TheVariants as script;
-ghost use Rattle.gv_cli.specs.Fault.{line_of_fault, queues_status, script_status, status_of};
-ghost use Rattle.gv_cli.specs.declared.fault.ProgramFault.TheVariants as fault;
+ghost use Rattle.gv_program.specs.Fault.{line_of_fault, queues_status, script_status, status_of};
+ghost use Rattle.gv_program.specs.declared.fault.ProgramFault.TheVariants as fault;
 
 use crate::status::{BAD_QUEUES, BAD_SCRIPT, BAD_WORDS, BROKEN_STREAM, NO_MEMORY};
 use gv_queues::QueuesFault;
@@ -117,7 +117,7 @@ impl From<ScriptFault> for ProgramFault {
 }
 
 impl From<ServeFault> for ProgramFault {
-    ghost use Rattle.gv_cli.specs.Fault.{of_serve};
+    ghost use Rattle.gv_program.specs.Fault.{of_serve};
 
     ghost from_gives = { λ serve program. program ≡ of_serve serve };
 
@@ -131,7 +131,7 @@ impl From<ServeFault> for ProgramFault {
 }
 
 impl From<ThreadsFault> for ProgramFault {
-    ghost use Rattle.gv_cli.specs.Fault.{of_threads};
+    ghost use Rattle.gv_program.specs.Fault.{of_threads};
 
     ghost from_gives = { λ threads program. program ≡ of_threads threads };
 

@@ -3,7 +3,7 @@ use Rattle.std.specs.Prelude.{◌≡◌, ◌⊎◌, ℕ, List, [], ◌∷◌}
 use Rattle.clap.specs.Kinds.{Kinds, IsAmong}
 use Rattle.clap.specs.declared.error.kind.ErrorKind.{ErrorKind}
 use Rattle.clap.specs.declared.error.kind.ErrorKind.TheVariants as kind
-use Rattle.gv_cli.specs.Status.{bad_words, broken_stream, done, no_memory}
+use Rattle.gv_program.specs.Status.{bad_words, broken_stream, done, no_memory}
 
 -- The exit status for an error of this kind. Help and the version are printed, if somebody takes them; all else is bad words.
 abbrev pub IsStatusOfKind : ErrorKind → ℕ → Type 0

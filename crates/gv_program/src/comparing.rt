@@ -1,5 +1,5 @@
 //! Two lists of mappings compared.
-ghost use Rattle.gv_cli.specs.Status.{IsStatus};
+ghost use Rattle.gv_program.specs.Status.{IsStatus};
 
 use crate::fault::{ProgramFault, told};
 use crate::files::{opened, read_all};

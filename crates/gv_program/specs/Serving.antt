@@ -5,7 +5,7 @@ use Rattle.gv_text.specs.Script.{RunsWhole}
 use Rattle.gv_serve.specs.Dialogue.{IsBroken, IsDialogue, IsOver, TellsReads, TellsWrites}
 use Rattle.gv_serve.specs.declared.fault.ServeFault.{ServeFault}
 use Rattle.gv_serve.specs.declared.fault.ServeFault.TheVariants.{ReadFault, WriteFault, OutOfMemory}
-use Rattle.gv_cli.specs.Status.{broken_stream, done, no_memory}
+use Rattle.gv_program.specs.Status.{broken_stream, done, no_memory}
 
 -- A dialogue was held with this answer, as `serve` of `gv_serve` says: of a reader before and after, of which these tell the bytes
 -- that are left and whether it has failed, and of a writer, of which these tell what was written and whether it has failed.

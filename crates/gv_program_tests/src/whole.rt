@@ -1,12 +1,7 @@
 //! The whole program over a runtime in memory.
 
-mod fake;
-mod forms;
-mod wrong;
-
-use crate::fault::ProgramFault;
-use crate::program::program;
-use fake::{Fake, Stream};
+use crate::fake::{Fake, Stream};
+use gv_program::{ProgramFault, program};
 use gv_queues::QueuesFault;
 use gv_threads::ThreadsFault;
 use std::process::Abort;
@@ -19,13 +14,13 @@ const RUN: [&[u8]; 2] = [b"vmbind", b"run"];
 
 /// What a run of the program leaves.
 #[derive(Drop)]
-struct Outcome {
-    status: u8,
-    output: Vec<u8>,
-    errors: Vec<u8>,
+pub struct Outcome {
+    pub status: u8,
+    pub output: Vec<u8>,
+    pub errors: Vec<u8>,
 }
 
-fn ended<T: Threads + Wait + Sync + Files>(threads: &T, runtime: Fake<'_>) -> Outcome {
+pub fn ended<T: Threads + Wait + Sync + Files>(threads: &T, runtime: Fake<'_>) -> Outcome {
     let status = program(&runtime, threads);
     let (output, errors) = runtime.written();
     Outcome {
@@ -35,7 +30,7 @@ fn ended<T: Threads + Wait + Sync + Files>(threads: &T, runtime: Fake<'_>) -> Ou
     }
 }
 
-fn expect(rt: &impl Abort, got: &Outcome, status: u8, output: &[u8], errors: &[u8]) {
+pub fn expect(rt: &impl Abort, got: &Outcome, status: u8, output: &[u8], errors: &[u8]) {
     assert_eq!(rt; got.status, status);
     assert_eq!(rt; got.output.as_slice(), output);
     assert_eq!(rt; got.errors.as_slice(), errors);
@@ -252,6 +247,6 @@ fn refuses_words(rt: HostRuntime) {
 }
 
 /// Whether the text has the part somewhere.
-fn holds(text: &[u8], part: &[u8]) -> bool {
+pub fn holds(text: &[u8], part: &[u8]) -> bool {
     (0..text.len()).any(|at| text[at..].starts_with(part))
 }

@@ -1,5 +1,5 @@
 //! Pictures.
-ghost use Rattle.gv_cli.specs.Status.{IsStatus};
+ghost use Rattle.gv_program.specs.Status.{IsStatus};
 
 use crate::fault::{ProgramFault, told};
 use crate::files::{address, opened, read_all};

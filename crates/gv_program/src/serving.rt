@@ -1,8 +1,8 @@
 //! Dialogues.
 ghost use Rattle.std.specs.Prelude.{◌≡◌, false, Result};
 ghost use Rattle.gv_serve.specs.declared.fault.ServeFault.{ServeFault as TheFault};
-ghost use Rattle.gv_cli.specs.Serving.{HasServed, serve_status};
-ghost use Rattle.gv_cli.specs.Status.{IsStatus};
+ghost use Rattle.gv_program.specs.Serving.{HasServed, serve_status};
+ghost use Rattle.gv_program.specs.Status.{IsStatus};
 
 use crate::fault::{ProgramFault, told};
 use crate::files::opened;

@@ -1,7 +1,7 @@
 //! Logs in each of the forms in which they are told.
 
-use super::fake::{Fake, Stream};
-use super::{ended, expect, holds};
+use crate::fake::{Fake, Stream};
+use crate::whole::{ended, expect, holds};
 
 const LOG: &[u8] = b"timestamp=1, VA=0000000000010000-0000000000012000, destroyed=0, is_virtual=0\n\
     timestamp=2, VA=0000000000800000-0000000000802000, mapped_to=0000000000011000\n\

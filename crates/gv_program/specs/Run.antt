@@ -8,8 +8,8 @@ use Rattle.gv_text.specs.declared.fault.ScriptFault.TheVariants.{BadLine, Script
 use Rattle.gv_threads.specs.Ending.{HasNotBegun, RunsAs}
 use Rattle.gv_threads.specs.Running.{IsThreadsRun}
 use Rattle.gv_threads.specs.declared.fault.ThreadsFault.{ThreadsFault}
-use Rattle.gv_cli.specs.Fault.{of_threads, script_status, status_of}
-use Rattle.gv_cli.specs.Status.{broken_stream, done}
+use Rattle.gv_program.specs.Fault.{of_threads, script_status, status_of}
+use Rattle.gv_program.specs.Status.{broken_stream, done}
 
 -- A script was run with this answer, as `run_script` says: of a reader before and after, of which these tell the bytes
 -- that are left and whether it has failed, and of a writer, of which these tell what was written and whether it has failed.

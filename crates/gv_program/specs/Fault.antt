@@ -8,9 +8,9 @@ use Rattle.gv_serve.specs.declared.fault.ServeFault.{ServeFault}
 use Rattle.gv_serve.specs.declared.fault.ServeFault.TheVariants as serve
 use Rattle.gv_threads.specs.declared.fault.ThreadsFault.{ThreadsFault}
 use Rattle.gv_threads.specs.declared.fault.ThreadsFault.TheVariants as threads
-use Rattle.gv_cli.specs.Status.{bad_queues, bad_script, bad_words, broken_stream, no_memory}
-use Rattle.gv_cli.specs.declared.fault.ProgramFault.{ProgramFault}
-use Rattle.gv_cli.specs.declared.fault.ProgramFault.TheVariants.{Script, Queues, ArgumentNotText, NotOpened, NoFormat, NoFlags, TwoForms, NoAddress, NoLine}
+use Rattle.gv_program.specs.Status.{bad_queues, bad_script, bad_words, broken_stream, no_memory}
+use Rattle.gv_program.specs.declared.fault.ProgramFault.{ProgramFault}
+use Rattle.gv_program.specs.declared.fault.ProgramFault.TheVariants.{Script, Queues, ArgumentNotText, NotOpened, NoFormat, NoFlags, TwoForms, NoAddress, NoLine}
 
 -- the exit status of a script that ended early
 abbrev pub script_status : ScriptFault → ℕ

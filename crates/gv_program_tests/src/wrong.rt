@@ -1,7 +1,7 @@
 //! What is told of lines, files and words that are wrong.
 
-use super::fake::{Fake, Stream};
-use super::{ended, expect};
+use crate::fake::{Fake, Stream};
+use crate::whole::{ended, expect};
 
 /// What is wrong with a bad line, on a second line.
 #[test]

@@ -1,5 +1,5 @@
 use Rattle.std.proofs.Common.{arith, refl}
-use Rattle.gv_cli.proofs.comparing.refused.Goals as goal
+use Rattle.gv_program.proofs.comparing.refused.Goals as goal
 
 pub returns-in-Ok : goal.returns-in-Ok
 returns-in-Ok g c = (2, omega arith, refl)

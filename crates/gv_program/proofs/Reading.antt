@@ -17,11 +17,11 @@ use Rattle.gv_words.specs.declared.words.Task.{Task}
 use Rattle.gv_words.specs.declared.words.Task.TheVariants.{Run, Serve, Replay, Draw, Compare, Threads}
 use Rattle.gv_words.specs.declared.words.WordsFault.{WordsFault}
 use Rattle.gv_words.specs.declared.words.WordsFault.TheVariants.{OutOfMemory}
-use Rattle.gv_cli.specs.CommandLine.{IsStatusOfKind, IsStatusOfOne}
-use Rattle.gv_cli.specs.Run.{HasRun, HasRunSome, HasRunThreads, exit_status, threads_status}
-use Rattle.gv_cli.specs.Serving.{HasServed, serve_status}
-use Rattle.gv_cli.specs.Status.{bad_words, broken_stream, done}
-use Rattle.gv_cli.specs.Task.{IsDone}
+use Rattle.gv_program.specs.CommandLine.{IsStatusOfKind, IsStatusOfOne}
+use Rattle.gv_program.specs.Run.{HasRun, HasRunSome, HasRunThreads, exit_status, threads_status}
+use Rattle.gv_program.specs.Serving.{HasServed, serve_status}
+use Rattle.gv_program.specs.Status.{bad_words, broken_stream, done}
+use Rattle.gv_program.specs.Task.{IsDone}
 
 abbrev begins_with : Option (List ℕ) → ℕ
 begins_with (Some (letter ∷ more)) = letter

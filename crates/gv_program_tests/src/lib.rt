@@ -1,0 +1,11 @@
+//! Tests of the program over a runtime in memory.
+#![tactic(auto)]
+
+#[cfg(test)]
+mod fake;
+#[cfg(test)]
+mod forms;
+#[cfg(test)]
+mod whole;
+#[cfg(test)]
+mod wrong;
