@@ -23,19 +23,21 @@ impl Fault {
         }
     }
 
-    /// Writes it.
-    pub fn write(&self, out: &mut String) -> Result<(), AllocError> {
-        out.push_str(self.name)?;
+    /// Writes the reply that something is refused.
+    pub fn write_refused(&self, out: &mut String) -> Result<(), AllocError> {
+        let name = self.name;
         match self.number {
-            Some(number) => write!(out, " {number}"),
-            None => Ok(()),
+            Some(number) => writeln!(out, "refused {name} {number}"),
+            None => writeln!(out, "refused {name}"),
         }
     }
 
-    /// Writes the reply that something is refused.
-    pub fn write_refused(&self, out: &mut String) -> Result<(), AllocError> {
-        out.push_str("refused ")?;
-        self.write(out)?;
-        out.push_str("\n")
+    /// Writes the reply that an operation of a request is refused.
+    pub fn write_refused_at(&self, op: u64, out: &mut String) -> Result<(), AllocError> {
+        let name = self.name;
+        match self.number {
+            Some(number) => writeln!(out, "refused {op} {name} {number}"),
+            None => writeln!(out, "refused {op} {name}"),
+        }
     }
 }

@@ -6,7 +6,7 @@ use super::history::{Item, Kind};
 use super::job::{Job, reached_all};
 use super::line::{Access, Clause, Line, Point};
 use super::names::{Buffer, Timeline};
-use super::request::{Refusal, Request};
+use super::request::Request;
 use super::text::write_place;
 use super::{Model, Stage, Told};
 use std::alloc::{AllocError, Global};
@@ -198,11 +198,11 @@ impl Model {
         text: &mut String,
     ) -> Result<(), AllocError> {
         if let Some(fault) = self.no_place(request.ops.len()) {
-            return write_refusal(Refusal { op: 0, fault }, text);
+            return fault.write_refused_at(0, text);
         }
         let number = self.count_told(request.queue);
         match self.carried_out(alloc, &request.ops)? {
-            Err(refusal) => write_refusal(refusal, text),
+            Err(refusal) => refusal.fault.write_refused_at(refusal.op, text),
             Ok(outcome) => {
                 let entry = self.history.next();
                 let before = std::mem::replace(&mut self.list, outcome.list);
@@ -271,11 +271,4 @@ impl Model {
         writeln!(out, "ended {job}")?;
         Ok(true)
     }
-}
-
-fn write_refusal(refusal: Refusal, text: &mut String) -> Result<(), AllocError> {
-    let op = refusal.op;
-    write!(text, "refused {op} ")?;
-    refusal.fault.write(text)?;
-    text.push_str("\n")
 }
