@@ -9,3 +9,4 @@ pub mod RunLemmas
 pub mod IndexLemmas
 pub mod PartsLemmas
 pub mod GapLemmas
+pub mod MovedLemmas

@@ -2,7 +2,7 @@
 use Rattle.std.proofs.Common.{◌≡◌, ℕ, ◌+◌, ◌-◌, ◌*◌, ◌<◌, ◌≤◌, max, List, [], ◌∷◌, ◌++◌, length, take, drop, slice_index_or, slice_set, vec_len, vec_capacity, ◌⊎◌, inl, inr, arith, refl, ◌∙◌, ap, sym}
 use Rattle.std.proofs.Math.ListN.{length-set}
 use Rattle.std.proofs.lemmas.Bool.{cases_lt}
-use Rattle.std.proofs.lemmas.List.{take-take, take-set-le, drop-set-lt, length-take, length-take-le, length-drop, get_or-take, get_or-set_same, get_or-set_other, take_at}
+use Rattle.std.proofs.lemmas.List.{take-take, take-set-le, drop-set-lt, length-take, length-take-le, length-drop, get_or-take, get_or-set_same, get_or-set_other}
 use Rattle.std.proofs.lemmas.List.Elements.{All-append, All-take, All-drop}
 use Rattle.std.specs.Global.{Vec}
 use Rattle.std.specs.List.{splice}
@@ -237,19 +237,6 @@ index_written xs front standing starts firsts is are_starts are_firsts starts_wi
   firsts_within = firsts_within;
 }
 
--- the index of the first chunks
-pub starts_front : (xs : List (Vec Mapping)) (n : ℕ) (starts : List ℕ) → AreStarts starts xs → AreStarts starts (take n xs)
-starts_front xs n starts are = λ k d inside.
-    let below : k < n = omega (arith, inside, length-take n xs) in
-    let was = are k d (omega (arith, inside, length-take n xs)) in
-    (was.0, was.1 ∙ sym (start_among xs k n (omega arith)))
-
-pub firsts_front : (xs : List (Vec Mapping)) (n : ℕ) (firsts : List ℕ) → AreFirsts firsts xs → AreFirsts firsts (take n xs)
-firsts_front xs n firsts are = λ k d v m inside.
-    let below : k < n = omega (arith, inside, length-take n xs) in
-    let was = are k d v m (omega (arith, inside, length-take n xs)) in
-    (was.0, rw (get_or-take n xs k v below) was.1)
-
 -- a chunk taken out, with all that it held
 module _ (xs zs : List (Vec Mapping)) (s chunk start out count room : ℕ) (d : Vec Mapping) (was : IsChunkList xs s count room) (below : chunk < s) (same : length zs ≡ length xs)
     (front : take (s - 1) zs ≡ take chunk (take s xs) ++ drop (chunk + 1) (take s xs)) (none : chunks_joined (drop (s - 1) zs) ≡ []) (is_start : start ≡ length (chunks_joined (take chunk xs)))
@@ -286,15 +273,6 @@ module _ (xs zs : List (Vec Mapping)) (s chunk start out count room : ℕ) (d : 
     enough = λ long. omega (arith, same, was.enough long);
   }
 
-  closed_front : take chunk (take (s - 1) zs) ≡ take chunk (take s xs)
-  closed_front = ap (take chunk) front ∙ take_at (take chunk (take s xs)) (drop (chunk + 1) (take s xs)) chunk (length-take-le chunk (take s xs) (omega (arith, below, closed_size)))
-
-  pub closed_starts : (starts : List ℕ) → AreStarts starts (take s xs) → AreStarts starts (take chunk (take (s - 1) zs))
-  closed_starts starts are = rw closed_front (starts_front (take s xs) chunk starts are)
-
-  pub closed_firsts : (firsts : List ℕ) → AreFirsts firsts (take s xs) → AreFirsts firsts (take chunk (take (s - 1) zs))
-  closed_firsts firsts are = rw closed_front (firsts_front (take s xs) chunk firsts are)
-
 -- one of some chunks
 pub some_of : (xs : List (Vec Mapping)) → 0 < length xs → Vec Mapping
 some_of [] some = absurd (omega (arith, some))
@@ -303,12 +281,6 @@ some_of (x ∷ xs) some = x
 -- a chunk divided into two
 module _ (xs zs : List (Vec Mapping)) (s chunk left count room : ℕ) (was : IsChunkList xs s count room) (below : chunk < s) (more : s < length xs) (same : length zs ≡ length xs)
     (front : take chunk zs ≡ take chunk xs) where
-  opened_front : take chunk (take (s + 1) zs) ≡ take chunk (take s xs)
-  opened_front = take-take chunk (s + 1) zs (omega arith) ∙ (front ∙ sym (take-take chunk s xs (omega arith)))
-
-  pub opened_firsts : (firsts : List ℕ) → AreFirsts firsts (take s xs) → AreFirsts firsts (take chunk (take (s + 1) zs))
-  opened_firsts firsts are = rw opened_front (firsts_front (take s xs) chunk firsts are)
-
   opened_before : (k : ℕ) (d : Vec Mapping) → k < chunk → 0 < vec_len (slice_index_or zs k d)
   opened_before k d earlier =
       let at : slice_index_or zs k d ≡ slice_index_or (take s xs) k d =

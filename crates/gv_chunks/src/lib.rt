@@ -13,6 +13,7 @@ pub mod piece;
 pub mod put;
 pub mod replace;
 pub mod replacing;
+pub mod row;
 pub mod run;
 pub mod settle;
 pub mod walk;

@@ -13,6 +13,7 @@ use crate::gap::{close, open};
 use crate::grow::{add_chunks, chunks_for};
 use crate::index::{last_at_most, pad, shift, write_index};
 use crate::replace::replace_run;
+use crate::row::{put_entry, take_entry};
 use crate::run::replace_anywhere;
 use gv_types::{Mapping, OutOfMemory};
 use std::alloc::Global;
@@ -171,14 +172,12 @@ impl Parts {
         // Tells that the list's length is a number of a machine.
         let _len = self.len;
         close(&mut self.chunks, self.standing, chunk);
+        // The later chunks hold what they held, so their entries move as a block, and no later chunk is read.
+        take_entry(&mut self.starts, chunk, self.standing);
+        take_entry(&mut self.firsts, chunk, self.standing);
         self.standing -= 1;
         self.len -= out_count;
-        write_index(
-            &self.chunks[..self.standing],
-            &mut self.starts,
-            &mut self.firsts,
-            chunk,
-        );
+        shift(&mut self.starts, chunk, self.standing, out_count, 0);
     }
 
     /// Replaces `out_count` mappings from `index` on by the pieces, wherever they lie. All chunks are gone through.
@@ -217,12 +216,11 @@ impl Parts {
         let _len = self.len;
         let left = self.chunks[chunk].len() / 2 + 1;
         open(&mut self.chunks, self.standing, chunk, left);
+        // Of the later chunks only their places change, so their entries move as a block, and no later chunk is read.
+        let start = self.starts[chunk] + left;
+        let first = self.chunks[chunk + 1][0].range.first();
+        put_entry(&mut self.starts, chunk + 1, self.standing, start);
+        put_entry(&mut self.firsts, chunk + 1, self.standing, first);
         self.standing += 1;
-        write_index(
-            &self.chunks[..self.standing],
-            &mut self.starts,
-            &mut self.firsts,
-            chunk,
-        );
     }
 }

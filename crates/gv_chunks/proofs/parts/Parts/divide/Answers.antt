@@ -1,89 +1,105 @@
-use Rattle.std.proofs.Common.{◌≡◌, ◌+◌, ◌/◌, ◌<◌, ◌∙◌, ◌++◌, ap, length, take, drop, vec_len, arith}
-use Rattle.std.proofs.lemmas.List.{take_at, get_or_default}
+use Rattle.std.proofs.Common.{◌≡◌, ◌+◌, ◌/◌, ◌<◌, ◌∙◌, ◌++◌, ap, length, take, drop, slice_index_or, vec_len, arith}
+use Rattle.std.proofs.lemmas.List.{take_at, get_or_default, length-drop}
+use Rattle.std.specs.Global.{Vec}
+use Rattle.gv_types.specs.declared.mapping.Mapping.{Mapping}
 use Rattle.gv_chunks.specs.Chunks.{chunks_joined}
 use Rattle.gv_chunks.specs.Inside.{IsChunkList}
-use Rattle.gv_chunks.proofs.PackedLemmas.{joined_front}
-use Rattle.gv_chunks.proofs.PartsLemmas.{opened_list, opened_firsts, index_written}
+use Rattle.gv_chunks.proofs.PartsLemmas.{opened_list, some_of, start_told, chunk_within}
+use Rattle.gv_chunks.proofs.MovedLemmas.{first_of, divided_starts, divided_firsts}
 use Rattle.gv_chunks.proofs.parts.Parts.divide.Goals as goal
 
-pub write_index-requires-clause-filled : goal.write_index-requires-clause-filled
-write_index-requires-clause-filled c =
+pub overflow_add-start : goal.overflow_add-start
+overflow_add-start c =
     let p = c.args.self.now in
     let e = c.requires.divisible in
     let list = c.requires.parts.list in
     let xs = p.chunks.items in
-    let zs = c.open.new.chunks in
-    let s = p.standing in
-    let same : length zs ≡ length xs = omega (arith, ap length c.deref_mut.ensures.value) in
-    let more : s < length xs = omega (arith, list.enough e.long, list.few, list.fits) in
-    let front : take c.args.chunk zs ≡ take c.args.chunk xs = c.open.ensures.front ∙ ap (take c.args.chunk) c.deref_mut.ensures.value in
-    let left = c.len.result / 2 + 1 in
-    let now : IsChunkList zs (s + 1) p.len p.room = opened_list xs zs s c.args.chunk left p.len p.room list e.standing more same front
-    (c.open.ensures.items ∙ ap chunks_joined c.deref_mut.ensures.value) (rw c.deref_mut.ensures.value at c.open.ensures.first) (rw c.deref_mut.ensures.value at c.open.ensures.second) (rw c.deref_mut.ensures.value at c.open.ensures.later)
-    c.open.ensures.spare (omega arith) (λ d. omega (arith, c.len.ensures, ap vec_len (c.index.ensures ∙ get_or_default xs c.args.chunk c.index.result.now d (omega (arith, e.standing, more))), e.holds d)) c.open.ensures.chunks e.few e.long in
-    let back : take p.chunks.len (zs ++ drop (length zs) xs) ≡ zs = take_at zs (drop (length zs) xs) p.chunks.len (omega (arith, same, p.chunks.ok)) in
-    let read : c.deref.result.now ≡ zs = c.deref.ensures.value ∙ back in
-    rw read now.filled
+    let d : Vec Mapping = some_of xs (omega (arith, e.standing, list.within)) in
+    let chunk : vec_len c.index.result.now ≡ vec_len (slice_index_or xs c.args.chunk d) = ap vec_len (c.index.ensures ∙ get_or_default xs c.args.chunk c.index.result.now d (omega (arith, e.standing, list.within))) in
+    let begins : c.index-2.result.now ≡ length (chunks_joined (take c.args.chunk xs)) =
+    c.index-2.ensures ∙ start_told xs p.standing c.args.chunk c.index-2.result.now p.starts.items list.within e.standing c.requires.parts.index.are_starts in
+    omega (arith, begins, c.len.ensures, chunk, e.holds d, chunk_within xs c.args.chunk d (omega (arith, e.standing, list.within)), list.held)
 
-pub write_index-requires-clause-few : goal.write_index-requires-clause-few
-write_index-requires-clause-few c =
+pub index-requires-4 : goal.index-requires-4
+index-requires-4 c =
     let p = c.args.self.now in
     let e = c.requires.divisible in
     let list = c.requires.parts.list in
     let xs = p.chunks.items in
     let zs = c.open.new.chunks in
-    let s = p.standing in
     let same : length zs ≡ length xs = omega (arith, ap length c.deref_mut.ensures.value) in
-    let more : s < length xs = omega (arith, list.enough e.long, list.few, list.fits) in
-    let front : take c.args.chunk zs ≡ take c.args.chunk xs = c.open.ensures.front ∙ ap (take c.args.chunk) c.deref_mut.ensures.value in
-    let left = c.len.result / 2 + 1 in
-    let now : IsChunkList zs (s + 1) p.len p.room = opened_list xs zs s c.args.chunk left p.len p.room list e.standing more same front
-    (c.open.ensures.items ∙ ap chunks_joined c.deref_mut.ensures.value) (rw c.deref_mut.ensures.value at c.open.ensures.first) (rw c.deref_mut.ensures.value at c.open.ensures.second) (rw c.deref_mut.ensures.value at c.open.ensures.later)
-    c.open.ensures.spare (omega arith) (λ d. omega (arith, c.len.ensures, ap vec_len (c.index.ensures ∙ get_or_default xs c.args.chunk c.index.result.now d (omega (arith, e.standing, more))), e.holds d)) c.open.ensures.chunks e.few e.long in
+    let more : p.standing < length xs = omega (arith, list.enough e.long, list.few, list.fits) in
     let back : take p.chunks.len (zs ++ drop (length zs) xs) ≡ zs = take_at zs (drop (length zs) xs) p.chunks.len (omega (arith, same, p.chunks.ok)) in
-    let read : c.deref.result.now ≡ zs = c.deref.ensures.value ∙ back in
-    rw read (omega (arith, ap length (joined_front zs (s + 1) now.spare), now.held))
-
-pub write_index-requires-clause-firsts : goal.write_index-requires-clause-firsts
-write_index-requires-clause-firsts c =
-    let p = c.args.self.now in
-    let e = c.requires.divisible in
-    let list = c.requires.parts.list in
-    let xs = p.chunks.items in
-    let zs = c.open.new.chunks in
-    let s = p.standing in
-    let same : length zs ≡ length xs = omega (arith, ap length c.deref_mut.ensures.value) in
-    let more : s < length xs = omega (arith, list.enough e.long, list.few, list.fits) in
-    let front : take c.args.chunk zs ≡ take c.args.chunk xs = c.open.ensures.front ∙ ap (take c.args.chunk) c.deref_mut.ensures.value in
-    let back : take p.chunks.len (zs ++ drop (length zs) xs) ≡ zs = take_at zs (drop (length zs) xs) p.chunks.len (omega (arith, same, p.chunks.ok)) in
-    let read : c.deref.result.now ≡ zs = c.deref.ensures.value ∙ back in
-    rw (read, c.deref_mut-3.ensures.value) (opened_firsts xs zs s c.args.chunk 0 p.len p.room list e.standing more same front p.firsts.items c.requires.parts.index.are_firsts)
+    let d : Vec Mapping = some_of xs (omega (arith, more)) in
+    let read : c.index-3.result.now ≡ slice_index_or zs (c.args.chunk + 1) d =
+    c.index-3.ensures ∙ (ap (λ ys. slice_index_or ys (c.args.chunk + 1) c.index-3.result.now) back ∙ get_or_default zs (c.args.chunk + 1) c.index-3.result.now d (omega (arith, same, more, e.standing))) in
+    let second = rw c.deref_mut.ensures.value at c.open.ensures.second in
+    let chunk : vec_len c.index.result.now ≡ vec_len (slice_index_or xs c.args.chunk d) = ap vec_len (c.index.ensures ∙ get_or_default xs c.args.chunk c.index.result.now d (omega (arith, e.standing, more))) in
+    omega (
+      arith,
+      ap vec_len read,
+      (slice_index_or zs (c.args.chunk + 1) d).ok,
+      ap length (second d),
+      length-drop (c.len.result / 2 + 1) (slice_index_or xs c.args.chunk d).items,
+      (slice_index_or xs c.args.chunk d).ok,
+      c.len.ensures,
+      chunk,
+      e.holds d,
+    )
 
 pub returns-clause-parts : goal.returns-clause-parts
 returns-clause-parts c =
     let p = c.args.self.now in
     let e = c.requires.divisible in
     let list = c.requires.parts.list in
+    let index = c.requires.parts.index in
     let xs = p.chunks.items in
     let zs = c.open.new.chunks in
     let s = p.standing in
     let same : length zs ≡ length xs = omega (arith, ap length c.deref_mut.ensures.value) in
     let more : s < length xs = omega (arith, list.enough e.long, list.few, list.fits) in
     let front : take c.args.chunk zs ≡ take c.args.chunk xs = c.open.ensures.front ∙ ap (take c.args.chunk) c.deref_mut.ensures.value in
+    let first = rw c.deref_mut.ensures.value at c.open.ensures.first in
+    let second = rw c.deref_mut.ensures.value at c.open.ensures.second in
+    let later = rw c.deref_mut.ensures.value at c.open.ensures.later in
     let left = c.len.result / 2 + 1 in
-    let now : IsChunkList zs (s + 1) p.len p.room = opened_list xs zs s c.args.chunk left p.len p.room list e.standing more same front
-    (c.open.ensures.items ∙ ap chunks_joined c.deref_mut.ensures.value) (rw c.deref_mut.ensures.value at c.open.ensures.first) (rw c.deref_mut.ensures.value at c.open.ensures.second) (rw c.deref_mut.ensures.value at c.open.ensures.later)
-    c.open.ensures.spare (omega arith) (λ d. omega (arith, c.len.ensures, ap vec_len (c.index.ensures ∙ get_or_default xs c.args.chunk c.index.result.now d (omega (arith, e.standing, more))), e.holds d)) c.open.ensures.chunks e.few e.long in
+    let some_rest : (d : Vec Mapping) → left < vec_len (slice_index_or xs c.args.chunk d) =
+    λ d. omega (arith, c.len.ensures, ap vec_len (c.index.ensures ∙ get_or_default xs c.args.chunk c.index.result.now d (omega (arith, e.standing, more))), e.holds d) in
+    let now : IsChunkList zs (s + 1) p.len p.room =
+    opened_list xs zs s c.args.chunk left p.len p.room list e.standing more same front (c.open.ensures.items ∙ ap chunks_joined c.deref_mut.ensures.value) first second later c.open.ensures.spare (omega arith) some_rest c.open.ensures.chunks
+    e.few e.long in
+    let starts = c.put_entry.new.row in
+    let firsts = c.put_entry-2.new.row in
+    let starts_size : length starts ≡ length p.starts.items = c.put_entry.ensures.len ∙ ap length c.deref_mut-2.ensures.value in
+    let firsts_size : length firsts ≡ length p.firsts.items = c.put_entry-2.ensures.len ∙ ap length c.deref_mut-3.ensures.value in
     let back : take p.chunks.len (zs ++ drop (length zs) xs) ≡ zs = take_at zs (drop (length zs) xs) p.chunks.len (omega (arith, same, p.chunks.ok)) in
-    let read : c.deref.result.now ≡ zs = c.deref.ensures.value ∙ back in
-    let starts = c.write_index.new.starts in
-    let firsts = c.write_index.new.firsts in
-    let starts_size : length starts ≡ length p.starts.items = c.write_index.ensures.starts_len ∙ ap length c.deref_mut-2.ensures.value in
-    let firsts_size : length firsts ≡ length p.firsts.items = c.write_index.ensures.firsts_len ∙ ap length c.deref_mut-3.ensures.value in
     let starts_back : take p.starts.len (starts ++ drop (length starts) p.starts.items) ≡ starts = take_at starts (drop (length starts) p.starts.items) p.starts.len (omega (arith, starts_size, p.starts.ok)) in
     let firsts_back : take p.firsts.len (firsts ++ drop (length firsts) p.firsts.items) ≡ firsts = take_at firsts (drop (length firsts) p.firsts.items) p.firsts.len (omega (arith, firsts_size, p.firsts.ok)) in
+    let begins : c.index-2.result.now ≡ length (chunks_joined (take c.args.chunk xs)) = c.index-2.ensures ∙ start_told xs s c.args.chunk c.index-2.result.now p.starts.items list.within e.standing index.are_starts in
+    let begun : c.index-2.result.now + left ≡ length (chunks_joined (take c.args.chunk xs)) + left = ap (λ n. n + left) begins in
+    let read : c.index-3.result.now ≡ slice_index_or zs (c.args.chunk + 1) c.index-3.result.now = c.index-3.ensures ∙ ap (λ ys. slice_index_or ys (c.args.chunk + 1) c.index-3.result.now) back in
+    let seen : Vec Mapping = c.index-3.result.now in
+    let full : 0 < length seen.items =
+    omega (
+      arith,
+      ap (λ (v : Vec Mapping). length v.items) read,
+      ap length (second seen),
+      length-drop left (slice_index_or xs c.args.chunk seen).items,
+      some_rest seen,
+      (slice_index_or xs c.args.chunk seen).ok,
+    ) in
+    let reads : (v : Vec Mapping) (m : Mapping) → c.first-first.result ≡ (slice_index_or (slice_index_or zs (c.args.chunk + 1) v).items 0 m).range.first =
+    λ v m. first_of zs (c.args.chunk + 1) seen v c.index-4.result.now m c.first-first.result (omega (arith, same, more, e.standing)) full read c.index-4.ensures c.first-first.ensures.value in
     record {
       list = rw back now;
-      index = rw (back, starts_back, firsts_back) (index_written zs (take (s + 1) c.deref.result.now) (s + 1) starts firsts (ap (take (s + 1)) read) c.write_index.ensures.starts c.write_index.ensures.firsts
-          (omega (arith, same, starts_size, c.requires.parts.index.starts_within)) (omega (arith, same, firsts_size, c.requires.parts.index.firsts_within)));
+      index = rw (back, starts_back, firsts_back) (record {
+        are_starts =
+            divided_starts xs zs s c.args.chunk left e.standing more same front first second later (omega arith) some_rest p.starts.items starts (c.index-2.result.now + left) index.are_starts index.starts_within starts_size begun
+            (rw c.deref_mut-2.ensures.value at c.put_entry.ensures.before) c.put_entry.ensures.value (rw c.deref_mut-2.ensures.value at c.put_entry.ensures.behind);
+        are_firsts =
+            divided_firsts xs zs s c.args.chunk left e.standing more same front first second later (omega arith) some_rest p.firsts.items firsts c.first-first.result index.are_firsts index.firsts_within firsts_size reads
+            (rw c.deref_mut-3.ensures.value at c.put_entry-2.ensures.before) c.put_entry-2.ensures.value (rw c.deref_mut-3.ensures.value at c.put_entry-2.ensures.behind);
+        starts_within = omega (arith, same, starts_size, index.starts_within);
+        firsts_within = omega (arith, same, firsts_size, index.firsts_within);
+      });
     }
