@@ -24,8 +24,16 @@ fn put_in(items: &mut Vec<Mapping>, index: usize, pieces: &[Mapping])
     ensures items { items.new.items ≡ splice items.old.items index index pieces.now }
     ensures room { vec_capacity items.new ≡ vec_capacity items.old }
 {
+    let behind = items.len();
     append(items, pieces);
-    items[index..].rotate_right(pieces.len());
+    // A turn by one moves the others as a block. A turn by more goes through a room on the stack that is cleared first: that
+    // takes longer than to copy what stands behind, and the pieces once more.
+    if pieces.len() <= 1 {
+        items[index..].rotate_right(pieces.len());
+        return;
+    }
+    items.copy_within(index..behind, index + pieces.len());
+    overwrite(items, index, pieces);
 }
 
 /// Takes `count` mappings out from `index` on.
@@ -35,7 +43,12 @@ fn take_out(items: &mut Vec<Mapping>, index: usize, count: usize)
         ≡ take index items.old.items ++ drop (index + count) items.old.items }
     ensures room { vec_capacity items.new ≡ vec_capacity items.old }
 {
-    items[index..].rotate_left(count);
+    // As in `put_in`, but nothing that is turned to the end is needed.
+    if count <= 1 {
+        items[index..].rotate_left(count);
+    } else {
+        items.copy_within(index + count.., index);
+    }
     items.truncate(items.len() - count);
 }
 
