@@ -50,6 +50,10 @@ pub fn shift(starts: &mut [usize], from: usize, to: usize, out_count: usize, in_
         → slice_index_or starts.new k d + out_count ≡ slice_index_or starts.old k d + in_count }
     ensures before { (k d : ℕ) → k < from → slice_index_or starts.new k d ≡ slice_index_or starts.old k d }
 {
+    // Where as many came in as went out no start moves, and none is read.
+    if out_count == in_count {
+        return;
+    }
     for k in from..to {
         starts[k] = starts[k] - out_count + in_count;
     }
