@@ -1,5 +1,5 @@
 -- Users of one buffer that don't conflict, after a job joined and after one left.
-use Rattle.std.proofs.Common.{◌≡◌, ◌≢◌, ℕ, zero, suc, List, [], ◌∷◌, get_or, map, true, false, cond, not, eqb, arith, refl, sym, ◌∙◌, None, min}
+use Rattle.std.proofs.Common.{◌≡◌, ◌≢◌, ◌<◌, ◌&&◌, ◌||◌, ℕ, zero, suc, List, [], ◌∷◌, length, get_or, map, true, false, cond, not, eqb, arith, refl, sym, ap, ◌∙◌, None, min}
 use Rattle.std.specs.List.{All, filter, reduce}
 use Rattle.std.proofs.lemmas.Bool.{eqb-true, eqb-false, false≢true, ne_eqb}
 use Rattle.std.proofs.lemmas.Option.{none-some}
@@ -75,6 +75,28 @@ All-joined P job usage (user ∷ users) all new raised =
       | true ↦ (λ e. All-cons P _ users (raised user (eqb-true _ _ e) (All-head P user users all)) (All-tail P user users all))
       | false ↦ (λ _. All-cons P user _ (All-head P user users all) (All-joined P job usage users (All-tail P user users all) new raised))
     ] refl
+
+-- where there are several users each of them reads
+all_read : (users : List User) → 1 < length users → HaveNoConflict users → All (λ u. u.usage ≡ Read) users
+all_read users several pairs zero d within = (pairs 0 1 d (omega arith) several).first_reads
+all_read users several pairs (suc k) d within = (pairs 0 (suc k) d (omega arith) within).second_reads
+
+harmless_reader : (job : ℕ) (user : User) → user.usage ≡ Read → conflicts job Read user ≡ false
+harmless_reader job user reads =
+    elim (eqb user.job job) as (λ t. (not t && (false || is_write user.usage)) ≡ false) [ true ↦ refl | false ↦ ap is_write reads ]
+
+readers_meet_none : (job : ℕ) (users : List User) → All (λ u. u.usage ≡ Read) users → filter (conflicts job Read) users ≡ []
+readers_meet_none job [] reads = refl
+readers_meet_none job (user ∷ users) reads =
+    let mine : conflicts job Read user ≡ false = harmless_reader job user (All-head (λ u. u.usage ≡ Read) user users reads) in
+    rw (mine, readers_meet_none job users (All-tail (λ u. u.usage ≡ Read) user users reads)) refl
+
+-- so one more that reads conflicts with none
+pub one_more_reader : (job : ℕ) (usage : Usage) (users : List User) → 1 < length users → is_write usage ≡ false → HaveNoConflict users → conflict job usage users ≡ None
+one_more_reader job usage users several reads pairs =
+    let is : usage ≡ Read = is_reader usage reads in
+    let none : filter (conflicts job Read) users ≡ [] = readers_meet_none job users (all_read users several pairs) in
+    rw (is, none) refl
 
 stronger_reads : (a b : Usage) → a ≡ Read → b ≡ Read → stronger a b ≡ Read
 stronger_reads a b ea eb = rw (ea, eb) refl

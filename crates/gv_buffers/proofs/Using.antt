@@ -12,7 +12,7 @@ use Rattle.gv_buffers.specs.declared.slots.Slots.{Slots}
 use Rattle.gv_buffers.specs.declared.usage.Usage.{Usage}
 use Rattle.gv_buffers.specs.declared.usage.User.{User}
 use Rattle.gv_buffers.specs.declared.buffers.Buffers.TheInside.{Inside}
-use Rattle.gv_buffers.specs.Users.{conflict, left}
+use Rattle.gv_buffers.specs.Users.{conflict, left, HaveNoConflict}
 use Rattle.gv_buffers.specs.Buffers.{Buffer, BuffersState, has_id, only, changed, joined_by, left_by, left_everywhere, IsBuffer}
 use Rattle.gv_buffers.specs.Indices.{Notes, IsNoted}
 use Rattle.gv_buffers.specs.Slots.{SlotList, get, buffer_at, buffer_in, buffers_from, live_at, AreNoted, IsLeftOrSame}
@@ -47,6 +47,11 @@ same_index : (id : BufferId) (position : ℕ) (o : Option LiveBuffer) (x : Buffe
 same_index id position o x found has =
     let index : x.id.index ≡ id.index = eqb-true _ _ (and_parts (eqb x.id.index id.index) (eqb x.id.generation id.generation) has).0 in
     sym (index_of_seen position o x found) ∙ index
+
+-- no two jobs conflict that use a buffer in its slot
+pub no_conflict_in_slot : (a : Inside) (id : BufferId) (v : LiveBuffer) → AreSoundBuffers a → live_at a.slots.entries.items id ≡ Some v → HaveNoConflict v.users.items
+no_conflict_in_slot a id v sound found =
+    (sound.buffers id.index (buffer_at id.index v) (buffer_in_from_get a.slots.entries.items id.index v (live_slot a id v found).0)).no_conflict
 
 -- a job joined the buffer with an id, where it conflicts with none
 pub joined_table : (a : Inside) (t : BuffersState) (new : Slots) (notes : Notes) (id : BufferId) (v : LiveBuffer) (job : ℕ) (usage : Usage) → AreSoundBuffers a → table_of a ≡ t → new.vacant ≡ a.slots.vacant →

@@ -18,7 +18,7 @@ pub struct User {
 }
 
 impl Usage {
-    fn is_write(self) -> bool
+    pub(crate) fn is_write(self) -> bool
         ensures { result ≡ is_write self }
     {
         match self {

@@ -1,14 +1,20 @@
 //! The jobs that use one buffer.
 ghost use Rattle.std.specs.Prelude.{◌≡◌, ◌<◌, ◌==◌, IsNone, position};
 ghost use Rattle.std.specs.Prelude.{vec_len, vec_capacity};
-ghost use Rattle.gv_buffers.specs.Users.{conflict, joined, left};
+ghost use Rattle.gv_buffers.specs.Users.{conflict, joined, left, HaveNoConflict};
 
 use crate::usage::{Usage, User};
 
 /// The least job that conflicts with such a use by `job`.
 pub fn conflict(users: &[User], job: u64, usage: Usage) -> Option<u64>
+    requires { HaveNoConflict users.now }
     ensures { result ≡ conflict job usage users.now }
 {
+    // A job that writes is the only user, so where there are several each of them reads. Many jobs may read one buffer, and
+    // each that begins comes here: one more reader goes through none of them.
+    if users.len() > 1 && !usage.is_write() {
+        return None;
+    }
     users
         .iter()
         .filter(|user| user.conflicts(job, usage))

@@ -1,17 +1,22 @@
-use Rattle.std.proofs.Common.{◌≡◌, ◌≢◌, ℕ, None, Some, sym, ◌∙◌, ap, refl}
+use Rattle.std.proofs.Common.{◌≡◌, ◌≢◌, ℕ, None, Some, sym, ◌∙◌, ap, refl, subst}
 use Rattle.std.specs.Option.{option_map}
 use Rattle.std.proofs.lemmas.Result.{err_from_is_err_and}
-use Rattle.gv_buffers.specs.Users.{conflict}
+use Rattle.gv_buffers.specs.Users.{conflict, HaveNoConflict}
 use Rattle.gv_buffers.specs.Slots.{buffer_at, live_at}
 use Rattle.gv_buffers.specs.Buffers.{join_fault_of, joined_by}
 use Rattle.gv_buffers.proofs.Tables.{is_table, found_buffer, missed_buffer}
-use Rattle.gv_buffers.proofs.Using.{unchanged, joined_table}
+use Rattle.gv_buffers.proofs.Using.{unchanged, no_conflict_in_slot, joined_table}
 use Rattle.gv_buffers.proofs.buffers.Buffers.join.Goals as goal
 
 pub returns-in_default-clause-fault : goal.returns-in_default-clause-fault
 returns-in_default-clause-fault c =
     let missed : live_at c.self.inside.slots.entries.items c.args.id ≡ None = rw c.in_default.is at (sym c.get.ensures) in
     rw (ap (join_fault_of c.args.job c.args.usage) (missed_buffer c.self.inside c.args.self.now c.args.id c.self.view_is missed)) refl
+
+pub conflict-requires : goal.conflict-requires
+conflict-requires c =
+    let found : live_at c.self.inside.slots.entries.items c.args.id ≡ Some c.in-Some.slot.now = rw c.in-Some.is at (sym c.get.ensures) in
+    subst HaveNoConflict (sym c.deref.ensures.value) (no_conflict_in_slot c.self.inside c.args.id c.in-Some.slot.now c.self.invariant found)
 
 pub returns-in-Some-conflict-clause-fault : goal.returns-in-Some-conflict-clause-fault
 returns-in-Some-conflict-clause-fault c =
