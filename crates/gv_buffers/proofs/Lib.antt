@@ -1,4 +1,5 @@
 pub mod Joins
+pub mod Ascending
 pub mod Lists
 pub mod Leaving
 pub mod Tables

@@ -27,4 +27,4 @@ noted_user notes index job users found noted =
 -- so is a job that is among the users in a slot
 pub noted_in_slot : (notes : Notes) (index job : ℕ) (slot : Option LiveBuffer) → IsUserIn job slot → AreNoted notes index (option_map (buffer_at index) slot) → IsNoted notes job index
 noted_in_slot notes index job None is noted = absurd is
-noted_in_slot notes index job (Some buffer) is noted = noted_user notes index job buffer.users.items is noted
+noted_in_slot notes index job (Some buffer) is noted = noted_user notes index job buffer.users.list.items is noted

@@ -31,7 +31,7 @@ map_left-map_joined id job usage (b ∷ bs) = rw (left_by-only id job usage b, m
 pub leave_takes_back_join : (t : BuffersState) (id : BufferId) (job : ℕ) (usage : Usage) → left_everywhere job (changed id (joined_by job usage) t) ≡ left_everywhere job t
 leave_takes_back_join t id job usage = ap (λ (live : List Buffer). record t { live = live }) (map_left-map_joined id job usage t.live)
 
-left_of_none : (job : ℕ) (users : List User) → All (λ u. u.job ≢ job) users → left job users ≡ users
+pub left_of_none : (job : ℕ) (users : List User) → All (λ u. u.job ≢ job) users → left job users ≡ users
 left_of_none job [] apart = refl
 left_of_none job (user ∷ users) apart =
     let other : eqb user.job job ≡ false = ne_eqb _ _ (All-head (λ u. u.job ≢ job) user users apart) in

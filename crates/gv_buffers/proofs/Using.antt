@@ -49,20 +49,20 @@ same_index id position o x found has =
     sym (index_of_seen position o x found) ∙ index
 
 -- no two jobs conflict that use a buffer in its slot
-pub no_conflict_in_slot : (a : Inside) (id : BufferId) (v : LiveBuffer) → AreSoundBuffers a → live_at a.slots.entries.items id ≡ Some v → HaveNoConflict v.users.items
+pub no_conflict_in_slot : (a : Inside) (id : BufferId) (v : LiveBuffer) → AreSoundBuffers a → live_at a.slots.entries.items id ≡ Some v → HaveNoConflict v.users.list.items
 no_conflict_in_slot a id v sound found =
     (sound.buffers id.index (buffer_at id.index v) (buffer_in_from_get a.slots.entries.items id.index v (live_slot a id v found).0)).no_conflict
 
 -- a job joined the buffer with an id, where it conflicts with none
 pub joined_table : (a : Inside) (t : BuffersState) (new : Slots) (notes : Notes) (id : BufferId) (v : LiveBuffer) (job : ℕ) (usage : Usage) → AreSoundBuffers a → table_of a ≡ t → new.vacant ≡ a.slots.vacant →
-    length new.entries.items ≡ length a.slots.entries.items → live_at a.slots.entries.items id ≡ Some v → conflict job usage v.users.items ≡ None →
+    length new.entries.items ≡ length a.slots.entries.items → live_at a.slots.entries.items id ≡ Some v → conflict job usage v.users.list.items ≡ None →
     buffer_in new.entries.items id.index ≡ option_map (joined_by job usage) (buffer_in a.slots.entries.items id.index) → ((index : ℕ) → index ≢ id.index → buffer_in new.entries.items index ≡ buffer_in a.slots.entries.items index) →
     ((other index : ℕ) → IsNoted a.indices other index → IsNoted notes other index) → IsNoted notes job id.index →
     IsNow (record a { slots = new; indices = notes }) (changed id (joined_by job usage) t)
 joined_table a t new notes id v job usage sound view vacant long found none here others keeps noted =
     let slot = live_slot a id v found in
     let each = indices_from_only id (joined_by job usage) a.slots.entries.items new.entries.items v slot.0 slot.1 here others in
-    let harmless : AreHarmless job usage v.users.items = harmless_from_none job usage v.users.items none in
+    let harmless : AreHarmless job usage v.users.list.items = harmless_from_none job usage v.users.list.items none in
     let buffer_here : buffer_in a.slots.entries.items id.index ≡ Some (buffer_at id.index v) = buffer_in_from_get a.slots.entries.items id.index v slot.0 in
     record {
       sound = sound_map a (record a { slots = new; indices = notes }) (only id (joined_by job usage)) sound refl refl vacant long each

@@ -1,4 +1,5 @@
 pub mod Users
+pub mod Ascending
 pub mod Buffers
 pub mod Slots
 pub mod Indices

@@ -52,7 +52,7 @@ buffer_at index slot =
       pages = slot.pages;
       uses = slot.uses;
       kept = slot.kept;
-      users = slot.users.items;
+      users = slot.users.list.items;
     }
 
 -- the live buffers in slots, the first of which has this index
@@ -82,12 +82,12 @@ AreNoted notes index (Some b) = All (λ u. IsNoted notes u.job index) b.users
 -- a job is among the users in a slot, or there is room for it
 abbrev pub HasRoomForJob : ℕ → Option LiveBuffer → Type 0
 HasRoomForJob job None = Unit {0}
-HasRoomForJob job (Some slot) = IsNone (position (λ u. u.job == job) slot.users.items) → vec_len slot.users < vec_capacity slot.users
+HasRoomForJob job (Some slot) = IsNone (position (λ u. u.job == job) slot.users.list.items) → vec_len slot.users.list < vec_capacity slot.users.list
 
 -- a job is among the users in a slot
 abbrev pub IsUserIn : ℕ → Option LiveBuffer → Type 0
 IsUserIn job None = ⊥
-IsUserIn job (Some slot) = IsSome (position (λ u. u.job == job) slot.users.items)
+IsUserIn job (Some slot) = IsSome (position (λ u. u.job == job) slot.users.list.items)
 
 -- a job has left the buffer at an index, or the buffer is as it was
 abbrev pub IsLeftOrSame : ℕ → SlotList → SlotList → ℕ → Type 0

@@ -7,7 +7,7 @@ use crate::indices::{Indices, forget};
 use crate::live_buffer::LiveBuffer;
 use crate::slots::Slots;
 use crate::usage::Usage;
-use crate::users;
+use crate::users::Users;
 use gv_types::{BUFFER_PAGES, BufferId, Fault, Generation};
 use std::alloc::Global;
 use std::collections::HashMap;
@@ -101,7 +101,7 @@ impl Buffers {
             pages,
             uses: 0,
             kept: 0,
-            users: Vec::new(alloc),
+            users: Users::new(alloc),
         };
         self.slots.put_in(buffer);
         self.made += 1;
@@ -227,7 +227,7 @@ impl Buffers {
         let Some(slot) = self.slots.get(id) else {
             return Err(Fault::NoBuffer);
         };
-        if let Some(job) = users::conflict(&slot.users, job, usage) {
+        if let Some(job) = slot.users.conflict(job, usage) {
             return Err(Fault::Conflict { job });
         }
         self.slots.make_room(alloc, &mut self.indices, index, job)?;

@@ -4,7 +4,7 @@ ghost use Rattle.gv_buffers.specs.Slots.{buffer_at};
 ghost use Rattle.gv_buffers.specs.Buffers.{count, raised, lowered, most_counted, use_fault};
 
 use crate::counter::Counter;
-use crate::usage::User;
+use crate::users::Users;
 use gv_types::{Fault, Generation};
 
 /// A live buffer at its index.
@@ -14,7 +14,7 @@ pub struct LiveBuffer {
     pub pages: u64,
     pub uses: u64,
     pub kept: u64,
-    pub users: Vec<User>,
+    pub users: Users,
 }
 
 impl LiveBuffer {
@@ -61,9 +61,9 @@ impl LiveBuffer {
         if self.kept > 0 {
             return Err(Fault::Kept { count: self.kept });
         }
-        if !self.users.is_empty() {
+        if !self.users.list.is_empty() {
             return Err(Fault::InUse {
-                jobs: self.users.len() as u64,
+                jobs: self.users.list.len() as u64,
             });
         }
         Ok(())

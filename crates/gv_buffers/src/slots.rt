@@ -13,7 +13,6 @@ use crate::counter::Counter;
 use crate::indices::{Indices, note};
 use crate::live_buffer::LiveBuffer;
 use crate::usage::Usage;
-use crate::users;
 use gv_types::{BufferId, Fault};
 use std::alloc::{AllocError, Global};
 
@@ -215,10 +214,10 @@ fn make_room_in(slot: &mut Option<LiveBuffer>, job: u64) -> Result<bool, AllocEr
     let Some(buffer) = slot else {
         return Ok(true);
     };
-    if users::index_of(&buffer.users, job).is_some() {
+    if buffer.users.index_of(job).is_some() {
         return Ok(false);
     }
-    buffer.users.reserve(1)?;
+    buffer.users.list.reserve(1)?;
     Ok(true)
 }
 
@@ -229,7 +228,7 @@ fn join_in(slot: &mut Option<LiveBuffer>, job: u64, usage: Usage)
         ≡ option_map (joined_by job usage) (option_map (buffer_at index) slot.old) }
 {
     if let Some(buffer) = slot {
-        users::join(&mut buffer.users, job, usage);
+        buffer.users.join(job, usage);
     }
 }
 
@@ -239,6 +238,6 @@ fn leave_in(slot: &mut Option<LiveBuffer>, job: u64)
         ≡ option_map (left_by job) (option_map (buffer_at index) slot.old) }
 {
     if let Some(buffer) = slot {
-        users::leave(&mut buffer.users, job);
+        buffer.users.leave(job);
     }
 }

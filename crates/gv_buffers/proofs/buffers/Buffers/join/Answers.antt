@@ -1,7 +1,7 @@
-use Rattle.std.proofs.Common.{◌≡◌, ◌≢◌, ℕ, None, Some, sym, ◌∙◌, ap, refl, subst}
+use Rattle.std.proofs.Common.{◌≡◌, ◌≢◌, ℕ, None, Some, sym, ◌∙◌, ap, refl}
 use Rattle.std.specs.Option.{option_map}
 use Rattle.std.proofs.lemmas.Result.{err_from_is_err_and}
-use Rattle.gv_buffers.specs.Users.{conflict, HaveNoConflict}
+use Rattle.gv_buffers.specs.Users.{conflict}
 use Rattle.gv_buffers.specs.Slots.{buffer_at, live_at}
 use Rattle.gv_buffers.specs.Buffers.{join_fault_of, joined_by}
 use Rattle.gv_buffers.proofs.Tables.{is_table, found_buffer, missed_buffer}
@@ -16,14 +16,14 @@ returns-in_default-clause-fault c =
 pub conflict-requires : goal.conflict-requires
 conflict-requires c =
     let found : live_at c.self.inside.slots.entries.items c.args.id ≡ Some c.in-Some.slot.now = rw c.in-Some.is at (sym c.get.ensures) in
-    subst HaveNoConflict (sym c.deref.ensures.value) (no_conflict_in_slot c.self.inside c.args.id c.in-Some.slot.now c.self.invariant found)
+    no_conflict_in_slot c.self.inside c.args.id c.in-Some.slot.now c.self.invariant found
 
 pub returns-in-Some-conflict-clause-fault : goal.returns-in-Some-conflict-clause-fault
 returns-in-Some-conflict-clause-fault c =
     let slot = c.in-Some.slot.now in
     let found : live_at c.self.inside.slots.entries.items c.args.id ≡ Some c.in-Some.slot.now = rw c.in-Some.is at (sym c.get.ensures) in
-    let meets : conflict c.args.job c.args.usage slot.users.items ≡ Some c.in-Some-conflict.job =
-    ap (conflict c.args.job c.args.usage) (sym c.deref.ensures.value) ∙ sym c.conflict.ensures ∙ c.in-Some-conflict.is in
+    let meets : conflict c.args.job c.args.usage slot.users.list.items ≡ Some c.in-Some-conflict.job =
+    sym c.conflict.ensures ∙ c.in-Some-conflict.is in
     rw (ap (join_fault_of c.args.job c.args.usage) (found_buffer c.self.inside c.args.self.now c.args.id slot c.self.view_is found)) (rw meets refl)
 
 pub invariant_of-self : goal.invariant_of-self
@@ -35,8 +35,8 @@ pub returns-in_err-make_room-clause-fault : goal.returns-in_err-make_room-clause
 returns-in_err-make_room-clause-fault c =
     let slot = c.in-Some.slot.now in
     let found : live_at c.self.inside.slots.entries.items c.args.id ≡ Some c.in-Some.slot.now = rw c.in-Some.is at (sym c.get.ensures) in
-    let meets_none : conflict c.args.job c.args.usage slot.users.items ≡ None =
-    ap (conflict c.args.job c.args.usage) (sym c.deref.ensures.value) ∙ sym c.conflict.ensures ∙ c.in_default-conflict.is in
+    let meets_none : conflict c.args.job c.args.usage slot.users.list.items ≡ None =
+    sym c.conflict.ensures ∙ c.in_default-conflict.is in
     let p = err_from_is_err_and c.from_residual.result c.from_residual.ensures.1 in
     rw (ap (join_fault_of c.args.job c.args.usage) (found_buffer c.self.inside c.args.self.now c.args.id slot c.self.view_is found)) (rw (meets_none, p.1) p.2)
 
@@ -50,8 +50,8 @@ pub invariant_of-self-2 : goal.invariant_of-self-2
 invariant_of-self-2 c =
     let slot = c.in-Some.slot.now in
     let found : live_at c.self.inside.slots.entries.items c.args.id ≡ Some c.in-Some.slot.now = rw c.in-Some.is at (sym c.get.ensures) in
-    let meets_none : conflict c.args.job c.args.usage slot.users.items ≡ None =
-    ap (conflict c.args.job c.args.usage) (sym c.deref.ensures.value) ∙ sym c.conflict.ensures ∙ c.in_default-conflict.is in
+    let meets_none : conflict c.args.job c.args.usage slot.users.list.items ≡ None =
+    sym c.conflict.ensures ∙ c.in_default-conflict.is in
     let room = c.in_ok-make_room.ensures in
     (joined_table c.self.inside c.args.self.now c.join.new.self c.make_room.new.indices c.args.id slot c.args.job c.args.usage c.self.invariant c.self.view_is (c.join.ensures.vacant ∙ room.vacant) (c.join.ensures.length ∙ room.length) found meets_none
     (c.join.ensures.here ∙ ap (option_map (joined_by c.args.job c.args.usage)) (room.same c.args.id.index))
@@ -62,16 +62,16 @@ pub returns-clause-fault : goal.returns-clause-fault
 returns-clause-fault c =
     let slot = c.in-Some.slot.now in
     let found : live_at c.self.inside.slots.entries.items c.args.id ≡ Some c.in-Some.slot.now = rw c.in-Some.is at (sym c.get.ensures) in
-    let meets_none : conflict c.args.job c.args.usage slot.users.items ≡ None =
-    ap (conflict c.args.job c.args.usage) (sym c.deref.ensures.value) ∙ sym c.conflict.ensures ∙ c.in_default-conflict.is in
+    let meets_none : conflict c.args.job c.args.usage slot.users.list.items ≡ None =
+    sym c.conflict.ensures ∙ c.in_default-conflict.is in
     rw (ap (join_fault_of c.args.job c.args.usage) (found_buffer c.self.inside c.args.self.now c.args.id slot c.self.view_is found)) (rw meets_none tt)
 
 pub returns-clause-ok : goal.returns-clause-ok
 returns-clause-ok c =
     let slot = c.in-Some.slot.now in
     let found : live_at c.self.inside.slots.entries.items c.args.id ≡ Some c.in-Some.slot.now = rw c.in-Some.is at (sym c.get.ensures) in
-    let meets_none : conflict c.args.job c.args.usage slot.users.items ≡ None =
-    ap (conflict c.args.job c.args.usage) (sym c.deref.ensures.value) ∙ sym c.conflict.ensures ∙ c.in_default-conflict.is in
+    let meets_none : conflict c.args.job c.args.usage slot.users.list.items ≡ None =
+    sym c.conflict.ensures ∙ c.in_default-conflict.is in
     let room = c.in_ok-make_room.ensures in
     (joined_table c.self.inside c.args.self.now c.join.new.self c.make_room.new.indices c.args.id slot c.args.job c.args.usage c.self.invariant c.self.view_is (c.join.ensures.vacant ∙ room.vacant) (c.join.ensures.length ∙ room.length) found meets_none
     (c.join.ensures.here ∙ ap (option_map (joined_by c.args.job c.args.usage)) (room.same c.args.id.index))
@@ -94,8 +94,8 @@ pub returns-clause-table : goal.returns-clause-table
 returns-clause-table c =
     let slot = c.in-Some.slot.now in
     let found : live_at c.self.inside.slots.entries.items c.args.id ≡ Some c.in-Some.slot.now = rw c.in-Some.is at (sym c.get.ensures) in
-    let meets_none : conflict c.args.job c.args.usage slot.users.items ≡ None =
-    ap (conflict c.args.job c.args.usage) (sym c.deref.ensures.value) ∙ sym c.conflict.ensures ∙ c.in_default-conflict.is in
+    let meets_none : conflict c.args.job c.args.usage slot.users.list.items ≡ None =
+    sym c.conflict.ensures ∙ c.in_default-conflict.is in
     let room = c.in_ok-make_room.ensures in
     is_table _ _
     (joined_table c.self.inside c.args.self.now c.join.new.self c.make_room.new.indices c.args.id slot c.args.job c.args.usage c.self.invariant c.self.view_is (c.join.ensures.vacant ∙ room.vacant) (c.join.ensures.length ∙ room.length) found meets_none

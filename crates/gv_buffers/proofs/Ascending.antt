@@ -1,0 +1,140 @@
+-- The users of a buffer that stand in the order of their jobs.
+use Rattle.std.proofs.Common.{◌≡◌, ◌≢◌, ◌+◌, ◌<◌, ◌≤◌, ℕ, zero, suc, List, [], ◌∷◌, length, get_or, true, false, cond, not, eqb, nat_lt, arith, refl, sym, ap, Some, None, Ok, Err, position, ⊎_elim}
+use Rattle.std.specs.List.{All, remove, position_or_len, list_all}
+use Rattle.std.specs.List.Sorted.{IsSearchInRange, IsBinarySearchResult, IsNonDecreasingBy}
+use Rattle.std.specs.Ordering.{nat_cmp, ordering_index}
+use Rattle.std.proofs.lemmas.Bool.{eq-eqb, ne_eqb, eqb-true, eqb-false, lt-ltb, le-ltb, ltb-true, and_parts, cases_lt}
+use Rattle.std.proofs.lemmas.Bool.Decides.{nat_tests}
+use Rattle.std.proofs.lemmas.Cmp.{ranked}
+use Rattle.std.proofs.lemmas.List.Elements.{All-nil, All-cons}
+use Rattle.std.proofs.lemmas.List.Folds.{list_all_at}
+use Rattle.std.proofs.lemmas.List.Sums.{list_all-from_AllPass}
+use Rattle.std.proofs.lemmas.List.Quantifiers.{position-Some}
+use Rattle.gv_buffers.specs.declared.usage.Usage.TheVariants.{Read}
+use Rattle.gv_buffers.specs.declared.usage.User.{User}
+use Rattle.gv_buffers.specs.Users.{left}
+use Rattle.gv_buffers.specs.Ascending.{AreAscending, are_below}
+use Rattle.gv_buffers.proofs.Joins.{is_of, past_from_none}
+use Rattle.gv_buffers.proofs.TakenBack.{left_of_none}
+
+-- the job stands at this place
+pub record IsAt (users : List User) (job place : ℕ) : Type 0 where
+  pub within : place < length users
+  pub here : (d : User) → (get_or users place d).job ≡ job
+
+-- it stands nowhere
+abbrev pub IsAbsent : List User → ℕ → Type 0
+IsAbsent users job = All (λ u. u.job ≢ job) users
+
+ascending_tail : (user : User) (users : List User) → AreAscending (user ∷ users) → AreAscending users
+ascending_tail user users up i j d below within = up (suc i) (suc j) d (omega arith) (omega arith)
+
+at_tail : (user : User) (users : List User) (job place : ℕ) → IsAt (user ∷ users) job (suc place) → IsAt users job place
+at_tail user users job place at = record { within = omega (arith, at.within); here = λ d. at.here d }
+
+-- the first user is another than one behind it
+first_apart : (user : User) (users : List User) (job place : ℕ) → AreAscending (user ∷ users) → IsAt (user ∷ users) job (suc place) → user.job ≢ job
+first_apart user users job place up at same =
+    let less : user.job < (get_or users place user).job = up 0 (suc place) user (omega arith) at.within in
+    let there : (get_or users place user).job ≡ job = at.here user in
+    omega (arith, less, there, same)
+
+reached : (users : List User) (job place : ℕ) → AreAscending users → IsAt users job place → position_or_len (is_of job) users ≡ place
+reached [] job place up at = absurd (omega (arith, at.within))
+reached (user ∷ users) job zero up at = let same : eqb user.job job ≡ true = eq-eqb _ _ (at.here user) in rw same refl
+reached (user ∷ users) job (suc place) up at =
+    let other : eqb user.job job ≡ false = ne_eqb _ _ (first_apart user users job place up at) in
+    rw (other, reached users job place (ascending_tail user users up) (at_tail user users job place at)) (omega arith)
+
+passed : (users : List User) (job : ℕ) → IsAbsent users job → position_or_len (is_of job) users ≡ length users
+passed [] job none = refl
+passed (user ∷ users) job none =
+    let other : eqb user.job job ≡ false = ne_eqb _ _ (none 0 user (omega arith)) in
+    rw (other, passed users job (λ k d within. none (suc k) d (omega arith))) (omega arith)
+
+pub position-at : (users : List User) (job place : ℕ) → AreAscending users → IsAt users job place → position (is_of job) users ≡ Some place
+position-at users job place up at =
+    let inside : nat_lt place (length users) ≡ true = lt-ltb _ _ at.within in
+    rw (reached users job place up at, inside) refl
+
+pub position-absent : (users : List User) (job : ℕ) → IsAbsent users job → position (is_of job) users ≡ None
+position-absent users job none =
+    let outside : nat_lt (length users) (length users) ≡ false = le-ltb _ _ (omega arith) in
+    rw (passed users job none, outside) refl
+
+-- what a search says of users that ascend
+pub at-position : (users : List User) (job place : ℕ) → position (is_of job) users ≡ Some place → IsAt users job place
+at-position users job place found =
+    let no_one : User = record { job = 0; usage = Read } in
+    record {
+      within = (position-Some (is_of job) users place no_one found).0;
+      here = λ d. eqb-true _ _ (position-Some (is_of job) users place d found).1;
+    }
+
+absent_past : (job : ℕ) (users : List User) → length users ≤ position_or_len (is_of job) users → IsAbsent users job
+absent_past job [] past = All-nil (λ u. u.job ≢ job)
+absent_past job (user ∷ users) past =
+    elim (eqb user.job job) as (λ b. eqb user.job job ≡ b → length (user ∷ users) ≤ cond (not b) (1 + position_or_len (is_of job) users) 0 → IsAbsent (user ∷ users) job) [
+      | true ↦ (λ _ h. absurd (omega arith))
+      | false ↦ (λ e h. All-cons (λ u. u.job ≢ job) user users (eqb-false _ _ e) (absent_past job users (omega arith)))
+    ] refl past
+
+-- a job that was not found leaves no user away
+pub left-absent : (job : ℕ) (users : List User) → position (is_of job) users ≡ None → left job users ≡ users
+left-absent job users missed = left_of_none job users (absent_past job users (past_from_none _ _ missed))
+
+-- A binary search by job ends at the job, or says that it is none of the users.
+module _ (users : List User) (up : AreAscending users) (job : ℕ) where
+  comparisons_rise : IsNonDecreasingBy (λ (u : User). ordering_index (nat_cmp u.job job)) users
+  comparisons_rise i j d le within =
+      let rise : (get_or users i d).job ≤ (get_or users j d).job = grind (arith, up i j d, λ (same : i ≡ j). ap (λ (k : ℕ). (get_or users k d).job) same) in
+      grind (arith, nat_tests)
+
+  pub searched_at : (place : ℕ) → IsSearchInRange (Ok place) (length users) → IsBinarySearchResult (λ (u : User). nat_cmp u.job job) users (Ok place) → IsAt users job place
+  searched_at place within equal = record { within = within; here = λ d. ranked _ job _ (sym (equal d)) }
+
+  pub searched_none : (gap : ℕ) → IsSearchInRange (Err gap) (length users) → IsBinarySearchResult (λ (u : User). nat_cmp u.job job) users (Err gap) → IsAbsent users job
+  searched_none gap within parted k d less same =
+      let smaller : k < gap → (get_or users k d).job < job = λ lt. ranked _ job _ (sym ((parted comparisons_rise).0 k d (omega arith) lt)) in
+      let greater : gap ≤ k → job < (get_or users k d).job = λ le. ranked _ job _ (sym ((parted comparisons_rise).1 k d le less)) in
+      grind (arith, smaller, greater)
+
+-- the last of several users is the newest
+pub below-last : (users : List User) (job place : ℕ) (last : User) → AreAscending users → place + 1 ≡ length users → ((d : User) → get_or users place d ≡ last) →
+    are_below job users ≡ nat_lt last.job job
+below-last users job place last up end at =
+    ⊎_elim
+    (λ (older : last.job < job).
+    let yes : nat_lt last.job job ≡ true = lt-ltb _ _ older in
+    let all : list_all (λ u. nat_lt u.job job) users ≡ true = list_all-from_AllPass (λ u. nat_lt u.job job) users
+    (λ k d within. let is : (get_or users place d).job ≡ last.job = ap (λ (u : User). u.job) (at d) in
+    lt-ltb _ _ (⊎_elim (λ (before : k < place). omega (arith, up k place d before (omega arith), is, older))
+    (λ (past : place ≤ k). let same : k ≡ place = omega (arith, past, within, end) in rw (same, is) older) (cases_lt k place))) in
+    rw yes all)
+    (λ (newer : job ≤ last.job).
+    let no : nat_lt last.job job ≡ false = le-ltb _ _ newer in
+    rw no (list_all_at (λ u. nat_lt u.job job) users place last (omega arith) (rw (at last) no)))
+    (cases_lt last.job job)
+
+pub all_below : (job : ℕ) (users : List User) → are_below job users ≡ true → All (λ u. u.job < job) users
+all_below job [] below = All-nil (λ u. u.job < job)
+all_below job (user ∷ users) below =
+    let parts = and_parts (nat_lt user.job job) (are_below job users) below in
+    All-cons (λ u. u.job < job) user users (ltb-true _ _ parts.0) (all_below job users parts.1)
+
+-- a newer job is none of the users
+pub absent-below : (job : ℕ) (users : List User) → are_below job users ≡ true → IsAbsent users job
+absent-below job users below k d within same = let less = all_below job users below k d within in omega (arith, less, same)
+
+-- to take the job out of its place is to leave it away
+pub left-at : (users : List User) (job place : ℕ) → AreAscending users → IsAt users job place → remove users place ≡ left job users
+left-at [] job place up at = absurd (omega (arith, at.within))
+left-at (user ∷ users) job zero up at =
+    let mine : user.job ≡ job = at.here user in
+    let same : eqb user.job job ≡ true = eq-eqb _ _ mine in
+    let others : left job users ≡ users = left_of_none job users
+    (λ k d within is. let less : user.job < (get_or users k d).job = up 0 (suc k) d (omega arith) (omega arith) in omega (arith, less, is, mine)) in
+    rw (same, others) refl
+left-at (user ∷ users) job (suc place) up at =
+    let other : eqb user.job job ≡ false = ne_eqb _ _ (first_apart user users job place up at) in
+    rw other (ap (λ (us : List User). user ∷ us) (left-at users job place (ascending_tail user users up) (at_tail user users job place at)))
