@@ -10,16 +10,17 @@ ghost use Rattle.gv_table.specs.Table.{IsTree, IsHeldAt, gained_by, tables_of};
 ghost use Rattle.gv_table.specs.declared.page_table.PageTable.{PageTable};
 
 use gv_ranges::RangeList;
-use gv_table::{PageTable, Spares};
+use gv_table::{PageTable, Pool, Spares};
 use gv_types::{Entry, Fault, Mapping, OutOfMemory, PageRange};
 use std::alloc::Global;
 use std::marker::Model;
 
-/// The list of mappings and the page table, which is always that of the list.
+/// The list of mappings and the page table, which is always that of the list, with the tables that left it and are kept for later.
 #[derive(Drop)]
 pub struct ListWithTable {
     list: RangeList,
     table: PageTable,
+    pool: Pool,
 }
 
 impl Model for ListWithTable {
@@ -42,6 +43,7 @@ impl ListWithTable {
         ListWithTable {
             list: RangeList::new(alloc),
             table: PageTable::new(),
+            pool: Pool::new(),
         }
     }
 
@@ -89,23 +91,32 @@ impl ListWithTable {
         self.list.reserve(more)
     }
 
-    /// Empty tables, enough for any list that is like this one outside the range and has the pieces in it.
+    /// Empty tables, enough for any list that is like this one outside the range and has the pieces in it. Those that are kept
+    /// serve before any is made.
     pub fn spare(
-        &self,
+        &mut self,
         alloc: Global,
         range: PageRange,
         pieces: &[Mapping],
     ) -> Result<Spares, Fault>
         requires { IsLaidOut pieces.now }
         ensures enough { IfOk result (λ spares. (ms : List Mapping) (table : PageTable) → IsLaidOut ms
-            → AreAlikeOutside range self.now.mappings ms
+            → AreAlikeOutside range self.old.mappings ms
             → clipped range.first (end_of range) ms ≡ pieces.now
-            → IsTree self.now.mappings table → gained_by ms table ≤ spares) }
+            → IsTree self.old.mappings table → gained_by ms table ≤ spares) }
         ensures err { IsOkUnless result Fault.OutOfMemory }
+        ensures same { self.new ≡ self.old }
     {
         // Tells that the list is laid out.
         let _len = self.list.len();
-        self.table.spare(alloc, range, pieces)
+        self.table.spare_from(alloc, range, pieces, &mut self.pool)
+    }
+
+    /// Keeps tables that are in no tree for later. It takes no memory.
+    pub fn keep(&mut self, tables: Spares)
+        ensures same { self.new ≡ self.old }
+    {
+        self.pool.put(tables);
     }
 
     /// Replaces `out_count` mappings from `index` on by `pieces`, and paints the range. The mappings before the index have
@@ -139,6 +150,34 @@ impl ListWithTable {
         let _len = self.list.len();
         self.list.splice(index, out_count, pieces);
         let lost = self.table.paint(&self.list, range, index, &mut spares);
-        spares.split(lost)
+        let left = spares.split(lost);
+        self.pool.put(spares);
+        left
+    }
+
+    /// The same, where the tables that leave the tree are of no further use: they are kept for later.
+    pub fn put_back(
+        &mut self,
+        range: PageRange,
+        index: usize,
+        out_count: usize,
+        pieces: &[Mapping],
+        spares: Spares,
+    )
+        requires within { index + out_count ≤ length self.old.mappings }
+        requires ended { AreEnded self.old.mappings range.first index }
+        requires room { length self.old.mappings + length pieces.now ≤ self.old.room + out_count }
+        requires laid_out { IsLaidOut
+            (splice self.old.mappings index (index + out_count) pieces.now) }
+        requires alike { AreAlikeOutside range self.old.mappings
+            (splice self.old.mappings index (index + out_count) pieces.now) }
+        requires enough { (table : PageTable) → IsTree self.old.mappings table
+            → gained_by (splice self.old.mappings index (index + out_count) pieces.now) table ≤ spares }
+        ensures mappings { self.new.mappings
+            ≡ splice self.old.mappings index (index + out_count) pieces.now }
+        ensures room { self.new.room ≡ self.old.room }
+    {
+        let lost = self.replace(range, index, out_count, pieces, spares);
+        self.keep(lost);
     }
 }

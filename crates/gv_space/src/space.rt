@@ -247,10 +247,8 @@ impl Space {
         } = undo;
         let pieces = self.mapped.list().run(index, put_in);
         counts::move_counts_back(&mut self.buffers, pieces, taken.as_slice());
-        // The tables that the change put in the tree are dropped.
-        let _lost = self
-            .mapped
-            .replace(range, index, put_in, taken.as_slice(), tables);
+        self.mapped
+            .put_back(range, index, put_in, taken.as_slice(), tables);
         self.kept_count -= taken.len() as u64;
     }
 
@@ -266,9 +264,10 @@ impl Space {
             put_in: _,
             range: _,
             taken,
-            tables: _,
+            tables,
         } = undo;
         counts::unkeep(&mut self.buffers, taken.as_slice());
+        self.mapped.keep(tables);
         self.kept_count -= taken.len() as u64;
     }
 }

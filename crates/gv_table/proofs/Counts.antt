@@ -34,6 +34,13 @@ tables_in-Table (suc level) slots some =
     (λ index below. ap (λ (s : Slot). tables_in level s) (child-Table slots index)) in
     rw (is_table-Table slots, lower) (ap (λ (n : ℕ). 1 + n) same)
 
+-- a table of pages holds no other table
+pub tables_in-pages : (slots : Box (List Slot) Global) → tables_in 1 (Table slots) ≡ 1
+tables_in-pages slots =
+    let whole = tables_in-Table 1 slots (omega arith) in
+    let z = sum_below-zeros 512 (λ k. tables_in 0 (slice_index_or slots.value k Empty)) (λ k below. tables_in-zero (slice_index_or slots.value k Empty)) in
+    omega (arith, whole, z)
+
 pub tables_at-other : (target level : ℕ) (slot : Slot) → is_table slot ≡ false → tables_at target level slot ≡ 0
 unfolding tables_at
 tables_at-other target zero slot other = refl
@@ -170,3 +177,9 @@ one_if-small false = omega arith
 
 pub one_if-here : (level : ℕ) → one_if (nat_eq level level) ≡ 1
 one_if-here level = ap one_if (eq-true level level refl)
+
+pub tables_at-pages : (target : ℕ) (slots : Box (List Slot) Global) → tables_at target 1 (Table slots) ≡ one_if (nat_eq target 0)
+tables_at-pages target slots =
+    let whole = tables_at-Table target 1 slots (omega arith) in
+    let z = sum_below-zeros 512 (λ k. tables_at target 0 (slice_index_or slots.value k Empty)) (λ k below. tables_at-low target 0 (slice_index_or slots.value k Empty) (omega arith)) in
+    omega (arith, whole, z)

@@ -96,6 +96,12 @@ pub child-Empty : (index : ℕ) → child Empty index ≡ Empty
 unfolding child
 child-Empty index = ap (λ (l : layer.Slot-F Slot). layer_child l index) out-Empty
 
+-- a chain that begins with a table has one
+pub IsChainOf-some : (count : ℕ) (slot : Slot) → IsChainOf count slot → is_table slot ≡ true → 0 < count
+unfolding IsChainOf
+IsChainOf-some zero slot chain table = let none : is_table slot ≡ false = ap is_table chain ∙ is_table-Empty in cc
+IsChainOf-some (suc count) slot chain table = omega arith
+
 -- an empty table before a chain
 pub IsChainOf-more :
     (count : ℕ) (slots : Box (List Slot) Global) (rest : Slot) → length slots.value ≡ 512 → AreEmpty slots.value → IsChainOf count rest →

@@ -9,6 +9,7 @@ mod page_table;
 mod pages;
 mod paint;
 mod place;
+mod pool;
 mod position;
 mod release;
 mod slot;
@@ -19,4 +20,5 @@ mod walk;
 mod wanted;
 
 pub use page_table::PageTable;
+pub use pool::Pool;
 pub use spares::Spares;

@@ -11,6 +11,7 @@ ghost use Rattle.gv_table.specs.Counts.{tables_at, count_at};
 use crate::levels::TOP_LEVEL;
 use crate::paint::paint_slot;
 use crate::place::{Excerpt, Place};
+use crate::pool::Pool;
 use crate::position::advance;
 use crate::slot::Slot;
 use crate::spare::needed_in_tree;
@@ -84,6 +85,31 @@ impl PageTable {
         let mut spares = Spares::new();
         for _ in 0..needed_in_tree(&self.root, &pieces, range) {
             spares.grow(alloc)?;
+        }
+        Ok(spares)
+    }
+
+    /// The same, where tables of a pool serve before any is made: memory is asked for only where the pool has none left.
+    /// Where it is refused, the tables that were taken so far are given back to the system.
+    pub fn spare_from(
+        &self,
+        alloc: Global,
+        range: PageRange,
+        pieces: &[Mapping],
+        pool: &mut Pool,
+    ) -> Result<Spares, Fault>
+        requires { IsLaidOut pieces.now }
+        ensures number { IfOk result (λ spares. spares ≡ needed_for pieces.now range self.now) }
+        ensures enough { IfOk result (λ spares. (ms : List Mapping) → IsLaidOut ms
+            → FitsOutside ms range self.now
+            → clipped range.first (end_of range) ms ≡ pieces.now → gained_by ms self.now ≤ spares) }
+        ensures err { IfErr result (λ fault. fault ≡ OutOfMemory) }
+        ensures some_needed { OnErr result (0 < needed_for pieces.now range self.now) }
+    {
+        let pieces = Reader::of_slice(pieces);
+        let mut spares = Spares::new();
+        for _ in 0..needed_in_tree(&self.root, &pieces, range) {
+            pool.grow(alloc, &mut spares)?;
         }
         Ok(spares)
     }

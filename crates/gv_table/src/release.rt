@@ -4,6 +4,7 @@ ghost use Rattle.gv_table.specs.declared.slot.Slot.TheVariants.{Empty};
 ghost use Rattle.gv_table.specs.Levels.{top_level};
 ghost use Rattle.gv_table.specs.Counts.{tables_in, tables_at, count_at};
 
+use crate::fill::empty;
 use crate::levels::SLOTS;
 use crate::slot::{Slot, overwrite};
 use crate::spares::Spares;
@@ -43,6 +44,9 @@ fn release(slot: &mut Slot, level: usize, spares: &mut Spares, counts: &mut Tabl
         *slot = Slot::Empty;
         return 0;
     }
+    if level == 1 {
+        return release_pages(slot, spares, counts);
+    }
     match mem::replace(slot, Slot::Empty) {
         Slot::Table(mut slots) => {
             let mut count = 1;
@@ -52,6 +56,27 @@ fn release(slot: &mut Slot, level: usize, spares: &mut Spares, counts: &mut Tabl
             spares.put(slots);
             counts.lower(level - 1);
             count
+        }
+        Slot::Empty | Slot::Zero { .. } | Slot::Buffer { .. } => 0,
+    }
+}
+
+/// The same for a slot whose table, where it is one, has slots of single pages, which hold no table: they are emptied in one
+/// pass, without a call for each of them.
+fn release_pages(slot: &mut Slot, spares: &mut Spares, counts: &mut TableCounts) -> u64
+    requires counted { (target : ℕ) → tables_at target 1 slot.old ≤ count_at counts.old target }
+    ensures count { result ≡ tables_in 1 slot.old }
+    ensures emptied { slot.new ≡ Empty }
+    ensures put { spares.new ≡ spares.old + tables_in 1 slot.old }
+    ensures counted { (target : ℕ) → count_at counts.new target + tables_at target 1 slot.old
+        ≡ count_at counts.old target }
+{
+    match mem::replace(slot, Slot::Empty) {
+        Slot::Table(mut pages) => {
+            empty(&mut pages, 0, SLOTS);
+            spares.put(pages);
+            counts.lower(0);
+            1
         }
         Slot::Empty | Slot::Zero { .. } | Slot::Buffer { .. } => 0,
     }

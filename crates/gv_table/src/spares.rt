@@ -1,5 +1,5 @@
 //! Tables that are in no tree.
-ghost use Rattle.std.specs.Prelude.{◌≡◌, ◌+◌, ◌<◌, ◌≤◌, OnOk, OnErr};
+ghost use Rattle.std.specs.Prelude.{◌≡◌, ◌+◌, ◌<◌, ◌≤◌, false, OnOk, OnErr};
 ghost use Rattle.gv_table.specs.Chain.{AreEmpty};
 
 use crate::levels::SLOTS;
@@ -41,6 +41,13 @@ impl Spares {
         ensures { result ≡ 0 }
     {
         Spares { first: Slot::Empty }
+    }
+
+    /// Whether there is no table.
+    pub(crate) fn is_empty(&self) -> bool
+        ensures { result ≡ false → 0 < self.now }
+    {
+        !self.first.is_table()
     }
 
     /// Takes `count` tables off, as spares of their own. It takes no memory.

@@ -42,6 +42,7 @@ use Rattle.gv_vm.specs.contracts.world.World.{the_row as world}
 use Rattle.gv_table.specs.contracts.slot.Slot.TheKnot.{ring}
 use Rattle.gv_table.specs.declared.slot.Slot.TheBlock.{the_members, member-Slot}
 use Rattle.gv_table.specs.contracts.page_table.PageTable.{the_row as page_table, the_type as page_table_type}
+use Rattle.gv_table.specs.contracts.pool.Pool.{the_row as pool, the_type as pool_type}
 
 slot_steps : (i : the_members) → Sends ring i
 slot_steps member-Slot = record {
@@ -69,14 +70,17 @@ number = search (sendable, crosses) depth 5
 wide : IsSend (as_row u64-field)
 wide = search (sendable, crosses) depth 5
 
+spares_send : IsSend spares
+spares_send = view_send spares_inside _ _ _ _ (declared_send spares_type (slot_send, tt))
+
+pool_send : IsSend pool
+pool_send = declared_send pool_type (spares_send, (wide, tt))
+
 list_with_table_send : IsSend list_with_table
-list_with_table_send = view_send list_with_table_inside _ _ _ _ (declared_send list_with_table_type (range_list_send, (page_table_send, tt)))
+list_with_table_send = view_send list_with_table_inside _ _ _ _ (declared_send list_with_table_type (range_list_send, (page_table_send, (pool_send, tt))))
 
 space_send : IsSend space
 space_send = view_send space_inside _ _ _ _ (declared_send space_type (bounds_send, (limits_send, (list_with_table_send, (buffers_send, (wide, tt))))))
-
-spares_send : IsSend spares
-spares_send = view_send spares_inside _ _ _ _ (declared_send spares_type (slot_send, tt))
 
 undo_send : IsSend undo
 undo_send = view_send undo_inside _ _ _ _ (declared_send undo_type (number, (number, (range_send, (search (sendable, crosses, small_vec_send, mapping_send) depth 8, (spares_send, tt))))))

@@ -17,10 +17,10 @@ returns-clause-enough c =
     let inside = c.self.inside.table in
     let laid_now : IsLaidOut now = rw (← c.self.view_is) c.len-len.ensures.laid_out in
     let tree_now : IsTree now inside = rw (← c.self.view_is) c.self.invariant in
-    IfOk-weaker c.spare.result
+    IfOk-weaker c.spare_from.result
     (λ spares. (ms : List Mapping) → IsLaidOut ms → FitsOutside ms range inside → clipped range.first (end_of range) ms ≡ c.args.pieces.now → gained_by ms inside ≤ spares)
     (λ spares. (ms : List Mapping) (table : PageTable) → IsLaidOut ms → AreAlikeOutside range now ms → clipped range.first (end_of range) ms ≡ c.args.pieces.now → IsTree now table → gained_by ms table ≤ spares)
     (λ spares enough ms table laid alike has tree.
     let fits : FitsOutside ms range inside = record { earlier = now; laid_out = laid_now; alike = alike; tree = tree_now } in
     subst (λ (n : ℕ). n ≤ spares) (tables-gained now ms inside table tree_now tree) (enough ms laid fits has))
-    c.spare.ensures.enough
+    c.spare_from.ensures.enough

@@ -1,5 +1,6 @@
 use Rattle.std.proofs.Common.{◌≡◌, ◌-◌, refl, sym, subst, ap, ◌∙◌, List, ◌++◌}
 use Rattle.gv_types.specs.declared.mapping.Mapping.{Mapping}
+use Rattle.gv_ranges.specs.List.{RangeListState}
 use Rattle.gv_space.specs.State.{SpaceState, IsSpace, AreKept}
 use Rattle.gv_space.specs.Undo.{OpUndoState, released}
 use Rattle.gv_space.specs.Inside.{space_of}
@@ -22,8 +23,10 @@ invariant_of-self c =
     let taken : List Mapping = c.args.undo.change.taken in
     let taken_is : c.undo.inside.taken.items ≡ taken = ap (λ (u : OpUndoState). u.change.taken) c.undo.view_is in
     let saved : AreKept s (taken ++ c.requires.others) = subst (λ (t : SpaceState). AreKept t (taken ++ c.requires.others)) (sym c.self.view_is) c.requires.are_kept in
-    let new : SpaceState = record s { buffers = c.unkeep.new.buffers; kept_count = s.kept_count - c.len.result } in
-    let state : new ≡ released s taken = rw (c.unkeep.ensures, c.len.ensures.value, c.as_slice.ensures, taken_is) refl in
+    let new : SpaceState = record s { mappings = c.keep.new.self.mappings; room = c.keep.new.self.room; buffers = c.unkeep.new.buffers; kept_count = s.kept_count - c.len.result } in
+    let made : RangeListState → SpaceState =
+    λ l. record s { mappings = l.mappings; room = l.room; buffers = c.unkeep.new.buffers; kept_count = s.kept_count - c.len.result } in
+    let state : new ≡ released s taken = ap made c.keep.ensures.same ∙ rw (c.unkeep.ensures, c.len.ensures.value, c.as_slice.ensures, taken_is) refl in
     subst IsSpace (sym state) (IsSpace-released s taken c.requires.others c.self.invariant saved)
 
 pub returns-clause-state : goal.returns-clause-state
@@ -31,8 +34,10 @@ returns-clause-state c =
     let s : SpaceState = space_of c.self.inside in
     let taken : List Mapping = c.args.undo.change.taken in
     let taken_is : c.undo.inside.taken.items ≡ taken = ap (λ (u : OpUndoState). u.change.taken) c.undo.view_is in
-    let new : SpaceState = record s { buffers = c.unkeep.new.buffers; kept_count = s.kept_count - c.len.result } in
-    let state : new ≡ released s taken = rw (c.unkeep.ensures, c.len.ensures.value, c.as_slice.ensures, taken_is) refl in
+    let new : SpaceState = record s { mappings = c.keep.new.self.mappings; room = c.keep.new.self.room; buffers = c.unkeep.new.buffers; kept_count = s.kept_count - c.len.result } in
+    let made : RangeListState → SpaceState =
+    λ l. record s { mappings = l.mappings; room = l.room; buffers = c.unkeep.new.buffers; kept_count = s.kept_count - c.len.result } in
+    let state : new ≡ released s taken = ap made c.keep.ensures.same ∙ rw (c.unkeep.ensures, c.len.ensures.value, c.as_slice.ensures, taken_is) refl in
     state ∙ ap (λ (t : SpaceState). released t taken) c.self.view_is
 
 pub returns-clause-kept : goal.returns-clause-kept
@@ -40,8 +45,10 @@ returns-clause-kept c =
     let s : SpaceState = space_of c.self.inside in
     let taken : List Mapping = c.args.undo.change.taken in
     let taken_is : c.undo.inside.taken.items ≡ taken = ap (λ (u : OpUndoState). u.change.taken) c.undo.view_is in
-    let new : SpaceState = record s { buffers = c.unkeep.new.buffers; kept_count = s.kept_count - c.len.result } in
-    let state : new ≡ released s taken = rw (c.unkeep.ensures, c.len.ensures.value, c.as_slice.ensures, taken_is) refl in
+    let new : SpaceState = record s { mappings = c.keep.new.self.mappings; room = c.keep.new.self.room; buffers = c.unkeep.new.buffers; kept_count = s.kept_count - c.len.result } in
+    let made : RangeListState → SpaceState =
+    λ l. record s { mappings = l.mappings; room = l.room; buffers = c.unkeep.new.buffers; kept_count = s.kept_count - c.len.result } in
+    let state : new ≡ released s taken = ap made c.keep.ensures.same ∙ rw (c.unkeep.ensures, c.len.ensures.value, c.as_slice.ensures, taken_is) refl in
     λ others are_kept.
     subst (λ (t : SpaceState). AreKept t others) (sym state)
     (AreKept-released s taken others (subst (λ (t : SpaceState). AreKept t (taken ++ others)) (sym c.self.view_is) are_kept))

@@ -15,8 +15,8 @@ run-pieces-requires c =
     let fits : CanRevert s u = fits_inside c.self.inside c.undo.inside c.args.self.now c.args.undo c.self.view_is c.undo.view_is c.requires in
     rw (ap (λ (l : RangeListState). length l.mappings) c.list.ensures) (within s u c.self.invariant fits)
 
-pub replace-lost-requires-clause-within : goal.replace-lost-requires-clause-within
-replace-lost-requires-clause-within c =
+pub put_back-requires-clause-within : goal.put_back-requires-clause-within
+put_back-requires-clause-within c =
     let s : SpaceState = space_of c.self.inside in
     let u : OpUndoState = undo_of c.undo.inside in
     let fits : CanRevert s u = fits_inside c.self.inside c.undo.inside c.args.self.now c.args.undo c.self.view_is c.undo.view_is c.requires in
@@ -59,22 +59,22 @@ move_counts_back-requires-clause-counted c =
     let gone_is : c.run-pieces.result ≡ run s.mappings c.undo.inside.index c.undo.inside.put_in = c.run-pieces.ensures ∙ ap (λ (l : RangeListState). run l.mappings c.undo.inside.index c.undo.inside.put_in) c.list.ensures in
     rw gone_is (gone_counted s u c.self.invariant fits)
 
-pub replace-lost-requires-clause-ended : goal.replace-lost-requires-clause-ended
-replace-lost-requires-clause-ended c =
+pub put_back-requires-clause-ended : goal.put_back-requires-clause-ended
+put_back-requires-clause-ended c =
     let s : SpaceState = space_of c.self.inside in
     let u : OpUndoState = undo_of c.undo.inside in
     let fits : CanRevert s u = fits_inside c.self.inside c.undo.inside c.args.self.now c.args.undo c.self.view_is c.undo.view_is c.requires in
     ended s u c.self.invariant fits
 
-pub replace-lost-requires-clause-room : goal.replace-lost-requires-clause-room
-replace-lost-requires-clause-room c =
+pub put_back-requires-clause-room : goal.put_back-requires-clause-room
+put_back-requires-clause-room c =
     let s : SpaceState = space_of c.self.inside in
     let u : OpUndoState = undo_of c.undo.inside in
     let fits : CanRevert s u = fits_inside c.self.inside c.undo.inside c.args.self.now c.args.undo c.self.view_is c.undo.view_is c.requires in
     rw c.as_slice-2.ensures (room_to_undo s u c.self.invariant fits)
 
-pub replace-lost-requires-clause-alike : goal.replace-lost-requires-clause-alike
-replace-lost-requires-clause-alike c =
+pub put_back-requires-clause-alike : goal.put_back-requires-clause-alike
+put_back-requires-clause-alike c =
     let s : SpaceState = space_of c.self.inside in
     let u : OpUndoState = undo_of c.undo.inside in
     let fits : CanRevert s u = fits_inside c.self.inside c.undo.inside c.args.self.now c.args.undo c.self.view_is c.undo.view_is c.requires in
@@ -86,8 +86,8 @@ invariant_of-self c =
     let u : OpUndoState = undo_of c.undo.inside in
     let fits : CanRevert s u = fits_inside c.self.inside c.undo.inside c.args.self.now c.args.undo c.self.view_is c.undo.view_is c.requires in
     let gone_is : c.run-pieces.result ≡ run s.mappings c.undo.inside.index c.undo.inside.put_in = c.run-pieces.ensures ∙ ap (λ (l : RangeListState). run l.mappings c.undo.inside.index c.undo.inside.put_in) c.list.ensures in
-    let state = state_made s u c.self.invariant fits c.run-pieces.result c.as_slice.result.now c.as_slice-2.result.now c.replace-lost.new.self c.move_counts_back.new.buffers c.len.result
-    gone_is c.as_slice.ensures c.as_slice-2.ensures c.replace-lost.ensures.mappings c.replace-lost.ensures.room c.move_counts_back.ensures c.len.ensures.value in
+    let state = state_made s u c.self.invariant fits c.run-pieces.result c.as_slice.result.now c.as_slice-2.result.now c.put_back.new.self c.move_counts_back.new.buffers c.len.result
+    gone_is c.as_slice.ensures c.as_slice-2.ensures c.put_back.ensures.mappings c.put_back.ensures.room c.move_counts_back.ensures c.len.ensures.value in
     subst IsSpace (sym state) (space_before s u c.self.invariant fits)
 
 pub returns-clause-state : goal.returns-clause-state
@@ -96,8 +96,8 @@ returns-clause-state c =
     let u : OpUndoState = undo_of c.undo.inside in
     let fits : CanRevert s u = fits_inside c.self.inside c.undo.inside c.args.self.now c.args.undo c.self.view_is c.undo.view_is c.requires in
     let gone_is : c.run-pieces.result ≡ run s.mappings c.undo.inside.index c.undo.inside.put_in = c.run-pieces.ensures ∙ ap (λ (l : RangeListState). run l.mappings c.undo.inside.index c.undo.inside.put_in) c.list.ensures in
-    let state = state_made s u c.self.invariant fits c.run-pieces.result c.as_slice.result.now c.as_slice-2.result.now c.replace-lost.new.self c.move_counts_back.new.buffers c.len.result
-    gone_is c.as_slice.ensures c.as_slice-2.ensures c.replace-lost.ensures.mappings c.replace-lost.ensures.room c.move_counts_back.ensures c.len.ensures.value in
+    let state = state_made s u c.self.invariant fits c.run-pieces.result c.as_slice.result.now c.as_slice-2.result.now c.put_back.new.self c.move_counts_back.new.buffers c.len.result
+    gone_is c.as_slice.ensures c.as_slice-2.ensures c.put_back.ensures.mappings c.put_back.ensures.room c.move_counts_back.ensures c.len.ensures.value in
     state ∙ ap (λ (t : SpaceState). reverted t u) c.self.view_is ∙ ap (λ (v : OpUndoState). reverted c.args.self.now v) c.undo.view_is
 
 pub returns-clause-undone : goal.returns-clause-undone
@@ -105,7 +105,7 @@ returns-clause-undone c =
     let s : SpaceState = space_of c.self.inside in
     let u : OpUndoState = undo_of c.undo.inside in
     let fits : CanRevert s u = fits_inside c.self.inside c.undo.inside c.args.self.now c.args.undo c.self.view_is c.undo.view_is c.requires in
-    let list_is : c.replace-lost.new.self.mappings ≡ old s u c.self.invariant fits = rw (← c.as_slice-2.ensures) c.replace-lost.ensures.mappings in
+    let list_is : c.put_back.new.self.mappings ≡ old s u c.self.invariant fits = rw (← c.as_slice-2.ensures) c.put_back.ensures.mappings in
     λ before is.
     list_is ∙ ap (λ (v : OpUndoState). undone s.mappings v.change) c.undo.view_is ∙ ap (λ (t : SpaceState). undone t.mappings c.args.undo.change) c.self.view_is
     ∙ undone_is before c.args.self.now.mappings c.args.undo is
@@ -116,8 +116,8 @@ returns-clause-kept c =
     let u : OpUndoState = undo_of c.undo.inside in
     let fits : CanRevert s u = fits_inside c.self.inside c.undo.inside c.args.self.now c.args.undo c.self.view_is c.undo.view_is c.requires in
     let gone_is : c.run-pieces.result ≡ run s.mappings c.undo.inside.index c.undo.inside.put_in = c.run-pieces.ensures ∙ ap (λ (l : RangeListState). run l.mappings c.undo.inside.index c.undo.inside.put_in) c.list.ensures in
-    let state = state_made s u c.self.invariant fits c.run-pieces.result c.as_slice.result.now c.as_slice-2.result.now c.replace-lost.new.self c.move_counts_back.new.buffers c.len.result
-    gone_is c.as_slice.ensures c.as_slice-2.ensures c.replace-lost.ensures.mappings c.replace-lost.ensures.room c.move_counts_back.ensures c.len.ensures.value in
+    let state = state_made s u c.self.invariant fits c.run-pieces.result c.as_slice.result.now c.as_slice-2.result.now c.put_back.new.self c.move_counts_back.new.buffers c.len.result
+    gone_is c.as_slice.ensures c.as_slice-2.ensures c.put_back.ensures.mappings c.put_back.ensures.room c.move_counts_back.ensures c.len.ensures.value in
     λ others are_kept.
     let saved : AreKept s (u.change.taken ++ others) =
     subst (λ (v : OpUndoState). AreKept s (v.change.taken ++ others)) (sym c.undo.view_is)

@@ -1,0 +1,52 @@
+//! Empty tables kept for later paints.
+ghost use Rattle.std.specs.Prelude.{◌≡◌, ◌+◌, ◌≤◌, OnOk, OnErr};
+
+use crate::spares::Spares;
+use std::alloc::{AllocError, Global};
+
+/// So many tables are kept at most: 3 MiB.
+const MOST_KEPT: u64 = 256;
+
+/// Empty tables that left trees and are kept for later paints, so that a table which comes and goes is neither made anew nor
+/// given back to the system. It grows only by what is put in, and keeps at most 256.
+#[derive(Drop)]
+pub struct Pool {
+    spares: Spares,
+    count: u64,
+    ghost counted: { count ≡ spares },
+}
+
+impl Pool {
+    /// No table. It takes no memory.
+    pub fn new() -> Pool {
+        Pool {
+            spares: Spares::new(),
+            count: 0,
+        }
+    }
+
+    /// Keeps these tables, as far as it keeps any more; the others are given back to the system. It takes no memory.
+    pub fn put(&mut self, spares: Spares) {
+        let mut spares = spares;
+        for _ in self.count..MOST_KEPT {
+            if spares.is_empty() {
+                return;
+            }
+            self.spares.put(spares.take());
+            self.count += 1;
+        }
+    }
+
+    /// Adds an empty table to the spares: one that is kept, or else a new one.
+    pub(crate) fn grow(&mut self, alloc: Global, spares: &mut Spares) -> Result<(), AllocError>
+        ensures grown { OnOk result (spares.new ≡ spares.old + 1) }
+        ensures unchanged { OnErr result (spares.new ≡ spares.old) }
+    {
+        if self.count == 0 {
+            return spares.grow(alloc);
+        }
+        spares.put(self.spares.take());
+        self.count -= 1;
+        Ok(())
+    }
+}
