@@ -21,6 +21,7 @@ pub mod Puts
 pub mod Touches
 pub mod Withdrawals
 pub mod Founds
+pub mod Blocks
 pub mod Noting
 pub mod Leasts
 pub mod Crossings

@@ -1,5 +1,6 @@
 //! What stands beside each item of a journal, so that it can be passed over unread.
 ghost use Rattle.std.specs.Prelude.{◌≡◌, ◌<◌, ◌-◌, ◌^◌, IfSome, None, Some, false, is_some};
+ghost use Rattle.std.specs.List.{list_any};
 ghost use Rattle.std.specs.Option.{option_map_or};
 ghost use Rattle.gv_types.specs.PageRange.{covers};
 ghost use Rattle.gv_journal.specs.Notes.{extents_joined, extent_of, reaches};
@@ -88,11 +89,23 @@ impl Note {
         self.first <= page && page < self.past
     }
 
-    /// Whether some page is in what both cover.
+    /// Whether some page is in what both cover. Both tests are always made: that costs less than a branch between them.
     pub fn reaches(&self, other: &Note) -> bool
         ensures { result ≡ reaches self.now.extent other.now.extent }
     {
-        self.first < other.past && other.first < self.past
+        (self.first < other.past) & (other.first < self.past)
+    }
+
+    /// Whether some page is in what this and one of the others cover. It doesn't stop at the first that is reached, so that there
+    /// is no branch from one to the next: nearly always none is reached.
+    pub fn reaches_any(&self, others: &[Note]) -> bool
+        ensures { result ≡ list_any (λ other. reaches self.now.extent other.extent) others.now }
+    {
+        let mut any = false;
+        for other in others {
+            any |= self.reaches(other);
+        }
+        any
     }
 }
 

@@ -15,6 +15,9 @@ use crate::note::Note;
 use gv_space::OpUndo;
 use gv_types::{Entry, PageOp, PageRange};
 
+/// How many items are passed over at once, where none of them is reached.
+const BLOCK: usize = 8;
+
 /// The pages of an operation, if it names any.
 pub fn pages_of(op: &PageOp) -> Option<PageRange>
     ensures { result ≡ pages_named op.now }
@@ -121,9 +124,8 @@ fn is_in_way(note: &Note, item: &Item, own: &Note, ops: &[PageOp]) -> bool
     touch(ops, done_by(&item.kind))
 }
 
-/// The number of the first item that isn't withdrawn and touches the operations of another. The first of these items has the
-/// number `from`, and a note stands beside each.
-pub fn first_touched(
+/// As `first_touched`, one item after another.
+fn first_in_way(
     items: &[Item],
     notes: &[Note],
     own: &Note,
@@ -142,4 +144,54 @@ pub fn first_touched(
         }
     }
     None
+}
+
+/// As `first_touched`, for a block: its items are passed over at once where none is reached.
+fn first_reached(
+    items: &[Item],
+    notes: &[Note],
+    own: &Note,
+    ops: &[PageOp],
+    from: u64,
+) -> Option<u64>
+    requires numbers { from + length items.now < 2 ^ 64 }
+    requires beside { length notes.now ≡ length items.now }
+    requires notes { AreReaches notes.now items.now }
+    requires own { own.now.extent ≡ extent_of ops.now }
+    ensures { (gone : ℕ → Bool) → TellGone gone from notes.now → result ≡ touched_from gone ops.now from items.now }
+{
+    if !own.reaches_any(notes) {
+        return None;
+    }
+    first_in_way(items, notes, own, ops, from)
+}
+
+/// The number of the first item that isn't withdrawn and touches the operations of another. The first of these items has the
+/// number `from`, and a note stands beside each. Nearly all items are out of reach, so they are gone through in blocks of a
+/// fixed length, and a block where none is reached is passed over by one branch.
+pub fn first_touched(
+    items: &[Item],
+    notes: &[Note],
+    own: &Note,
+    ops: &[PageOp],
+    from: u64,
+) -> Option<u64>
+    requires numbers { from + length items.now < 2 ^ 64 }
+    requires beside { length notes.now ≡ length items.now }
+    requires notes { AreReaches notes.now items.now }
+    requires own { own.now.extent ≡ extent_of ops.now }
+    ensures { (gone : ℕ → Bool) → TellGone gone from notes.now → result ≡ touched_from gone ops.now from items.now }
+{
+    let mut start = 0;
+    while notes.len() - start >= BLOCK {
+        let end = start + BLOCK;
+        let number = from + start as u64;
+        let found = first_reached(&items[start..end], &notes[start..end], own, ops, number);
+        if found.is_some() {
+            return found;
+        }
+        start = end;
+    }
+    let number = from + start as u64;
+    first_in_way(&items[start..], &notes[start..], own, ops, number)
 }

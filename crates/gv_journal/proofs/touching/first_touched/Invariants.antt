@@ -1,8 +1,13 @@
-use Rattle.std.proofs.Common.{◌≡◌, ◌+◌, ℕ, Bool, drop}
+use Rattle.std.proofs.Common.{◌≡◌, ◌+◌, ◌-◌, ◌≤◌, ℕ, Bool, drop, length}
 use Rattle.gv_journal.specs.Notes.{TellGone}
 use Rattle.gv_journal.specs.Withdrawing.{touched_from}
 use Rattle.gv_journal.proofs.touching.first_touched.Given as goal
 
-abbrev pub invariant-loop-index : goal.invariant-loop-index
-invariant-loop-index l =
-    (gone : ℕ → Bool) → TellGone gone l.from l.fn.notes → touched_from gone l.ops l.from l.items ≡ touched_from gone l.ops (l.from + l.index) (drop l.index l.items)
+abbrev pub invariant-loop-start : goal.invariant-loop-start
+invariant-loop-start l = record {
+  within : l.start ≤ length l.notes;
+  rest : (gone : ℕ → Bool) → TellGone gone l.from l.notes → touched_from gone l.ops l.from l.items ≡ touched_from gone l.ops (l.from + l.start) (drop l.start l.items);
+}
+
+abbrev pub decreases-loop-start : goal.decreases-loop-start
+decreases-loop-start l = length l.notes - l.start
