@@ -97,7 +97,9 @@ impl Note {
     }
 
     /// Whether some page is in what this and one of the others cover. It doesn't stop at the first that is reached, so that there
-    /// is no branch from one to the next: nearly always none is reached.
+    /// is no branch from one to the next: nearly always none is reached. Inlined, so that the loop is unrolled where the caller
+    /// gives a fixed number of notes.
+    #[inline(always)]
     pub fn reaches_any(&self, others: &[Note]) -> bool
         ensures { result ≡ list_any (λ other. reaches self.now.extent other.extent) others.now }
     {

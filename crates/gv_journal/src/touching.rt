@@ -146,7 +146,9 @@ fn first_in_way(
     None
 }
 
-/// As `first_touched`, for a block: its items are passed over at once where none is reached.
+/// As `first_touched`, for a block: its items are passed over at once where none is reached. Inlined, so that the number of the
+/// block's items is known.
+#[inline(always)]
 fn first_reached(
     items: &[Item],
     notes: &[Note],
