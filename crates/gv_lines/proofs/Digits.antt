@@ -3,7 +3,8 @@ use Rattle.std.proofs.Common.{suc, add-one, drop, get_or, ◌∙◌, ◌≡◌, 
 use Rattle.std.proofs.lemmas.Bool.{le-ltb, lt-ltb}
 use Rattle.std.proofs.lemmas.List.{drop_all}
 use Rattle.std.proofs.Math.Seq.{drop-cons}
-use Rattle.std.proofs.Math.Nat.{mul-le-mul_left, mul_assoc, mul_comm, add-mul, pow-suc, pow-zero}
+use Rattle.std.proofs.Math.Nat.{mul-le-mul_left, mul_assoc, mul_comm, add-mul, pow-suc, pow-zero, pow-le-pow_right}
+use Rattle.std.proofs.lemmas.Nat.{mul-add-lt}
 use Rattle.std.specs.Prelude.{Option, ◌&&◌, if◌then◌else◌}
 use Rattle.std.specs.List.{list_all}
 use Rattle.gv_lines.specs.Words.{digit_value, is_digit, value_of, digits_of}
@@ -74,3 +75,16 @@ digit_wrong base n i cs h wrong = rw (drop-cons cs i 0 h) (digit_refused base n 
 pub digits_end : (base n i : ℕ) (cs : List ℕ) → n < 2 ^ 64 → length cs ≤ i → digits_behind base n (drop i cs) ≡ Some n
 digits_end base n i cs small end =
     let none = drop_all i cs end in let e : nat_lt n (2 ^ 64) ≡ true = lt-ltb n (2 ^ 64) small in rw (none, e) refl
+
+-- one digit more stays below what so many digits can be worth
+digit_fits : (base n digit i : ℕ) → n < base ^ i → digit < base → n * base + digit < base ^ (i + 1)
+digit_fits base n digit i below small =
+    let more : base ^ (i + 1) ≡ base ^ i * base = rw (add-one) (pow-suc base i) in
+    let next = mul-add-lt n base digit (base ^ i) below small in
+    rw (more, mul_comm (base ^ i) base) next
+
+-- one digit more, where so many digits never make a number too large
+pub few_fit : (base n digit i len : ℕ) → 1 ≤ base → n < base ^ i → digit < base → i < len → base ^ len ≤ 2 ^ 64 → n * base + digit < 2 ^ 64
+few_fit base n digit i len some below small few limit =
+    let next = digit_fits base n digit i below small in
+    let most : base ^ (i + 1) ≤ base ^ len = pow-le-pow_right {n = base} some (omega arith) in omega (arith, next, most)

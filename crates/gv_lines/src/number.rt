@@ -1,13 +1,16 @@
 //! Numbers in decimal, and in hexadecimal behind 0x.
-ghost use Rattle.std.specs.Prelude.{◌≡◌, ◌≤◌, ◌+◌, ◌*◌, MatchOption};
+ghost use Rattle.std.specs.Prelude.{◌≡◌, ◌≤◌, ◌+◌, ◌*◌, ◌^◌, MatchOption, length};
 ghost use Rattle.gv_lines.specs.Hex.{number_limit};
-ghost use Rattle.gv_lines.specs.Words.{number_of, decimal_of, digits_of, digit_value, hex_base};
+ghost use Rattle.gv_lines.specs.Words.{number_of, decimal_of, digits_of, digit_value};
+ghost use Rattle.gv_lines.specs.Words.{decimal_base, hex_base};
 
-const DECIMAL_BASE: u64 = 10;
+use super::digit::{DECIMAL_BASE, HEX_BASE, digit_value};
 
-const HEX_BASE: u64 = 16;
-
+/// How many hexadecimal digits the greatest number has: so many never make one too large.
 const HEX_DIGITS: usize = 16;
+
+/// How many decimal digits never make a number too large: 10^19 is below 2^64.
+const SAFE_DECIMAL_DIGITS: usize = 19;
 
 /// The number that a word is, if it is one below 2^64.
 #[tactic(auto, unfolding(crate::specs::Words::number_of))]
@@ -18,7 +21,7 @@ pub fn number_of(word: &[u8]) -> Option<u64>
         if digits.len() > HEX_DIGITS {
             return None;
         }
-        return digits_of(HEX_BASE, digits);
+        return hex_digits_of(digits);
     }
     decimal_of(word)
 }
@@ -31,15 +34,19 @@ pub fn decimal_of(word: &[u8]) -> Option<u64>
     if word.len() > 1 && word[0] == b'0' {
         return None;
     }
-    digits_of(DECIMAL_BASE, word)
+    if word.len() <= SAFE_DECIMAL_DIGITS {
+        few_digits_of(word)
+    } else {
+        many_digits_of(word)
+    }
 }
 
-/// The number of these digits, at least one.
+/// The number of these hexadecimal digits, at least one, where they are so few that no number is too large. It is a hot
+/// path, and has steps that need not look whether they fit.
 #[tactic(auto, unfolding(crate::specs::Words::digits_of))]
-fn digits_of(base: u64, digits: &[u8]) -> Option<u64>
-    requires low { 1 ≤ base }
-    requires high { base ≤ hex_base }
-    ensures { result ≡ digits_of base digits.now }
+fn hex_digits_of(digits: &[u8]) -> Option<u64>
+    requires short { hex_base ^ length digits.now ≤ number_limit }
+    ensures { result ≡ digits_of hex_base digits.now }
 {
     if digits.is_empty() {
         return None;
@@ -47,28 +54,56 @@ fn digits_of(base: u64, digits: &[u8]) -> Option<u64>
     let mut value: u64 = 0;
     for digit in digits {
         let digit = digit_value(*digit);
-        if digit >= base {
+        if digit >= HEX_BASE {
             return None;
         }
-        value = with_digit(value, base, digit)?;
+        value = value * HEX_BASE + digit;
     }
     Some(value)
 }
 
-fn with_digit(value: u64, base: u64, digit: u64) -> Option<u64>
-    ensures { MatchOption result (number_limit ≤ value * base + digit)
-        (λ new. new ≡ value * base + digit) }
+/// The number of these decimal digits, at least one, where they are so few that no number is too large: a hot path too.
+#[tactic(auto, unfolding(crate::specs::Words::digits_of))]
+fn few_digits_of(digits: &[u8]) -> Option<u64>
+    requires short { decimal_base ^ length digits.now ≤ number_limit }
+    ensures { result ≡ digits_of decimal_base digits.now }
 {
-    value.checked_mul(base)?.checked_add(digit)
+    if digits.is_empty() {
+        return None;
+    }
+    let mut value: u64 = 0;
+    for digit in digits {
+        let digit = digit_value(*digit);
+        if digit >= DECIMAL_BASE {
+            return None;
+        }
+        value = value * DECIMAL_BASE + digit;
+    }
+    Some(value)
 }
 
-/// The value of a digit 0-9 or a-f, and a value that is no digit's for any other byte.
-fn digit_value(byte: u8) -> u64
-    ensures { result ≡ digit_value byte }
+/// The number of these decimal digits, at least one, however many they are.
+#[tactic(auto, unfolding(crate::specs::Words::digits_of))]
+fn many_digits_of(digits: &[u8]) -> Option<u64>
+    ensures { result ≡ digits_of decimal_base digits.now }
 {
-    match byte {
-        b'0'..=b'9' => u64::from(byte - b'0'),
-        b'a'..=b'f' => u64::from(byte - b'a') + 10,
-        _ => HEX_BASE,
+    if digits.is_empty() {
+        return None;
     }
+    let mut value: u64 = 0;
+    for digit in digits {
+        let digit = digit_value(*digit);
+        if digit >= DECIMAL_BASE {
+            return None;
+        }
+        value = with_digit(value, digit)?;
+    }
+    Some(value)
+}
+
+fn with_digit(value: u64, digit: u64) -> Option<u64>
+    ensures { MatchOption result (number_limit ≤ value * decimal_base + digit)
+        (λ new. new ≡ value * decimal_base + digit) }
+{
+    value.checked_mul(DECIMAL_BASE)?.checked_add(digit)
 }
