@@ -62,6 +62,9 @@ impl Listing {
             kind,
             list,
             line: 0,
+            end: 0,
+            overlapping: None,
+            mappings: Vec::new(alloc),
             placed: Vec::new(alloc),
         };
         let mut rest = text;
@@ -82,62 +85,115 @@ struct Reading {
     kind: Kind,
     list: Which,
     line: u64,
+    // Of a `map`, whose lines have to ascend: where its last mapping ends, the first line that begins before that, and its mappings.
+    end: u64,
+    overlapping: Option<u64>,
+    mappings: Vec<Mapping>,
+    // Of a `gpuvas`, whose rows are sorted.
     placed: Vec<Placed>,
 }
 
 impl Reading {
     /// Takes the next line.
     fn take(&mut self, objects: &mut Objects, line: &[u8]) -> Result<(), CompareFault> {
+        // The borrow checker proves this only where the function names the types inside the mapping.
+        let _backing = Backing::Zero;
         self.line = self.line.saturating_add(1);
         let fault = CompareFault::NoMapping {
             list: self.list,
             line: self.line,
         };
-        let Ok(text) = str::from_utf8(line) else {
-            return Err(fault);
-        };
         let row = match self.kind {
-            Kind::Map if text == "empty" => return Ok(()),
-            Kind::Map => Row::of_map(text),
-            Kind::Dump if is_head(text) => return Ok(()),
-            Kind::Dump => Row::of_dump(text),
+            Kind::Map => Row::of_named(line),
+            Kind::Dump => None,
         };
-        let row = row.ok_or(fault)?;
+        let row = match row {
+            Some(row) => row,
+            None => match self.other(line) {
+                Ok(Some(row)) => row,
+                Ok(None) => return Ok(()),
+                Err(_) => return Err(fault),
+            },
+        };
         let mapping = mapping_of(objects, row)?.ok_or(fault)?;
-        self.placed.push(Placed {
-            mapping,
-            line: self.line,
-        })?;
-        Ok(())
+        self.place(mapping)
     }
 
-    /// The list, once all lines are read. The lines of a `map` have to ascend; the rows of a `gpuvas` are sorted.
+    /// The row of a line that names no buffer of a script, and none where it is no mapping but may stand in such a list.
+    fn other(&self, line: &[u8]) -> Result<Option<Row>, NoRow> {
+        let text = str::from_utf8(line).map_err(|_| NoRow)?;
+        let row = match self.kind {
+            Kind::Map if text == "empty" => return Ok(None),
+            Kind::Map => Row::of_map(text),
+            Kind::Dump if is_head(text) => return Ok(None),
+            Kind::Dump => Row::of_dump(text),
+        };
+        match row {
+            Some(row) => Ok(Some(row)),
+            None => Err(NoRow),
+        }
+    }
+
+    /// Adds the mapping of the line.
+    fn place(&mut self, mapping: Mapping) -> Result<(), CompareFault> {
+        let line = self.line;
+        if self.kind == Kind::Dump {
+            return Ok(self.placed.push(Placed { mapping, line })?);
+        }
+        if mapping.range.first() < self.end && self.overlapping.is_none() {
+            self.overlapping = Some(line);
+        }
+        self.end = mapping.range.end();
+        Ok(self.mappings.push(mapping)?)
+    }
+
+    /// The list, once all lines are read.
     fn finish(self, alloc: Global) -> Result<Listing, CompareFault> {
         let Reading {
             kind,
             list,
             line: _,
+            end: _,
+            overlapping,
+            mappings,
             placed,
         } = self;
-        let mut placed = placed;
-        if kind == Kind::Dump {
-            placed.sort_by_key(|placed| placed.mapping.range.first())?;
+        if let Some(line) = overlapping {
+            return Err(CompareFault::Overlapping { list, line });
         }
-        let mut mappings = Vec::new(alloc);
-        let mut end = 0;
-        for item in &placed {
-            let mapping = item.mapping;
-            if mapping.range.first() < end {
-                return Err(CompareFault::Overlapping {
-                    list,
-                    line: item.line,
-                });
-            }
-            end = mapping.range.end();
-            mappings.push(mapping)?;
+        if kind == Kind::Map {
+            return Ok(Listing { kind, mappings });
         }
+        let mappings = sorted(alloc, list, placed)?;
         Ok(Listing { kind, mappings })
     }
+}
+
+/// A line is no mapping.
+#[derive(Clone, Copy, Debug)]
+struct NoRow;
+
+/// Mappings in ascending order.
+fn sorted(
+    alloc: Global,
+    list: Which,
+    mut placed: Vec<Placed>,
+) -> Result<Vec<Mapping>, CompareFault> {
+    placed.sort_by_key(|placed| placed.mapping.range.first())?;
+    let mut mappings = Vec::new(alloc);
+    let mut end = 0;
+    for item in &placed {
+        let mapping = item.mapping;
+        if mapping.range.first() < end {
+            return Err(CompareFault::Overlapping {
+                list,
+                line: item.line,
+            });
+        }
+        end = mapping.range.end();
+        mappings.push(mapping)?;
+    }
+    Ok(mappings)
 }
 
 /// The mapping of a row, if a buffer has so many pages.
@@ -167,6 +223,11 @@ fn mapping_of(objects: &mut Objects, row: Row) -> Result<Option<Mapping>, Compar
 
 /// Whether only a `gpuvas` has such a line.
 fn is_of_dump(line: &[u8]) -> bool {
+    // Nearly no line begins so, and then nothing more is asked.
+    match line.trim_ascii_start().first() {
+        Some(b'D' | b'|') => {}
+        _ => return false,
+    }
     let Ok(text) = str::from_utf8(line) else {
         return false;
     };

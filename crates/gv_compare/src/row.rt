@@ -1,7 +1,7 @@
 //! A line of a list.
 
 use crate::objects::Object;
-use gv_lines::Name;
+use gv_lines::{Name, split_once};
 use gv_types::{PAGE_BYTES, PageRange};
 use std::str;
 
@@ -22,6 +22,26 @@ pub struct Row {
 }
 
 impl Row {
+    /// The same as `of_map` for a line of a buffer, if it is one: nearly all lines are. It goes through the bytes once, and what is
+    /// wrong with a line is left to `of_map`.
+    pub fn of_named(line: &[u8]) -> Option<Row> {
+        let (first, rest) = leading_digits(line)?;
+        let (end, rest) = leading_digits(rest)?;
+        let (name, rest) = split_once(rest, b' ')?;
+        let (offset, flags) = leading_digits(rest)?;
+        let read_only = match flags {
+            b"ro" => true,
+            b"rw" => false,
+            _ => return None,
+        };
+        Some(Row {
+            range: pages_between(first, end)?,
+            object: Some(Object::Named(Name::from_word(name)?)),
+            page: page_of(offset)?,
+            read_only,
+        })
+    }
+
     /// The mapping of a line `FIRST END NAME OFFSET FLAGS`, or `FIRST END zero FLAGS`, as the line `map` is answered.
     pub fn of_map(line: &str) -> Option<Row> {
         let (first, rest) = line.split_once(' ')?;
@@ -74,6 +94,30 @@ fn is_read_only(flags: &str) -> Option<bool> {
     match flags {
         "ro" => Some(true),
         "rw" => Some(false),
+        _ => None,
+    }
+}
+
+/// The number that a text begins with as a `map` writes it, and what stands behind the space that ends it.
+fn leading_digits(text: &[u8]) -> Option<(u64, &[u8])> {
+    let (digits, rest) = text.split_at_checked(DIGITS)?;
+    let (space, rest) = rest.split_first()?;
+    if *space != b' ' {
+        return None;
+    }
+    let mut number = 0u64;
+    for byte in digits {
+        number = number << 4 | digit_value(*byte)?;
+    }
+    Some((number, rest))
+}
+
+/// The value of a hexadecimal digit of either case.
+fn digit_value(byte: u8) -> Option<u64> {
+    match byte {
+        b'0'..=b'9' => Some(u64::from(byte - b'0')),
+        b'a'..=b'f' => Some(u64::from(byte - b'a') + 10),
+        b'A'..=b'F' => Some(u64::from(byte - b'A') + 10),
         _ => None,
     }
 }
