@@ -5,14 +5,14 @@ use crate::history::History;
 use crate::options::Options;
 use crate::page::write_picture;
 use crate::row::{RowKind, Told};
-use gv_lines::{Line, Name, parse_line, split_once};
+use gv_lines::{Line, parse_line, split_once};
 use gv_text::{LineFault, Session, run_line};
 use gv_types::{OutOfMemory, PageRange};
 use std::alloc::Global;
 use std::str;
 
 /// What a line does, as far as a picture shows it.
-#[derive(Debug, Drop)]
+#[derive(Clone, Copy, Debug, PartialEq, Eq)]
 enum Act {
     /// A request: a new entry, unless it is refused.
     Bind,
@@ -21,20 +21,20 @@ enum Act {
     /// An older one is, by a new entry.
     Withdraw,
     Settle,
-    /// A buffer gets this name.
-    Names(Name),
+    /// A buffer gets a name.
+    Names,
     Other,
 }
 
 impl Act {
     /// What a line does.
-    fn of(line: &[u8]) -> Act {
-        match parse_line(line) {
-            Some(Line::Bind { .. }) => Act::Bind,
-            Some(Line::Rewind) => Act::Rewind,
-            Some(Line::Withdraw { .. }) => Act::Withdraw,
-            Some(Line::Settle { .. }) => Act::Settle,
-            Some(Line::Buffer { name, .. }) => Act::Names(name),
+    fn of(line: &Line<'_>) -> Act {
+        match line {
+            Line::Bind { .. } => Act::Bind,
+            Line::Rewind => Act::Rewind,
+            Line::Withdraw { .. } => Act::Withdraw,
+            Line::Settle { .. } => Act::Settle,
+            Line::Buffer { .. } => Act::Names,
             _ => Act::Other,
         }
     }
@@ -100,20 +100,20 @@ impl Drawing {
 
     /// Runs a line, and adds its row.
     fn run_line(&mut self, alloc: Global, line: &[u8]) -> Result<(), LineFault> {
-        let act = Act::of(line);
+        let parsed = parse_line(line).ok_or(LineFault::Bad)?;
+        let act = Act::of(&parsed);
         self.reply.clear();
         self.ranges.clear();
         let before = self.session.world().vm().next();
         if let Act::Rewind = act {
             self.note_ranges()?;
         }
-        let parsed = parse_line(line).ok_or(LineFault::Bad)?;
         run_line(alloc, &mut self.session, parsed, &mut self.reply)?;
         let has_entry = before < self.session.world().vm().next();
         match act {
             Act::Bind | Act::Withdraw if has_entry => self.note_ranges()?,
             Act::Bind | Act::Rewind | Act::Withdraw | Act::Settle => {}
-            Act::Names(name) => return Ok(self.give_name(alloc, &name)?),
+            Act::Names => return Ok(self.give_name(alloc, line)?),
             Act::Other => return Ok(()),
         }
         let number = has_entry.then_some(before);
@@ -135,9 +135,12 @@ impl Drawing {
         Ok(())
     }
 
-    /// Names a buffer, if it was made.
-    fn give_name(&mut self, alloc: Global, name: &Name) -> Result<(), OutOfMemory> {
-        match self.session.buffers().id_of(name) {
+    /// Names the buffer of a line, if it was made. Such lines are few, so this one is read again.
+    fn give_name(&mut self, alloc: Global, line: &[u8]) -> Result<(), OutOfMemory> {
+        let Some(Line::Buffer { name, .. }) = parse_line(line) else {
+            return Ok(());
+        };
+        match self.session.buffers().id_of(&name) {
             Some(id) => self.history.name(alloc, id, name.as_str()),
             None => Ok(()),
         }
