@@ -21,7 +21,7 @@ use Rattle.gv_table.proofs.Spans.{apart-cases, meets-after, meets-before}
 use Rattle.gv_table.proofs.Covered.{true-or-false, at-covering, covering-none, covering-part, covering-small, any_meets-part}
 use Rattle.gv_table.proofs.Clips.{alike-outside}
 use Rattle.gv_table.proofs.Wants.{nothing-meets, entry-covers, nothing-part, entry-part, wanted-alike}
-use Rattle.gv_table.proofs.Slots.{is_table-Table, child-Table, is_table-Empty, is_table-leaf, leaf-same, leaf-some}
+use Rattle.gv_table.proofs.Slots.{is_table-Table, child-Table, child-other, is_table-Empty, is_table-leaf, leaf-same, leaf-some}
 
 pub IsTreeOf-nothing : (ms : List Mapping) (level first : ℕ) (slot : Slot) → wanted ms level first ≡ variant.Nothing → slot ≡ Empty →
     IsTreeOf ms level first slot
@@ -227,3 +227,21 @@ pub outside-apart : (ms : List Mapping) (range : PageRangeState) (level first : 
     end_of (slot_pages level first) ≤ PAGES → meets (slot_pages level first) range ≡ false → IsTreeOf ms level first slot
 outside-apart ms range level first slot laid outside within apart =
     tree-alike range outside.earlier ms level first slot outside.alike outside.laid_out laid within apart outside.tree
+
+-- where nothing is wanted of a slot with slots of pages, those apart from the range are empty
+pub empty-apart : (ms : List Mapping) (range : PageRangeState) (first : ℕ) (slot : Slot) → IsLaidOut ms → IsTreeOutside ms range 1 first slot →
+    end_of (slot_pages 1 first) ≤ PAGES → wanted ms 1 first ≡ variant.Nothing → (k : ℕ) → k < 512 →
+    meets (slot_pages 0 (first + k * pages_of 0)) range ≡ false → child slot k ≡ Empty
+empty-apart ms range first slot laid outside within want k below apart =
+    let page = first + k * pages_of 0 in
+    let fit = part-within k (pages_of 1) (pages_of 0) below (pages_of-more 0) in
+    let none : IsTreeOf ms 0 page Empty = IsTreeOf-nothing ms 0 page Empty (nothing-part ms 0 first k below want) refl in
+    elim (true-or-false (is_table slot)) [
+      | inl table ↦ (
+          let part : IsTreeOf outside.earlier 0 page (child slot k) = read-parts outside.earlier 1 first slot (omega arith) outside.tree table k below in
+          let fits : IsTreeOutside ms range 0 page (child slot k) = record { earlier = outside.earlier; laid_out = outside.laid_out; alike = outside.alike; tree = part } in
+          let here : IsTreeOf ms 0 page (child slot k) = outside-apart ms range 0 page (child slot k) laid fits (omega (arith, fit, within)) apart in
+          page-of ms page (child slot k) here ∙ sym (page-of ms page Empty none)
+          )
+      | inr other ↦ child-other slot k other
+    ]

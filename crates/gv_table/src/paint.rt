@@ -20,7 +20,7 @@ use crate::levels::{SLOTS, pages_of, slots_met};
 use crate::pages::paint_pages;
 use crate::place::{Excerpt, Place};
 use crate::position::advance;
-use crate::release::clear;
+use crate::release::{clear, clear_unwanted};
 use crate::slot::{Slot, overwrite};
 use crate::spares::Spares;
 use crate::table_counts::TableCounts;
@@ -126,7 +126,7 @@ pub fn paint_slot(
 {
     let Place { level, first } = place;
     match slot_wanted(excerpt, place) {
-        Wanted::Nothing => clear(slot, level, spares, counts),
+        Wanted::Nothing => clear_unwanted(slot, place, excerpt.range, spares, counts),
         Wanted::Entry(entry) => {
             let lost = clear(slot, level, spares, counts);
             overwrite(slot, Slot::leaf(entry));

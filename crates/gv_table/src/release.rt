@@ -1,14 +1,19 @@
 //! A slot given up.
-ghost use Rattle.std.specs.Prelude.{◌≡◌, ◌≤◌, ◌+◌, ℕ};
+ghost use Rattle.std.specs.Prelude.{◌≡◌, ◌⊎◌, ◌≤◌, ◌<◌, ◌+◌, ◌*◌, ℕ, IsTrue, false};
+ghost use Rattle.gv_types.specs.Page.{PAGES};
+ghost use Rattle.gv_types.specs.PageRange.{meets, end_of};
 ghost use Rattle.gv_table.specs.declared.slot.Slot.TheVariants.{Empty};
-ghost use Rattle.gv_table.specs.Levels.{top_level};
+ghost use Rattle.gv_table.specs.Levels.{top_level, slots_per_table, pages_of, slot_pages};
+ghost use Rattle.gv_table.specs.Tree.{child};
 ghost use Rattle.gv_table.specs.Counts.{tables_in, tables_at, count_at};
 
 use crate::fill::empty;
-use crate::levels::SLOTS;
+use crate::levels::{SLOTS, slots_met};
+use crate::place::Place;
 use crate::slot::{Slot, overwrite};
 use crate::spares::Spares;
 use crate::table_counts::TableCounts;
+use gv_types::PageRange;
 use std::mem;
 
 /// Empties a slot, takes its tables off the counts, and puts them to the spares: how many they were.
@@ -45,7 +50,7 @@ fn release(slot: &mut Slot, level: usize, spares: &mut Spares, counts: &mut Tabl
         return 0;
     }
     if level == 1 {
-        return release_pages(slot, spares, counts);
+        return release_part(slot, 0, SLOTS, spares, counts);
     }
     match mem::replace(slot, Slot::Empty) {
         Slot::Table(mut slots) => {
@@ -61,9 +66,18 @@ fn release(slot: &mut Slot, level: usize, spares: &mut Spares, counts: &mut Tabl
     }
 }
 
-/// The same for a slot whose table, where it is one, has slots of single pages, which hold no table: they are emptied in one
-/// pass, without a call for each of them.
-fn release_pages(slot: &mut Slot, spares: &mut Spares, counts: &mut TableCounts) -> u64
+/// The same for a slot whose table, where it is one, has slots of single pages, which hold no table: those from `low` up to,
+/// and without, `high` are emptied in one pass, without a call for each of them. The others are empty.
+fn release_part(
+    slot: &mut Slot,
+    low: usize,
+    high: usize,
+    spares: &mut Spares,
+    counts: &mut TableCounts,
+) -> u64
+    requires ordered { low ≤ high }
+    requires within { high ≤ slots_per_table }
+    requires rest { (k : ℕ) → k < slots_per_table → (k < low) ⊎ (high ≤ k) → child slot.old k ≡ Empty }
     requires counted { (target : ℕ) → tables_at target 1 slot.old ≤ count_at counts.old target }
     ensures count { result ≡ tables_in 1 slot.old }
     ensures emptied { slot.new ≡ Empty }
@@ -73,11 +87,39 @@ fn release_pages(slot: &mut Slot, spares: &mut Spares, counts: &mut TableCounts)
 {
     match mem::replace(slot, Slot::Empty) {
         Slot::Table(mut pages) => {
-            empty(&mut pages, 0, SLOTS);
+            empty(&mut pages, low, high);
             spares.put(pages);
             counts.lower(0);
             1
         }
         Slot::Empty | Slot::Zero { .. } | Slot::Buffer { .. } => 0,
     }
+}
+
+/// Empties a slot of which nothing is wanted. All that it holds lies in the range: of a table of pages, which is large, only the
+/// slots are emptied that meet it.
+pub fn clear_unwanted(
+    slot: &mut Slot,
+    place: Place,
+    range: PageRange,
+    spares: &mut Spares,
+    counts: &mut TableCounts,
+) -> u64
+    requires known { place.level ≤ top_level }
+    requires in_space { end_of (slot_pages place.level place.first) ≤ PAGES }
+    requires met { IsTrue (meets (slot_pages place.level place.first) range) }
+    requires counted { (target : ℕ) → tables_at target place.level slot.old ≤ count_at counts.old target }
+    requires rest { place.level ≡ 1 → (k : ℕ) → k < slots_per_table
+        → meets (slot_pages 0 (place.first + k * pages_of 0)) range ≡ false → child slot.old k ≡ Empty }
+    ensures count { result ≡ tables_in place.level slot.old }
+    ensures emptied { slot.new ≡ Empty }
+    ensures put { spares.new ≡ spares.old + tables_in place.level slot.old }
+    ensures counted { (target : ℕ) → count_at counts.new target + tables_at target place.level slot.old
+        ≡ count_at counts.old target }
+{
+    if place.level != 1 {
+        return clear(slot, place.level, spares, counts);
+    }
+    let (low, high) = slots_met(0, place.first, range);
+    release_part(slot, low, high, spares, counts)
 }

@@ -2,12 +2,14 @@ use Rattle.std.proofs.Common.{rules, arith, ◌≡◌, ◌≢◌, ◌+◌, ◌*�
 use Rattle.std.proofs.lemmas.List.{get_or_default}
 use borrow.Enum.Total.{values_o_at}
 use Rattle.gv_table.specs.contracts.slot.Slot.{enum}
-use Rattle.gv_types.specs.PageRange.{span, meets}
+use Rattle.gv_types.specs.Page.{PAGES}
+use Rattle.gv_types.specs.PageRange.{span, meets, end_of}
 use Rattle.gv_table.specs.declared.slot.Slot.{Slot}
 use Rattle.gv_table.specs.declared.slot.Slot.TheVariants.{Empty}
 use Rattle.gv_ranges.specs.List.{IsIndexOfPage}
 use Rattle.gv_table.specs.Levels.{pages_of, slot_pages, first_within}
-use Rattle.gv_table.specs.Wanted.{is_divided}
+use Rattle.gv_table.specs.declared.wanted.Wanted.TheVariants as variant
+use Rattle.gv_table.specs.Wanted.{wanted, is_divided}
 use Rattle.gv_table.specs.Tree.{IsTreeOf, IsTreeOutside, is_table}
 use Rattle.gv_table.specs.Counts.{gained, lost, tables_at, IsPartOf}
 use Rattle.gv_table.proofs.Counts.{gained-parts, lost-parts, tables_at-other, tables_at-same}
@@ -21,7 +23,7 @@ use Rattle.gv_table.proofs.Slots.{is_table-Empty, is_table-leaf, no-table}
 use Rattle.gv_table.proofs.Counting.{divided-row, divided-counted, row-part, row-counted}
 use Rattle.gv_table.proofs.Spans.{meets-before}
 use Rattle.gv_table.proofs.Sums.{sum_below-at}
-use Rattle.gv_table.proofs.Trees.{IsTreeOf-nothing, IsTreeOf-leaf, IsTreeOf-table, outside-apart}
+use Rattle.gv_table.proofs.Trees.{IsTreeOf-nothing, IsTreeOf-leaf, IsTreeOf-table, outside-apart, empty-apart}
 use Rattle.gv_table.proofs.Wants.{table-above}
 use Rattle.gv_table.proofs.paint.+paint.Goals as goal
 
@@ -191,17 +193,17 @@ paint_slot-overflow_sub-place t c =
     let some = table-above _ c.args.place.level c.args.place.first (sym c.slot_wanted.ensures ∙ c.in-Table.is) in omega (arith, some)
 
 pub paint_slot-returns-in-Nothing-clause-tree : goal.paint_slot-returns-in-Nothing-clause-tree
-paint_slot-returns-in-Nothing-clause-tree t c = IsTreeOf-nothing _ c.args.place.level c.args.place.first _ (sym c.slot_wanted.ensures ∙ c.in-Nothing.is) c.clear.ensures.emptied
+paint_slot-returns-in-Nothing-clause-tree t c = IsTreeOf-nothing _ c.args.place.level c.args.place.first _ (sym c.slot_wanted.ensures ∙ c.in-Nothing.is) c.clear_unwanted.ensures.emptied
 
 pub paint_slot-returns-in-Nothing-clause-lost : goal.paint_slot-returns-in-Nothing-clause-lost
 paint_slot-returns-in-Nothing-clause-lost t c =
     let none : is_divided _ ≡ false = ap is_divided (sym c.slot_wanted.ensures ∙ c.in-Nothing.is) in
-    c.clear.ensures.count ∙ sym (lost-whole c.args.excerpt.now.mappings.now c.args.place.level c.args.place.first c.args.slot.now c.requires.laid_out none)
+    c.clear_unwanted.ensures.count ∙ sym (lost-whole c.args.excerpt.now.mappings.now c.args.place.level c.args.place.first c.args.slot.now c.requires.laid_out none)
 
 pub paint_slot-returns-in-Nothing-clause-counted : goal.paint_slot-returns-in-Nothing-clause-counted
 paint_slot-returns-in-Nothing-clause-counted t c = λ target.
-    let none = tables_at-other target c.args.place.level c.clear.new.slot (ap is_table c.clear.ensures.emptied ∙ is_table-Empty) in
-    let given = c.clear.ensures.counted target in
+    let none = tables_at-other target c.args.place.level c.clear_unwanted.new.slot (ap is_table c.clear_unwanted.ensures.emptied ∙ is_table-Empty) in
+    let given = c.clear_unwanted.ensures.counted target in
     omega (arith, none, given)
 
 pub paint_slot-returns-in-Entry-clause-counted : goal.paint_slot-returns-in-Entry-clause-counted
@@ -215,7 +217,7 @@ paint_slot-returns-in-Nothing-clause-exchanged t c =
     let none : is_divided _ ≡ false = ap is_divided (sym c.slot_wanted.ensures ∙ c.in-Nothing.is) in
     let g = gained-none c.args.excerpt.now.mappings.now c.args.place.level c.args.place.first c.args.slot.now none in
     let l = lost-whole c.args.excerpt.now.mappings.now c.args.place.level c.args.place.first c.args.slot.now c.requires.laid_out none in
-    omega (arith, g, l, c.clear.ensures.put)
+    omega (arith, g, l, c.clear_unwanted.ensures.put)
 
 pub paint_slot-returns-in-Entry-clause-tree : goal.paint_slot-returns-in-Entry-clause-tree
 paint_slot-returns-in-Entry-clause-tree t c = IsTreeOf-leaf _ c.args.place.level c.args.place.first c.in-Entry.entry _ (sym c.slot_wanted.ensures ∙ c.in-Entry.is) (c.overwrite.ensures ∙ c.leaf.ensures)
@@ -340,3 +342,13 @@ paint_slot-returns-in-Table-slot-clause-counted t c =
     let held = values_o_at enum 3 (c.in-Table-slot.slots, tt) in
     rw (c.in-Table-slot.is, held) (divided-counted c.args.counts.now c.make_table.new.counts c.paint_row.new.counts c.args.place.level c.args.slot.now c.deref_mut.result.now _ some
     c.make_table.ensures.counted (λ target k below. sym (tables_at-same target (c.args.place.level - 1) _ _ (tables k below))) c.paint_row.ensures.counted)
+
+pub paint_slot-clear_unwanted-requires-clause-rest : goal.paint_slot-clear_unwanted-requires-clause-rest
+paint_slot-clear_unwanted-requires-clause-rest t c = λ one k below apart.
+    let ms = c.args.excerpt.now.mappings.now in
+    let range = c.args.excerpt.now.range in
+    let want : wanted ms c.args.place.level c.args.place.first ≡ variant.Nothing = sym c.slot_wanted.ensures ∙ c.in-Nothing.is in
+    empty-apart ms range c.args.place.first c.args.slot.now c.requires.laid_out
+    (subst (λ (n : ℕ). IsTreeOutside ms range n c.args.place.first c.args.slot.now) one c.requires.outside)
+    (subst (λ (n : ℕ). end_of (slot_pages n c.args.place.first) ≤ PAGES) one c.requires.in_space)
+    (subst (λ (n : ℕ). wanted ms n c.args.place.first ≡ variant.Nothing) one want) k below apart
