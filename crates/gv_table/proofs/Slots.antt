@@ -96,11 +96,16 @@ pub child-Empty : (index : ℕ) → child Empty index ≡ Empty
 unfolding child
 child-Empty index = ap (λ (l : layer.Slot-F Slot). layer_child l index) out-Empty
 
--- a chain that begins with a table has one
-pub IsChainOf-some : (count : ℕ) (slot : Slot) → IsChainOf count slot → is_table slot ≡ true → 0 < count
+-- a chain that begins with no table has none
+pub IsChainOf-no : (count : ℕ) (slot : Slot) → IsChainOf count slot → is_table slot ≡ false → count ≡ 0
 unfolding IsChainOf
-IsChainOf-some zero slot chain table = let none : is_table slot ≡ false = ap is_table chain ∙ is_table-Empty in cc
-IsChainOf-some (suc count) slot chain table = omega arith
+IsChainOf-no zero slot chain other = refl
+IsChainOf-no (suc count) slot chain other = let table : is_table slot ≡ true = chain.0 in cc
+
+-- a chain of none begins with no table
+pub IsChainOf-empty : (slot : Slot) → IsChainOf 0 slot → is_table slot ≡ false
+unfolding IsChainOf
+IsChainOf-empty slot chain = ap is_table chain ∙ is_table-Empty
 
 -- an empty table before a chain
 pub IsChainOf-more :

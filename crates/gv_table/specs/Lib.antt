@@ -5,5 +5,6 @@ pub mod Sums
 pub mod Tree
 pub mod Counts
 pub mod Chain
+pub mod Pool
 pub mod Table
 pub mod Laws

@@ -1,5 +1,5 @@
 //! The tree of tables.
-ghost use Rattle.std.specs.Prelude.{◌≡◌, ◌≤◌, ◌<◌, ◌+◌, ℕ, List, [], IfOk, IfErr, OnErr};
+ghost use Rattle.std.specs.Prelude.{◌≡◌, ◌≤◌, ◌<◌, ◌+◌, ◌-◌, ℕ, List, [], IfOk, IfErr, OnOk, OnErr};
 ghost use Rattle.gv_types.specs.declared.fault.Fault.TheVariants.{OutOfMemory};
 ghost use Rattle.gv_types.specs.declared.mapping.Mapping.{Mapping};
 ghost use Rattle.gv_types.specs.PageRange.{end_of};
@@ -89,8 +89,8 @@ impl PageTable {
         Ok(spares)
     }
 
-    /// The same, where tables of a pool serve before any is made: memory is asked for only where the pool has none left.
-    /// Where it is refused, the tables that were taken so far are given back to the system.
+    /// The same, where tables of a pool serve before any is made: `OutOfMemory` comes only where more are needed than it has. Where
+    /// it comes, the pool is empty, and the tables that were taken so far are given back to the system.
     pub fn spare_from(
         &self,
         alloc: Global,
@@ -104,7 +104,8 @@ impl PageTable {
             → FitsOutside ms range self.now
             → clipped range.first (end_of range) ms ≡ pieces.now → gained_by ms self.now ≤ spares) }
         ensures err { IfErr result (λ fault. fault ≡ OutOfMemory) }
-        ensures some_needed { OnErr result (0 < needed_for pieces.now range self.now) }
+        ensures some_needed { OnErr result (pool.old < needed_for pieces.now range self.now) }
+        ensures taken { OnOk result (pool.new ≡ pool.old - needed_for pieces.now range self.now) }
     {
         let pieces = Reader::of_slice(pieces);
         let mut spares = Spares::new();

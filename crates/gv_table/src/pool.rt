@@ -1,24 +1,38 @@
 //! Empty tables kept for later paints.
-ghost use Rattle.std.specs.Prelude.{◌≡◌, ◌+◌, ◌≤◌, OnOk, OnErr};
+ghost use Rattle.std.specs.Prelude.{◌≡◌, ◌+◌, ◌-◌, ◌≤◌, OnOk, OnErr};
+ghost use Rattle.gv_table.specs.Pool.{most_kept, kept_with};
 
 use crate::spares::Spares;
 use std::alloc::{AllocError, Global};
+use std::marker::Model;
 
 /// So many tables are kept at most: 3 MiB.
 const MOST_KEPT: u64 = 256;
 
 /// Empty tables that left trees and are kept for later paints, so that a table which comes and goes is neither made anew nor
-/// given back to the system. It grows only by what is put in, and keeps at most 256.
+/// given back to the system. It grows only by what is put in, and keeps at most 256. Contracts see how many they are.
 #[derive(Drop)]
 pub struct Pool {
     spares: Spares,
     count: u64,
-    ghost counted: { count ≡ spares },
+}
+
+impl Model for Pool {
+    ghost use Rattle.std.specs.Prelude.{ℕ, ◌≡◌, ◌≤◌};
+    ghost use Rattle.gv_table.specs.Pool.{most_kept};
+
+    ghost Value = { ℕ };
+
+    ghost view = { λ p. p.count };
+
+    ghost invariant = { λ p. (p.count ≡ p.spares) × (p.count ≤ most_kept) };
 }
 
 impl Pool {
     /// No table. It takes no memory.
-    pub fn new() -> Pool {
+    pub fn new() -> Pool
+        ensures { result ≡ 0 }
+    {
         Pool {
             spares: Spares::new(),
             count: 0,
@@ -26,7 +40,10 @@ impl Pool {
     }
 
     /// Keeps these tables, as far as it keeps any more; the others are given back to the system. It takes no memory.
-    pub fn put(&mut self, spares: Spares) {
+    pub fn put(&mut self, spares: Spares)
+        ensures kept { self.new ≡ kept_with self.old spares }
+        ensures few { self.new ≤ most_kept }
+    {
         let mut spares = spares;
         for _ in self.count..MOST_KEPT {
             if spares.is_empty() {
@@ -41,6 +58,8 @@ impl Pool {
     pub(crate) fn grow(&mut self, alloc: Global, spares: &mut Spares) -> Result<(), AllocError>
         ensures grown { OnOk result (spares.new ≡ spares.old + 1) }
         ensures unchanged { OnErr result (spares.new ≡ spares.old) }
+        ensures fewer { self.new ≡ self.old - 1 }
+        ensures none_left { OnErr result (self.old ≡ 0) }
     {
         if self.count == 0 {
             return spares.grow(alloc);

@@ -1,5 +1,5 @@
 //! Tables that are in no tree.
-ghost use Rattle.std.specs.Prelude.{◌≡◌, ◌+◌, ◌<◌, ◌≤◌, false, OnOk, OnErr};
+ghost use Rattle.std.specs.Prelude.{◌≡◌, ◌+◌, ◌<◌, ◌≤◌, ◌↔◌, IsTrue, OnOk, OnErr};
 ghost use Rattle.gv_table.specs.Chain.{AreEmpty};
 
 use crate::levels::SLOTS;
@@ -45,7 +45,7 @@ impl Spares {
 
     /// Whether there is no table.
     pub(crate) fn is_empty(&self) -> bool
-        ensures { result ≡ false → 0 < self.now }
+        ensures { IsTrue result ↔ (self.now ≡ 0) }
     {
         !self.first.is_table()
     }

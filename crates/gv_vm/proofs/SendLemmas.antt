@@ -42,7 +42,8 @@ use Rattle.gv_vm.specs.contracts.world.World.{the_row as world}
 use Rattle.gv_table.specs.contracts.slot.Slot.TheKnot.{ring}
 use Rattle.gv_table.specs.declared.slot.Slot.TheBlock.{the_members, member-Slot}
 use Rattle.gv_table.specs.contracts.page_table.PageTable.{the_row as page_table, the_type as page_table_type}
-use Rattle.gv_table.specs.contracts.pool.Pool.{the_row as pool, the_type as pool_type}
+use Rattle.gv_table.specs.contracts.pool.Pool.TheInside.{the_row as pool_inside, the_type as pool_type}
+use Rattle.gv_table.specs.contracts.pool.Pool.{the_row as pool}
 
 slot_steps : (i : the_members) → Sends ring i
 slot_steps member-Slot = record {
@@ -74,7 +75,7 @@ spares_send : IsSend spares
 spares_send = view_send spares_inside _ _ _ _ (declared_send spares_type (slot_send, tt))
 
 pool_send : IsSend pool
-pool_send = declared_send pool_type (spares_send, (wide, tt))
+pool_send = view_send pool_inside _ _ _ _ (declared_send pool_type (spares_send, (wide, tt)))
 
 list_with_table_send : IsSend list_with_table
 list_with_table_send = view_send list_with_table_inside _ _ _ _ (declared_send list_with_table_type (range_list_send, (page_table_send, (pool_send, tt))))

@@ -1,4 +1,4 @@
-use Rattle.std.proofs.Common.{arith, ◌≡◌, ◌*◌, ℕ, IsTrue, subst, ap, sym, ◌∙◌}
+use Rattle.std.proofs.Common.{arith, ◌≡◌, ◌*◌, ℕ, IsTrue, subst, ap, ◌∙◌}
 use Rattle.gv_types.specs.PageRange.{span, meets}
 use Rattle.gv_table.specs.Levels.{pages_of}
 use Rattle.gv_table.proofs.PagesOf.{pages_of-more}

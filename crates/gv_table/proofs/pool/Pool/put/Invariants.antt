@@ -1,5 +1,9 @@
-use Rattle.std.proofs.Common.{◌≡◌}
+use Rattle.std.proofs.Common.{◌≡◌, ◌+◌}
 use Rattle.gv_table.proofs.pool.Pool.put.Given as goal
 
 abbrev pub invariant-loop : goal.invariant-loop
-invariant-loop l = l.self.count ≡ l.counter
+invariant-loop l = record {
+  count : l.self-inside.count ≡ l.counter;
+  spares : l.self-inside.count ≡ l.self-inside.spares;
+  all : l.self-inside.count + l.spares ≡ l.initial.self-inside.count + l.initial.spares;
+}
