@@ -3,7 +3,7 @@ ghost use Rattle.gv_journal.specs.State.{FitsSpace};
 
 use gv_journal::{Item, ItemKind, Journal, ReadyRequest, Refusal, laws};
 use gv_space::Space;
-use gv_types::{Bounds, BufferId, Fault, Limits, Op, OutOfMemory, PageOp, Request};
+use gv_types::{Backing, Bounds, BufferId, Entry, Fault, Limits, Op, OutOfMemory, PageOp, Request};
 use std::alloc::Global;
 use std::marker::Model;
 
@@ -116,14 +116,37 @@ impl Machine {
         self.journal.settle(&mut self.space, first + 1).is_ok()
     }
 
-    /// Takes the newest entry back. Whether there was one.
-    pub fn rewind(&mut self) -> bool {
-        self.journal.rewind(&mut self.space).is_ok()
+    /// What a page held once this entry was done, where an operation of it covers the page.
+    pub fn said_of(&self, number: u64, page: u64) -> Option<Option<Entry>> {
+        let said = self.journal.said_of(number, page)?;
+        Some(entry_by(&said.op, page))
+    }
+
+    /// What a page held before all entries that are held.
+    pub fn base_at(&self, page: u64) -> Option<Entry> {
+        self.journal.base_at(&self.space, page)
     }
 
     /// Gives up what the entries keep.
     pub fn close(self) {
         let Machine { mut space, journal } = self;
         journal.close(&mut space);
+    }
+}
+
+/// What an operation leaves at a page that it covers.
+fn entry_by(op: &PageOp, page: u64) -> Option<Entry> {
+    // The borrow checker proves this only where the function names the types inside the entry.
+    let _backing = Backing::Zero;
+    match *op {
+        PageOp::Map {
+            range,
+            backing,
+            flags,
+        } => {
+            let first = Entry { backing, flags };
+            Some(first.advanced(page.saturating_sub(range.first())))
+        }
+        PageOp::Unmap { .. } | PageOp::UnmapBuffer { .. } => None,
     }
 }

@@ -21,14 +21,14 @@ impl Outcome {
     /// What a replay left, which is closed.
     pub fn of(alloc: Global, left: Left, terms: &Terms<'_>) -> Result<Outcome, AllocError> {
         let Left {
-            mut machine,
-            mut acts,
+            machine,
+            acts,
             tally,
         } = left;
         let first = machine.first();
         let alive = Alive::of(alloc, machine.space());
         let pasts = match addresses_of(alloc, terms) {
-            Ok(addresses) => pasts_of(alloc, &mut machine, &mut acts, &addresses),
+            Ok(addresses) => pasts_of(alloc, &machine, &acts, &addresses),
             Err(error) => Err(error),
         };
         machine.close();

@@ -1,8 +1,8 @@
-//! What addresses reached before: the held entries are taken back one after another, the newest first.
+//! What addresses reached before, told by the held entries that cover them.
 
 use crate::machine::Machine;
 use crate::row::Act;
-use gv_types::{Entry, Op, PAGE_BYTES, PageOp};
+use gv_types::{Entry, Op, PAGE_BYTES};
 use std::alloc::{AllocError, Global};
 use std::collections::VecDeque;
 
@@ -22,73 +22,61 @@ pub struct Past {
 }
 
 impl Past {
-    fn of(alloc: Global, machine: &Machine, addr: u64) -> Past {
-        Past {
-            addr,
-            now: machine.space().walk(addr / PAGE_BYTES),
-            before: Vec::new(alloc),
-        }
-    }
-
-    /// What it reaches now that the newest entry, which was this, is taken back.
-    fn add(&mut self, machine: &Machine, act: &Act) -> Result<(), AllocError> {
+    /// An entry covers the address, before which it reached this.
+    fn add(&mut self, act: &Act, entry: Option<Entry>) -> Result<(), AllocError> {
         // The borrow checker proves this only where the function names the types inside the act.
         let _op = Op::Unmap { addr: 0, len: 0 };
-        let entry = machine.space().walk(self.addr / PAGE_BYTES);
         self.before.push(Before { act: *act, entry })?;
         Ok(())
     }
 }
 
-/// The past of each address. The machine is rewound as far as its entries are held, but for no address not at all.
+/// The past of each address, as far as entries are held, whose acts these are. Nothing is taken back.
 pub fn pasts_of(
     alloc: Global,
-    machine: &mut Machine,
-    acts: &mut VecDeque<Act>,
+    machine: &Machine,
+    acts: &VecDeque<Act>,
     addresses: &[u64],
 ) -> Result<Vec<Past>, AllocError> {
     let mut pasts = Vec::new(alloc);
     for addr in addresses {
-        pasts.push(Past::of(alloc, machine, *addr))?;
-    }
-    if pasts.is_empty() {
-        return Ok(pasts);
-    }
-    for _entry in 0..machine.held() {
-        let Some(act) = acts.pop_back() else {
-            return Ok(pasts);
-        };
-        let covered = covered_by(alloc, machine, &pasts)?;
-        if !machine.rewind() {
-            return Ok(pasts);
-        }
-        for (past, is_covered) in pasts.iter_mut().zip(covered) {
-            if is_covered {
-                past.add(machine, &act)?;
-            }
-        }
+        pasts.push(past_of(alloc, machine, acts, *addr)?)?;
     }
     Ok(pasts)
 }
 
-/// Of each address, whether the newest entry covers it.
-fn covered_by(alloc: Global, machine: &Machine, pasts: &[Past]) -> Result<Vec<bool>, AllocError> {
-    let mut covered = Vec::new(alloc);
-    for past in pasts {
-        covered.push(is_covered(machine, past.addr / PAGE_BYTES))?;
+/// The past of an address. What an entry says that covers it is what the next newer one found there; the oldest one found what lies
+/// under all that are held.
+fn past_of(
+    alloc: Global,
+    machine: &Machine,
+    acts: &VecDeque<Act>,
+    addr: u64,
+) -> Result<Past, AllocError> {
+    let page = addr / PAGE_BYTES;
+    let mut past = Past {
+        addr,
+        now: machine.space().walk(page),
+        before: Vec::new(alloc),
+    };
+    let mut newer: Option<usize> = None;
+    for index in (0..acts.len()).rev() {
+        let number = machine.first().saturating_add(index as u64);
+        let Some(said) = machine.said_of(number, page) else {
+            continue;
+        };
+        if let Some(act) = act_at(acts, newer) {
+            past.add(act, said)?;
+        }
+        newer = Some(index);
     }
-    Ok(covered)
+    if let Some(act) = act_at(acts, newer) {
+        past.add(act, machine.base_at(page))?;
+    }
+    Ok(past)
 }
 
-/// Whether an operation of the newest entry covers the page.
-fn is_covered(machine: &Machine, page: u64) -> bool {
-    machine.newest().iter().any(|op| covers(op, page))
-}
-
-/// Whether an operation covers the page.
-fn covers(op: &PageOp, page: u64) -> bool {
-    match op {
-        PageOp::Map { range, .. } | PageOp::Unmap { range } => range.covers(page),
-        PageOp::UnmapBuffer { .. } => false,
-    }
+/// The act at an index, if there is one.
+fn act_at(acts: &VecDeque<Act>, index: Option<usize>) -> Option<&Act> {
+    acts.get(index?)
 }
