@@ -81,12 +81,7 @@ impl PageTable {
         ensures err { IfErr result (λ fault. fault ≡ OutOfMemory) }
         ensures some_needed { OnErr result (0 < needed_for pieces.now range self.now) }
     {
-        let pieces = Reader::of_slice(pieces);
-        let mut spares = Spares::new();
-        for _ in 0..needed_in_tree(&self.root, &pieces, range) {
-            spares.grow(alloc)?;
-        }
-        Ok(spares)
+        self.spare_from(alloc, range, pieces, &mut Pool::new())
     }
 
     /// The same, where tables of a pool serve before any is made: `OutOfMemory` comes only where more are needed than it has. Where

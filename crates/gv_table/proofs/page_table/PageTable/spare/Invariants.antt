@@ -1,5 +1,0 @@
-use Rattle.std.proofs.Common.{◌≡◌}
-use Rattle.gv_table.proofs.page_table.PageTable.spare.Given as goal
-
-abbrev pub invariant-loop : goal.invariant-loop
-invariant-loop l = l.spares ≡ l.counter
