@@ -1,14 +1,13 @@
 -- The users of a buffer that stand in the order of their jobs.
-use Rattle.std.proofs.Common.{◌≡◌, ◌≢◌, ◌+◌, ◌<◌, ◌≤◌, ℕ, zero, suc, List, [], ◌∷◌, length, get_or, true, false, cond, not, eqb, nat_lt, arith, refl, sym, ap, Some, None, Ok, Err, position, ⊎_elim}
+use Rattle.std.proofs.Common.{◌≡◌, ◌≢◌, ◌+◌, ◌<◌, ◌≤◌, ℕ, zero, suc, List, [], ◌∷◌, length, get_or, true, false, eqb, nat_lt, arith, refl, sym, ap, Some, None, Ok, Err, position, ⊎_elim}
 use Rattle.std.specs.List.{All, remove, position_or_len, list_all}
 use Rattle.std.specs.List.Sorted.{IsSearchInRange, IsBinarySearchResult, IsNonDecreasingBy}
 use Rattle.std.specs.Ordering.{nat_cmp, ordering_index}
-use Rattle.std.proofs.lemmas.Bool.{eq-eqb, ne_eqb, eqb-true, eqb-false, lt-ltb, le-ltb, ltb-true, and_parts, cases_lt}
+use Rattle.std.proofs.lemmas.Bool.{eq-eqb, ne_eqb, eqb-true, eqb-false, lt-ltb, le-ltb, ltb-true, cases_lt}
 use Rattle.std.proofs.lemmas.Bool.Decides.{nat_tests}
 use Rattle.std.proofs.lemmas.Cmp.{ranked}
-use Rattle.std.proofs.lemmas.List.Elements.{All-nil, All-cons}
 use Rattle.std.proofs.lemmas.List.Folds.{list_all_at}
-use Rattle.std.proofs.lemmas.List.Sums.{list_all-from_AllPass}
+use Rattle.std.proofs.lemmas.List.Sums.{list_all-from_AllPass, AllPass-from_list_all, position_or_len_is, fails_before_first}
 use Rattle.std.proofs.lemmas.List.Quantifiers.{position-Some}
 use Rattle.gv_buffers.specs.declared.usage.Usage.TheVariants.{Read}
 use Rattle.gv_buffers.specs.declared.usage.User.{User}
@@ -21,6 +20,9 @@ use Rattle.gv_buffers.proofs.TakenBack.{left_of_none}
 pub record IsAt (users : List User) (job place : ℕ) : Type 0 where
   pub within : place < length users
   pub here : (d : User) → (get_or users place d).job ≡ job
+
+no_one : User
+no_one = record { job = 0; usage = Read }
 
 -- it stands nowhere
 abbrev pub IsAbsent : List User → ℕ → Type 0
@@ -40,17 +42,14 @@ first_apart user users job place up at same =
     omega (arith, less, there, same)
 
 reached : (users : List User) (job place : ℕ) → AreAscending users → IsAt users job place → position_or_len (is_of job) users ≡ place
-reached [] job place up at = absurd (omega (arith, at.within))
-reached (user ∷ users) job zero up at = let same : eqb user.job job ≡ true = eq-eqb _ _ (at.here user) in rw same refl
-reached (user ∷ users) job (suc place) up at =
-    let other : eqb user.job job ≡ false = ne_eqb _ _ (first_apart user users job place up at) in
-    rw (other, reached users job place (ascending_tail user users up) (at_tail user users job place at)) (omega arith)
+reached users job place up at =
+    position_or_len_is (is_of job) users place no_one (omega (arith, at.within))
+    (λ k less. ne_eqb _ _ (λ same. let lower = up k place no_one less at.within in omega (arith, lower, at.here no_one, same)))
+    (λ _. eq-eqb _ _ (at.here no_one))
 
 passed : (users : List User) (job : ℕ) → IsAbsent users job → position_or_len (is_of job) users ≡ length users
-passed [] job none = refl
-passed (user ∷ users) job none =
-    let other : eqb user.job job ≡ false = ne_eqb _ _ (none 0 user (omega arith)) in
-    rw (other, passed users job (λ k d within. none (suc k) d (omega arith))) (omega arith)
+passed users job none =
+    position_or_len_is (is_of job) users (length users) no_one (omega arith) (λ k less. ne_eqb _ _ (none k no_one less)) (λ less. absurd (omega (arith, less)))
 
 pub position-at : (users : List User) (job place : ℕ) → AreAscending users → IsAt users job place → position (is_of job) users ≡ Some place
 position-at users job place up at =
@@ -65,19 +64,13 @@ position-absent users job none =
 -- what a search says of users that ascend
 pub at-position : (users : List User) (job place : ℕ) → position (is_of job) users ≡ Some place → IsAt users job place
 at-position users job place found =
-    let no_one : User = record { job = 0; usage = Read } in
     record {
       within = (position-Some (is_of job) users place no_one found).0;
       here = λ d. eqb-true _ _ (position-Some (is_of job) users place d found).1;
     }
 
 absent_past : (job : ℕ) (users : List User) → length users ≤ position_or_len (is_of job) users → IsAbsent users job
-absent_past job [] past = All-nil (λ u. u.job ≢ job)
-absent_past job (user ∷ users) past =
-    elim (eqb user.job job) as (λ b. eqb user.job job ≡ b → length (user ∷ users) ≤ cond (not b) (1 + position_or_len (is_of job) users) 0 → IsAbsent (user ∷ users) job) [
-      | true ↦ (λ _ h. absurd (omega arith))
-      | false ↦ (λ e h. All-cons (λ u. u.job ≢ job) user users (eqb-false _ _ e) (absent_past job users (omega arith)))
-    ] refl past
+absent_past job users past k d within = eqb-false _ _ (fails_before_first (is_of job) users k d (omega (arith, past, within)))
 
 -- a job that was not found leaves no user away
 pub left-absent : (job : ℕ) (users : List User) → position (is_of job) users ≡ None → left job users ≡ users
@@ -116,15 +109,11 @@ below-last users job place last up end at =
     rw no (list_all_at (λ u. nat_lt u.job job) users place last (omega arith) (rw (at last) no)))
     (cases_lt last.job job)
 
-pub all_below : (job : ℕ) (users : List User) → are_below job users ≡ true → All (λ u. u.job < job) users
-all_below job [] below = All-nil (λ u. u.job < job)
-all_below job (user ∷ users) below =
-    let parts = and_parts (nat_lt user.job job) (are_below job users) below in
-    All-cons (λ u. u.job < job) user users (ltb-true _ _ parts.0) (all_below job users parts.1)
-
 -- a newer job is none of the users
 pub absent-below : (job : ℕ) (users : List User) → are_below job users ≡ true → IsAbsent users job
-absent-below job users below k d within same = let less = all_below job users below k d within in omega (arith, less, same)
+absent-below job users below k d within same =
+    let less : (get_or users k d).job < job = ltb-true _ _ (AllPass-from_list_all (λ u. nat_lt u.job job) users below k d within) in
+    omega (arith, less, same)
 
 -- to take the job out of its place is to leave it away
 pub left-at : (users : List User) (job place : ℕ) → AreAscending users → IsAt users job place → remove users place ≡ left job users
