@@ -211,7 +211,7 @@ module _ (j : JournalState) (to count : ℕ) (notes : List NoteState) (is : j.fi
     where
       by_items : (items : List Item) → j.items ≡ items → crossing_from to None notes ≡ None
       by_items [] is_empty = ap (crossing_from to None) (no_elements notes (notes_size ∙ omega (arith, few, ap (λ (xs : List Item). length xs) is_empty)))
-      by_items (d ∷ items) some = none_crosses d (record { withdrawal = None; extent = None }) none
+      by_items (d ∷ items) some = none_crosses d (record { withdrawal = None; reach = record { extent = None; regions = 0 } }) none
 
   some_is : (k : ℕ) → position_from test 0 after ≡ Some k → crossing_from to None notes ≡ Some (to + k)
   some_is k found = by_items after refl
@@ -221,7 +221,7 @@ module _ (j : JournalState) (to count : ℕ) (notes : List NoteState) (is : j.fi
         where
           nothing : (o : Option ℕ) → o ≡ None → o ≡ Some k → ⊥
           nothing o none some = cc
-      by_items (d ∷ items) some = first_crosses d (record { withdrawal = None; extent = None }) k found
+      by_items (d ∷ items) some = first_crosses d (record { withdrawal = None; reach = record { extent = None; regions = 0 } }) k found
 
   -- so the least number in the notes is that of the least later item that crosses
   pub crossing_is : crossing j to ≡ crossing_from to None notes

@@ -9,7 +9,7 @@ use Rattle.gv_types.specs.declared.fault.Fault.TheVariants.{Withdrawn}
 use Rattle.gv_types.specs.declared.operation.PageOp.{PageOp}
 use Rattle.gv_types.specs.declared.request.Request.{Request}
 use Rattle.gv_journal.specs.Items.{JournalState, entries, next, is_withdrawn, done_by}
-use Rattle.gv_journal.specs.Notes.{named_by, extent_of, notes_of, AreReaches, TellGone}
+use Rattle.gv_journal.specs.Notes.{named_by, reach_of, notes_of, AreReaches, TellGone}
 use Rattle.gv_journal.specs.Withdrawing.{item_at, touched_from, touched_by, touched_fault, kind_fault, found_fault}
 use Rattle.gv_journal.specs.declared.item.Item.{Item}
 use Rattle.gv_journal.specs.declared.item.ItemKind.{ItemKind}
@@ -58,21 +58,21 @@ module _ (j : JournalState) (n start : ℕ) (items : List Item) (notes : List No
   beside = ap (λ (ms : List NoteState). length ms) noted ∙ length-notes (entries j) j.first j.items ∙ sym (ap (λ (xs : List Item). length xs) all ∙ length-reverse j.items)
 
   each_note : (i : ℕ) (note : NoteState) (item : Item) → i < length items →
-      get_or notes i note ≡ record { withdrawal = named_by (entries j) (j.first + i); extent = extent_of (done_by (get_or items i item).kind) }
+      get_or notes i note ≡ record { withdrawal = named_by (entries j) (j.first + i); reach = reach_of (done_by (get_or items i item).kind) }
   each_note i note item below =
       ap (λ (ms : List NoteState). get_or ms i note) noted
       ∙ note_at (entries j) j.first j.items i note item (omega (arith, ap (λ (xs : List Item). length xs) all, length-reverse j.items))
-      ∙ ap (λ (xs : List Item). record { withdrawal = named_by (entries j) (j.first + i); extent = extent_of (done_by (get_or xs i item).kind) }) (sym all)
+      ∙ ap (λ (xs : List Item). record { withdrawal = named_by (entries j) (j.first + i); reach = reach_of (done_by (get_or xs i item).kind) }) (sym all)
 
   -- that of the item itself
   pub own_note : (own : NoteState) (item : Item) → own ≡ get_or notes (n - start) own → item ≡ get_or items (n - start) item →
-      (is_some own.withdrawal ≡ is_withdrawn (entries j) n) × (own.extent ≡ extent_of (done_by item.kind))
+      (is_some own.withdrawal ≡ is_withdrawn (entries j) n) × (own.reach ≡ reach_of (done_by item.kind))
   own_note own item at item_at_index =
       let below : n - start < length items = omega (arith, ap (λ (xs : List Item). length xs) all, length-reverse j.items) in
       let number : j.first + (n - start) ≡ n = omega arith in
       let whole = at ∙ each_note (n - start) own item below in (
         ap (λ (x : NoteState). is_some x.withdrawal) whole ∙ ap (λ (k : ℕ). is_some (named_by (entries j) k)) number ∙ named_is (entries j) n,
-        ap (λ (x : NoteState). x.extent) whole ∙ ap (λ (x : Item). extent_of (done_by x.kind)) (sym item_at_index),
+        ap (λ (x : NoteState). x.reach) whole ∙ ap (λ (x : Item). reach_of (done_by x.kind)) (sym item_at_index),
       )
 
   abbrev from : ℕ
@@ -93,8 +93,8 @@ module _ (j : JournalState) (n start : ℕ) (items : List Item) (notes : List No
   pub later_reaches : AreReaches (take (length notes - from) (drop from notes)) (take (length items - from) (drop from items))
   later_reaches i note item below =
       let within : from + i < length items = omega (arith, below, ap (λ (xs : List Item). length xs) later_items, length-drop from items) in
-      ap (λ (ms : List NoteState). (get_or ms i note).extent) later_notes ∙ ap (λ (x : NoteState). x.extent) (get_or-drop from notes i note ∙ each_note (from + i) note item within)
-      ∙ ap (λ (x : Item). extent_of (done_by x.kind)) (sym (ap (λ (xs : List Item). get_or xs i item) later_items ∙ get_or-drop from items i item))
+      ap (λ (ms : List NoteState). (get_or ms i note).reach) later_notes ∙ ap (λ (x : NoteState). x.reach) (get_or-drop from notes i note ∙ each_note (from + i) note item within)
+      ∙ ap (λ (x : Item). reach_of (done_by x.kind)) (sym (ap (λ (xs : List Item). get_or xs i item) later_items ∙ get_or-drop from items i item))
 
   pub later_gone : Item → TellGone (is_withdrawn (entries j)) (n + 1) (take (length notes - from) (drop from notes))
   later_gone item i note below =

@@ -63,14 +63,14 @@ none_held spent all le = drop_all spent all le
 
 -- a note is marked
 pub marked : (spent index : ℕ) (all notes : List NoteState) (was note : NoteState) (withdrawal : Option ℕ) → drop spent all ≡ notes → index < length notes → was ≡ get_or all (spent + index) was →
-    drop spent (set all (spent + index) (record { withdrawal = withdrawal; extent = was.extent }))
-    ≡ set notes index (record { withdrawal = withdrawal; extent = (get_or notes index note).extent })
+    drop spent (set all (spent + index) (record { withdrawal = withdrawal; reach = was.reach }))
+    ≡ set notes index (record { withdrawal = withdrawal; reach = (get_or notes index note).reach })
 marked spent index all notes was note withdrawal is below at =
     let here : was ≡ get_or notes index note =
     at ∙ sym (get_or-drop spent all index was) ∙ ap (λ (xs : List NoteState). get_or xs index was) is ∙ get_or_default notes index was note below in
-    drop-set-add spent all index (record { withdrawal = withdrawal; extent = was.extent })
-    ∙ ap (λ (xs : List NoteState). set xs index (record { withdrawal = withdrawal; extent = was.extent })) is
-    ∙ ap (λ (x : NoteState). set notes index (record { withdrawal = withdrawal; extent = x.extent })) here
+    drop-set-add spent all index (record { withdrawal = withdrawal; reach = was.reach })
+    ∙ ap (λ (xs : List NoteState). set xs index (record { withdrawal = withdrawal; reach = was.reach })) is
+    ∙ ap (λ (x : NoteState). set notes index (record { withdrawal = withdrawal; reach = x.reach })) here
 
 -- the notes of all but the newest item
 pub notes_left : (spent : ℕ) (rest : List Item) (all notes left : List NoteState) → drop spent all ≡ notes → left ≡ take (length rest) all → spent ≤ length rest →

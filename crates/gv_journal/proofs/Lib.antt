@@ -11,6 +11,7 @@ pub mod Views
 pub mod Histories
 pub mod Bindings
 pub mod Held
+pub mod Regions
 pub mod Reaches
 pub mod Noted
 pub mod ItemStores

@@ -5,9 +5,9 @@ use Rattle.std.proofs.lemmas.List.{reverse-append, length-reverse, length-map, l
 use Rattle.std.proofs.lemmas.Bool.{cases_lt, cases_eq}
 use Rattle.gv_types.specs.PageRange.{PageRangeState}
 use Rattle.gv_journal.specs.Items.{NumberedItem, numbered, names, is_withdrawn, done_by}
-use Rattle.gv_journal.specs.Notes.{named_by, extent_of, note_of}
+use Rattle.gv_journal.specs.Notes.{named_by, reach_of, note_of}
 use Rattle.gv_journal.specs.declared.item.Item.{Item}
-use Rattle.gv_journal.specs.Note.{NoteState}
+use Rattle.gv_journal.specs.Note.{NoteState, Reach}
 
 -- an item is gone where one names it
 pub named_is : (xs : List NumberedItem) (n : ℕ) → is_some (named_by xs n) ≡ is_withdrawn xs n
@@ -64,7 +64,7 @@ numbered_at first (item ∷ items) i x below = by_cases (cases_lt i (length item
 
 -- the note at an index, of items among others
 pub note_at : (xs : List NumberedItem) (first : ℕ) (items : List Item) (i : ℕ) (note : NoteState) (item : Item) → i < length items →
-    get_or (map (note_of xs) (reverse (numbered first items))) i note ≡ record { withdrawal = named_by xs (first + i); extent = extent_of (done_by (get_or (reverse items) i item).kind) }
+    get_or (map (note_of xs) (reverse (numbered first items))) i note ≡ record { withdrawal = named_by xs (first + i); reach = reach_of (done_by (get_or (reverse items) i item).kind) }
 note_at xs first items i note item below =
     let x : NumberedItem = record { number = 0; item = item } in
     get_or-map (note_of xs) (reverse (numbered first items)) i x note (omega (arith, length-reverse (numbered first items), length-numbered first items))
@@ -92,13 +92,14 @@ marked_one ms ns p w note size below others here =
     by_cases i d within (inr apart) = get_or-set_other ns p i (record (get_or ns p note) { withdrawal = w }) d apart ∙ sym (others i d within apart)
 
 -- a note that nothing withdraws
-pub fresh : (note : NoteState) (extent : Option PageRangeState) → note.withdrawal ≡ None → note.extent ≡ extent → note ≡ record { withdrawal = None; extent = extent }
-fresh note extent none is =
-    ap (λ (w : Option ℕ). let n : NoteState = record { withdrawal = w; extent = note.extent } in n) none
-    ∙ ap (λ (r : Option PageRangeState). let n : NoteState = record { withdrawal = None; extent = r } in n) is
+pub fresh : (note : NoteState) (reach : Reach) → note.withdrawal ≡ None → note.reach.extent ≡ reach.extent → note.reach.regions ≡ reach.regions → note ≡ record { withdrawal = None; reach = reach }
+fresh note reach none extent regions =
+    ap (λ (w : Option ℕ). let n : NoteState = record { withdrawal = w; reach = note.reach } in n) none
+    ∙ ap (λ (e : Option PageRangeState). let n : NoteState = record { withdrawal = None; reach = record { extent = e; regions = note.reach.regions } } in n) extent
+    ∙ ap (λ (r : ℕ). let n : NoteState = record { withdrawal = None; reach = record { extent = reach.extent; regions = r } } in n) regions
 
 -- a note once it is marked
-pub once_marked : (was new : NoteState) (withdrawal : Option ℕ) → new.withdrawal ≡ withdrawal → new.extent ≡ was.extent → new ≡ record { withdrawal = withdrawal; extent = was.extent }
+pub once_marked : (was new : NoteState) (withdrawal : Option ℕ) → new.withdrawal ≡ withdrawal → new.reach ≡ was.reach → new ≡ record { withdrawal = withdrawal; reach = was.reach }
 once_marked was new withdrawal is same =
-    ap (λ (w : Option ℕ). let n : NoteState = record { withdrawal = w; extent = new.extent } in n) is
-    ∙ ap (λ (r : Option PageRangeState). let n : NoteState = record { withdrawal = withdrawal; extent = r } in n) same
+    ap (λ (w : Option ℕ). let n : NoteState = record { withdrawal = w; reach = new.reach } in n) is
+    ∙ ap (λ (r : Reach). let n : NoteState = record { withdrawal = withdrawal; reach = r } in n) same

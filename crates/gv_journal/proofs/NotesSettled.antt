@@ -3,7 +3,7 @@ use Rattle.std.proofs.Common.{◌≡◌, ℕ, ◌+◌, ◌<◌, ◌≤◌, Bool,
 use Rattle.std.proofs.lemmas.List.{reverse-append, reverse-reverse, length-reverse, length-drop, length-take-le, take-append-drop, get_or-drop, same_lists}
 use Rattle.gv_journal.specs.Items.{NumberedItem, numbered, names, is_withdrawn, done_by}
 use Rattle.gv_journal.specs.Inside.{NameOlder, NamesOnce, NameOnce}
-use Rattle.gv_journal.specs.Notes.{named_by, extent_of, notes_of}
+use Rattle.gv_journal.specs.Notes.{named_by, reach_of, notes_of}
 use Rattle.gv_journal.specs.Settling.{crosses}
 use Rattle.gv_journal.specs.declared.item.Item.{Item}
 use Rattle.gv_journal.specs.declared.item.ItemKind.{ItemKind}
@@ -78,9 +78,9 @@ module _ (first : ℕ) (held : List Item) (count : ℕ) (le : count ≤ length h
     note_same =
         get_or-drop count (notes_of (numbered first (reverse held))) i note
         ∙ note_at (numbered first (reverse held)) first (reverse held) (count + i) note item index
-        ∙ ap (λ (w : Option ℕ). record { withdrawal = w; extent = extent_of (done_by (get_or (reverse (reverse held)) (count + i) item).kind) })
+        ∙ ap (λ (w : Option ℕ). record { withdrawal = w; reach = reach_of (done_by (get_or (reverse (reverse held)) (count + i) item).kind) })
         (ap (named_by (numbered first (reverse held))) number ∙ named_late older (first + count + i) (omega arith))
-        ∙ ap (λ (x : Item). record { withdrawal = named_by (numbered (first + count) late) (first + count + i); extent = extent_of (done_by x.kind) }) item_same
+        ∙ ap (λ (x : Item). record { withdrawal = named_by (numbered (first + count) late) (first + count + i); reach = reach_of (done_by x.kind) }) item_same
         ∙ sym (note_at (numbered (first + count) late) (first + count) late i note item (omega (arith, length-reverse (drop count held))))
 
   pub notes_settled : NameOlder (numbered first early) → drop count (notes_of (numbered first (reverse held))) ≡ notes_of (numbered (first + count) late)

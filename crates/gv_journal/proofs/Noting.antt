@@ -8,7 +8,7 @@ use Rattle.gv_types.specs.declared.request.Request.{Request}
 use Rattle.gv_space.specs.declared.undo.OpUndo.{OpUndo}
 use Rattle.gv_journal.specs.Items.{NumberedItem, numbered, is_withdrawn, done_by}
 use Rattle.gv_journal.specs.Inside.{NamesBelow, NameOlder, NamesOnce, NameOnce}
-use Rattle.gv_journal.specs.Notes.{named_by, extent_of, note_of, notes_of, NamesWithin, cleared}
+use Rattle.gv_journal.specs.Notes.{named_by, reach_of, note_of, notes_of, NamesWithin, cleared}
 use Rattle.gv_journal.specs.declared.item.Item.{Item}
 use Rattle.gv_journal.specs.declared.item.ItemKind.{ItemKind}
 use Rattle.gv_journal.specs.declared.item.ItemKind.TheVariants.{Bind, Withdrawal}
@@ -38,10 +38,10 @@ newest_free first items older = not_named_by (numbered first items) (first + len
 
 -- with a Bind more
 pub notes_bound : (first : ℕ) (items : List Item) (queue number : ℕ) (request : Request) (seen : Vec ℕ Global) (done : Vec PageOp Global) (undos : Vec OpUndo Global) → NameOlder (numbered first items) →
-    notes_of (numbered first (bound queue number request seen done undos ∷ items)) ≡ notes_of (numbered first items) ++ record { withdrawal = None; extent = extent_of done.items } ∷ []
+    notes_of (numbered first (bound queue number request seen done undos ∷ items)) ≡ notes_of (numbered first items) ++ record { withdrawal = None; reach = reach_of done.items } ∷ []
 notes_bound first items queue number request seen done undos older =
     last_note first (bound queue number request seen done undos) items (numbered first (bound queue number request seen done undos ∷ items))
-    ∙ ap (λ (w : Option ℕ). notes_of (numbered first items) ++ record { withdrawal = w; extent = extent_of done.items } ∷ []) (newest_free first items older)
+    ∙ ap (λ (w : Option ℕ). notes_of (numbered first items) ++ record { withdrawal = w; reach = reach_of done.items } ∷ []) (newest_free first items older)
 
 -- the item with this number is withdrawn, and no other
 module _ (first index : ℕ) (items : List Item) (undos : Vec OpUndo Global) (below : index < length items) where
@@ -64,14 +64,14 @@ module _ (first index : ℕ) (items : List Item) (undos : Vec OpUndo Global) (be
   same_there i note within apart =
       let item : Item = withdrawal 0 undos in
       note_at more first items i note item within
-      ∙ ap (λ (w : Option ℕ). record { withdrawal = w; extent = extent_of (done_by (get_or (reverse items) i item).kind) }) (elsewhere (first + i) (λ is. apart (omega (arith, is))))
+      ∙ ap (λ (w : Option ℕ). record { withdrawal = w; reach = reach_of (done_by (get_or (reverse items) i item).kind) }) (elsewhere (first + i) (λ is. apart (omega (arith, is))))
       ∙ sym (note_at fewer first items i note item within)
 
   marked_there : (note : NoteState) → get_or (map (note_of more) (reverse fewer)) index note ≡ record (get_or (notes_of fewer) index note) { withdrawal = Some (first + length items) }
   marked_there note =
       let item : Item = withdrawal 0 undos in
       note_at more first items index note item below
-      ∙ ap (λ (w : Option ℕ). record { withdrawal = w; extent = extent_of (done_by (get_or (reverse items) index item).kind) }) here
+      ∙ ap (λ (w : Option ℕ). record { withdrawal = w; reach = reach_of (done_by (get_or (reverse items) index item).kind) }) here
       ∙ ap (λ (x : NoteState). record x { withdrawal = Some (first + length items) }) (sym (note_at fewer first items index note item below))
 
   cleared_there : named_by fewer (first + index) ≡ None → (note : NoteState) →
@@ -79,18 +79,18 @@ module _ (first index : ℕ) (items : List Item) (undos : Vec OpUndo Global) (be
   cleared_there live note =
       let item : Item = withdrawal 0 undos in
       note_at fewer first items index note item below
-      ∙ ap (λ (w : Option ℕ). record { withdrawal = w; extent = extent_of (done_by (get_or (reverse items) index item).kind) }) live
+      ∙ ap (λ (w : Option ℕ). record { withdrawal = w; reach = reach_of (done_by (get_or (reverse items) index item).kind) }) live
       ∙ ap (λ (x : NoteState). record x { withdrawal = None }) (sym (note_at more first items index note item below))
 
   -- with a Withdrawal more
   pub notes_withdrawn : NameOlder fewer → (note : NoteState) →
-      notes_of more ≡ set (notes_of fewer) index (record (get_or (notes_of fewer) index note) { withdrawal = Some (first + length items) }) ++ record { withdrawal = None; extent = None } ∷ []
+      notes_of more ≡ set (notes_of fewer) index (record (get_or (notes_of fewer) index note) { withdrawal = Some (first + length items) }) ++ record { withdrawal = None; reach = reach_of [] } ∷ []
   notes_withdrawn older note =
       last_note first (withdrawal (first + index) undos) items more
       ∙ ap (λ (ms : List NoteState). ms ++ note_of more (newest first (withdrawal (first + index) undos) items) ∷ [])
       (sym (marked_one (map (note_of more) (reverse fewer)) (notes_of fewer) index (Some (first + length items)) note size (omega (arith, length-notes fewer first items))
       (λ i d within apart. same_there i d (omega (arith, length-notes fewer first items)) apart) marked_there))
-      ∙ ap (λ (w : Option ℕ). set (notes_of fewer) index (record (get_or (notes_of fewer) index note) { withdrawal = Some (first + length items) }) ++ record { withdrawal = w; extent = None } ∷ [])
+      ∙ ap (λ (w : Option ℕ). set (notes_of fewer) index (record (get_or (notes_of fewer) index note) { withdrawal = Some (first + length items) }) ++ record { withdrawal = w; reach = reach_of [] } ∷ [])
       (elsewhere (first + length items) (λ is. absurd (omega (arith, is))) ∙ newest_free first items older)
 
   -- and with that Withdrawal less

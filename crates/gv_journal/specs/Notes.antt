@@ -1,5 +1,6 @@
 -- What stands beside each item, so that it can be passed over unread. No public clause cites this module.
-use Rattle.std.specs.Prelude.{◌≡◌, ℕ, ◌+◌, ◌-◌, ◌<◌, ◌≤◌, Bool, false, nat_le, is_some, if◌then◌else◌, List, [], ◌∷◌, map, reverse, length, slice_index_or, set, min, max, Option, Some, None}
+use Rattle.std.specs.Prelude.{◌≡◌, ℕ, ◌+◌, ◌-◌, ◌/◌, ◌%◌, ◌^◌, ◌<◌, ◌≤◌, Bool, false, ◌&&◌, not, nat_eq, nat_le, bit_and, bit_or, is_some, if◌then◌else◌, List, [], ◌∷◌, map, reverse, length, slice_index_or, set, min, max, Option, Some, None}
+use Rattle.std.specs.Int.{w64, rotate_left}
 use Rattle.gv_types.specs.PageRange.{PageRangeState, span, end_of, meets}
 use Rattle.gv_types.specs.declared.operation.PageOp.{PageOp}
 use Rattle.gv_journal.specs.Items.{NumberedItem, names, done_by}
@@ -7,7 +8,7 @@ use Rattle.gv_journal.specs.Restoring.{pages_named}
 use Rattle.gv_journal.specs.declared.item.Item.{Item}
 use Rattle.gv_journal.specs.declared.item.ItemKind.{ItemKind}
 use Rattle.gv_journal.specs.declared.item.ItemKind.TheVariants.{Bind, Withdrawal}
-use Rattle.gv_journal.specs.Note.{NoteState}
+use Rattle.gv_journal.specs.Note.{NoteState, Reach}
 
 -- the number of the newest item that names a number
 abbrev pub named_by : List NumberedItem → ℕ → Option ℕ
@@ -21,22 +22,49 @@ extents_joined (Some s) None = Some s
 extents_joined (Some s) (Some t) = Some (span (min s.first t.first) (max (end_of s) (end_of t) - min s.first t.first))
 
 -- and of those of operations
-abbrev pub reach_from : Option PageRangeState → List PageOp → Option PageRangeState
-reach_from extent [] = extent
-reach_from extent (op ∷ ops) = reach_from (extents_joined extent (pages_named op)) ops
+abbrev pub extent_from : Option PageRangeState → List PageOp → Option PageRangeState
+extent_from extent [] = extent
+extent_from extent (op ∷ ops) = extent_from (extents_joined extent (pages_named op)) ops
 
 abbrev pub extent_of : List PageOp → Option PageRangeState
-extent_of ops = reach_from None ops
+extent_of ops = extent_from None ops
+
+-- A region is the 512 pages of one table. Its number modulo 64 is the place of its bit.
+abbrev pub region_of : ℕ → ℕ
+region_of page = page / 512
+
+-- the bits of the regions from one to another: as many ones as there are regions, and at most 64, turned to the place of the first
+abbrev pub regions_between : ℕ → ℕ → ℕ
+regions_between low high = rotate_left w64 (0xffff_ffff_ffff_ffff / 2 ^ (63 - (high - low))) (low % 64)
+
+-- and of those with pages that an operation names
+abbrev pub regions_named : Option PageRangeState → ℕ
+regions_named None = 0
+regions_named (Some s) = regions_between (region_of s.first) (region_of (end_of s - 1))
+
+abbrev pub regions_from : ℕ → List PageOp → ℕ
+regions_from regions [] = regions
+regions_from regions (op ∷ ops) = regions_from (bit_or regions (regions_named (pages_named op))) ops
+
+abbrev pub regions_of : List PageOp → ℕ
+regions_of ops = regions_from 0 ops
+
+abbrev pub reach_of : List PageOp → Reach
+reach_of ops = record { extent = extent_of ops; regions = regions_of ops }
 
 -- some page is in both
-abbrev pub reaches : Option PageRangeState → Option PageRangeState → Bool
-reaches (Some s) (Some t) = meets s t
-reaches (Some s) None = false
-reaches None other = false
+abbrev pub extents_meet : Option PageRangeState → Option PageRangeState → Bool
+extents_meet (Some s) (Some t) = meets s t
+extents_meet (Some s) None = false
+extents_meet None other = false
+
+-- and some region may be
+abbrev pub reaches : Reach → Reach → Bool
+reaches a b = extents_meet a.extent b.extent && not (nat_eq (bit_and a.regions b.regions) 0)
 
 -- the note of an item among others
 abbrev pub note_of : List NumberedItem → NumberedItem → NoteState
-note_of xs x = record { withdrawal = named_by xs x.number; extent = extent_of (done_by x.item.kind) }
+note_of xs x = record { withdrawal = named_by xs x.number; reach = reach_of (done_by x.item.kind) }
 
 -- the notes of items, the oldest one first
 abbrev pub notes_of : List NumberedItem → List NoteState
@@ -57,10 +85,10 @@ abbrev pub crossing_from : ℕ → Option ℕ → List NoteState → Option ℕ
 crossing_from to least [] = least
 crossing_from to least (note ∷ notes) = crossing_from to (lesser least (crossed to note.withdrawal)) notes
 
--- notes have the pages of these items
+-- notes have the reach of these items
 abbrev pub AreReaches : List NoteState → List Item → Type 0
 AreReaches notes items =
-    (i : ℕ) (note : NoteState) (item : Item) → i < length items → (slice_index_or notes i note).extent ≡ extent_of (done_by (slice_index_or items i item).kind)
+    (i : ℕ) (note : NoteState) (item : Item) → i < length items → (slice_index_or notes i note).reach ≡ reach_of (done_by (slice_index_or items i item).kind)
 
 -- the notes of items numbered from `n` on tell which of these are gone
 abbrev pub TellGone : (ℕ → Bool) → ℕ → List NoteState → Type 0

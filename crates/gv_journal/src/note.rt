@@ -1,9 +1,10 @@
 //! What stands beside each item of a journal, so that it can be passed over unread.
-ghost use Rattle.std.specs.Prelude.{◌≡◌, ◌<◌, ◌-◌, ◌^◌, IfSome, None, Some, false, is_some};
+ghost use Rattle.std.specs.Prelude.{◌≡◌, ◌<◌, ◌≤◌, ◌-◌, ◌^◌, IfSome, None, Some, false, is_some};
 ghost use Rattle.std.specs.List.{list_any};
 ghost use Rattle.std.specs.Option.{option_map_or};
 ghost use Rattle.gv_types.specs.PageRange.{covers};
-ghost use Rattle.gv_journal.specs.Notes.{extents_joined, extent_of, reaches};
+ghost use Rattle.gv_journal.specs.Restoring.{pages_named};
+ghost use Rattle.gv_journal.specs.Notes.{extents_joined, extent_of, regions_between, regions_named, regions_of, reaches};
 
 use crate::touching::pages_of;
 use gv_types::{PageOp, PageRange};
@@ -12,14 +13,19 @@ use std::marker::Model;
 /// No withdrawal has this number.
 const NONE: u64 = u64::MAX;
 
-/// The number of the withdrawal that names the item, if one does, and the pages from the least to the greatest that its
-/// operations cover, if they cover any. They are plain numbers beside one another, since those of all later items are read
-/// when an item is withdrawn. Where there are no pages, both numbers are 0.
+/// The pages of a region: those of one table of pages, so that an operation of a driver's size lies in one or two.
+const REGION: u64 = 512;
+
+/// The number of the withdrawal that names the item, if one does, the pages from the least to the greatest that its
+/// operations cover, if they cover any, and a bit for each region of 64 in which they cover some. They are plain numbers
+/// beside one another, since those of all later items are read when an item is withdrawn. Where there are no pages, all
+/// numbers but the first are 0.
 #[derive(Drop)]
 pub struct Note {
     withdrawal: u64,
     first: u64,
     past: u64,
+    regions: u64,
 }
 
 impl Model for Note {
@@ -33,21 +39,25 @@ impl Model for Note {
 }
 
 impl Note {
-    /// Of an item that nothing withdraws, whose operations cover these pages from the least to the greatest.
-    pub fn new(extent: Option<PageRange>) -> Note
+    /// Of an item that nothing withdraws, whose operations cover these pages from the least to the greatest, and some in each of
+    /// these regions.
+    pub fn new(extent: Option<PageRange>, regions: u64) -> Note
         ensures withdrawal { result.withdrawal ≡ None }
-        ensures extent { result.extent ≡ extent }
+        ensures extent { result.reach.extent ≡ extent }
+        ensures regions { result.reach.regions ≡ regions }
     {
         match extent {
             Some(range) => Note {
                 withdrawal: NONE,
                 first: range.first(),
                 past: range.end(),
+                regions,
             },
             None => Note {
                 withdrawal: NONE,
                 first: 0,
                 past: 0,
+                regions,
             },
         }
     }
@@ -74,7 +84,7 @@ impl Note {
     pub fn mark(&mut self, withdrawal: Option<u64>)
         requires { IfSome withdrawal (λ number. number < 2 ^ 64 - 1) }
         ensures withdrawal { self.new.withdrawal ≡ withdrawal }
-        ensures extent { self.new.extent ≡ self.old.extent }
+        ensures reach { self.new.reach ≡ self.old.reach }
     {
         self.withdrawal = match withdrawal {
             Some(number) => number,
@@ -84,24 +94,24 @@ impl Note {
 
     /// Whether the page lies between the least and the greatest.
     pub fn covers(&self, page: u64) -> bool
-        ensures { result ≡ option_map_or (λ range. covers range page) self.now.extent false }
+        ensures { result ≡ option_map_or (λ range. covers range page) self.now.reach.extent false }
     {
         self.first <= page && page < self.past
     }
 
-    /// Whether some page is in what both cover. Both tests are always made: that costs less than a branch between them.
+    /// Whether some page may be in what both cover. All tests are always made: that costs less than branches between them.
     pub fn reaches(&self, other: &Note) -> bool
-        ensures { result ≡ reaches self.now.extent other.now.extent }
+        ensures { result ≡ reaches self.now.reach other.now.reach }
     {
-        (self.first < other.past) & (other.first < self.past)
+        (self.first < other.past) & (other.first < self.past) & (self.regions & other.regions != 0)
     }
 
-    /// Whether some page is in what this and one of the others cover. It doesn't stop at the first that is reached, so that there
+    /// Whether some page may be in what this and one of the others cover. It doesn't stop at the first that is reached, so that there
     /// is no branch from one to the next: nearly always none is reached. Inlined, so that the loop is unrolled where the caller
     /// gives a fixed number of notes.
     #[inline(always)]
     pub fn reaches_any(&self, others: &[Note]) -> bool
-        ensures { result ≡ list_any (λ other. reaches self.now.extent other.extent) others.now }
+        ensures { result ≡ list_any (λ other. reaches self.now.reach other.reach) others.now }
     {
         let mut any = false;
         for other in others {
@@ -140,4 +150,34 @@ pub fn extent_of(ops: &[PageOp]) -> Option<PageRange>
         extent = joined_any(extent, pages_of(op));
     }
     extent
+}
+
+/// The bits of the regions from one to another.
+fn regions_between(low: u64, high: u64) -> u64
+    requires { low ≤ high }
+    ensures { result ≡ regions_between low high }
+{
+    let unset = 63u64.saturating_sub(high - low);
+    (u64::MAX >> unset).rotate_left((low % 64) as u32)
+}
+
+/// The bits of the regions with pages that an operation names.
+fn regions_named(op: &PageOp) -> u64
+    ensures { result ≡ regions_named (pages_named op.now) }
+{
+    match pages_of(op) {
+        Some(range) => regions_between(range.first() / REGION, (range.end() - 1) / REGION),
+        None => 0,
+    }
+}
+
+/// The bits of the regions in which operations cover pages.
+pub fn regions_of(ops: &[PageOp]) -> u64
+    ensures { result ≡ regions_of ops.now }
+{
+    let mut regions = 0;
+    for op in ops {
+        regions |= regions_named(op);
+    }
+    regions
 }

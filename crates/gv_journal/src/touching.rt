@@ -5,7 +5,7 @@ ghost use Rattle.gv_types.specs.Page.{IsPage};
 ghost use Rattle.gv_types.specs.PageRange.{covers, meets};
 ghost use Rattle.gv_types.specs.Operation.{range_of};
 ghost use Rattle.gv_journal.specs.Items.{done_by};
-ghost use Rattle.gv_journal.specs.Notes.{extent_of, AreReaches, TellGone};
+ghost use Rattle.gv_journal.specs.Notes.{reach_of, AreReaches, TellGone};
 ghost use Rattle.gv_journal.specs.Restoring.{pages_named};
 ghost use Rattle.gv_journal.specs.Saying.{first_taken, last_covering};
 ghost use Rattle.gv_journal.specs.Withdrawing.{touch, touched_from};
@@ -108,11 +108,11 @@ fn done_by(kind: &ItemKind) -> &[PageOp]
     }
 }
 
-/// Whether an item that isn't withdrawn touches operations: they are compared only where the pages from the least to the
-/// greatest of both meet.
+/// Whether an item that isn't withdrawn touches operations: they are compared only where its note doesn't tell that none can
+/// meet.
 fn is_in_way(note: &Note, item: &Item, own: &Note, ops: &[PageOp]) -> bool
-    requires note { note.now.extent ≡ extent_of (done_by item.now.kind) }
-    requires own { own.now.extent ≡ extent_of ops.now }
+    requires note { note.now.reach ≡ reach_of (done_by item.now.kind) }
+    requires own { own.now.reach ≡ reach_of ops.now }
     ensures { result ≡ (touch ops.now (done_by item.now.kind) && not (is_some note.now.withdrawal)) }
 {
     if note.is_withdrawn() {
@@ -135,7 +135,7 @@ fn first_in_way(
     requires numbers { from + length items.now < 2 ^ 64 }
     requires beside { length notes.now ≡ length items.now }
     requires notes { AreReaches notes.now items.now }
-    requires own { own.now.extent ≡ extent_of ops.now }
+    requires own { own.now.reach ≡ reach_of ops.now }
     ensures { (gone : ℕ → Bool) → TellGone gone from notes.now → result ≡ touched_from gone ops.now from items.now }
 {
     for (index, note) in notes.iter().enumerate() {
@@ -159,7 +159,7 @@ fn first_reached(
     requires numbers { from + length items.now < 2 ^ 64 }
     requires beside { length notes.now ≡ length items.now }
     requires notes { AreReaches notes.now items.now }
-    requires own { own.now.extent ≡ extent_of ops.now }
+    requires own { own.now.reach ≡ reach_of ops.now }
     ensures { (gone : ℕ → Bool) → TellGone gone from notes.now → result ≡ touched_from gone ops.now from items.now }
 {
     if !own.reaches_any(notes) {
@@ -181,7 +181,7 @@ pub fn first_touched(
     requires numbers { from + length items.now < 2 ^ 64 }
     requires beside { length notes.now ≡ length items.now }
     requires notes { AreReaches notes.now items.now }
-    requires own { own.now.extent ≡ extent_of ops.now }
+    requires own { own.now.reach ≡ reach_of ops.now }
     ensures { (gone : ℕ → Bool) → TellGone gone from notes.now → result ≡ touched_from gone ops.now from items.now }
 {
     let mut start = 0;

@@ -25,7 +25,7 @@ pub struct Said {
 impl Journal {
     ghost use Rattle.gv_types.specs.Page.{IsPage};
     ghost use Rattle.gv_journal.specs.Items.{entries, is_withdrawn, done_by};
-    ghost use Rattle.gv_journal.specs.Notes.{extent_of, notes_of};
+    ghost use Rattle.gv_journal.specs.Notes.{reach_of, notes_of};
     ghost use Rattle.gv_journal.specs.History.{base};
     ghost use Rattle.gv_journal.specs.Saying.{last_covering, live_taken};
     ghost use Rattle.gv_journal.specs.State.{FitsSpace};
@@ -102,7 +102,7 @@ impl Journal {
         ensures none { IfNone result (item_at self.now number ≡ None) }
         ensures item { IfSome result (λ held. item_at self.now number ≡ Some held.0.now) }
         ensures withdrawn { IfSome result (λ held. is_some held.1.now.withdrawal ≡ is_withdrawn (entries self.now) number) }
-        ensures extent { IfSome result (λ held. held.1.now.extent ≡ extent_of (done_by held.0.now.kind)) }
+        ensures reach { IfSome result (λ held. held.1.now.reach ≡ reach_of (done_by held.0.now.kind)) }
     {
         if number < self.first || self.next() <= number {
             return None;

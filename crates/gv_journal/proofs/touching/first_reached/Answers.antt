@@ -7,5 +7,5 @@ use Rattle.gv_journal.proofs.touching.first_reached.Goals as goal
 
 pub returns-then-not-reaches_any : goal.returns-then-not-reaches_any
 returns-then-not-reaches_any c gone tell =
-    let none : list_any (λ (other : NoteState). reaches c.args.own.now.extent other.extent) c.args.notes.now ≡ false = search rules in
-    sym (none_reached gone c.args.ops.now c.args.from c.args.notes.now c.args.items.now c.args.own.now.extent c.requires.own c.requires.beside c.requires.notes none)
+    let none : list_any (λ (other : NoteState). reaches c.args.own.now.reach other.reach) c.args.notes.now ≡ false = search rules in
+    sym (none_reached gone c.args.ops.now c.args.from c.args.notes.now c.args.items.now c.args.own.now.reach c.requires.own c.requires.beside c.requires.notes none)

@@ -6,5 +6,5 @@ use Rattle.gv_journal.proofs.touching.is_in_way.Goals as goal
 
 pub returns-then-not-reaches : goal.returns-then-not-reaches
 returns-then-not-reaches c =
-    let none : reaches c.args.own.now.extent c.args.note.now.extent ≡ false = search rules in
-    sym (ap (λ (b : Bool). b && not (is_some c.args.note.now.withdrawal)) (out_of_reach c.args.ops.now (done_by c.args.item.now.kind) c.args.own.now.extent c.args.note.now.extent c.requires.own c.requires.note none))
+    let none : reaches c.args.own.now.reach c.args.note.now.reach ≡ false = search rules in
+    sym (ap (λ (b : Bool). b && not (is_some c.args.note.now.withdrawal)) (out_of_reach c.args.ops.now (done_by c.args.item.now.kind) c.args.own.now.reach c.args.note.now.reach c.requires.own c.requires.note none))

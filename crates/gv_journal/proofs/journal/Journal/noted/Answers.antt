@@ -1,4 +1,4 @@
-use Rattle.std.proofs.Common.{◌≡◌, ◌≤◌, ◌<◌, arith, reverse, sym, ◌∙◌, ap}
+use Rattle.std.proofs.Common.{◌≡◌, ◌≤◌, ◌<◌, arith, reverse, ◌∙◌, ap}
 use Rattle.gv_journal.specs.Items.{JournalState, entries, next}
 use Rattle.gv_journal.specs.Notes.{notes_of}
 use Rattle.gv_journal.proofs.Held.{item_store_items}
@@ -26,8 +26,8 @@ returns-clause-withdrawn c =
     (own_note c.args.self.now c.args.number c.self.inside.first c.items-items.result.now c.notes-notes.result.now first_is low high all noted
     c.index-notes-index.result c.index-items-index.result c.index-notes-index.is c.index-items-index.is).0
 
-pub returns-clause-extent : goal.returns-clause-extent
-returns-clause-extent c =
+pub returns-clause-reach : goal.returns-clause-reach
+returns-clause-reach c =
     let first_is : c.self.inside.first ≡ c.args.self.now.first = ap (λ (j : JournalState). j.first) c.self.view_is in
     let low : c.self.inside.first ≤ c.args.number = omega arith in
     let high : c.args.number < next c.args.self.now = omega arith in

@@ -41,7 +41,7 @@ invariant_of-self-in-Some c =
     let turned : reverse c.self.inside.item_store.items ≡ item ∷ reverse rest = last_first c.self.inside.item_store.items rest item c.in-Some.ensures.items in
     let older : NameOlder (numbered first (item ∷ reverse rest)) = subst (λ (xs : List Item). NameOlder (numbered first xs)) turned c.self.invariant.name_older in
     let once : NameOnce first (numbered first (item ∷ reverse rest)) = subst (λ (xs : List Item). NameOnce first (numbered first xs)) turned c.self.invariant.name_once in
-    let note : NoteState = record { withdrawal = None; extent = None } in
+    let note : NoteState = record { withdrawal = None; reach = record { extent = None; regions = 0 } } in
     let size : length rest ≡ length (reverse rest) = sym (length-reverse rest) in
     record {
       numbered_below = omega (arith, c.self.invariant.numbered_below, ap (λ (xs : List Item). length xs) turned);

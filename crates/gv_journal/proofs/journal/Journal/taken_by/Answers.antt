@@ -4,6 +4,7 @@ use Rattle.gv_types.specs.PageRange.{covers}
 use Rattle.gv_journal.specs.Items.{entries, is_withdrawn, done_by}
 use Rattle.gv_journal.specs.Saying.{live_taken}
 use Rattle.gv_journal.specs.declared.item.Item.{Item}
+use Rattle.gv_journal.specs.Note.{Reach}
 use Rattle.gv_journal.proofs.Covering.{none_taken, live_none}
 use Rattle.gv_journal.proofs.journal.Journal.taken_by.Goals as goal
 
@@ -15,7 +16,7 @@ returns-then-is_withdrawn c =
 
 pub returns-then-not-covers : goal.returns-then-not-covers
 returns-then-not-covers c =
-    let out : option_map_or (λ range. covers range c.args.page) c.in_ok-item.note.now.extent false ≡ false = search rules in
+    let out : option_map_or (λ range. covers range c.args.page) c.in_ok-item.note.now.reach.extent false ≡ false = search rules in
     sym (ap (option_and_then (λ (item : Item). live_taken (is_withdrawn (entries c.args.self.now) c.args.number) item c.args.page)) c.in_ok-item.ensures.item
     ∙ live_none (is_withdrawn (entries c.args.self.now) c.args.number) c.in_ok-item.item.now c.args.page
-    (none_taken (done_by c.in_ok-item.item.now.kind) c.in_ok-item.item.now.undos.items c.in_ok-item.note.now.extent c.args.page c.in_ok-item.ensures.extent out))
+    (none_taken (done_by c.in_ok-item.item.now.kind) c.in_ok-item.item.now.undos.items c.in_ok-item.note.now.reach.extent c.args.page (ap (λ (r : Reach). r.extent) c.in_ok-item.ensures.reach) out))

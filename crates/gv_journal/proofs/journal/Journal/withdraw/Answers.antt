@@ -8,7 +8,7 @@ use Rattle.gv_journal.specs.Items.{is_withdrawn, entries}
 use Rattle.gv_journal.specs.Withdrawing.{item_at}
 use Rattle.gv_journal.proofs.Noted.{length-notes, fresh}
 use Rattle.gv_journal.proofs.Entries.{found_live}
-use Rattle.gv_journal.specs.Notes.{notes_of}
+use Rattle.gv_journal.specs.Notes.{notes_of, reach_of}
 use Rattle.gv_journal.specs.Note.{NoteState}
 use Rattle.gv_journal.proofs.Lists.{last_first}
 use Rattle.gv_journal.proofs.Noting.{notes_withdrawn}
@@ -111,7 +111,7 @@ invariant_of-self-3 c =
     let first_is : first ≡ c.args.self.now.first = ap (λ (j : JournalState). j.first) c.self.view_is in
     let size : length (reverse all) ≡ length c.args.self.now.items = ap (λ (j : JournalState). length j.items) c.self.view_is in
     let room : full_fault c.args.self.now ≡ None = search rules in
-    let note : NoteState = record { withdrawal = None; extent = None } in
+    let note : NoteState = record { withdrawal = None; reach = reach_of [] } in
     let number : first + index ≡ c.args.entry = omega (arith, c.in-Ok.ensures.index.0, first_is) in
     let below : index < length (reverse all) = omega (arith, c.in-Ok.ensures.index.1, size) in
     let live : is_withdrawn (numbered first (reverse all)) c.args.entry ≡ false =
@@ -124,7 +124,7 @@ invariant_of-self-3 c =
       name_older = subst (λ (xs : List Item). NameOlder (numbered first xs)) (sym turned) (within, c.self.invariant.name_older);
       name_once = subst (λ (xs : List Item). NameOnce first (numbered first xs)) (sym turned) ((low, live), c.self.invariant.name_once);
       notes = c.push.ensures.notes
-          ∙ ap (λ (n : NoteState). c.mark.new.self.notes ++ n ∷ []) (fresh c.new-note.result None c.new-note.ensures.withdrawal c.new-note.ensures.extent)
+          ∙ ap (λ (n : NoteState). c.mark.new.self.notes ++ n ∷ []) (fresh c.new-note.result (reach_of []) c.new-note.ensures.withdrawal c.new-note.ensures.extent c.new-note.ensures.regions)
           ∙ ap (λ (ms : List NoteState). ms ++ note ∷ []) (c.mark.ensures.notes note
           ∙ ap (λ (ms : List NoteState). set ms index (record (get_or ms index note) { withdrawal = Some c.next-number.result })) (c.make_room.ensures.notes ∙ c.self.invariant.notes)
           ∙ ap (λ (n : ℕ). set (notes_of (numbered first (reverse all))) index (record (get_or (notes_of (numbered first (reverse all))) index note) { withdrawal = Some n })) by)

@@ -4,4 +4,4 @@ use Rattle.gv_journal.specs.Notes.{reaches}
 use Rattle.gv_journal.proofs.note.Note.reaches_any.Given as goal
 
 abbrev pub invariant-loop-other : goal.invariant-loop-other
-invariant-loop-other l = l.any ≡ list_any (λ other. reaches l.self.extent other.extent) (take l.other-index l.others)
+invariant-loop-other l = l.any ≡ list_any (λ other. reaches l.self.reach other.reach) (take l.other-index l.others)
