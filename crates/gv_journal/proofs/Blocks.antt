@@ -2,6 +2,7 @@
 use Rattle.std.proofs.Common.{◌≡◌, ℕ, ◌+◌, ◌-◌, ◌<◌, ◌≤◌, suc, Bool, true, false, not, cond, ◌&&◌, List, [], ◌∷◌, ◌++◌, length, take, drop, get_or, Option, Some, None, refl, ap, sym, ◌∙◌, arith}
 use Rattle.std.specs.Prelude.{is_some}
 use Rattle.std.specs.List.{list_any}
+use Rattle.std.specs.Option.{option_or}
 use Rattle.std.proofs.lemmas.Bool.{or_parts}
 use Rattle.std.proofs.lemmas.List.{length-take-le, length-drop, get_or-take, get_or-drop, take-append-drop, drop-drop}
 use Rattle.gv_types.specs.declared.operation.PageOp.{PageOp}
@@ -31,13 +32,9 @@ gone_part gone n notes s k within tell i note below =
     let noted : get_or (take k (drop s notes)) i note ≡ get_or notes (s + i) note = get_or-take k (drop s notes) i note small ∙ get_or-drop s notes i note in
     ap gone number ∙ tell (s + i) note (omega arith) ∙ ap (λ (x : NoteState). is_some x.withdrawal) (sym noted)
 
-abbrev or_later : Option ℕ → Option ℕ → Option ℕ
-or_later None later = later
-or_later (Some n) later = Some n
-
 -- where nothing is found in the first part of a list, the search goes on behind it
 touched_parts : (gone : ℕ → Bool) (ops : List PageOp) (n : ℕ) (first later : List Item) →
-    touched_from gone ops n (first ++ later) ≡ or_later (touched_from gone ops n first) (touched_from gone ops (n + length first) later)
+    touched_from gone ops n (first ++ later) ≡ option_or (touched_from gone ops n first) (touched_from gone ops (n + length first) later)
 touched_parts gone ops n [] later =
     let number : n ≡ n + 0 = omega arith in
     ap (λ (k : ℕ). touched_from gone ops k later) number
@@ -46,11 +43,11 @@ touched_parts gone ops n (item ∷ first) later = by_cases (touch ops (done_by i
     number : n + 1 + length first ≡ n + suc (length first)
     number = omega arith
 
-    by_cases : (b : Bool) → touched_from gone ops (n + 1) (first ++ later) ≡ or_later (touched_from gone ops (n + 1) first) (touched_from gone ops (n + 1 + length first) later) →
+    by_cases : (b : Bool) → touched_from gone ops (n + 1) (first ++ later) ≡ option_or (touched_from gone ops (n + 1) first) (touched_from gone ops (n + 1 + length first) later) →
         cond b (Some n) (touched_from gone ops (n + 1) (first ++ later))
-        ≡ or_later (cond b (Some n) (touched_from gone ops (n + 1) first)) (touched_from gone ops (n + suc (length first)) later)
+        ≡ option_or (cond b (Some n) (touched_from gone ops (n + 1) first)) (touched_from gone ops (n + suc (length first)) later)
     by_cases true rest = refl
-    by_cases false rest = rest ∙ ap (λ (k : ℕ). or_later (touched_from gone ops (n + 1) first) (touched_from gone ops k later)) number
+    by_cases false rest = rest ∙ ap (λ (k : ℕ). option_or (touched_from gone ops (n + 1) first) (touched_from gone ops k later)) number
 
 -- a block of the items, from one index up to another, and what its search found
 module _ (gone : ℕ → Bool) (ops : List PageOp) (n start end : ℕ) (items : List Item) (found : Option ℕ) (ordered : start ≤ end) (within : end ≤ length items)
@@ -62,27 +59,27 @@ module _ (gone : ℕ → Bool) (ops : List PageOp) (n start end : ℕ) (items : 
   abbrev behind : Option ℕ
   behind = touched_from gone ops (n + end) (drop end items)
 
-  split : touched_from gone ops n items ≡ or_later found behind
+  split : touched_from gone ops n items ≡ option_or found behind
   split =
       let number : n + start + length block ≡ n + end = omega (arith, length-take-le (end - start) (drop start items), length-drop start items) in
       let whole : start + (end - start) ≡ end = omega arith in
       let left : drop (end - start) (drop start items) ≡ drop end items = drop-drop (end - start) start items ∙ ap (λ (k : ℕ). drop k items) whole in
       rest ∙ ap (λ (xs : List Item). touched_from gone ops (n + start) xs) (sym (take-append-drop (end - start) (drop start items)))
       ∙ touched_parts gone ops (n + start) block (drop (end - start) (drop start items))
-      ∙ ap (λ (o : Option ℕ). or_later o (touched_from gone ops (n + start + length block) (drop (end - start) (drop start items)))) (sym is)
-      ∙ ap (λ (m : ℕ). or_later found (touched_from gone ops m (drop (end - start) (drop start items)))) number
-      ∙ ap (λ (xs : List Item). or_later found (touched_from gone ops (n + end) xs)) left
+      ∙ ap (λ (o : Option ℕ). option_or o (touched_from gone ops (n + start + length block) (drop (end - start) (drop start items)))) (sym is)
+      ∙ ap (λ (m : ℕ). option_or found (touched_from gone ops m (drop (end - start) (drop start items)))) number
+      ∙ ap (λ (xs : List Item). option_or found (touched_from gone ops (n + end) xs)) left
 
   pub block_found : is_some found ≡ true → found ≡ touched_from gone ops n items
   block_found some = by_cases found some ∙ sym split
     where
-      by_cases : (o : Option ℕ) → is_some o ≡ true → o ≡ or_later o behind
+      by_cases : (o : Option ℕ) → is_some o ≡ true → o ≡ option_or o behind
       by_cases None so = cc
       by_cases (Some m) so = refl
 
   pub block_passed : is_some found ≡ false → touched_from gone ops n items ≡ behind
   block_passed none = split ∙ by_cases found none
     where
-      by_cases : (o : Option ℕ) → is_some o ≡ false → or_later o behind ≡ behind
+      by_cases : (o : Option ℕ) → is_some o ≡ false → option_or o behind ≡ behind
       by_cases None so = refl
       by_cases (Some m) so = cc
