@@ -80,6 +80,19 @@ impl ChunkList {
         }
     }
 
+    /// In which chunk an index is looked for first.
+    pub fn near(&self) -> usize {
+        self.parts.near
+    }
+
+    /// From now on an index is looked for in this chunk first, and in the others where it isn't there. The chunk may be any number:
+    /// nothing but time comes of it.
+    pub fn look_near(&mut self, chunk: usize)
+        ensures { self.new ≡ self.old }
+    {
+        self.parts.near = chunk;
+    }
+
     /// What the chunk of an index holds from the index on. Where the list ends before the index, nothing.
     pub fn piece(&self, index: usize) -> &[Mapping]
         ensures value { result.now ≡ take (length result.now) (drop index self.now.items) }

@@ -40,6 +40,24 @@ pub fn last_at_most(starts: &[usize], standing: usize, index: usize) -> usize
     low
 }
 
+/// The same, given a guess, which may be any number: the others are looked at only where it isn't that one.
+pub fn last_at_most_near(starts: &[usize], standing: usize, index: usize, guess: usize) -> usize
+    requires some { 0 < standing }
+    requires within { standing ≤ length starts.now }
+    requires first { (d : ℕ) → slice_index_or starts.now 0 d ≤ index }
+    ensures within { result < standing }
+    ensures begun { (d : ℕ) → slice_index_or starts.now result d ≤ index }
+    ensures next { (d : ℕ) → result + 1 < standing → index < slice_index_or starts.now (result + 1) d }
+{
+    if guess >= standing || index < starts[guess] {
+        return last_at_most(starts, standing, index);
+    }
+    if guess + 1 < standing && starts[guess + 1] <= index {
+        return last_at_most(starts, standing, index);
+    }
+    guess
+}
+
 /// Moves the numbers from `from` up to `to` by what went out and what came in.
 pub fn shift(starts: &mut [usize], from: usize, to: usize, out_count: usize, in_count: usize)
     requires within { to ≤ length starts.old }

@@ -11,7 +11,7 @@ ghost use Rattle.gv_chunks.specs.declared.TheConstants.{CHUNK};
 use crate::CHUNK;
 use crate::gap::{close, open};
 use crate::grow::{add_chunks, chunks_for};
-use crate::index::{last_at_most, pad, shift, write_index};
+use crate::index::{last_at_most_near, pad, shift, write_index};
 use crate::replace::replace_run;
 use crate::row::{put_entry, take_entry};
 use crate::run::replace_anywhere;
@@ -35,7 +35,7 @@ pub(crate) fn are_few(standing: usize, count: usize) -> bool
 }
 
 /// The chunks of a list, and where each begins: how many mappings stand before it, and at which page its first one begins. The
-/// first `standing` chunks hold all that the list has.
+/// first `standing` chunks hold all that the list has. An index is looked for in the chunk `near` first, which may be any number.
 #[derive(Debug, Drop)]
 pub struct Parts {
     pub(crate) chunks: Vec<Vec<Mapping>>,
@@ -44,6 +44,7 @@ pub struct Parts {
     pub(crate) standing: usize,
     pub(crate) len: usize,
     pub(crate) room: usize,
+    pub(crate) near: usize,
 }
 
 impl Parts {
@@ -60,6 +61,7 @@ impl Parts {
             standing: 0,
             len: 0,
             room: 0,
+            near: 0,
         }
     }
 
@@ -89,7 +91,7 @@ impl Parts {
         if self.standing == 0 {
             return (0, 0);
         }
-        let chunk = last_at_most(&self.starts, self.standing, index);
+        let chunk = last_at_most_near(&self.starts, self.standing, index, self.near);
         (chunk, self.starts[chunk])
     }
 
