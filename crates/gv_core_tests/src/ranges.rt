@@ -6,7 +6,7 @@ ghost use Rattle.gv_ranges.specs.Examples.{RestoreOfPieces};
 
 use crate::fixtures::{edit, entry, list_of, list_of_one, mapping, spread, unmap};
 use gv_ranges::{RangeList, laws, next_rest, prev_rest};
-use gv_types::Mapping;
+use gv_types::{Mapping, PageRange, SPACE_PAGES};
 use std::test::Fail;
 
 /// What the definitions say of worked examples.
@@ -88,6 +88,25 @@ fn a_thousand_mappings(rt: HostRuntime) -> Result<(), Fail> {
         let page = u64::from(k) * 2;
         let found = [list.at(page), list.at(page + 1)];
         assert!(rt; found == [Some(entry(k)), None], "at {page}");
+    }
+    Ok(())
+}
+
+#[test]
+fn a_list_answers_the_same_wherever_it_looks_first(rt: HostRuntime) -> Result<(), Fail> {
+    let plain = spread(rt.alloc(), 1000, 2)?;
+    let mut list = spread(rt.alloc(), 1000, 2)?;
+    for k in 0..1000u32 {
+        list.seek(u64::from(k) * 613 % 2003);
+        let page = u64::from(k) * 2;
+        let range = PageRange::new(page, 3).ok_or("no range")?;
+        let wanted = (k as usize, if k < 999 { 2 } else { 1 });
+        assert!(rt; list.overlapping(range) == wanted, "at {page}");
+        assert!(rt; list.at(page) == Some(entry(k)), "at {page}");
+    }
+    for page in [0, 1, 700, 1_998, SPACE_PAGES - 1, SPACE_PAGES, u64::MAX] {
+        list.seek(page);
+        assert!(rt; list.iter().eq(plain.iter()), "looked at {page}");
     }
     Ok(())
 }

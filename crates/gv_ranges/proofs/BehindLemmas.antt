@@ -1,5 +1,5 @@
 -- For callers: the first mapping of a list that ends behind a page, and what it says of the page.
-use Rattle.std.proofs.Common.{◌≡◌, ℕ, zero, suc, ◌+◌, ◌≤◌, ◌<◌, ◌++◌, ◌∙◌, Bool, true, false, cond, length, take, drop, get_or, List, [], ◌∷◌, None, Some, Option, arith, ap, sym, refl, subst, nat_lt, slice_index_or, ⊎_elim}
+use Rattle.std.proofs.Common.{◌≡◌, ℕ, zero, suc, ◌+◌, ◌≤◌, ◌<◌, ◌++◌, ◌∙◌, true, false, cond, length, take, drop, get_or, List, [], ◌∷◌, None, Some, arith, ap, sym, refl, subst, nat_lt, slice_index_or, ⊎_elim}
 use Rattle.std.proofs.lemmas.Bool.{lt-ltb, le-ltb, cases_lt}
 use Rattle.std.proofs.lemmas.List.{get_or-drop, take_all, length-drop, drop_more, drop_all}
 use Rattle.std.proofs.lemmas.List.Elements.{All-head, All-tail}

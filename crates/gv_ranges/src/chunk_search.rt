@@ -1,5 +1,5 @@
 //! Indices in a list in order that stands in chunks: the chunk by halving, and the index in it as in one slice.
-ghost use Rattle.std.specs.Prelude.{◌≡◌, ◌<◌, ◌≤◌, ◌+◌, length, take, drop, slice_index_or, vec_len, MatchOption, None, Some};
+ghost use Rattle.std.specs.Prelude.{◌≡◌, ◌<◌, ◌≤◌, ◌+◌, length, take, drop, slice_index_or, vec_len, IsTrue, MatchOption, None, Some};
 ghost use Rattle.std.specs.List.{All};
 ghost use Rattle.std.specs.Global.{Vec};
 ghost use Rattle.gv_types.specs.Page.{PAGES};
@@ -33,6 +33,43 @@ fn chunk_of_page(chunks: &[Vec<Mapping>], firsts: &[u64], page: u64) -> usize
         left -= half;
     }
     chunk
+}
+
+/// Whether a chunk is the last one whose first mapping begins at `page` or before it.
+fn is_chunk_of_page(chunks: &[Vec<Mapping>], firsts: &[u64], chunk: usize, page: u64) -> bool
+    requires filled { AreFilled chunks.now }
+    requires firsts { AreFirsts firsts.now chunks.now }
+    requires laid_out { IsLaidOut (chunks_joined chunks.now) }
+    ensures within { IsTrue result → chunk < length chunks.now }
+    ensures ended { IsTrue result → All (λ m. end_of m.range ≤ page) (chunks_joined (take chunk chunks.now)) }
+    ensures later { IsTrue result → All (λ m. page < m.range.first) (chunks_joined (drop (chunk + 1) chunks.now)) }
+{
+    if chunk >= chunks.len() || page < firsts[chunk] {
+        return false;
+    }
+    chunk + 1 == chunks.len() || page < firsts[chunk + 1]
+}
+
+/// As `chunk_of_page`, given a guess, which may be any number: it is searched for only where it isn't that one.
+pub(crate) fn chunk_near_page(
+    chunks: &[Vec<Mapping>],
+    firsts: &[u64],
+    guess: usize,
+    page: u64,
+) -> usize
+    requires filled { AreFilled chunks.now }
+    requires firsts { AreFirsts firsts.now chunks.now }
+    requires laid_out { IsLaidOut (chunks_joined chunks.now) }
+    requires some { 0 < length chunks.now }
+    requires page { page ≤ PAGES }
+    ensures within { result < length chunks.now }
+    ensures ended { All (λ m. end_of m.range ≤ page) (chunks_joined (take result chunks.now)) }
+    ensures later { All (λ m. page < m.range.first) (chunks_joined (drop (result + 1) chunks.now)) }
+{
+    if is_chunk_of_page(chunks, firsts, guess, page) {
+        return guess;
+    }
+    chunk_of_page(chunks, firsts, page)
 }
 
 /// What a list in order that stands in chunks holds at a page.
@@ -111,8 +148,13 @@ fn count_begun_in(standing: Standing<'_>, chunk: usize, from: usize, page: u64) 
     standing.starts[last] + count
 }
 
-/// The index of the first mapping that meets the range, in the list that the chunks are together, and how many do.
-pub(crate) fn overlapping_in(standing: Standing<'_>, range: PageRange) -> (usize, usize)
+/// The index of the first mapping that meets the range, in the list that the chunks are together, and how many do. The chunk of the
+/// range's first page is guessed.
+pub(crate) fn overlapping_in(
+    standing: Standing<'_>,
+    guess: usize,
+    range: PageRange,
+) -> (usize, usize)
     requires filled { AreFilled standing.chunks.now }
     requires starts { AreStarts standing.starts.now standing.chunks.now }
     requires firsts { AreFirsts standing.firsts.now standing.chunks.now }
@@ -122,7 +164,7 @@ pub(crate) fn overlapping_in(standing: Standing<'_>, range: PageRange) -> (usize
     if standing.chunks.is_empty() {
         return (0, 0);
     }
-    let chunk = chunk_of_page(standing.chunks, standing.firsts, range.first());
+    let chunk = chunk_near_page(standing.chunks, standing.firsts, guess, range.first());
     let ended = count_ended(&standing.chunks[chunk], range.first());
     let index = standing.starts[chunk] + ended;
     let behind = count_begun_in(standing, chunk, ended, range.end());

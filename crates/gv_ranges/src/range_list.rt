@@ -3,10 +3,10 @@ ghost use Rattle.std.specs.Prelude.{◌≡◌, ◌+◌, ◌*◌, ◌<◌, ◌≤
 ghost use Rattle.std.specs.Prelude.{max, MatchOption, None, Some, OnOk, OnErr};
 ghost use Rattle.gv_types.specs.declared.mapping.Mapping.{Mapping};
 
-use crate::chunk_search::{entry_in, first_behind_of, overlapping_in};
+use crate::chunk_search::{chunk_near_page, entry_in, first_behind_of, overlapping_in};
 use crate::run::Run;
 use gv_chunks::ChunkList;
-use gv_types::{Entry, Mapping, OutOfMemory, PageRange};
+use gv_types::{Entry, Mapping, OutOfMemory, PageRange, SPACE_PAGES};
 use std::alloc::Global;
 use std::marker::Model;
 
@@ -113,13 +113,26 @@ impl RangeList {
         first_behind_of(self.list.chunks(), page)
     }
 
+    /// Tells that the next calls are about a page or what lies near it: the block of memory that holds it is looked up once for all
+    /// of them. Without this call they answer the same.
+    pub fn seek(&mut self, page: u64)
+        ensures { self.new ≡ self.old }
+    {
+        let standing = self.list.chunks();
+        if page >= SPACE_PAGES || standing.chunks.is_empty() {
+            return;
+        }
+        let chunk = chunk_near_page(standing.chunks, standing.firsts, self.list.near(), page);
+        self.list.look_near(chunk);
+    }
+
     /// The index of the first mapping that meets the range, and how many mappings do. Where none
     /// does, the index is the number of mappings that end before the range. One search, and a look at each
     /// of the mappings that meet it.
     pub fn overlapping(&self, range: PageRange) -> (usize, usize)
         ensures { IsOverlappingRun self.now.mappings range result.0 result.1 }
     {
-        overlapping_in(self.list.chunks(), range)
+        overlapping_in(self.list.chunks(), self.list.near(), range)
     }
 
     /// Replaces `out_count` mappings from `index` on by `pieces`. It takes no memory: the room has

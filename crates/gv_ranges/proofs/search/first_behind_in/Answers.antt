@@ -1,4 +1,4 @@
-use Rattle.std.proofs.Common.{◌≤◌, ◌<◌, arith, get_or}
+use Rattle.std.proofs.Common.{◌≤◌, arith, get_or}
 use Rattle.std.proofs.lemmas.List.{get_or_default}
 use Rattle.gv_types.specs.PageRange.{end_of}
 use Rattle.gv_ranges.proofs.BehindLemmas.{behind_at, behind_next, behind_last}
