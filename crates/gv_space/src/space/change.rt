@@ -20,8 +20,29 @@ use gv_types::{Fault, Mapping, PageRange};
 use std::alloc::Global;
 
 impl Space {
-    /// The range is cut out, and what the saved mappings have in it is put in.
+    /// The range is cut out, and what the saved mappings have in it is put in. The list is searched once for all of it.
     pub(super) fn change(
+        &mut self,
+        alloc: Global,
+        range: PageRange,
+        saved: &[Mapping],
+    ) -> Result<OpUndo, Fault>
+        requires laid_out { IsLaidOut saved.now }
+        requires placed { All (IsPlaced self.old.area self.old.buffers) saved.now }
+        ensures fault { MatchOption (limit_fault self.old range (restored self.old.mappings range saved.now))
+            (IsOkUnless result Fault.OutOfMemory) (λ fault. result ≡ Err fault) }
+        ensures changed { IfOk result (λ undo.
+            IsChanged self.old self.new (restored self.old.mappings range saved.now) undo) }
+        ensures range { IfOk result (λ undo. undo.range ≡ range) }
+        ensures unchanged { OnErr result (IsUnchanged self.old self.new) }
+        ensures room { GrowsJustFor (restored self.old.mappings range saved.now) self.old self.new }
+    {
+        self.mapped.seek(range.first());
+        self.change_near(alloc, range, saved)
+    }
+
+    /// The same, where the list was told what comes.
+    fn change_near(
         &mut self,
         alloc: Global,
         range: PageRange,

@@ -8,7 +8,7 @@ use Rattle.gv_space.specs.Ready.{IsReady}
 use Rattle.gv_space.specs.Inside.{space_of}
 use Rattle.gv_space.proofs.FaultLemmas.{no_fault}
 use Rattle.gv_space.proofs.Readying.{inside, inside_sorted, made_ready, changed_before, grown_just_for}
-use Rattle.gv_space.proofs.space.Space.change.Goals as goal
+use Rattle.gv_space.proofs.space.Space.change_near.Goals as goal
 
 pub between_rests-inside-requires : goal.between_rests-inside-requires
 between_rests-inside-requires c =
