@@ -1,4 +1,5 @@
-//! Tests of replayed logs: rows for each format and for JSON, hostile logs, devices that fail, and a log of 100,000 lines.
+//! Tests of replayed logs: rows for each format and for JSON, hostile logs, devices that fail, a log of 100,000 lines, and what
+//! addresses reached before against entries that are taken back.
 #![tactic(auto)]
 
 #[cfg(test)]
@@ -14,7 +15,15 @@ mod json_rows;
 #[cfg(test)]
 mod long;
 #[cfg(test)]
+mod made;
+#[cfg(test)]
+mod mirror;
+#[cfg(test)]
+mod pasts;
+#[cfg(test)]
 mod play;
+#[cfg(test)]
+mod rewound;
 #[cfg(test)]
 mod rows;
 #[cfg(test)]
