@@ -1,5 +1,12 @@
 //! A list of mappings read from its text.
 
+#[cfg(test)]
+mod alike;
+#[cfg(test)]
+mod made;
+#[cfg(test)]
+mod start;
+
 use crate::fault::{CompareFault, Which};
 use crate::objects::Objects;
 use crate::row::Row;
@@ -104,7 +111,7 @@ impl Reading {
             line: self.line,
         };
         let row = match self.kind {
-            Kind::Map => Row::of_named(line),
+            Kind::Map => Row::of_bytes(line),
             Kind::Dump => None,
         };
         let row = match row {
@@ -119,7 +126,7 @@ impl Reading {
         self.place(mapping)
     }
 
-    /// The row of a line that names no buffer of a script, and none where it is no mapping but may stand in such a list.
+    /// The row of a line that `Row::of_bytes` doesn't read, and none where it is no mapping but may stand in such a list.
     fn other(&self, line: &[u8]) -> Result<Option<Row>, NoRow> {
         let text = str::from_utf8(line).map_err(|_| NoRow)?;
         let row = match self.kind {

@@ -22,23 +22,27 @@ pub struct Row {
 }
 
 impl Row {
-    /// The same as `of_map` for a line of a buffer, if it is one: nearly all lines are. It goes through the bytes once, and what is
-    /// wrong with a line is left to `of_map`.
-    pub fn of_named(line: &[u8]) -> Option<Row> {
+    /// The same as `of_map`, by going through the bytes of the line once. Nearly all lines of a `map` are mappings; what is wrong
+    /// with another is left to `of_map`.
+    pub fn of_bytes(line: &[u8]) -> Option<Row> {
         let (first, rest) = leading_digits(line)?;
         let (end, rest) = leading_digits(rest)?;
         let (name, rest) = split_once(rest, b' ')?;
+        let range = pages_between(first, end)?;
+        if name == b"zero".as_slice() {
+            return Some(Row {
+                range,
+                object: None,
+                page: 0,
+                read_only: are_read_only(rest)?,
+            });
+        }
         let (offset, flags) = leading_digits(rest)?;
-        let read_only = match flags {
-            b"ro" => true,
-            b"rw" => false,
-            _ => return None,
-        };
         Some(Row {
-            range: pages_between(first, end)?,
+            range,
             object: Some(Object::Named(Name::from_word(name)?)),
             page: page_of(offset)?,
-            read_only,
+            read_only: are_read_only(flags)?,
         })
     }
 
@@ -94,6 +98,15 @@ fn is_read_only(flags: &str) -> Option<bool> {
     match flags {
         "ro" => Some(true),
         "rw" => Some(false),
+        _ => None,
+    }
+}
+
+/// The same of the bytes of that word.
+fn are_read_only(flags: &[u8]) -> Option<bool> {
+    match flags {
+        b"ro" => Some(true),
+        b"rw" => Some(false),
         _ => None,
     }
 }
