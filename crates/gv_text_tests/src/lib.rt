@@ -10,6 +10,8 @@ mod dialogues;
 #[cfg(test)]
 mod drawing;
 #[cfg(test)]
+mod drawn;
+#[cfg(test)]
 mod failing;
 #[cfg(test)]
 mod many;
