@@ -5,6 +5,6 @@ use Rattle.std.specs.Prelude.{ℕ, ◌+◌, min}
 abbrev pub most_kept : ℕ
 most_kept = 256
 
--- how many are kept once more have come
-abbrev pub kept_with : ℕ → ℕ → ℕ
-kept_with kept more = min most_kept (kept + more)
+-- how many are kept once more have come, where no more than `most` may be
+abbrev pub kept_with : ℕ → ℕ → ℕ → ℕ
+kept_with most kept more = min (min most_kept most) (kept + more)

@@ -1,5 +1,5 @@
 -- The page table as a whole.
-use Rattle.std.specs.Prelude.{◌≡◌, ℕ, List, [], ◌∷◌, Option}
+use Rattle.std.specs.Prelude.{◌≡◌, ℕ, ◌+◌, List, [], ◌∷◌, Option}
 use Rattle.gv_types.specs.PageRange.{PageRangeState}
 use Rattle.gv_types.specs.declared.mapping.Entry.{Entry}
 use Rattle.gv_types.specs.declared.mapping.Mapping.{Mapping}
@@ -38,6 +38,12 @@ abbrev pub tables_by_level : PageTable → List ℕ
 tables_by_level table =
     tables_at 4 top_level table.root ∷ tables_at 3 top_level table.root ∷ tables_at 2 top_level table.root ∷
     tables_at 1 top_level table.root ∷ tables_at 0 top_level table.root ∷ []
+
+-- how many tables stand at all levels
+abbrev pub tables_standing : PageTable → ℕ
+tables_standing table =
+    tables_at 4 top_level table.root + tables_at 3 top_level table.root + tables_at 2 top_level table.root +
+    tables_at 1 top_level table.root + tables_at 0 top_level table.root
 
 -- how many tables the tree of the mappings has at the levels 4, 3, 2, 1 and 0
 abbrev pub tables_of : List Mapping → List ℕ

@@ -33,7 +33,7 @@ pub struct PageTable {
 
 impl PageTable {
     ghost use Rattle.gv_table.specs.Table.{IsTree, IsHeldAt, FitsOutside, gained_by, lost_by, needed_for};
-    ghost use Rattle.gv_table.specs.Table.{tables_by_level, tables_of};
+    ghost use Rattle.gv_table.specs.Table.{tables_by_level, tables_of, tables_standing};
 
     /// The tree of no mapping: it has no table, and takes no memory.
     pub fn new() -> PageTable
@@ -62,6 +62,14 @@ impl PageTable {
         ensures wanted { (ms : List Mapping) → IsTree ms self.now → result ≡ tables_of ms }
     {
         self.counts.descending()
+    }
+
+    /// How many tables stand at all levels. The numbers are kept: nothing is walked.
+    pub fn standing(&self) -> u64
+        ensures { result ≡ tables_standing self.now }
+    {
+        let [four, three, two, one, zero] = self.tables();
+        four + three + two + one + zero
     }
 
     /// Empty tables for a paint after which the list holds these pieces in the range: enough for
@@ -101,6 +109,7 @@ impl PageTable {
         ensures err { IfErr result (λ fault. fault ≡ OutOfMemory) }
         ensures some_needed { OnErr result (pool.old < needed_for pieces.now range self.now) }
         ensures taken { OnOk result (pool.new ≡ pool.old - needed_for pieces.now range self.now) }
+        ensures no_more { pool.new ≤ pool.old }
     {
         let pieces = Reader::of_slice(pieces);
         let mut spares = Spares::new();

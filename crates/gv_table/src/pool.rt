@@ -1,5 +1,5 @@
 //! Empty tables kept for later paints.
-ghost use Rattle.std.specs.Prelude.{◌≡◌, ◌+◌, ◌-◌, ◌≤◌, OnOk, OnErr};
+ghost use Rattle.std.specs.Prelude.{◌≡◌, ◌+◌, ◌-◌, ◌≤◌, min, OnOk, OnErr};
 ghost use Rattle.gv_table.specs.Pool.{most_kept, kept_with};
 
 use crate::spares::Spares;
@@ -10,7 +10,8 @@ use std::marker::Model;
 const MOST_KEPT: u64 = 256;
 
 /// Empty tables that left trees and are kept for later paints, so that a table which comes and goes is neither made anew nor
-/// given back to the system. It grows only by what is put in, and keeps at most 256. Contracts see how many they are.
+/// given back to the system. It grows only by what is put in, and keeps at most 256, and no more than its user allows. Contracts
+/// see how many they are.
 #[derive(Drop)]
 pub struct Pool {
     spares: Spares,
@@ -39,18 +40,31 @@ impl Pool {
         }
     }
 
-    /// Keeps these tables, as far as it keeps any more; the others are given back to the system. It takes no memory.
-    pub fn put(&mut self, spares: Spares)
-        ensures kept { self.new ≡ kept_with self.old spares }
+    /// Keeps these tables, as far as that makes no more than `most`, and no more than 256; the others are given back to the system,
+    /// as are those that it keeps beyond `most` already. It takes no memory.
+    pub fn put(&mut self, spares: Spares, most: u64)
+        ensures kept { self.new ≡ kept_with most self.old spares }
         ensures few { self.new ≤ most_kept }
     {
+        let most = most.min(MOST_KEPT);
+        self.shrink(most);
         let mut spares = spares;
-        for _ in self.count..MOST_KEPT {
+        for _ in self.count..most {
             if spares.is_empty() {
                 return;
             }
             self.spares.put(spares.take());
             self.count += 1;
+        }
+    }
+
+    /// Gives back to the system what it keeps beyond `most`.
+    fn shrink(&mut self, most: u64)
+        ensures { self.new ≡ min most self.old }
+    {
+        if self.count > most {
+            let _beyond = self.spares.split(self.count - most);
+            self.count = most;
         }
     }
 
