@@ -4,7 +4,7 @@ ghost use Rattle.gv_types.specs.Limits.{greatest, IsFromOneTo};
 
 use crate::counter::Counter;
 use crate::indices::{Indices, forget};
-use crate::live_buffer::LiveBuffer;
+use crate::live_buffer::{LiveBuffer, NO_PAGE, NOTED};
 use crate::slots::Slots;
 use crate::usage::Usage;
 use crate::users::Users;
@@ -101,6 +101,7 @@ impl Buffers {
             pages,
             uses: 0,
             kept: 0,
+            noted: [NO_PAGE; NOTED],
             users: Users::new(alloc),
         };
         self.slots.put_in(buffer);
@@ -155,7 +156,25 @@ impl Buffers {
         requires { IsSomeAnd (uses self.old id) (λ count. count < most_counted) }
         ensures { self.new ≡ changed id (raised Counter.Uses 1) self.old }
     {
-        self.raise(Counter::Uses, id);
+        self.raise(Counter::Uses, id, NO_PAGE);
+    }
+
+    /// As `count_in`, for a mapping that begins at this page, which is noted. It takes no memory.
+    pub fn count_in_at(&mut self, id: BufferId, page: u64)
+        requires { IsSomeAnd (uses self.old id) (λ count. count < most_counted) }
+        ensures { self.new ≡ changed id (raised Counter.Uses 1) self.old }
+    {
+        self.raise(Counter::Uses, id, page);
+    }
+
+    /// Pages at which mappings of the buffer may begin: the last four different ones that `count_in_at` noted, the newest first.
+    /// Whether one begins there still, and whether there are others, has to be looked up. Where there were fewer, the rest are
+    /// numbers that no page has.
+    pub fn noted(&self, id: BufferId) -> [u64; 4] {
+        match self.slots.get(id) {
+            Some(slot) => slot.noted,
+            None => [NO_PAGE; NOTED],
+        }
     }
 
     /// Counts one mapping less in the list. It takes no memory.
@@ -171,7 +190,7 @@ impl Buffers {
         requires { IsSomeAnd (kept self.old id) (λ count. count < most_counted) }
         ensures { self.new ≡ changed id (raised Counter.Kept 1) self.old }
     {
-        self.raise(Counter::Kept, id);
+        self.raise(Counter::Kept, id, NO_PAGE);
     }
 
     /// Counts one mapping less in undo values. It takes no memory.
@@ -197,12 +216,12 @@ impl Buffers {
         self.slots.get(id).map(|slot| slot.count(counter))
     }
 
-    /// Counts one mapping more.
-    fn raise(&mut self, counter: Counter, id: BufferId)
+    /// Counts one mapping more, which begins at a page.
+    fn raise(&mut self, counter: Counter, id: BufferId, page: u64)
         requires { IsSomeAnd (counted counter self.old id) (λ count. count < most_counted) }
         ensures { self.new ≡ changed id (raised counter 1) self.old }
     {
-        self.slots.raise(id.index, counter);
+        self.slots.raise(id.index, counter, page);
     }
 
     /// Counts one mapping less.

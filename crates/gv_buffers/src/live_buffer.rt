@@ -7,6 +7,12 @@ use crate::counter::Counter;
 use crate::users::Users;
 use gv_types::{Fault, Generation};
 
+/// So many pages are noted of a buffer: most have a mapping, or a few.
+pub const NOTED: usize = 4;
+
+/// Noted where no page is: no page has this number.
+pub const NO_PAGE: u64 = u64::MAX;
+
 /// A live buffer at its index.
 #[derive(Drop)]
 pub struct LiveBuffer {
@@ -14,6 +20,9 @@ pub struct LiveBuffer {
     pub pages: u64,
     pub uses: u64,
     pub kept: u64,
+    // Where mappings of the buffer began as they came into the list, the newest first. Whether they begin there still, and whether
+    // there are others, who asks has to look up. They stand beside the counts, which change at the same time.
+    pub noted: [u64; NOTED],
     pub users: Users,
 }
 
@@ -28,8 +37,8 @@ impl LiveBuffer {
         }
     }
 
-    /// Counts one mapping more.
-    pub fn raise(&mut self, counter: Counter)
+    /// Counts one mapping more, which begins at a page.
+    pub fn raise(&mut self, counter: Counter, page: u64)
         requires { count counter (buffer_at 0 self.old) < most_counted }
         ensures { (index : ℕ) → buffer_at index self.new ≡ raised counter 1 (buffer_at index self.old) }
     {
@@ -37,6 +46,18 @@ impl LiveBuffer {
             Counter::Uses => self.uses += 1,
             Counter::Kept => self.kept += 1,
         }
+        self.note(page);
+    }
+
+    /// Notes a page, if it is one and isn't noted yet.
+    fn note(&mut self, page: u64)
+        ensures { (index : ℕ) → buffer_at index self.new ≡ buffer_at index self.old }
+    {
+        if page == NO_PAGE || self.noted.contains(&page) {
+            return;
+        }
+        let [newest, second, third, _] = self.noted;
+        self.noted = [page, newest, second, third];
     }
 
     /// Counts one mapping less.

@@ -96,8 +96,8 @@ impl Slots {
         self.vacant.push_reserved(index);
     }
 
-    /// Counts one mapping more of the buffer at an index.
-    pub fn raise(&mut self, index: u32, counter: Counter)
+    /// Counts one mapping more of the buffer at an index, which begins at a page.
+    pub fn raise(&mut self, index: u32, counter: Counter, page: u64)
         requires { IsSomeAnd (option_map (count counter) (buffer_in self.old.entries.items index)) (λ count. count < most_counted) }
         ensures here { buffer_in self.new.entries.items index
             ≡ option_map (raised counter 1) (buffer_in self.old.entries.items index) }
@@ -105,7 +105,7 @@ impl Slots {
         ensures length { length self.new.entries.items ≡ length self.old.entries.items }
         ensures vacant { self.new.vacant ≡ self.old.vacant }
     {
-        raise_slot(&mut self.entries[index as usize], counter);
+        raise_slot(&mut self.entries[index as usize], counter, page);
     }
 
     /// Counts one mapping less of the buffer at an index.
@@ -184,13 +184,13 @@ impl Slots {
 }
 
 /// Counts one mapping more of the buffer in a slot, where one is.
-fn raise_slot(slot: &mut Option<LiveBuffer>, counter: Counter)
+fn raise_slot(slot: &mut Option<LiveBuffer>, counter: Counter, page: u64)
     requires { IsSomeAnd (option_map (count counter) (option_map (buffer_at 0) slot.old)) (λ count. count < most_counted) }
     ensures { (index : ℕ) → option_map (buffer_at index) slot.new
         ≡ option_map (raised counter 1) (option_map (buffer_at index) slot.old) }
 {
     if let Some(buffer) = slot {
-        buffer.raise(counter);
+        buffer.raise(counter, page);
     }
 }
 
