@@ -21,4 +21,5 @@ pub mod UnchangedLemmas
 pub mod UsesFound
 pub mod ReleasedLemmas
 pub mod BufferRanges
+pub mod Found
 pub mod Walked

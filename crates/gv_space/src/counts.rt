@@ -11,7 +11,7 @@ use gv_buffers::Buffers;
 use gv_ranges::Run;
 use gv_types::{Backing, Mapping};
 
-/// Counts mappings that come into the list, each in its buffer.
+/// Counts mappings that come into the list, each in its buffer, and notes there where it begins.
 pub fn count_in(buffers: &mut Buffers, mappings: &[Mapping])
     requires live { All (λ m. IsLiveBacking buffers.old m.backing) mappings.now }
     requires room { All (λ b. b.uses + count_of b.id mappings.now ≤ most_counted) buffers.old.live }
@@ -19,7 +19,7 @@ pub fn count_in(buffers: &mut Buffers, mappings: &[Mapping])
 {
     for mapping in mappings {
         if let Backing::Buffer { id, .. } = mapping.backing {
-            buffers.count_in(id);
+            buffers.count_in_at(id, mapping.range.first());
         }
     }
 }

@@ -15,7 +15,8 @@ use gv_types::{Entry, Fault, Mapping, OutOfMemory, PageRange};
 use std::alloc::Global;
 use std::marker::Model;
 
-/// The list of mappings and the page table, which is always that of the list, with the tables that left it and are kept for later.
+/// The list of mappings and the page table, which is always that of the list, with tables that left it and are kept for later: never
+/// more than stand in it, so that memory follows what is mapped.
 #[derive(Drop)]
 pub struct ListWithTable {
     list: RangeList,
@@ -31,7 +32,10 @@ impl Model for ListWithTable {
 
     ghost view = { λ p. p.list };
 
-    ghost invariant = { λ p. IsTree p.list.mappings p.table };
+    ghost use Rattle.std.specs.Prelude.{◌≤◌};
+    ghost use Rattle.gv_table.specs.Table.{tables_standing};
+
+    ghost invariant = { λ p. (IsTree p.list.mappings p.table) × (p.pool ≤ tables_standing p.table) };
 }
 
 impl ListWithTable {
@@ -123,7 +127,7 @@ impl ListWithTable {
     pub fn keep(&mut self, tables: Spares)
         ensures same { self.new ≡ self.old }
     {
-        self.pool.put(tables);
+        self.pool.put(tables, self.table.standing());
     }
 
     /// Replaces `out_count` mappings from `index` on by `pieces`, and paints the range. The mappings before the index have
@@ -158,7 +162,7 @@ impl ListWithTable {
         self.list.splice(index, out_count, pieces);
         let lost = self.table.paint(&self.list, range, index, &mut spares);
         let left = spares.split(lost);
-        self.pool.put(spares);
+        self.pool.put(spares, self.table.standing());
         left
     }
 

@@ -1,18 +1,29 @@
 //! The pages of a buffer's mappings.
-ghost use Rattle.std.specs.Prelude.{◌≡◌, ◌<◌, IfOk, OnErr, map, filter, take};
+ghost use Rattle.std.specs.Prelude.{◌≡◌, ◌<◌, ◌≤◌, true, IfOk, IfSome, OnErr, length, map, filter, take, slice_index_or};
 ghost use Rattle.gv_types.specs.Mapping.{is_of};
+ghost use Rattle.gv_types.specs.declared.mapping.Mapping.{Mapping};
 ghost use Rattle.gv_space.specs.Counts.{count_of, ranges_of};
+ghost use Rattle.gv_space.specs.Noted.{AreFound};
 
 use gv_ranges::RangeList;
-use gv_types::{BufferId, OutOfMemory, PageRange};
+use gv_types::{Backing, BufferId, Mapping, OutOfMemory, PageRange};
+use smallvec::SmallVec;
 use std::alloc::Global;
 
-/// The range of each mapping of a buffer that has `count` of them, in the order of the list. It stops at the last one.
+/// So many mappings of a buffer are looked up without memory: as many as pages are noted of it.
+const FEW: usize = 4;
+
+/// So many mappings, in the value itself.
+type FewMappings = SmallVec<Mapping, FEW>;
+
+/// The range of each mapping of a buffer that has `count` of them, in the order of the list. Where the noted pages lie in all of them,
+/// each is looked up; else the list is gone through, as far as the last one.
 pub fn ranges_of(
     alloc: Global,
     list: &RangeList,
     id: BufferId,
     count: u64,
+    noted: [u64; FEW],
 ) -> Result<Vec<PageRange>, OutOfMemory>
     requires { count ≡ count_of id list.now.mappings }
     ensures ranges { IfOk result (λ ranges. ranges.items ≡ ranges_of id list.now.mappings) }
@@ -21,7 +32,70 @@ pub fn ranges_of(
     if count == 0 {
         return Ok(Vec::new(alloc));
     }
+    if count <= FEW as u64 {
+        let mappings = noted_mappings(alloc, list, id, noted)?;
+        if mappings.len() as u64 == count {
+            return Ok(mappings.as_slice().iter().map(|m| m.range).collect(alloc)?);
+        }
+    }
     first_ranges(alloc, list, id, count as usize)
+}
+
+/// The mappings of a buffer in which one of the pages lies, in the order of the list. Where they are as many as the buffer has,
+/// they are all.
+fn noted_mappings(
+    alloc: Global,
+    list: &RangeList,
+    id: BufferId,
+    noted: [u64; FEW],
+) -> Result<FewMappings, OutOfMemory>
+    ensures { IfOk result (λ few. length few.items ≡ count_of id list.now.mappings
+        → few.items ≡ filter (λ m. is_of id m.backing) list.now.mappings) }
+{
+    let mut pages = noted;
+    pages.sort_unstable();
+    let mut mappings = SmallVec::new(alloc);
+    let mut from = 0;
+    for page in &pages {
+        from = push_noted(&mut mappings, list, &id, *page, from)?;
+    }
+    Ok(mappings)
+}
+
+/// Adds the buffer's mapping in which the page lies, if it stands at `from` or behind it: up to where it was looked for.
+fn push_noted(
+    mappings: &mut FewMappings,
+    list: &RangeList,
+    id: &BufferId,
+    page: u64,
+    from: usize,
+) -> Result<usize, OutOfMemory>
+    requires { AreFound id.now list.now.mappings mappings.old.items from }
+    ensures { IfOk result (AreFound id.now list.now.mappings mappings.new.items) }
+{
+    // The borrow checker proves this only where the function names the types inside the mapping.
+    let _backing = Backing::Zero;
+    // Tells that the list's length is a number of a machine.
+    let _len = list.len();
+    let Some(index) = index_of(list, *id, page, from) else {
+        return Ok(from);
+    };
+    mappings.push(*list.get(index))?;
+    Ok(index + 1)
+}
+
+/// The index of the mapping in which a page lies, if it is the buffer's, and stands at `from` or behind it.
+fn index_of(list: &RangeList, id: BufferId, page: u64, from: usize) -> Option<usize>
+    ensures behind { IfSome result (λ index. from ≤ index) }
+    ensures within { IfSome result (λ index. index < length list.now.mappings) }
+    ensures is_of { IfSome result (λ index. (d : Mapping)
+        → is_of id (slice_index_or list.now.mappings index d).backing ≡ true) }
+{
+    let (index, met) = list.overlapping(PageRange::new(page, 1)?);
+    if met == 0 || index < from || !list.get(index).backing.is_of(id) {
+        return None;
+    }
+    Some(index)
 }
 
 /// The ranges of a buffer's first mappings.

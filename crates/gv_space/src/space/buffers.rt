@@ -51,7 +51,8 @@ impl Space {
         let Some(count) = self.buffers.uses(id) else {
             return Err(Fault::NoBuffer);
         };
-        Ok(ranges::ranges_of(alloc, self.list(), id, count)?)
+        let noted = self.buffers.noted(id);
+        Ok(ranges::ranges_of(alloc, self.list(), id, count, noted)?)
     }
 
     /// Why no buffer of `pages` pages can be made, whatever memory there is.

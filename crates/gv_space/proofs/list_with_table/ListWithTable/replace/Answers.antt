@@ -7,7 +7,7 @@ use Rattle.gv_space.proofs.list_with_table.ListWithTable.replace.Goals as goal
 pub returns-clause-tables : goal.returns-clause-tables
 returns-clause-tables c =
     λ table is. tables-gained c.splice.new.self.mappings c.args.self.now.mappings table c.paint-lost.new.self is c.paint-lost.ensures.tree
-    ∙ c.paint-lost.ensures.owed c.args.self.now.mappings (rw (← c.self.view_is) c.len-len.ensures.laid_out) (rw (← c.self.view_is) c.self.invariant)
+    ∙ c.paint-lost.ensures.owed c.args.self.now.mappings (rw (← c.self.view_is) c.len-len.ensures.laid_out) (rw (← c.self.view_is) c.self.invariant.0)
     ∙ sym c.split-left.ensures.count
 
 pub paint-lost-requires-clause-ended : goal.paint-lost-requires-clause-ended

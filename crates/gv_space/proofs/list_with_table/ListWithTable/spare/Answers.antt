@@ -16,7 +16,7 @@ returns-clause-enough c =
     let now = c.args.self.now.mappings in
     let inside = c.self.inside.table in
     let laid_now : IsLaidOut now = rw (← c.self.view_is) c.len-len.ensures.laid_out in
-    let tree_now : IsTree now inside = rw (← c.self.view_is) c.self.invariant in
+    let tree_now : IsTree now inside = rw (← c.self.view_is) c.self.invariant.0 in
     IfOk-weaker c.spare_from.result
     (λ spares. (ms : List Mapping) → IsLaidOut ms → FitsOutside ms range inside → clipped range.first (end_of range) ms ≡ c.args.pieces.now → gained_by ms inside ≤ spares)
     (λ spares. (ms : List Mapping) (table : PageTable) → IsLaidOut ms → AreAlikeOutside range now ms → clipped range.first (end_of range) ms ≡ c.args.pieces.now → IsTree now table → gained_by ms table ≤ spares)
