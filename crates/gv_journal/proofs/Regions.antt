@@ -1,7 +1,7 @@
 -- The bits of regions: a page that an operation covers has the bit of its region, so operations without a bit in common touch nowhere.
 use Rattle.std.proofs.Common.{◌≡◌, ℕ, ◌+◌, ◌-◌, ◌*◌, ◌/◌, ◌%◌, ◌^◌, ◌<◌, ◌≤◌, max, false, List, [], ◌∷◌, Option, Some, None, inl, inr, ap, sym, ◌∙◌, arith}
 use Rattle.std.specs.Prelude.{◌⊎◌, bit_and, bit_or}
-use Rattle.std.specs.Int.{w64, rotate_left, bit_at}
+use Rattle.std.specs.Int.{w128, rotate_left, bit_at}
 use Rattle.std.proofs.lemmas.Bool.{cases_lt}
 use Rattle.std.proofs.lemmas.Bool.Decides.{nat_tests}
 use Rattle.std.proofs.lemmas.Nat.{shr-shr, pow_pos}
@@ -11,11 +11,11 @@ use Rattle.gv_types.specs.declared.operation.PageOp.{PageOp}
 use Rattle.gv_journal.specs.Restoring.{pages_named}
 use Rattle.gv_journal.specs.Notes.{region_of, regions_between, regions_named, regions_from}
 
--- a bit of the low 64
-bit_low : (n i : ℕ) → i < 64 → bit_at (n % 2 ^ 64) i ≡ bit_at n i
+-- a bit of the low 128
+bit_low : (n i : ℕ) → i < 128 → bit_at (n % 2 ^ 128) i ≡ bit_at n i
 bit_low n i within =
-    let parts : n / 2 ^ 64 * 2 ^ 64 + n % 2 ^ 64 ≡ n = omega arith in
-    sym (bit_at_cat_low (n / 2 ^ 64) 64 (n % 2 ^ 64) i within) ∙ ap (λ (x : ℕ). bit_at x i) parts
+    let parts : n / 2 ^ 128 * 2 ^ 128 + n % 2 ^ 128 ≡ n = omega arith in
+    sym (bit_at_cat_low (n / 2 ^ 128) 128 (n % 2 ^ 128) i within) ∙ ap (λ (x : ℕ). bit_at x i) parts
 
 bit_shifted : (n k i : ℕ) → bit_at (n * 2 ^ k) (k + i) ≡ bit_at n i
 bit_shifted n k i =
@@ -31,25 +31,25 @@ bit_of_either a b i (inl one) = let most : bit_at b i ≤ 1 = omega arith in ome
 bit_of_either a b i (inr one) = let most : bit_at a i ≤ 1 = omega arith in omega (arith, bit_at_or a b i, one, most)
 
 -- a bit of a number that is turned to the left
-module _ (n by j : ℕ) (within : j < 64) (one : bit_at n j ≡ 1) where
+module _ (n by j : ℕ) (within : j < 128) (one : bit_at n j ≡ 1) where
   abbrev turn : ℕ
-  turn = by % 64
+  turn = by % 128
 
-  turned_or_back : (turn + j < 64) ⊎ (64 ≤ turn + j) → (bit_at ((n * 2 ^ turn) % 2 ^ 64) ((by + j) % 64) ≡ 1) ⊎ (bit_at (n / 2 ^ ((64 - turn) % 64)) ((by + j) % 64) ≡ 1)
+  turned_or_back : (turn + j < 128) ⊎ (128 ≤ turn + j) → (bit_at ((n * 2 ^ turn) % 2 ^ 128) ((by + j) % 128) ≡ 1) ⊎ (bit_at (n / 2 ^ ((128 - turn) % 128)) ((by + j) % 128) ≡ 1)
   turned_or_back (inl less) =
-      let place : (by + j) % 64 ≡ turn + j = omega arith in
-      inl (ap (bit_at ((n * 2 ^ turn) % 2 ^ 64)) place ∙ bit_low (n * 2 ^ turn) (turn + j) less ∙ bit_shifted n turn j ∙ one)
+      let place : (by + j) % 128 ≡ turn + j = omega arith in
+      inl (ap (bit_at ((n * 2 ^ turn) % 2 ^ 128)) place ∙ bit_low (n * 2 ^ turn) (turn + j) less ∙ bit_shifted n turn j ∙ one)
   turned_or_back (inr more) =
-      let back : (64 - turn) % 64 ≡ 64 - turn = omega arith in
-      let place : (64 - turn) + (by + j) % 64 ≡ j = omega arith in
-      inr (ap (λ (k : ℕ). bit_at (n / 2 ^ k) ((by + j) % 64)) back ∙ bit_unshifted n (64 - turn) ((by + j) % 64) ∙ ap (bit_at n) place ∙ one)
+      let back : (128 - turn) % 128 ≡ 128 - turn = omega arith in
+      let place : (128 - turn) + (by + j) % 128 ≡ j = omega arith in
+      inr (ap (λ (k : ℕ). bit_at (n / 2 ^ k) ((by + j) % 128)) back ∙ bit_unshifted n (128 - turn) ((by + j) % 128) ∙ ap (bit_at n) place ∙ one)
 
-  bit_turned : bit_at (rotate_left w64 n by) ((by + j) % 64) ≡ 1
-  bit_turned = bit_of_either ((n * 2 ^ turn) % 2 ^ 64) (n / 2 ^ ((64 - turn) % 64)) ((by + j) % 64) (turned_or_back (cases_lt (turn + j) 64))
+  bit_turned : bit_at (rotate_left w128 n by) ((by + j) % 128) ≡ 1
+  bit_turned = bit_of_either ((n * 2 ^ turn) % 2 ^ 128) (n / 2 ^ ((128 - turn) % 128)) ((by + j) % 128) (turned_or_back (cases_lt (turn + j) 128))
 
 -- the bit of the region of a page
 abbrev IsMarked : ℕ → ℕ → Type 0
-IsMarked regions page = bit_at regions (region_of page % 64) ≡ 1
+IsMarked regions page = bit_at regions (region_of page % 128) ≡ 1
 
 module _ (s : PageRangeState) (page : ℕ) (from : s.first ≤ page) (to : page ≤ max s.first (end_of s - 1)) where
   abbrev low : ℕ
@@ -62,19 +62,19 @@ module _ (s : PageRangeState) (page : ℕ) (from : s.first ≤ page) (to : page 
   away = region_of page - low
 
   abbrev ones : ℕ
-  ones = 0xffff_ffff_ffff_ffff / 2 ^ (63 - (high - low))
+  ones = (2 ^ 128 - 1) / 2 ^ (127 - (high - low))
 
   near : away ≤ high - low
   near = omega (arith, from, to)
 
-  place : region_of page % 64 ≡ (low % 64 + away % 64) % 64
+  place : region_of page % 128 ≡ (low % 128 + away % 128) % 128
   place = omega (arith, from)
 
-  one : bit_at ones (away % 64) ≡ 1
-  one = bit_unshifted 0xffff_ffff_ffff_ffff (63 - (high - low)) (away % 64) ∙ bit_at_ones 64 (63 - (high - low) + away % 64) (omega (arith, near))
+  one : bit_at ones (away % 128) ≡ 1
+  one = bit_unshifted (2 ^ 128 - 1) (127 - (high - low)) (away % 128) ∙ bit_at_ones 128 (127 - (high - low) + away % 128) (omega (arith, near))
 
   in_regions : IsMarked (regions_between low high) page
-  in_regions = ap (bit_at (rotate_left w64 ones (low % 64))) place ∙ bit_turned ones (low % 64) (away % 64) (omega arith) one
+  in_regions = ap (bit_at (rotate_left w128 ones (low % 128))) place ∙ bit_turned ones (low % 128) (away % 128) (omega arith) one
 
 -- all pages that an operation names
 abbrev pub AreMarked : ℕ → Option PageRangeState → Type 0
@@ -93,8 +93,8 @@ still_set regions i (op ∷ ops) one =
 first_marked : (regions : ℕ) (named : Option PageRangeState) (ops : List PageOp) → AreMarked (regions_from (bit_or regions (regions_named named)) ops) named
 first_marked regions None ops = tt
 first_marked regions (Some s) ops = λ page from to.
-    still_set (bit_or regions (regions_named (Some s))) (region_of page % 64) ops
-    (bit_of_either regions (regions_named (Some s)) (region_of page % 64) (inr (in_regions s page from to)))
+    still_set (bit_or regions (regions_named (Some s))) (region_of page % 128) ops
+    (bit_of_either regions (regions_named (Some s)) (region_of page % 128) (inr (in_regions s page from to)))
 
 pub all_marked : (regions : ℕ) (ops : List PageOp) → AllMarked (regions_from regions ops) ops
 all_marked regions [] = tt
@@ -109,8 +109,8 @@ module _ (r s : PageRangeState) (a b : ℕ) (marked : AreMarked a (Some r)) (oth
   apart low high =
       let one : IsMarked a page = marked page (omega arith) (omega (arith, low, high)) in
       let same : IsMarked b page = other page (omega arith) (omega (arith, low, high)) in
-      let unset : bit_at (bit_and a b) (region_of page % 64) ≡ 0 = ap (λ (x : ℕ). bit_at x (region_of page % 64)) none ∙ bit_at-zero (region_of page % 64) in
-      omega (arith, bit_at_and a b (region_of page % 64), one, same, unset)
+      let unset : bit_at (bit_and a b) (region_of page % 128) ≡ 0 = ap (λ (x : ℕ). bit_at x (region_of page % 128)) none ∙ bit_at-zero (region_of page % 128) in
+      omega (arith, bit_at_and a b (region_of page % 128), one, same, unset)
 
   by_cases : (r.first < end_of s) ⊎ (end_of s ≤ r.first) → (s.first < end_of r) ⊎ (end_of r ≤ s.first) → meets r s ≡ false
   by_cases (inl low) (inl high) = absurd (apart low high)

@@ -4,7 +4,7 @@ use Rattle.std.specs.Prelude.{◌≡◌, ℕ, ◌-◌, ◌≤◌, nat_le, if◌t
 use Rattle.gv_types.specs.PageRange.{PageRangeState, span}
 use Rattle.gv_journal.specs.declared.note.Note.TheInside.{Inside}
 
--- the pages from the least to the greatest that operations cover, and a bit for each region of 64 in which they cover some
+-- the pages from the least to the greatest that operations cover, and a bit for each region of 128 in which they cover some
 pub record Reach : Type 0 where
   pub extent : Option PageRangeState
   pub regions : ℕ

@@ -1,6 +1,6 @@
 -- What stands beside each item, so that it can be passed over unread. No public clause cites this module.
 use Rattle.std.specs.Prelude.{◌≡◌, ℕ, ◌+◌, ◌-◌, ◌/◌, ◌%◌, ◌^◌, ◌<◌, ◌≤◌, Bool, false, ◌&&◌, not, nat_eq, nat_le, bit_and, bit_or, is_some, if◌then◌else◌, List, [], ◌∷◌, map, reverse, length, slice_index_or, set, min, max, Option, Some, None}
-use Rattle.std.specs.Int.{w64, rotate_left}
+use Rattle.std.specs.Int.{w128, rotate_left}
 use Rattle.gv_types.specs.PageRange.{PageRangeState, span, end_of, meets}
 use Rattle.gv_types.specs.declared.operation.PageOp.{PageOp}
 use Rattle.gv_journal.specs.Items.{NumberedItem, names, done_by}
@@ -29,13 +29,13 @@ extent_from extent (op ∷ ops) = extent_from (extents_joined extent (pages_name
 abbrev pub extent_of : List PageOp → Option PageRangeState
 extent_of ops = extent_from None ops
 
--- A region is the 512 pages of one table. Its number modulo 64 is the place of its bit.
+-- A region is the 512 pages of one table. Its number modulo 128 is the place of its bit.
 abbrev pub region_of : ℕ → ℕ
 region_of page = page / 512
 
--- the bits of the regions from one to another: as many ones as there are regions, and at most 64, turned to the place of the first
+-- the bits of the regions from one to another: as many ones as there are regions, and at most 128, turned to the place of the first
 abbrev pub regions_between : ℕ → ℕ → ℕ
-regions_between low high = rotate_left w64 (0xffff_ffff_ffff_ffff / 2 ^ (63 - (high - low))) (low % 64)
+regions_between low high = rotate_left w128 ((2 ^ 128 - 1) / 2 ^ (127 - (high - low))) (low % 128)
 
 -- and of those with pages that an operation names
 abbrev pub regions_named : Option PageRangeState → ℕ

@@ -17,7 +17,7 @@ const NONE: u64 = u64::MAX;
 const REGION: u64 = 512;
 
 /// The number of the withdrawal that names the item, if one does, the pages from the least to the greatest that its
-/// operations cover, if they cover any, and a bit for each region of 64 in which they cover some. They are plain numbers
+/// operations cover, if they cover any, and a bit for each region of 128 in which they cover some. They are plain numbers
 /// beside one another, since those of all later items are read when an item is withdrawn. Where there are no pages, all
 /// numbers but the first are 0.
 #[derive(Drop)]
@@ -25,7 +25,7 @@ pub struct Note {
     withdrawal: u64,
     first: u64,
     past: u64,
-    regions: u64,
+    regions: u128,
 }
 
 impl Model for Note {
@@ -41,7 +41,7 @@ impl Model for Note {
 impl Note {
     /// Of an item that nothing withdraws, whose operations cover these pages from the least to the greatest, and some in each of
     /// these regions.
-    pub fn new(extent: Option<PageRange>, regions: u64) -> Note
+    pub fn new(extent: Option<PageRange>, regions: u128) -> Note
         ensures withdrawal { result.withdrawal ≡ None }
         ensures extent { result.reach.extent ≡ extent }
         ensures regions { result.reach.regions ≡ regions }
@@ -153,16 +153,16 @@ pub fn extent_of(ops: &[PageOp]) -> Option<PageRange>
 }
 
 /// The bits of the regions from one to another.
-fn regions_between(low: u64, high: u64) -> u64
+fn regions_between(low: u64, high: u64) -> u128
     requires { low ≤ high }
     ensures { result ≡ regions_between low high }
 {
-    let unset = 63u64.saturating_sub(high - low);
-    (u64::MAX >> unset).rotate_left((low % 64) as u32)
+    let unset = 127u64.saturating_sub(high - low);
+    (u128::MAX >> unset).rotate_left((low % 128) as u32)
 }
 
 /// The bits of the regions with pages that an operation names.
-fn regions_named(op: &PageOp) -> u64
+fn regions_named(op: &PageOp) -> u128
     ensures { result ≡ regions_named (pages_named op.now) }
 {
     match pages_of(op) {
@@ -172,7 +172,7 @@ fn regions_named(op: &PageOp) -> u64
 }
 
 /// The bits of the regions in which operations cover pages.
-pub fn regions_of(ops: &[PageOp]) -> u64
+pub fn regions_of(ops: &[PageOp]) -> u128
     ensures { result ≡ regions_of ops.now }
 {
     let mut regions = 0;
