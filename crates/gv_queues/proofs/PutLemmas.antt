@@ -1,5 +1,5 @@
 -- For callers: some of the requests that were to be put.
-use Rattle.std.proofs.Common.{◌≡◌, ℕ, suc, ◌+◌, ◌≤◌, List, [], ◌∷◌, length, refl, ap, ◌∙◌, ⊎_elim, arith}
+use Rattle.std.proofs.Common.{◌≡◌, suc, ◌≤◌, List, [], ◌∷◌, length, refl, ap, ◌∙◌, ⊎_elim, arith}
 use Rattle.gv_queues.specs.Driving.{AreSomeOf}
 
 -- they are no more than all

@@ -1,4 +1,4 @@
-use Rattle.std.proofs.Common.{◌≡◌, ◌∙◌, ◌++◌, ◌∷◌, [], ℕ, List, length, ap, sym, append_assoc, rules}
+use Rattle.std.proofs.Common.{◌∙◌, ◌++◌, ◌∷◌, [], ℕ, List, ap, sym, append_assoc, rules}
 use Rattle.std.specs.Vec.Iter.{into_iter_items}
 use Rattle.gv_types.specs.declared.request.Request.{Request}
 use Rattle.gv_queues.proofs.Putting.{put_more}

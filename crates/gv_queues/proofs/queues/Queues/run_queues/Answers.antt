@@ -1,4 +1,4 @@
-use Rattle.std.proofs.Common.{rules, ◌≡◌, ◌<◌, ◌∙◌, ℕ, Option, None, IfNone, Result, Ok, Err, IfErr, List, length, vec_len, sym, subst}
+use Rattle.std.proofs.Common.{rules, ◌≡◌, ◌<◌, ◌∙◌, ℕ, Option, None, IfNone, Result, Ok, Err, IfErr, List, vec_len, sym, subst}
 use denote.Param.Send.{arg_sync, param_sync}
 use Rattle.gv_sync.specs.Seats.{SeatState}
 use Rattle.gv_queues.specs.Ending.{IsOfQueueBelow}
