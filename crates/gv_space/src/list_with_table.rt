@@ -127,7 +127,7 @@ impl ListWithTable {
     pub fn keep(&mut self, tables: Spares)
         ensures same { self.new ≡ self.old }
     {
-        self.pool.put(tables, self.table.standing());
+        self.pool.put(tables, &self.table);
     }
 
     /// Replaces `out_count` mappings from `index` on by `pieces`, and paints the range. The mappings before the index have
@@ -162,7 +162,7 @@ impl ListWithTable {
         self.list.splice(index, out_count, pieces);
         let lost = self.table.paint(&self.list, range, index, &mut spares);
         let left = spares.split(lost);
-        self.pool.put(spares, self.table.standing());
+        self.pool.put(spares, &self.table);
         left
     }
 

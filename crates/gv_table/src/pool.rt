@@ -1,7 +1,9 @@
 //! Empty tables kept for later paints.
 ghost use Rattle.std.specs.Prelude.{◌≡◌, ◌+◌, ◌-◌, ◌≤◌, min, OnOk, OnErr};
 ghost use Rattle.gv_table.specs.Pool.{most_kept, kept_with};
+ghost use Rattle.gv_table.specs.Table.{tables_standing};
 
+use crate::page_table::PageTable;
 use crate::spares::Spares;
 use std::alloc::{AllocError, Global};
 use std::marker::Model;
@@ -40,9 +42,23 @@ impl Pool {
         }
     }
 
-    /// Keeps these tables, as far as that makes no more than `most`, and no more than 256; the others are given back to the system,
-    /// as are those that it keeps beyond `most` already. It takes no memory.
-    pub fn put(&mut self, spares: Spares, most: u64)
+    /// Keeps these tables, as far as that makes no more than stand in the tree, and no more than 256; the others are given back to
+    /// the system, as are those that it keeps beyond this already. It takes no memory.
+    #[inline(always)]
+    pub fn put(&mut self, spares: Spares, table: &PageTable)
+        ensures kept { self.new ≡ kept_with (tables_standing table.now) self.old spares }
+        ensures few { self.new ≤ most_kept }
+    {
+        // So it is after most edits where few tables come and go, and then nothing is counted.
+        if self.count == 0 && spares.is_empty() {
+            return;
+        }
+        self.put_up_to(spares, table.standing());
+    }
+
+    /// The same, as far as that makes no more than `most`.
+    #[inline(never)]
+    fn put_up_to(&mut self, spares: Spares, most: u64)
         ensures kept { self.new ≡ kept_with most self.old spares }
         ensures few { self.new ≤ most_kept }
     {

@@ -67,7 +67,9 @@ fn release(slot: &mut Slot, level: usize, spares: &mut Spares, counts: &mut Tabl
 }
 
 /// The same for a slot whose table, where it is one, has slots of single pages, which hold no table: those from `low` up to,
-/// and without, `high` are emptied in one pass, without a call for each of them. The others are empty.
+/// and without, `high` are emptied in one pass, without a call for each of them. The others are empty. Not inlined: most paints
+/// give no table up, and would keep fewer values in registers.
+#[inline(never)]
 fn release_part(
     slot: &mut Slot,
     low: usize,
@@ -98,6 +100,7 @@ fn release_part(
 
 /// Empties a slot of which nothing is wanted. All that it holds lies in the range: of a table of pages, which is large, only the
 /// slots are emptied that meet it.
+#[inline(always)]
 pub fn clear_unwanted(
     slot: &mut Slot,
     place: Place,
@@ -117,9 +120,9 @@ pub fn clear_unwanted(
     ensures counted { (target : ℕ) → count_at counts.new target + tables_at target place.level slot.old
         ≡ count_at counts.old target }
 {
-    if place.level != 1 {
-        return clear(slot, place.level, spares, counts);
+    if place.level == 1 && slot.is_table() {
+        let (low, high) = slots_met(0, place.first, range);
+        return release_part(slot, low, high, spares, counts);
     }
-    let (low, high) = slots_met(0, place.first, range);
-    release_part(slot, low, high, spares, counts)
+    clear(slot, place.level, spares, counts)
 }

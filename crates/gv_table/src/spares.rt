@@ -50,7 +50,8 @@ impl Spares {
         !self.first.is_table()
     }
 
-    /// Takes `count` tables off, as spares of their own. It takes no memory.
+    /// Takes `count` tables off, as spares of their own. It takes no memory. Inlined, since mostly they are none.
+    #[inline(always)]
     pub fn split(&mut self, count: u64) -> Spares
         requires { count ≤ self.old }
         ensures count { result ≡ count }

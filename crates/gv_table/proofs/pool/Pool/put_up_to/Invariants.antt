@@ -1,5 +1,5 @@
 use Rattle.std.proofs.Common.{◌≡◌, ◌+◌}
-use Rattle.gv_table.proofs.pool.Pool.put.Given as goal
+use Rattle.gv_table.proofs.pool.Pool.put_up_to.Given as goal
 
 abbrev pub invariant-loop : goal.invariant-loop
 invariant-loop l = record {
