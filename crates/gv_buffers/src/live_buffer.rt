@@ -10,6 +10,9 @@ use gv_types::{Fault, Generation};
 /// So many pages are noted of a buffer: most have a mapping, or a few.
 pub const NOTED: usize = 4;
 
+/// Of a buffer with more mappings than this no further page is noted: they would be looked up only once nearly all had gone.
+const FEW: u64 = 2 * NOTED as u64;
+
 /// Noted where no page is: no page has this number.
 pub const NO_PAGE: u64 = u64::MAX;
 
@@ -49,11 +52,11 @@ impl LiveBuffer {
         self.note(page);
     }
 
-    /// Notes a page, if it is one and isn't noted yet.
+    /// Notes a page, if it is one and isn't noted yet, and the buffer has few mappings.
     fn note(&mut self, page: u64)
         ensures { (index : ℕ) → buffer_at index self.new ≡ buffer_at index self.old }
     {
-        if page == NO_PAGE || self.noted.contains(&page) {
+        if page == NO_PAGE || self.uses > FEW || self.noted.contains(&page) {
             return;
         }
         let [newest, second, third, _] = self.noted;
