@@ -238,6 +238,19 @@ impl Space {
         ensures kept { (others : List Mapping)
             → AreKept self.old (undo.change.taken ++ others) → AreKept self.new others }
     {
+        self.mapped.seek(undo.range.first());
+        self.revert_near(undo);
+    }
+
+    /// The same, where the list was told what comes.
+    fn revert_near(&mut self, undo: OpUndo)
+        requires { CanRevert self.old undo }
+        ensures state { self.new ≡ reverted self.old undo }
+        ensures undone { (before : List Mapping)
+            → IsUndoOf before self.old.mappings undo → self.new.mappings ≡ before }
+        ensures kept { (others : List Mapping)
+            → AreKept self.old (undo.change.taken ++ others) → AreKept self.new others }
+    {
         let OpUndo {
             index,
             put_in,
