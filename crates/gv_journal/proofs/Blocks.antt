@@ -7,20 +7,25 @@ use Rattle.std.proofs.lemmas.Bool.{or_parts}
 use Rattle.std.proofs.lemmas.List.{length-take-le, length-drop, get_or-take, get_or-drop, take-append-drop, drop-drop}
 use Rattle.gv_types.specs.declared.operation.PageOp.{PageOp}
 use Rattle.gv_journal.specs.Items.{done_by}
-use Rattle.gv_journal.specs.Notes.{reach_of, reaches, AreReaches, TellGone}
+use Rattle.gv_journal.specs.Notes.{reach_of, extents_meet, regions_meet, reaches, AreReaches, TellGone}
 use Rattle.gv_journal.specs.Note.{NoteState, Reach}
 use Rattle.gv_journal.specs.Withdrawing.{touch, touched_from}
 use Rattle.gv_journal.specs.declared.item.Item.{Item}
 use Rattle.gv_journal.proofs.Reaches.{out_of_reach}
 
--- items whose notes are all out of reach touch nowhere
+no_region_shared : (met : Bool) (a b : ℕ) → regions_meet a b ≡ false → (met && regions_meet a b) ≡ false
+no_region_shared false a b none = refl
+no_region_shared true a b none = none
+
+-- items whose notes have no region in common touch nowhere
 pub none_reached : (gone : ℕ → Bool) (ops : List PageOp) (n : ℕ) (notes : List NoteState) (items : List Item) (own : Reach) → own ≡ reach_of ops →
-    length notes ≡ length items → AreReaches notes items → list_any (λ (other : NoteState). reaches own other.reach) notes ≡ false → touched_from gone ops n items ≡ None
+    length notes ≡ length items → AreReaches notes items → list_any (λ (other : NoteState). regions_meet own.regions other.reach.regions) notes ≡ false → touched_from gone ops n items ≡ None
 none_reached gone ops n notes [] own is beside all none = refl
 none_reached gone ops n [] (item ∷ items) own is beside all none = absurd (omega (arith, beside))
 none_reached gone ops n (note ∷ notes) (item ∷ items) own is beside all none =
-    let parts = or_parts (reaches own note.reach) (list_any (λ (other : NoteState). reaches own other.reach) notes) none in
-    let misses : touch ops (done_by item.kind) ≡ false = out_of_reach ops (done_by item.kind) own note.reach is (all 0 note item (omega arith)) parts.0 in
+    let parts = or_parts (regions_meet own.regions note.reach.regions) (list_any (λ (other : NoteState). regions_meet own.regions other.reach.regions) notes) none in
+    let far : reaches own note.reach ≡ false = no_region_shared (extents_meet own.extent note.reach.extent) own.regions note.reach.regions parts.0 in
+    let misses : touch ops (done_by item.kind) ≡ false = out_of_reach ops (done_by item.kind) own note.reach is (all 0 note item (omega arith)) far in
     ap (λ (b : Bool). cond (b && not (gone n)) (Some n) (touched_from gone ops (n + 1) items)) misses
     ∙ none_reached gone ops (n + 1) notes items own is (omega (arith, beside)) (λ i m x below. all (suc i) m x (omega (arith, below))) parts.1
 

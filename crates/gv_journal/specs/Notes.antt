@@ -58,9 +58,12 @@ extents_meet (Some s) (Some t) = meets s t
 extents_meet (Some s) None = false
 extents_meet None other = false
 
--- and some region may be
+-- some region may be, as far as these bits tell
+abbrev pub regions_meet : ℕ → ℕ → Bool
+regions_meet a b = not (nat_eq (bit_and a b) 0)
+
 abbrev pub reaches : Reach → Reach → Bool
-reaches a b = extents_meet a.extent b.extent && not (nat_eq (bit_and a.regions b.regions) 0)
+reaches a b = extents_meet a.extent b.extent && regions_meet a.regions b.regions
 
 -- the note of an item among others
 abbrev pub note_of : List NumberedItem → NumberedItem → NoteState

@@ -4,7 +4,7 @@ ghost use Rattle.std.specs.List.{list_any};
 ghost use Rattle.std.specs.Option.{option_map_or};
 ghost use Rattle.gv_types.specs.PageRange.{covers};
 ghost use Rattle.gv_journal.specs.Restoring.{pages_named};
-ghost use Rattle.gv_journal.specs.Notes.{extents_joined, extent_of, regions_between, regions_named, regions_of, reaches};
+ghost use Rattle.gv_journal.specs.Notes.{extents_joined, extent_of, regions_between, regions_meet, regions_named, regions_of, reaches};
 
 use crate::touching::pages_of;
 use gv_types::{PageOp, PageRange};
@@ -99,23 +99,30 @@ impl Note {
         self.first <= page && page < self.past
     }
 
+    /// Whether both cover pages in one region, as far as their bits tell.
+    fn shares_region(&self, other: &Note) -> bool
+        ensures { result ≡ regions_meet self.now.reach.regions other.now.reach.regions }
+    {
+        self.regions & other.regions != 0
+    }
+
     /// Whether some page may be in what both cover. All tests are always made: that costs less than branches between them.
     pub fn reaches(&self, other: &Note) -> bool
         ensures { result ≡ reaches self.now.reach other.now.reach }
     {
-        (self.first < other.past) & (other.first < self.past) & (self.regions & other.regions != 0)
+        (self.first < other.past) & (other.first < self.past) & self.shares_region(other)
     }
 
-    /// Whether some page may be in what this and one of the others cover. It doesn't stop at the first that is reached, so that there
-    /// is no branch from one to the next: nearly always none is reached. Inlined, so that the loop is unrolled where the caller
-    /// gives a fixed number of notes.
+    /// Whether this and one of the others cover pages in one region, as far as their bits tell: else none of these is reached. It
+    /// doesn't stop at the first that does, so that there is no branch from one to the next: mostly none does. Inlined, so that the
+    /// loop is unrolled where the caller gives a fixed number of notes.
     #[inline(always)]
-    pub fn reaches_any(&self, others: &[Note]) -> bool
-        ensures { result ≡ list_any (λ other. reaches self.now.reach other.reach) others.now }
+    pub fn shares_region_with_any(&self, others: &[Note]) -> bool
+        ensures { result ≡ list_any (λ other. regions_meet self.now.reach.regions other.reach.regions) others.now }
     {
         let mut any = false;
         for other in others {
-            any |= self.reaches(other);
+            any |= self.shares_region(other);
         }
         any
     }

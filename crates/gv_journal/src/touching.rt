@@ -146,7 +146,7 @@ fn first_in_way(
     None
 }
 
-/// As `first_touched`, for a block: its items are passed over at once where none is reached. Inlined, so that the number of the
+/// As `first_touched`, for a block: its items are passed over at once where none has a region in common. Inlined, so that the number of the
 /// block's items is known.
 #[inline(always)]
 fn first_reached(
@@ -162,15 +162,15 @@ fn first_reached(
     requires own { own.now.reach ≡ reach_of ops.now }
     ensures { (gone : ℕ → Bool) → TellGone gone from notes.now → result ≡ touched_from gone ops.now from items.now }
 {
-    if !own.reaches_any(notes) {
+    if !own.shares_region_with_any(notes) {
         return None;
     }
     first_in_way(items, notes, own, ops, from)
 }
 
 /// The number of the first item that isn't withdrawn and touches the operations of another. The first of these items has the
-/// number `from`, and a note stands beside each. Nearly all items are out of reach, so they are gone through in blocks of a
-/// fixed length, and a block where none is reached is passed over by one branch.
+/// number `from`, and a note stands beside each. Nearly all items lie in other regions, so they are gone through in blocks of a
+/// fixed length, and a block where all do is passed over by one branch.
 pub fn first_touched(
     items: &[Item],
     notes: &[Note],
