@@ -8,6 +8,7 @@ pub mod Clips
 pub mod Positions
 pub mod Wants
 pub mod Trees
+mod Ends
 pub mod Rows
 mod Runs
 pub mod Matches

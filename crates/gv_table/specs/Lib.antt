@@ -5,6 +5,7 @@ pub mod Sums
 pub mod Tree
 pub mod Counts
 pub mod Chain
+pub mod Ends
 pub mod Pool
 pub mod Table
 pub mod Laws

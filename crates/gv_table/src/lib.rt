@@ -3,6 +3,7 @@
 #![tactic(auto)]
 
 mod fill;
+mod give_back;
 pub mod laws;
 mod levels;
 mod page_table;

@@ -7,7 +7,9 @@ ghost use Rattle.gv_ranges.specs.List.{at, IsLaidOut, AreEnded};
 ghost use Rattle.gv_ranges.specs.Edit.{clipped};
 ghost use Rattle.gv_table.specs.Levels.{top_level};
 ghost use Rattle.gv_table.specs.Counts.{tables_at, count_at};
+ghost use Rattle.gv_table.specs.Ends.{EndsAtPages, EndsAtPages-prop};
 
+use crate::give_back::give_back_tree;
 use crate::levels::TOP_LEVEL;
 use crate::paint::paint_slot;
 use crate::place::{Excerpt, Place};
@@ -24,11 +26,21 @@ use std::alloc::Global;
 
 /// The tree of tables of a list of mappings: what a GPU's page table would be, with leaves of one
 /// page, 512 pages and 262,144 pages.
-#[derive(Drop)]
 pub struct PageTable {
     root: Slot,
     counts: TableCounts,
     ghost counted: { (target : ℕ) → count_at counts target ≡ tables_at target top_level root },
+    ghost ended: { EndsAtPages top_level root } by { EndsAtPages-prop top_level root },
+}
+
+impl Drop for PageTable {
+    fn drop(self) {
+        let PageTable {
+            mut root,
+            counts: _,
+        } = self;
+        give_back_tree(&mut root, TOP_LEVEL);
+    }
 }
 
 impl PageTable {

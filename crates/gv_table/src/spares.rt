@@ -2,8 +2,9 @@
 ghost use Rattle.std.specs.Prelude.{◌≡◌, ◌+◌, ◌<◌, ◌≤◌, ◌↔◌, IsTrue, OnOk, OnErr};
 ghost use Rattle.gv_table.specs.Chain.{AreEmpty};
 
+use crate::give_back::give_back_unread;
 use crate::levels::SLOTS;
-use crate::slot::{Slot, give_back};
+use crate::slot::Slot;
 use std::alloc::{AllocError, Global};
 use std::marker::Model;
 use std::mem;
@@ -26,12 +27,11 @@ impl Model for Spares {
 }
 
 impl Drop for Spares {
-    fn drop(self) {
-        let Spares { first: mut slot } = self;
-        while let Slot::Table(mut slots) = slot {
-            slot = mem::replace(&mut slots[0], Slot::Empty);
-            give_back(slots);
+    fn drop(mut self) {
+        while !self.is_empty() {
+            give_back_unread(self.take());
         }
+        let Spares { first: _ } = self;
     }
 }
 

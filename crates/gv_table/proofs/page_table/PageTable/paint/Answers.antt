@@ -2,6 +2,7 @@ use Rattle.std.proofs.Common.{List, rules, arith, subst}
 use Rattle.gv_types.specs.declared.mapping.Mapping.{Mapping}
 use Rattle.gv_table.specs.Tree.{IsTreeOf}
 use Rattle.gv_table.specs.Levels.{slot_pages}
+use Rattle.gv_table.proofs.Ends.{ends-tree}
 use Rattle.gv_table.proofs.Matches.{tree-match, gained-lost}
 use Rattle.gv_table.proofs.PagesOf.{pages_of-top}
 use Rattle.gv_table.proofs.Spans.{meets-from}
@@ -39,3 +40,8 @@ returns-clause-owed c = λ ms laid tree.
     (subst (λ (xs : List Mapping). IsTreeOf xs 5 0 c.paint_slot.new.slot) c.of_list-mappings.ensures c.paint_slot.ensures.tree)) in
     let lost = rw c.of_list-mappings.ensures at c.paint_slot.ensures.lost in
     omega (arith, same, lost)
+
+pub invariant_of-self-clause-ended : goal.invariant_of-self-clause-ended
+invariant_of-self-clause-ended c =
+    ends-tree c.args.list.now.mappings 5 0 c.paint_slot.new.slot
+    (subst (λ (xs : List Mapping). IsTreeOf xs 5 0 c.paint_slot.new.slot) c.of_list-mappings.ensures c.paint_slot.ensures.tree)
