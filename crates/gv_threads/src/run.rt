@@ -21,10 +21,10 @@ use crate::fault::ThreadsFault;
 use crate::gate::TurnLimit;
 use crate::harness::Harness;
 use crate::script::ThreadsScript;
-use crate::why::why_not_begun;
+use crate::why::tell_bad_line;
 use gv_queues::{PutAll, QueueEnd, Queues, QueuesFault};
 use gv_sync::{MAX_TIMELINES, Timelines};
-use gv_text::{Names, ScriptFault, Sink, Source, read_script, tell_why};
+use gv_text::{Names, ScriptFault, Sink, Source, read_script};
 use gv_types::Request;
 use gv_vm::Vm;
 use std::alloc::Global;
@@ -176,9 +176,7 @@ fn run_on<R: Threads + Wait + Sync, K: Sink>(
             serve(rt, alloc, run, requests, writer)
         }
         Err(fault) => {
-            if let ScriptFault::BadLine { line } = fault {
-                tell_why(why, &why_not_begun(&script, &harness.buffers, text, line));
-            }
+            tell_bad_line(why, &fault, &script, &harness.buffers, text);
             harness.close();
             Err(ThreadsFault::Script(fault))
         }

@@ -4,11 +4,13 @@ use gv_lines::{
     Found, Line, NumberSlip, Place, Reason, Slip, explain, no_such_line, parse_line, queue_in,
     split_once, word_at,
 };
-use gv_text::{Declared, Names, Stage, at_first_word, why_not_named, why_not_set};
+use gv_text::{
+    Declared, Names, ScriptFault, Stage, at_first_word, tell_why, why_not_named, why_not_set,
+};
 use std::alloc::Global;
 
 /// Where the line of this number is bad for the names of buffers, once those are known.
-pub fn why_not_begun<'a>(
+fn why_not_begun<'a>(
     script: &ThreadsScript<'_>,
     buffers: &Names,
     text: &'a [u8],
@@ -20,6 +22,19 @@ pub fn why_not_begun<'a>(
         timelines: &script.timelines,
     };
     why_not_named(declared, line).unwrap_or(no_such_line(line))
+}
+
+/// Says why the line is bad at which a script ended, where it ended so.
+pub fn tell_bad_line(
+    why: &mut String,
+    fault: &ScriptFault,
+    script: &ThreadsScript<'_>,
+    buffers: &Names,
+    text: &[u8],
+) {
+    if let ScriptFault::BadLine { line } = fault {
+        tell_why(why, &why_not_begun(script, buffers, text, *line));
+    }
 }
 
 /// The line of this number, counted from 1.

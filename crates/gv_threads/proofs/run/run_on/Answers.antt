@@ -2,7 +2,7 @@ use Rattle.std.proofs.Common.{◌++◌, refl}
 use Rattle.std.proofs.KnownBytes.{Appends-trans}
 use Rattle.gv_text.proofs.AnswerLemmas.{then_ok}
 use Rattle.gv_threads.specs.Running.{ready_of}
-use Rattle.gv_threads.proofs.Flags.{from_first}
+use Rattle.gv_threads.proofs.Flags.{from_first, begun_by_line}
 use Rattle.gv_threads.proofs.Served.{text_of}
 use Rattle.gv_threads.proofs.run.run_on.Goals as goal
 
@@ -22,3 +22,6 @@ pub returns-in-Ok-clause-ends : goal.returns-in-Ok-clause-ends
 returns-in-Ok-clause-ends g c = λ read.
     from_first read read (g.K.Sink.failed c.args.writer.now) (g.K.Sink.failed c.begin.new.writer) (g.K.Sink.failed c.serve.new.writer) c.args.run.terms.queues c.serve.result
     refl c.in-Ok.ensures.write_fault c.serve.ensures.ends
+
+pub returns-in-Err-clause-begun : goal.returns-in-Err-clause-begun
+returns-in-Err-clause-begun g c = begun_by_line (Unit {0}) c.in-Err.fault c.in-Err.ensures.ends
