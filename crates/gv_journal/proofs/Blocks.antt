@@ -1,41 +1,62 @@
 -- Items searched in blocks: a part of their list at a time.
-use Rattle.std.proofs.Common.{◌≡◌, ℕ, ◌+◌, ◌-◌, ◌<◌, ◌≤◌, suc, Bool, true, false, not, cond, ◌&&◌, List, [], ◌∷◌, ◌++◌, length, take, drop, get_or, Option, Some, None, refl, ap, sym, ◌∙◌, arith}
-use Rattle.std.specs.Prelude.{is_some}
+use Rattle.std.proofs.Common.{◌≡◌, ℕ, ◌+◌, ◌-◌, ◌<◌, ◌≤◌, suc, Bool, true, false, not, cond, ◌&&◌, List, [], ◌∷◌, ◌++◌, map, length, take, drop, get_or, Option, Some, None, inl, inr, refl, ap, sym, ◌∙◌, subst, arith}
+use Rattle.std.specs.Prelude.{is_some, ◌⊎◌, bit_and}
 use Rattle.std.specs.List.{list_any}
 use Rattle.std.specs.Option.{option_or}
 use Rattle.std.proofs.lemmas.Bool.{or_parts}
+use Rattle.std.proofs.lemmas.Bool.Decides.{nat_tests}
 use Rattle.std.proofs.lemmas.List.{length-take-le, length-drop, get_or-take, get_or-drop, take-append-drop, drop-drop}
 use Rattle.gv_types.specs.declared.operation.PageOp.{PageOp}
 use Rattle.gv_journal.specs.Items.{done_by}
-use Rattle.gv_journal.specs.Notes.{reach_of, extents_meet, regions_meet, reaches, AreReaches, TellGone}
-use Rattle.gv_journal.specs.Note.{NoteState, Reach}
+use Rattle.gv_journal.specs.Notes.{TellGone}
+use Rattle.gv_journal.specs.Reach.{extent_of, regions_of, regions_meet, IsReachOf, AreReaches, AllApart, item_first, item_past, item_regions}
+use Rattle.gv_journal.specs.declared.reach.Reach.{Reach}
 use Rattle.gv_journal.specs.Withdrawing.{touch, touched_from}
 use Rattle.gv_journal.specs.declared.item.Item.{Item}
-use Rattle.gv_journal.proofs.Reaches.{out_of_reach}
+use Rattle.gv_journal.proofs.Reaches.{IsFar, out_of_reach}
 
-no_region_shared : (met : Bool) (a b : ℕ) → regions_meet a b ≡ false → (met && regions_meet a b) ≡ false
-no_region_shared false a b none = refl
-no_region_shared true a b none = none
+-- an item that doesn't touch is passed over
+one_passed : (gone : ℕ → Bool) (ops : List PageOp) (n : ℕ) (item : Item) (items : List Item) → touch ops (done_by item.kind) ≡ false →
+    touched_from gone ops (n + 1) items ≡ None → touched_from gone ops n (item ∷ items) ≡ None
+one_passed gone ops n item items misses rest = ap (λ (b : Bool). cond (b && not (gone n)) (Some n) (touched_from gone ops (n + 1) items)) misses ∙ rest
 
--- items whose notes have no region in common touch nowhere
-pub none_reached : (gone : ℕ → Bool) (ops : List PageOp) (n : ℕ) (notes : List NoteState) (items : List Item) (own : Reach) → own ≡ reach_of ops →
-    length notes ≡ length items → AreReaches notes items → list_any (λ (other : NoteState). regions_meet own.regions other.reach.regions) notes ≡ false → touched_from gone ops n items ≡ None
-none_reached gone ops n notes [] own is beside all none = refl
-none_reached gone ops n [] (item ∷ items) own is beside all none = absurd (omega (arith, beside))
-none_reached gone ops n (note ∷ notes) (item ∷ items) own is beside all none =
-    let parts = or_parts (regions_meet own.regions note.reach.regions) (list_any (λ (other : NoteState). regions_meet own.regions other.reach.regions) notes) none in
-    let far : reaches own note.reach ≡ false = no_region_shared (extents_meet own.extent note.reach.extent) own.regions note.reach.regions parts.0 in
-    let misses : touch ops (done_by item.kind) ≡ false = out_of_reach ops (done_by item.kind) own note.reach is (all 0 note item (omega arith)) far in
-    ap (λ (b : Bool). cond (b && not (gone n)) (Some n) (touched_from gone ops (n + 1) items)) misses
-    ∙ none_reached gone ops (n + 1) notes items own is (omega (arith, beside)) (λ i m x below. all (suc i) m x (omega (arith, below))) parts.1
+-- items whose pages lie apart, and then items without a region in common, touch nowhere
+module _ (gone : ℕ → Bool) (ops : List PageOp) (own : Reach) (is : IsReachOf own ops) where
+  none_apart : (n : ℕ) (items : List Item) → AllApart own.first own.past (map item_first items) (map item_past items) → touched_from gone ops n items ≡ None
+  none_apart n [] far = refl
+  none_apart n (item ∷ items) far =
+      one_passed gone ops n item items (out_of_reach ops (done_by item.kind) (here (far 0 (omega arith)))) (none_apart (n + 1) items (λ k below. far (suc k) (omega (arith, below))))
+    where
+      here : (own.past ≤ item_first item) ⊎ (item_past item ≤ own.first) → IsFar (extent_of ops) (regions_of ops) (extent_of (done_by item.kind)) (regions_of (done_by item.kind))
+      here (inl le) = inl (inl (omega (arith, le, is.past)))
+      here (inr le) = inl (inr (omega (arith, le, is.first)))
+
+  no_bit : (a b : ℕ) → regions_meet a b ≡ false → bit_and a b ≡ 0
+  no_bit a b none = grind (arith, nat_tests)
+
+  none_shared : (n : ℕ) (items : List Item) → list_any (λ (other : ℕ). regions_meet own.regions other) (map item_regions items) ≡ false → touched_from gone ops n items ≡ None
+  none_shared n [] none = refl
+  none_shared n (item ∷ items) none =
+      let parts = or_parts (regions_meet own.regions (item_regions item)) (list_any (λ (other : ℕ). regions_meet own.regions other) (map item_regions items)) none in
+      one_passed gone ops n item items
+      (out_of_reach ops (done_by item.kind) (inr (ap (λ (x : ℕ). bit_and x (item_regions item)) (sym is.regions) ∙ no_bit own.regions (item_regions item) parts.0)))
+      (none_shared (n + 1) items parts.1)
+
+  pub none_met : (n : ℕ) (fs ps rs : List ℕ) (items : List Item) → AreReaches fs ps rs items → AllApart own.first own.past fs ps → touched_from gone ops n items ≡ None
+  none_met n fs ps rs items columns far =
+      none_apart n items (subst (λ (xs : List ℕ). AllApart own.first own.past xs (map item_past items)) columns.firsts (subst (λ (xs : List ℕ). AllApart own.first own.past fs xs) columns.pasts far))
+
+  pub none_reached : (n : ℕ) (fs ps rs : List ℕ) (items : List Item) → AreReaches fs ps rs items → list_any (λ (other : ℕ). regions_meet own.regions other) rs ≡ false → touched_from gone ops n items ≡ None
+  none_reached n fs ps rs items columns none =
+      none_shared n items (ap (λ (xs : List ℕ). list_any (λ (other : ℕ). regions_meet own.regions other) xs) (sym columns.regions) ∙ none)
 
 -- the notes of a part of the items tell which of these are gone
-pub gone_part : (gone : ℕ → Bool) (n : ℕ) (notes : List NoteState) (s k : ℕ) → s + k ≤ length notes → TellGone gone n notes → TellGone gone (n + s) (take k (drop s notes))
+pub gone_part : (gone : ℕ → Bool) (n : ℕ) (notes : List (Option ℕ)) (s k : ℕ) → s + k ≤ length notes → TellGone gone n notes → TellGone gone (n + s) (take k (drop s notes))
 gone_part gone n notes s k within tell i note below =
     let small : i < k = omega (arith, below, length-take-le k (drop s notes), length-drop s notes) in
     let number : n + s + i ≡ n + (s + i) = omega arith in
     let noted : get_or (take k (drop s notes)) i note ≡ get_or notes (s + i) note = get_or-take k (drop s notes) i note small ∙ get_or-drop s notes i note in
-    ap gone number ∙ tell (s + i) note (omega arith) ∙ ap (λ (x : NoteState). is_some x.withdrawal) (sym noted)
+    ap gone number ∙ tell (s + i) note (omega arith) ∙ ap is_some (sym noted)
 
 -- where nothing is found in the first part of a list, the search goes on behind it
 touched_parts : (gone : ℕ → Bool) (ops : List PageOp) (n : ℕ) (first later : List Item) →

@@ -1,7 +1,8 @@
 -- The last operation that covers a page, and what the first one took out.
-use Rattle.std.proofs.Common.{zero, suc, drop, ◌≡◌, ℕ, ◌<◌, ◌≤◌, Bool, true, false, cond, List, [], ◌∷◌, length, reverse, get_or, Option, Some, None, refl, ap, sym, ◌∙◌, arith}
+use Rattle.std.proofs.Common.{zero, suc, drop, ◌≡◌, ℕ, ◌<◌, ◌≤◌, Bool, true, false, cond, ◌&&◌, List, [], ◌∷◌, length, reverse, get_or, Option, Some, None, refl, ap, sym, ◌∙◌, arith}
 use Rattle.std.specs.List.{find}
-use Rattle.std.specs.Option.{option_map_or}
+use Rattle.std.specs.Prelude.{nat_le, nat_lt}
+use Rattle.std.specs.Option.{option_map_or, option_and_then}
 use Rattle.std.proofs.lemmas.Bool.Decides.{nat_tests}
 use Rattle.std.proofs.lemmas.List.{reverse-append}
 use Rattle.std.proofs.lemmas.List.Folds.{find-append}
@@ -11,8 +12,8 @@ use Rattle.gv_types.specs.declared.operation.PageOp.{PageOp}
 use Rattle.gv_types.specs.declared.operation.PageOp.TheVariants.{Map, Unmap, UnmapBuffer}
 use Rattle.gv_journal.specs.Restoring.{pages_named}
 use Rattle.gv_space.specs.Undo.{OpUndoState}
-use Rattle.gv_journal.specs.Notes.{extent_of}
-use Rattle.gv_journal.specs.Saying.{first_taken, live_taken}
+use Rattle.gv_journal.specs.Reach.{extent_of, least_page, past_page, IsSilent}
+use Rattle.gv_journal.specs.Saying.{first_taken, last_covering, live_taken}
 use Rattle.gv_journal.specs.Items.{done_by}
 use Rattle.gv_journal.specs.declared.item.Item.{Item}
 use Rattle.gv_ranges.specs.List.{at}
@@ -46,20 +47,21 @@ none_found (op ∷ ops) extent page all out =
     ap (find (covering page)) (reverse-append (op ∷ []) ops) ∙ find-append (covering page) (reverse ops) (op ∷ [])
     ∙ (rw (none_found ops extent page all.1 out, op_misses op extent page all.0 out) refl)
 
--- no operation covers it
-pub none_outside : (ops : List PageOp) (extent : Option PageRangeState) (page : ℕ) → extent ≡ extent_of ops → IsOutside extent page → find (covering page) (reverse ops) ≡ None
-none_outside ops extent page is out =
-    none_found ops (extent_of ops) page (all_in None ops) (ap (λ (x : Option PageRangeState). option_map_or (λ range. covers range page) x false) (sym is) ∙ out)
+-- an item that doesn't reach the page
+outside : (extent : Option PageRangeState) (page : ℕ) → (nat_le (least_page extent) page && nat_lt page (past_page extent)) ≡ false → IsOutside extent page
+outside None page out = refl
+outside (Some t) page out = out
+
+-- says nothing of it
+pub silent_says : (o : Option Item) (page : ℕ) → IsSilent o page → option_and_then (λ (item : Item). last_covering item.kind page) o ≡ None
+silent_says None page silent = refl
+silent_says (Some item) page silent =
+    none_found (done_by item.kind) (extent_of (done_by item.kind)) page (all_in None (done_by item.kind)) (outside (extent_of (done_by item.kind)) page silent)
 
 nothing_taken : (ops : List PageOp) (us : List OpUndoState) (extent : Option PageRangeState) (page : ℕ) → AllLieIn extent ops → IsOutside extent page → first_taken ops us page ≡ None
 nothing_taken [] us extent page all out = refl
 nothing_taken (op ∷ ops) [] extent page all out = refl
 nothing_taken (op ∷ ops) (u ∷ us) extent page all out = rw (op_misses op extent page all.0 out) (nothing_taken ops us extent page all.1 out)
-
--- and none took anything out of it
-pub none_taken : (ops : List PageOp) (us : List OpUndoState) (extent : Option PageRangeState) (page : ℕ) → extent ≡ extent_of ops → IsOutside extent page → first_taken ops us page ≡ None
-none_taken ops us extent page is out =
-    nothing_taken ops us (extent_of ops) page (all_in None ops) (ap (λ (x : Option PageRangeState). option_map_or (λ range. covers range page) x false) (sym is) ∙ out)
 
 no_undos : (ops : List PageOp) (page : ℕ) → first_taken ops [] page ≡ None
 no_undos [] page = refl
@@ -75,7 +77,13 @@ taken_next (first ∷ ops) (u ∷ us) zero page op below is miss =
 taken_next (first ∷ ops) [] (suc i) page op below is miss = no_undos (drop i ops) page ∙ sym (no_undos (drop (suc i) ops) page)
 taken_next (first ∷ ops) (u ∷ us) (suc i) page op below is miss = taken_next ops us i page op (omega arith) is miss
 
--- nothing is taken from an item that took nothing
-pub live_none : (withdrawn : Bool) (item : Item) (page : ℕ) → first_taken (done_by item.kind) item.undos.items page ≡ None → live_taken withdrawn item page ≡ None
+live_none : (withdrawn : Bool) (item : Item) (page : ℕ) → first_taken (done_by item.kind) item.undos.items page ≡ None → live_taken withdrawn item page ≡ None
 live_none true item page none = refl
 live_none false item page none = none
+
+-- and took nothing out of it
+pub silent_took : (withdrawn : Bool) (o : Option Item) (page : ℕ) → IsSilent o page → option_and_then (λ (item : Item). live_taken withdrawn item page) o ≡ None
+silent_took withdrawn None page silent = refl
+silent_took withdrawn (Some item) page silent =
+    live_none withdrawn item page
+    (nothing_taken (done_by item.kind) item.undos.items (extent_of (done_by item.kind)) page (all_in None (done_by item.kind)) (outside (extent_of (done_by item.kind)) page silent))

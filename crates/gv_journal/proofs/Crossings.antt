@@ -14,7 +14,6 @@ use Rattle.gv_journal.specs.Settling.{crosses, later, crossing}
 use Rattle.gv_journal.specs.declared.item.Item.{Item}
 use Rattle.gv_journal.specs.declared.item.ItemKind.{ItemKind}
 use Rattle.gv_journal.specs.declared.item.ItemKind.TheVariants.{Bind, Withdrawal}
-use Rattle.gv_journal.specs.Note.{NoteState}
 use Rattle.gv_journal.proofs.Noted.{named_is, note_at, length-notes}
 use Rattle.gv_journal.proofs.Leasts.{IsFirstAt, none_passes, first_passes, AtMost, at_most_each, StandsIn, stands_in}
 use Rattle.gv_journal.proofs.Settlings.{reversed_later}
@@ -111,7 +110,7 @@ named_there first (item ∷ items) n by d found = by_cases (names item.kind n) r
           here = ap (λ (x : Item). names x.kind n) (item_older item items at.index d at.below) ∙ at.here;
         }
 
-module _ (j : JournalState) (to count : ℕ) (notes : List NoteState) (is : j.first + count ≡ to) (within : to ≤ next j) (once : NameOnce j.first (entries j))
+module _ (j : JournalState) (to count : ℕ) (notes : List (Option ℕ)) (is : j.first + count ≡ to) (within : to ≤ next j) (once : NameOnce j.first (entries j))
     (front : notes ≡ take count (notes_of (entries j))) where
   abbrev after : List Item
   after = reverse (later j to)
@@ -126,7 +125,7 @@ module _ (j : JournalState) (to count : ℕ) (notes : List NoteState) (is : j.fi
   after_size = ap (λ (xs : List Item). length xs) after_is ∙ length-drop count (reverse j.items) ∙ omega (arith, length-reverse j.items)
 
   notes_size : length notes ≡ count
-  notes_size = ap (λ (ms : List NoteState). length ms) front ∙ length-take-le count (notes_of (entries j)) (omega (arith, length-notes (entries j) j.first j.items, few))
+  notes_size = ap (λ (ms : List (Option ℕ)). length ms) front ∙ length-take-le count (notes_of (entries j)) (omega (arith, length-notes (entries j) j.first j.items, few))
 
   abbrev test : Item → Bool
   test item = crosses to item.kind
@@ -134,14 +133,14 @@ module _ (j : JournalState) (to count : ℕ) (notes : List NoteState) (is : j.fi
   position_is : position test after ≡ position_from test 0 after
   position_is = position_from-zero test after
 
-  module _ (d : Item) (x : NoteState) where
+  module _ (d : Item) (x : Option ℕ) where
     after_at : (k : ℕ) → get_or after k d ≡ get_or (reverse j.items) (count + k) d
     after_at k = ap (λ (xs : List Item). get_or xs k d) after_is ∙ get_or-drop count (reverse j.items) k d
 
-    note_there : (i : ℕ) → i < count → (get_or notes i x).withdrawal ≡ named_by (entries j) (j.first + i)
+    note_there : (i : ℕ) → i < count → get_or notes i x ≡ named_by (entries j) (j.first + i)
     note_there i below =
-        ap (λ (ms : List NoteState). (get_or ms i x).withdrawal) front
-        ∙ ap (λ (n : NoteState). n.withdrawal) (get_or-take count (notes_of (entries j)) i x below ∙ note_at (entries j) j.first j.items i x d (omega (arith, few)))
+        ap (λ (ms : List (Option ℕ)). get_or ms i x) front
+        ∙ get_or-take count (notes_of (entries j)) i x below ∙ note_at (entries j) j.first j.items i x d (omega (arith, few))
 
     -- a number that stands in a note is that of a later item that crosses
     noted_crosses : (by : ℕ) → StandsIn to notes by x → (to ≤ by) × ((by - to < length after) × (crosses to (get_or after (by - to) d).kind ≡ true))
@@ -211,7 +210,7 @@ module _ (j : JournalState) (to count : ℕ) (notes : List NoteState) (is : j.fi
     where
       by_items : (items : List Item) → j.items ≡ items → crossing_from to None notes ≡ None
       by_items [] is_empty = ap (crossing_from to None) (no_elements notes (notes_size ∙ omega (arith, few, ap (λ (xs : List Item). length xs) is_empty)))
-      by_items (d ∷ items) some = none_crosses d (record { withdrawal = None; reach = record { extent = None; regions = 0 } }) none
+      by_items (d ∷ items) some = none_crosses d None none
 
   some_is : (k : ℕ) → position_from test 0 after ≡ Some k → crossing_from to None notes ≡ Some (to + k)
   some_is k found = by_items after refl
@@ -221,7 +220,7 @@ module _ (j : JournalState) (to count : ℕ) (notes : List NoteState) (is : j.fi
         where
           nothing : (o : Option ℕ) → o ≡ None → o ≡ Some k → ⊥
           nothing o none some = cc
-      by_items (d ∷ items) some = first_crosses d (record { withdrawal = None; reach = record { extent = None; regions = 0 } }) k found
+      by_items (d ∷ items) some = first_crosses d None k found
 
   -- so the least number in the notes is that of the least later item that crosses
   pub crossing_is : crossing j to ≡ crossing_from to None notes

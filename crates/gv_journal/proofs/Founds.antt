@@ -8,13 +8,12 @@ use Rattle.std.proofs.lemmas.Option.{slice_get-get_or}
 use Rattle.gv_types.specs.declared.fault.Fault.TheVariants.{Withdrawn}
 use Rattle.gv_types.specs.declared.operation.PageOp.{PageOp}
 use Rattle.gv_types.specs.declared.request.Request.{Request}
-use Rattle.gv_journal.specs.Items.{JournalState, entries, next, is_withdrawn, done_by}
-use Rattle.gv_journal.specs.Notes.{named_by, reach_of, notes_of, AreReaches, TellGone}
+use Rattle.gv_journal.specs.Items.{JournalState, entries, next, is_withdrawn}
+use Rattle.gv_journal.specs.Notes.{named_by, notes_of, TellGone}
 use Rattle.gv_journal.specs.Withdrawing.{item_at, touched_from, touched_by, touched_fault, kind_fault, found_fault}
 use Rattle.gv_journal.specs.declared.item.Item.{Item}
 use Rattle.gv_journal.specs.declared.item.ItemKind.{ItemKind}
 use Rattle.gv_journal.specs.declared.item.ItemKind.TheVariants.{Bind}
-use Rattle.gv_journal.specs.Note.{NoteState}
 use Rattle.gv_journal.proofs.Noted.{named_is, note_at, length-notes}
 
 not_less : (n low : ℕ) → low ≤ n → nat_lt n low ≡ false
@@ -52,55 +51,35 @@ module _ (j : JournalState) (n start : ℕ) (items : List Item) (item : Item) (q
       ∙ ap (λ (x : Option ℕ). touched_fault x) same
 
 -- the notes beside the items
-module _ (j : JournalState) (n start : ℕ) (items : List Item) (notes : List NoteState) (is : start ≡ j.first) (low : start ≤ n) (high : n < next j) (all : items ≡ reverse j.items)
+module _ (j : JournalState) (n start : ℕ) (items : List Item) (notes : List (Option ℕ)) (is : start ≡ j.first) (low : start ≤ n) (high : n < next j) (all : items ≡ reverse j.items)
     (noted : notes ≡ notes_of (entries j)) where
   beside : length notes ≡ length items
-  beside = ap (λ (ms : List NoteState). length ms) noted ∙ length-notes (entries j) j.first j.items ∙ sym (ap (λ (xs : List Item). length xs) all ∙ length-reverse j.items)
+  beside = ap (λ (ms : List (Option ℕ)). length ms) noted ∙ length-notes (entries j) j.first j.items ∙ sym (ap (λ (xs : List Item). length xs) all ∙ length-reverse j.items)
 
-  each_note : (i : ℕ) (note : NoteState) (item : Item) → i < length items →
-      get_or notes i note ≡ record { withdrawal = named_by (entries j) (j.first + i); reach = reach_of (done_by (get_or items i item).kind) }
+  each_note : (i : ℕ) (note : Option ℕ) (item : Item) → i < length items → get_or notes i note ≡ named_by (entries j) (j.first + i)
   each_note i note item below =
-      ap (λ (ms : List NoteState). get_or ms i note) noted
+      ap (λ (ms : List (Option ℕ)). get_or ms i note) noted
       ∙ note_at (entries j) j.first j.items i note item (omega (arith, ap (λ (xs : List Item). length xs) all, length-reverse j.items))
-      ∙ ap (λ (xs : List Item). record { withdrawal = named_by (entries j) (j.first + i); reach = reach_of (done_by (get_or xs i item).kind) }) (sym all)
 
   -- that of the item itself
-  pub own_note : (own : NoteState) (item : Item) → own ≡ get_or notes (n - start) own → item ≡ get_or items (n - start) item →
-      (is_some own.withdrawal ≡ is_withdrawn (entries j) n) × (own.reach ≡ reach_of (done_by item.kind))
-  own_note own item at item_at_index =
+  pub own_note : (own : Option ℕ) → Item → own ≡ get_or notes (n - start) own → is_some own ≡ is_withdrawn (entries j) n
+  own_note own item at =
       let below : n - start < length items = omega (arith, ap (λ (xs : List Item). length xs) all, length-reverse j.items) in
       let number : j.first + (n - start) ≡ n = omega arith in
-      let whole = at ∙ each_note (n - start) own item below in (
-        ap (λ (x : NoteState). is_some x.withdrawal) whole ∙ ap (λ (k : ℕ). is_some (named_by (entries j) k)) number ∙ named_is (entries j) n,
-        ap (λ (x : NoteState). x.reach) whole ∙ ap (λ (x : Item). reach_of (done_by x.kind)) (sym item_at_index),
-      )
+      ap is_some (at ∙ each_note (n - start) own item below) ∙ ap (λ (k : ℕ). is_some (named_by (entries j) k)) number ∙ named_is (entries j) n
 
   abbrev from : ℕ
   from = n - start + 1
 
-  later_notes : take (length notes - from) (drop from notes) ≡ drop from notes
-  later_notes = take_all (length notes - from) (drop from notes) (omega (arith, length-drop from notes))
-
-  later_items : take (length items - from) (drop from items) ≡ drop from items
-  later_items = take_all (length items - from) (drop from items) (omega (arith, length-drop from items))
-
-  pub same_many : length (take (length notes - from) (drop from notes)) ≡ length (take (length items - from) (drop from items))
-  same_many =
-      ap (λ (ms : List NoteState). length ms) later_notes ∙ length-drop from notes ∙ ap (λ (k : ℕ). k - from) beside ∙ sym (length-drop from items)
-      ∙ sym (ap (λ (xs : List Item). length xs) later_items)
+  later_notes : take (length items - from) (drop from notes) ≡ drop from notes
+  later_notes = take_all (length items - from) (drop from notes) (omega (arith, length-drop from notes, beside))
 
   -- those of the later items
-  pub later_reaches : AreReaches (take (length notes - from) (drop from notes)) (take (length items - from) (drop from items))
-  later_reaches i note item below =
-      let within : from + i < length items = omega (arith, below, ap (λ (xs : List Item). length xs) later_items, length-drop from items) in
-      ap (λ (ms : List NoteState). (get_or ms i note).reach) later_notes ∙ ap (λ (x : NoteState). x.reach) (get_or-drop from notes i note ∙ each_note (from + i) note item within)
-      ∙ ap (λ (x : Item). reach_of (done_by x.kind)) (sym (ap (λ (xs : List Item). get_or xs i item) later_items ∙ get_or-drop from items i item))
-
-  pub later_gone : Item → TellGone (is_withdrawn (entries j)) (n + 1) (take (length notes - from) (drop from notes))
+  pub later_gone : Item → TellGone (is_withdrawn (entries j)) (n + 1) (take (length items - from) (drop from notes))
   later_gone item i note below =
-      let within : from + i < length items = omega (arith, below, beside, ap (λ (ms : List NoteState). length ms) later_notes, length-drop from notes) in
+      let within : from + i < length items = omega (arith, below, beside, ap (λ (ms : List (Option ℕ)). length ms) later_notes, length-drop from notes) in
       let number : j.first + (from + i) ≡ n + 1 + i = omega arith in
       sym (named_is (entries j) (n + 1 + i))
       ∙ ap (λ (k : ℕ). is_some (named_by (entries j) k)) (sym number)
-      ∙ ap (λ (x : NoteState). is_some x.withdrawal) (sym (get_or-drop from notes i note ∙ each_note (from + i) note item within))
-      ∙ ap (λ (ms : List NoteState). is_some (get_or ms i note).withdrawal) (sym later_notes)
+      ∙ ap is_some (sym (get_or-drop from notes i note ∙ each_note (from + i) note item within))
+      ∙ ap (λ (ms : List (Option ℕ)). is_some (get_or ms i note)) (sym later_notes)

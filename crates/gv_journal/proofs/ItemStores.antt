@@ -1,11 +1,10 @@
 -- What stands on a store: spent items in front of those held.
-use Rattle.std.proofs.Common.{◌≡◌, ℕ, ◌+◌, ◌-◌, ◌<◌, ◌≤◌, List, [], ◌∷◌, ◌++◌, length, take, drop, set, get_or, Option, Some, ap, sym, ◌∙◌, arith, append_assoc, length-append}
+use Rattle.std.proofs.Common.{◌≡◌, ℕ, ◌+◌, ◌-◌, ◌≤◌, List, [], ◌∷◌, ◌++◌, length, take, drop, Option, Some, ap, sym, ◌∙◌, arith, append_assoc, length-append}
 use Rattle.std.specs.List.{All}
-use Rattle.std.proofs.lemmas.List.{append-nil, take_at, drop_at, drop-drop, drop_all, take_all, length-drop, length-take-le, length-take, drop-set-add, get_or-drop, get_or_default, drop-append-le, take-append-le, drop-take}
+use Rattle.std.proofs.lemmas.List.{append-nil, take_at, drop_at, drop-drop, drop_all, take_all, length-drop, length-take-le, length-take, drop-append-le, take-append-le, drop-take}
 use Rattle.std.proofs.lemmas.List.Elements.{All-pop}
 use Rattle.gv_journal.specs.ItemStore.{IsSpent}
 use Rattle.gv_journal.specs.declared.item.Item.{Item}
-use Rattle.gv_journal.specs.Note.{NoteState}
 
 -- what a write of the first items leaves
 pub written : (all xs new : List Item) (len spent count m : ℕ) → xs ≡ all → length all ≡ len → spent + count ≤ len → m ≡ count → length new ≡ count →
@@ -61,26 +60,15 @@ still_within n xs ys is size = omega (arith, length-take n xs, ap (λ (zs : List
 pub none_held : (spent : ℕ) (all : List Item) → length all ≤ spent → drop spent all ≡ []
 none_held spent all le = drop_all spent all le
 
--- a note is marked
-pub marked : (spent index : ℕ) (all notes : List NoteState) (was note : NoteState) (withdrawal : Option ℕ) → drop spent all ≡ notes → index < length notes → was ≡ get_or all (spent + index) was →
-    drop spent (set all (spent + index) (record { withdrawal = withdrawal; reach = was.reach }))
-    ≡ set notes index (record { withdrawal = withdrawal; reach = (get_or notes index note).reach })
-marked spent index all notes was note withdrawal is below at =
-    let here : was ≡ get_or notes index note =
-    at ∙ sym (get_or-drop spent all index was) ∙ ap (λ (xs : List NoteState). get_or xs index was) is ∙ get_or_default notes index was note below in
-    drop-set-add spent all index (record { withdrawal = withdrawal; reach = was.reach })
-    ∙ ap (λ (xs : List NoteState). set xs index (record { withdrawal = withdrawal; reach = was.reach })) is
-    ∙ ap (λ (x : NoteState). set notes index (record { withdrawal = withdrawal; reach = x.reach })) here
-
 -- the notes of all but the newest item
-pub notes_left : (spent : ℕ) (rest : List Item) (all notes left : List NoteState) → drop spent all ≡ notes → left ≡ take (length rest) all → spent ≤ length rest →
+pub notes_left : (spent : ℕ) (rest : List Item) (all notes left : List (Option ℕ)) → drop spent all ≡ notes → left ≡ take (length rest) all → spent ≤ length rest →
     drop spent left ≡ take (length (drop spent rest)) notes
 notes_left spent rest all notes left is cut within =
     let size : spent + (length rest - spent) ≡ length rest = omega arith in
-    ap (λ (xs : List NoteState). drop spent xs) (cut ∙ ap (λ (n : ℕ). take n all) (sym size))
+    ap (λ (xs : List (Option ℕ)). drop spent xs) (cut ∙ ap (λ (n : ℕ). take n all) (sym size))
     ∙ drop-take spent (length rest - spent) all
     ∙ ap (λ (n : ℕ). take n (drop spent all)) (sym (length-drop spent rest))
-    ∙ ap (λ (xs : List NoteState). take (length (drop spent rest)) xs) is
+    ∙ ap (λ (xs : List (Option ℕ)). take (length (drop spent rest)) xs) is
 
 -- one spent item less behind those held
 module _ (held : ℕ) (now rest : List Item) (item : Item) (is : now ≡ rest ++ item ∷ []) (within : held ≤ length rest) where

@@ -5,7 +5,6 @@ use Rattle.std.specs.List.{position_from}
 use Rattle.std.proofs.lemmas.Bool.{cases_lt}
 use Rattle.std.proofs.lemmas.Bool.Decides.{nat_tests}
 use Rattle.gv_journal.specs.Notes.{crossed, lesser, crossing_from}
-use Rattle.gv_journal.specs.Note.{NoteState}
 
 -- the index of the first element of a list that passes
 pub record IsFirstAt {A : Type 0} (p : A → Bool) (xs : List A) (k : ℕ) : Type 0 where
@@ -66,26 +65,26 @@ lesser_second None b n h = h
 lesser_second (Some a) None n h = absurd h
 lesser_second (Some a) (Some b) n h = omega (arith, h)
 
-still_least : (to : ℕ) (least : Option ℕ) (notes : List NoteState) (n : ℕ) → AtMost least n → AtMost (crossing_from to least notes) n
+still_least : (to : ℕ) (least : Option ℕ) (notes : List (Option ℕ)) (n : ℕ) → AtMost least n → AtMost (crossing_from to least notes) n
 still_least to least [] n h = h
-still_least to least (note ∷ notes) n h = still_least to (lesser least (crossed to note.withdrawal)) notes n (lesser_first least (crossed to note.withdrawal) n h)
+still_least to least (note ∷ notes) n h = still_least to (lesser least (crossed to note)) notes n (lesser_first least (crossed to note) n h)
 
 is_crossed : (to by : ℕ) (w : Option ℕ) → w ≡ Some by → to ≤ by → AtMost (crossed to w) by
 is_crossed to by w is le =
     let test : nat_le to by ≡ true = grind (arith, nat_tests) in
     subst (λ (o : Option ℕ). AtMost o by) (sym (ap (crossed to) is ∙ ap (λ (b : Bool). cond b (Some by) None) test)) (omega arith)
 
-pub at_most_each : (to : ℕ) (least : Option ℕ) (notes : List NoteState) (i by : ℕ) (d : NoteState) → i < length notes → (get_or notes i d).withdrawal ≡ Some by → to ≤ by → AtMost (crossing_from to least notes) by
+pub at_most_each : (to : ℕ) (least : Option ℕ) (notes : List (Option ℕ)) (i by : ℕ) (d : Option ℕ) → i < length notes → get_or notes i d ≡ Some by → to ≤ by → AtMost (crossing_from to least notes) by
 at_most_each to least [] i by d below is le = absurd (omega arith)
 at_most_each to least (note ∷ notes) zero by d below is le =
-    still_least to (lesser least (crossed to note.withdrawal)) notes by (lesser_second least (crossed to note.withdrawal) by (is_crossed to by note.withdrawal is le))
-at_most_each to least (note ∷ notes) (suc i) by d below is le = at_most_each to (lesser least (crossed to note.withdrawal)) notes i by d (omega arith) is le
+    still_least to (lesser least (crossed to note)) notes by (lesser_second least (crossed to note) by (is_crossed to by note is le))
+at_most_each to least (note ∷ notes) (suc i) by d below is le = at_most_each to (lesser least (crossed to note)) notes i by d (omega arith) is le
 
 -- a note has the number
-pub record StandsIn (to : ℕ) (notes : List NoteState) (by : ℕ) (d : NoteState) : Type 0 where
+pub record StandsIn (to : ℕ) (notes : List (Option ℕ)) (by : ℕ) (d : Option ℕ) : Type 0 where
   pub index : ℕ
   pub below : index < length notes
-  pub here : (get_or notes index d).withdrawal ≡ Some by
+  pub here : get_or notes index d ≡ Some by
   pub from : to ≤ by
 
 crossed_is : (to by : ℕ) (w : Option ℕ) → crossed to w ≡ Some by → (w ≡ Some by) × (to ≤ by)
@@ -108,14 +107,14 @@ lesser_is (Some a) (Some b) n is = by_cases (cases_lt a b)
     by_cases (inl less) = let same : min a b ≡ a = omega arith in inl (ap (λ (k : ℕ). Some k) (sym same) ∙ is)
     by_cases (inr le) = let same : min a b ≡ b = omega arith in inr (ap (λ (k : ℕ). Some k) (sym same) ∙ is)
 
-pub stands_in : (to : ℕ) (least : Option ℕ) (notes : List NoteState) (by : ℕ) (d : NoteState) → crossing_from to least notes ≡ Some by → (least ≡ Some by) ⊎ StandsIn to notes by d
+pub stands_in : (to : ℕ) (least : Option ℕ) (notes : List (Option ℕ)) (by : ℕ) (d : Option ℕ) → crossing_from to least notes ≡ Some by → (least ≡ Some by) ⊎ StandsIn to notes by d
 stands_in to least [] by d is = inl is
-stands_in to least (note ∷ notes) by d is = by_cases (stands_in to (lesser least (crossed to note.withdrawal)) notes by d is)
+stands_in to least (note ∷ notes) by d is = by_cases (stands_in to (lesser least (crossed to note)) notes by d is)
   where
-    own : (least ≡ Some by) ⊎ (crossed to note.withdrawal ≡ Some by) → (least ≡ Some by) ⊎ StandsIn to (note ∷ notes) by d
+    own : (least ≡ Some by) ⊎ (crossed to note ≡ Some by) → (least ≡ Some by) ⊎ StandsIn to (note ∷ notes) by d
     own (inl h) = inl h
-    own (inr h) = let at = crossed_is to by note.withdrawal h in inr (record { index = 0; below = omega arith; here = at.0; from = at.1 })
+    own (inr h) = let at = crossed_is to by note h in inr (record { index = 0; below = omega arith; here = at.0; from = at.1 })
 
-    by_cases : (lesser least (crossed to note.withdrawal) ≡ Some by) ⊎ StandsIn to notes by d → (least ≡ Some by) ⊎ StandsIn to (note ∷ notes) by d
-    by_cases (inl h) = own (lesser_is least (crossed to note.withdrawal) by h)
+    by_cases : (lesser least (crossed to note) ≡ Some by) ⊎ StandsIn to notes by d → (least ≡ Some by) ⊎ StandsIn to (note ∷ notes) by d
+    by_cases (inl h) = own (lesser_is least (crossed to note) by h)
     by_cases (inr at) = inr (record { index = suc at.index; below = omega (arith, at.below); here = at.here; from = at.from })

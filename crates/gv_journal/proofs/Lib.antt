@@ -14,6 +14,8 @@ pub mod Held
 pub mod Regions
 pub mod Reaches
 pub mod Noted
+pub mod Beside
+pub mod Signs
 pub mod ItemStores
 pub mod SettledViews
 pub mod Settlings

@@ -1,13 +1,15 @@
 -- The notes that stand beside items, index by index.
 use Rattle.std.proofs.Common.{◌≡◌, ℕ, ◌+◌, ◌<◌, ◌≤◌, suc, Bool, true, false, cond, ◌||◌, List, [], ◌∷◌, ◌++◌, map, length, set, get_or, reverse, Option, Some, None, inl, inr, refl, ap, sym, ◌∙◌, arith}
 use Rattle.std.specs.Prelude.{is_some, ◌⊎◌}
-use Rattle.std.proofs.lemmas.List.{reverse-append, length-reverse, length-map, length-set, get_or-map, get_or_append_left, get_or_at, get_or-set_same, get_or-set_other, get_or_default, same_lists}
+use Rattle.std.proofs.lemmas.List.{reverse-append, length-reverse, length-map, length-set, get_or-map, get_or_append_left, get_or_at, get_or-set_same, get_or-set_other, same_lists}
 use Rattle.std.proofs.lemmas.Bool.{cases_lt, cases_eq}
-use Rattle.gv_types.specs.PageRange.{PageRangeState}
-use Rattle.gv_journal.specs.Items.{NumberedItem, numbered, names, is_withdrawn, done_by}
-use Rattle.gv_journal.specs.Notes.{named_by, reach_of, note_of}
+use Rattle.gv_journal.specs.Items.{NumberedItem, numbered, names, is_withdrawn}
+use Rattle.gv_journal.specs.Notes.{named_by}
 use Rattle.gv_journal.specs.declared.item.Item.{Item}
-use Rattle.gv_journal.specs.Note.{NoteState, Reach}
+
+-- the note of an item among others
+abbrev pub note_in : List NumberedItem → NumberedItem → Option ℕ
+note_in xs x = named_by xs x.number
 
 -- an item is gone where one names it
 pub named_is : (xs : List NumberedItem) (n : ℕ) → is_some (named_by xs n) ≡ is_withdrawn xs n
@@ -63,43 +65,29 @@ numbered_at first (item ∷ items) i x below = by_cases (cases_lt i (length item
         (sym (ap (λ (ys : List Item). get_or ys i x.item) items_split ∙ get_or_at (reverse items) item [] x.item i (length-reverse items ∙ sym is)))
 
 -- the note at an index, of items among others
-pub note_at : (xs : List NumberedItem) (first : ℕ) (items : List Item) (i : ℕ) (note : NoteState) (item : Item) → i < length items →
-    get_or (map (note_of xs) (reverse (numbered first items))) i note ≡ record { withdrawal = named_by xs (first + i); reach = reach_of (done_by (get_or (reverse items) i item).kind) }
+pub note_at : (xs : List NumberedItem) (first : ℕ) (items : List Item) (i : ℕ) (note : Option ℕ) (item : Item) → i < length items →
+    get_or (map (note_in xs) (reverse (numbered first items))) i note ≡ named_by xs (first + i)
 note_at xs first items i note item below =
     let x : NumberedItem = record { number = 0; item = item } in
-    get_or-map (note_of xs) (reverse (numbered first items)) i x note (omega (arith, length-reverse (numbered first items), length-numbered first items))
-    ∙ ap (note_of xs) (numbered_at first items i x below)
+    get_or-map (note_in xs) (reverse (numbered first items)) i x note (omega (arith, length-reverse (numbered first items), length-numbered first items))
+    ∙ ap (note_in xs) (numbered_at first items i x below)
 
-pub length-notes : (xs : List NumberedItem) (first : ℕ) (items : List Item) → length (map (note_of xs) (reverse (numbered first items))) ≡ length items
+pub length-notes : (xs : List NumberedItem) (first : ℕ) (items : List Item) → length (map (note_in xs) (reverse (numbered first items))) ≡ length items
 length-notes xs first items =
-    length-map (reverse (numbered first items)) (note_of xs) ∙ length-reverse (numbered first items) ∙ length-numbered first items
+    length-map (reverse (numbered first items)) (note_in xs) ∙ length-reverse (numbered first items) ∙ length-numbered first items
 
--- lists of notes that differ in the withdrawal at one index
-pub marked_one : (ms ns : List NoteState) (p : ℕ) (w : Option ℕ) (note : NoteState) → length ms ≡ length ns → p < length ns →
-    ((i : ℕ) (d : NoteState) → i < length ns → (i ≡ p → ⊥) → get_or ms i d ≡ get_or ns i d) →
-    ((d : NoteState) → get_or ms p d ≡ record (get_or ns p d) { withdrawal = w }) →
-    set ns p (record (get_or ns p note) { withdrawal = w }) ≡ ms
-marked_one ms ns p w note size below others here =
-    same_lists (set ns p (record (get_or ns p note) { withdrawal = w })) ms (length-set ns p _ ∙ sym size)
-    (λ i d within. by_cases i d (omega (arith, length-set ns p (record (get_or ns p note) { withdrawal = w }))) (cases_eq i p))
+-- lists of notes that differ at one index
+pub marked_one : (ms ns : List (Option ℕ)) (p : ℕ) (w : Option ℕ) → length ms ≡ length ns → p < length ns →
+    ((i : ℕ) (d : Option ℕ) → i < length ns → (i ≡ p → ⊥) → get_or ms i d ≡ get_or ns i d) →
+    ((d : Option ℕ) → get_or ms p d ≡ w) →
+    set ns p w ≡ ms
+marked_one ms ns p w size below others here =
+    same_lists (set ns p w) ms (length-set ns p _ ∙ sym size)
+    (λ i d within. by_cases i d (omega (arith, length-set ns p w)) (cases_eq i p))
   where
-    by_cases : (i : ℕ) (d : NoteState) → i < length ns → (i ≡ p) ⊎ (i ≡ p → ⊥) → get_or (set ns p (record (get_or ns p note) { withdrawal = w })) i d ≡ get_or ms i d
+    by_cases : (i : ℕ) (d : Option ℕ) → i < length ns → (i ≡ p) ⊎ (i ≡ p → ⊥) → get_or (set ns p w) i d ≡ get_or ms i d
     by_cases i d within (inl is) =
-        ap (λ (k : ℕ). get_or (set ns p (record (get_or ns p note) { withdrawal = w })) k d) is
-        ∙ get_or-set_same ns p (record (get_or ns p note) { withdrawal = w }) d below
-        ∙ ap (λ (x : NoteState). record x { withdrawal = w }) (get_or_default ns p note d below)
+        ap (λ (k : ℕ). get_or (set ns p w) k d) is
+        ∙ get_or-set_same ns p w d below
         ∙ sym (here d) ∙ ap (λ (k : ℕ). get_or ms k d) (sym is)
-    by_cases i d within (inr apart) = get_or-set_other ns p i (record (get_or ns p note) { withdrawal = w }) d apart ∙ sym (others i d within apart)
-
--- a note that nothing withdraws
-pub fresh : (note : NoteState) (reach : Reach) → note.withdrawal ≡ None → note.reach.extent ≡ reach.extent → note.reach.regions ≡ reach.regions → note ≡ record { withdrawal = None; reach = reach }
-fresh note reach none extent regions =
-    ap (λ (w : Option ℕ). let n : NoteState = record { withdrawal = w; reach = note.reach } in n) none
-    ∙ ap (λ (e : Option PageRangeState). let n : NoteState = record { withdrawal = None; reach = record { extent = e; regions = note.reach.regions } } in n) extent
-    ∙ ap (λ (r : ℕ). let n : NoteState = record { withdrawal = None; reach = record { extent = reach.extent; regions = r } } in n) regions
-
--- a note once it is marked
-pub once_marked : (was new : NoteState) (withdrawal : Option ℕ) → new.withdrawal ≡ withdrawal → new.reach ≡ was.reach → new ≡ record { withdrawal = withdrawal; reach = was.reach }
-once_marked was new withdrawal is same =
-    ap (λ (w : Option ℕ). let n : NoteState = record { withdrawal = w; reach = new.reach } in n) is
-    ∙ ap (λ (r : Reach). let n : NoteState = record { withdrawal = withdrawal; reach = r } in n) same
+    by_cases i d within (inr apart) = get_or-set_other ns p i w d apart ∙ sym (others i d within apart)

@@ -1,14 +1,13 @@
 -- The notes that stay when older items are settled.
 use Rattle.std.proofs.Common.{◌≡◌, ℕ, ◌+◌, ◌<◌, ◌≤◌, Bool, true, false, cond, ◌||◌, List, [], ◌∷◌, ◌++◌, length, take, drop, get_or, reverse, Option, Some, None, refl, ap, sym, ◌∙◌, subst, arith}
-use Rattle.std.proofs.lemmas.List.{reverse-append, reverse-reverse, length-reverse, length-drop, length-take-le, take-append-drop, get_or-drop, same_lists}
-use Rattle.gv_journal.specs.Items.{NumberedItem, numbered, names, is_withdrawn, done_by}
+use Rattle.std.proofs.lemmas.List.{reverse-append, length-reverse, length-drop, length-take-le, take-append-drop, get_or-drop, same_lists}
+use Rattle.gv_journal.specs.Items.{NumberedItem, numbered, names, is_withdrawn}
 use Rattle.gv_journal.specs.Inside.{NameOlder, NamesOnce, NameOnce}
-use Rattle.gv_journal.specs.Notes.{named_by, reach_of, notes_of}
+use Rattle.gv_journal.specs.Notes.{named_by, notes_of}
 use Rattle.gv_journal.specs.Settling.{crosses}
 use Rattle.gv_journal.specs.declared.item.Item.{Item}
 use Rattle.gv_journal.specs.declared.item.ItemKind.{ItemKind}
 use Rattle.gv_journal.specs.declared.item.ItemKind.TheVariants.{Bind, Withdrawal}
-use Rattle.gv_journal.specs.Note.{NoteState}
 use Rattle.gv_journal.proofs.Bindings.{not_named}
 use Rattle.gv_journal.proofs.Noted.{not_named_by, note_at, length-notes}
 use Rattle.gv_journal.proofs.SettledViews.{numbered-append, is_withdrawn-append, NoneCross}
@@ -61,15 +60,9 @@ module _ (first : ℕ) (held : List Item) (count : ℕ) (le : count ≤ length h
   size : length (drop count (notes_of (numbered first (reverse held)))) ≡ length (drop count held)
   size = length-drop count (notes_of (numbered first (reverse held))) ∙ omega (arith, length-notes (numbered first (reverse held)) first (reverse held), length-reverse held, length-drop count held)
 
-  module _ (older : NameOlder (numbered first early)) (i : ℕ) (note : NoteState) (item : Item) (below : i < length (drop count held)) where
+  module _ (older : NameOlder (numbered first early)) (i : ℕ) (note : Option ℕ) (item : Item) (below : i < length (drop count held)) where
     index : count + i < length (reverse held)
     index = omega (arith, below, length-drop count held, length-reverse held)
-
-    item_same : get_or (reverse (reverse held)) (count + i) item ≡ get_or (reverse late) i item
-    item_same =
-        ap (λ (xs : List Item). get_or xs (count + i) item) (reverse-reverse held)
-        ∙ sym (get_or-drop count held i item)
-        ∙ ap (λ (xs : List Item). get_or xs i item) (sym (reverse-reverse (drop count held)))
 
     number : first + (count + i) ≡ first + count + i
     number = omega arith
@@ -78,9 +71,7 @@ module _ (first : ℕ) (held : List Item) (count : ℕ) (le : count ≤ length h
     note_same =
         get_or-drop count (notes_of (numbered first (reverse held))) i note
         ∙ note_at (numbered first (reverse held)) first (reverse held) (count + i) note item index
-        ∙ ap (λ (w : Option ℕ). record { withdrawal = w; reach = reach_of (done_by (get_or (reverse (reverse held)) (count + i) item).kind) })
-        (ap (named_by (numbered first (reverse held))) number ∙ named_late older (first + count + i) (omega arith))
-        ∙ ap (λ (x : Item). record { withdrawal = named_by (numbered (first + count) late) (first + count + i); reach = reach_of (done_by x.kind) }) item_same
+        ∙ ap (named_by (numbered first (reverse held))) number ∙ named_late older (first + count + i) (omega arith)
         ∙ sym (note_at (numbered (first + count) late) (first + count) late i note item (omega (arith, length-reverse (drop count held))))
 
   pub notes_settled : NameOlder (numbered first early) → drop count (notes_of (numbered first (reverse held))) ≡ notes_of (numbered (first + count) late)
@@ -89,7 +80,7 @@ module _ (first : ℕ) (held : List Item) (count : ℕ) (le : count ≤ length h
       (size ∙ sym (length-notes (numbered (first + count) late) (first + count) late ∙ length-reverse (drop count held)))
       (λ i note below. at_each i note (omega (arith, size)))
     where
-      at_each : (i : ℕ) (note : NoteState) → i < length (drop count held) → get_or (drop count (notes_of (numbered first (reverse held)))) i note ≡ get_or (notes_of (numbered (first + count) late)) i note
+      at_each : (i : ℕ) (note : Option ℕ) → i < length (drop count held) → get_or (drop count (notes_of (numbered first (reverse held)))) i note ≡ get_or (notes_of (numbered (first + count) late)) i note
       at_each i note below = by_items (drop count held) refl
         where
           by_items : (xs : List Item) → drop count held ≡ xs → get_or (drop count (notes_of (numbered first (reverse held)))) i note ≡ get_or (notes_of (numbered (first + count) late)) i note

@@ -9,7 +9,7 @@ use Rattle.std.proofs.lemmas.Nat.Bits.{bit_at-zero, bit_at_and, bit_at_or, bit_a
 use Rattle.gv_types.specs.PageRange.{PageRangeState, end_of, meets}
 use Rattle.gv_types.specs.declared.operation.PageOp.{PageOp}
 use Rattle.gv_journal.specs.Restoring.{pages_named}
-use Rattle.gv_journal.specs.Notes.{region_of, regions_between, regions_named, regions_from}
+use Rattle.gv_journal.specs.Reach.{region_of, regions_between, regions_named, regions_from}
 
 -- a bit of the low 128
 bit_low : (n i : ℕ) → i < 128 → bit_at (n % 2 ^ 128) i ≡ bit_at n i

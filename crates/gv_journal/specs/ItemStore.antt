@@ -1,14 +1,14 @@
 -- What contracts see of a `ItemStore`: the items held, the oldest one first, and a note beside each; how many settled items have
 -- left their slots in front of them, and for how many more there is room. No public clause cites this module.
-use Rattle.std.specs.Prelude.{◌≡◌, ℕ, ◌+◌, ◌-◌, ◌*◌, ◌<◌, ◌≤◌, ◌⊎◌, List, [], length, max, take, drop, vec_len, vec_capacity}
+use Rattle.std.specs.Prelude.{◌≡◌, ℕ, ◌+◌, ◌-◌, ◌*◌, ◌<◌, ◌≤◌, ◌⊎◌, List, [], length, max, take, drop, vec_len, vec_capacity, Option}
 use Rattle.std.specs.List.{All}
 use Rattle.gv_journal.specs.declared.item.Item.{Item}
-use Rattle.gv_journal.specs.Note.{NoteState}
+use Rattle.gv_journal.specs.Reach.{AreReaches}
 use Rattle.gv_journal.specs.declared.item_store.ItemStore.TheInside.{Inside}
 
 pub record ItemStoreState : Type 0 where
   pub items : List Item
-  pub notes : List NoteState
+  pub notes : List (Option ℕ)
   pub spent : ℕ
   pub item_room : ℕ
   pub note_room : ℕ
@@ -47,10 +47,10 @@ abbrev pub stored : Inside → ItemStoreState
 stored s =
     record {
       items = drop s.spent s.items.items;
-      notes = drop s.spent s.notes.items;
+      notes = drop s.spent s.columns.notes;
       spent = s.spent;
       item_room = vec_capacity s.items - vec_len s.items;
-      note_room = vec_capacity s.notes - vec_len s.notes;
+      note_room = s.columns.room;
     }
 
 -- what is left of a settled item keeps nothing
@@ -59,5 +59,6 @@ IsSpent item = item.undos.items ≡ []
 
 pub record IsItemStore (s : Inside) : Type 0 where
   pub within : s.spent ≤ vec_len s.items
-  pub beside : vec_len s.notes ≡ vec_len s.items
+  pub beside : length s.columns.notes ≡ vec_len s.items
+  pub reaches : AreReaches (drop s.spent s.columns.firsts) (drop s.spent s.columns.pasts) (drop s.spent s.columns.regions) (drop s.spent s.items.items)
   pub spent_items : All IsSpent (take s.spent s.items.items)

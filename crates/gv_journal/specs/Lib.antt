@@ -7,6 +7,8 @@ pub mod Verdict
 pub mod Binding
 pub mod Work
 pub mod Note
+pub mod Reach
+pub mod Columns
 pub mod Notes
 pub mod ItemStore
 pub mod Inside

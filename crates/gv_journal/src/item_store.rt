@@ -1,29 +1,32 @@
 //! The items that a journal holds, in one slice that older items leave in front.
-ghost use Rattle.std.specs.Prelude.{◌≡◌, ◌++◌, ◌<◌, ◌≤◌, ◌-◌, ◌*◌, ◌^◌, max, IfSome, [], ◌∷◌, List, length, take, drop, set, reverse, slice_index_or, option_to_list, vec_len, vec_capacity, MatchOption, OnOk, OnErr, ◌⊎◌};
+ghost use Rattle.std.specs.Prelude.{◌≡◌, ◌++◌, ◌<◌, ◌≤◌, ◌-◌, ◌*◌, ◌^◌, max, IfSome, [], ◌∷◌, List, length, take, drop, set, reverse, slice_index_or, option_to_list, vec_len, vec_capacity, None, MatchOption, OnOk, OnErr, ◌⊎◌};
 ghost use Rattle.std.specs.List.{All};
 ghost use Rattle.gv_types.specs.declared.mapping.Mapping.{Mapping};
 ghost use Rattle.gv_space.specs.State.{AreKept};
 ghost use Rattle.gv_space.specs.Undo.{AreAmongKept, released};
 ghost use Rattle.gv_journal.specs.History.{kept_by};
 ghost use Rattle.gv_journal.specs.ItemStore.{IsSpent};
+ghost use Rattle.gv_journal.specs.Reach.{item_covers};
 
+use crate::columns::Columns;
 use crate::item::{Item, ItemKind};
 use crate::note::Note;
+use crate::part::Part;
+use crate::reach::Reach;
+use crate::room::grow;
 use crate::settling::release_items;
+use crate::touching::done_by;
 use crate::undoing::release_all;
 use gv_space::Space;
 use gv_types::OutOfMemory;
-use std::alloc::{AllocError, Global};
+use std::alloc::Global;
 use std::marker::Model;
 
-/// So many slots the first growth makes.
-const FIRST_PLACES: usize = 4;
-
-/// The items held, the oldest one first, and a note beside each. What is left of settled items stands in front of them, and
+/// The items held, the oldest one first, and what stands beside each. What is left of settled items stands in front of them, and
 /// gives way before the vectors grow: once at least half of what stands here is spent, the rest is moved to the front.
 pub struct ItemStore {
     items: Vec<Item>,
-    notes: Vec<Note>,
+    columns: Columns,
     spent: usize,
 }
 
@@ -50,7 +53,7 @@ impl ItemStore {
     {
         ItemStore {
             items: Vec::new(alloc),
-            notes: Vec::new(alloc),
+            columns: Columns::new(alloc),
             spent: 0,
         }
     }
@@ -67,7 +70,32 @@ impl ItemStore {
         ensures value { result.now ≡ self.now.notes }
         ensures beside { length self.now.notes ≡ length self.now.items }
     {
-        &self.notes[self.spent..]
+        &self.columns.notes()[self.spent..]
+    }
+
+    /// The items with what stands beside each.
+    pub fn held(&self) -> Part<'_>
+        ensures items { result.items.now ≡ self.now.items }
+        ensures notes { result.notes.now ≡ self.now.notes }
+    {
+        let columns = &self.columns;
+        Part {
+            items: &self.items[self.spent..],
+            notes: &columns.notes()[self.spent..],
+            firsts: &columns.firsts()[self.spent..],
+            pasts: &columns.pasts()[self.spent..],
+            regions: &columns.regions()[self.spent..],
+        }
+    }
+
+    /// Whether a page lies between the least and the greatest that an item covers. The item isn't read.
+    #[inline(always)]
+    pub fn covers(&self, index: usize, page: u64) -> bool
+        requires { index < length self.now.items }
+        ensures { (item : Item) → result ≡ item_covers (slice_index_or self.now.items index item) page }
+    {
+        let at = self.spent + index;
+        self.columns.firsts()[at] <= page && page < self.columns.pasts()[at]
     }
 
     /// How many items.
@@ -88,13 +116,12 @@ impl ItemStore {
         ensures gives_way { MustGiveWay self.old → HasGivenWay self.old self.new }
         ensures few { HasFewSlots self.old self.new }
     {
-        let full = self.items.len() == self.items.capacity()
-            || self.notes.len() == self.notes.capacity();
+        let full = self.items.len() == self.items.capacity() || !self.columns.has_room();
         if full && self.items.len() - self.spent <= self.spent {
             self.compact();
         }
         grow(&mut self.items)?;
-        grow(&mut self.notes)?;
+        self.columns.make_room()?;
         Ok(())
     }
 
@@ -107,19 +134,18 @@ impl ItemStore {
         let held = self.items.len() - self.spent;
         self.items.rotate_left(self.spent);
         drop_spent(&mut self.items, held);
-        self.notes.rotate_left(self.spent);
-        self.notes.truncate(held);
+        self.columns.let_go(self.spent);
         self.spent = 0;
     }
 
-    /// Adds an item.
-    pub fn push(&mut self, item: Item, note: Note)
+    /// Adds an item, which nothing withdraws.
+    pub fn push(&mut self, item: Item)
         requires { HasSlot self.old }
         ensures items { self.new.items ≡ self.old.items ++ item ∷ [] }
-        ensures notes { self.new.notes ≡ self.old.notes ++ note ∷ [] }
+        ensures notes { self.new.notes ≡ self.old.notes ++ None ∷ [] }
     {
+        self.columns.push(Reach::of(done_by(&item.kind)));
         self.items.push_reserved(item);
-        self.notes.push_reserved(note);
     }
 
     /// Takes the newest item, and writes that what it names isn't withdrawn. The oldest item has the number `first`.
@@ -127,8 +153,8 @@ impl ItemStore {
         requires { (rest : List Item) (item : Item) → self.old.items ≡ rest ++ item ∷ []
             → NamesWithin item.kind first (length rest) }
         ensures items { self.old.items ≡ self.new.items ++ option_to_list result }
-        ensures notes { MatchOption result ((self.old.items ≡ []) × (self.new ≡ self.old)) (λ item. (note : Note) → self.new.notes
-            ≡ cleared note item.kind first (take (length self.new.items) self.old.notes)) }
+        ensures notes { MatchOption result ((self.old.items ≡ []) × (self.new ≡ self.old)) (λ item. self.new.notes
+            ≡ cleared item.kind first (take (length self.new.items) self.old.notes)) }
     {
         let item = match self.pop() {
             Some(item) => item,
@@ -150,7 +176,7 @@ impl ItemStore {
         if self.items.len() == self.spent {
             return None;
         }
-        self.notes.truncate(self.items.len() - 1);
+        self.columns.truncate(self.items.len() - 1);
         Some(self.items.take_last())
     }
 
@@ -159,12 +185,11 @@ impl ItemStore {
         requires index { index < length self.old.notes }
         requires number { IfSome withdrawal (λ number. number < 2 ^ 64 - 1) }
         ensures items { self.new.items ≡ self.old.items }
-        ensures notes { (note : Note) → self.new.notes
-            ≡ set self.old.notes index (record (slice_index_or self.old.notes index note) { withdrawal = withdrawal }) }
+        ensures notes { self.new.notes ≡ set self.old.notes index withdrawal }
         ensures item_room { self.new.item_room ≡ self.old.item_room }
         ensures note_room { self.new.note_room ≡ self.old.note_room }
     {
-        self.notes[self.spent + index].mark(withdrawal);
+        self.columns.mark(self.spent + index, withdrawal);
     }
 
     /// Gives up what the oldest items keep, and lets them go. It takes no memory.
@@ -190,7 +215,7 @@ impl ItemStore {
     {
         let ItemStore {
             items,
-            notes: _,
+            columns: _,
             spent: _,
         } = self;
         let mut items = items;
@@ -212,19 +237,4 @@ fn drop_spent(items: &mut Vec<Item>, held: usize)
         let Item { kind: _, undos } = items.take_last();
         undos.destroy_empty();
     }
-}
-
-/// Makes room for one thing more where there is none: twice the slots, and four at first.
-fn grow<T>(things: &mut Vec<T>) -> Result<(), AllocError>
-    ensures items { things.new.items ≡ things.old.items }
-    ensures ok { OnOk result (vec_len things.new < vec_capacity things.new) }
-    ensures needed { OnErr result (vec_len things.old ≡ vec_capacity things.old) }
-    ensures enough { vec_len things.old < vec_capacity things.old → vec_capacity things.new ≡ vec_capacity things.old }
-    ensures few { vec_capacity things.new ≤ max (2 * vec_capacity things.old) 4 }
-{
-    let len = things.len();
-    if len < things.capacity() {
-        return Ok(());
-    }
-    things.reserve_exact(len.saturating_mul(2).max(FIRST_PLACES) - len)
 }

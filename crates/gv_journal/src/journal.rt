@@ -5,7 +5,6 @@ ghost use Rattle.std.specs.Prelude.{IfOk, IfErr, OnOk, OnErr};
 use crate::applying::{Work, apply_all};
 use crate::item::{Item, ItemKind};
 use crate::item_store::ItemStore;
-use crate::note::{Note, extent_of, regions_of};
 use crate::ready::ReadyRequest;
 use crate::refusal::{Refusal, whole};
 use crate::restoring::restore_all;
@@ -139,7 +138,6 @@ impl Journal {
             Err(refusal) => return Err(refusal),
         };
         let entry = self.next();
-        let note = Note::new(extent_of(&done), regions_of(&done));
         let kind = ItemKind::Bind {
             queue: ready.queue,
             number: ready.number,
@@ -147,7 +145,7 @@ impl Journal {
             seen: ready.seen,
             done,
         };
-        self.item_store.push(Item { kind, undos }, note);
+        self.item_store.push(Item { kind, undos });
         Ok(entry)
     }
 
@@ -209,9 +207,8 @@ impl Journal {
         };
         let number = self.next();
         let kind = ItemKind::Withdrawal { of: entry };
-        let note = Note::new(None, 0);
         self.item_store.mark(index, Some(number));
-        self.item_store.push(Item { kind, undos }, note);
+        self.item_store.push(Item { kind, undos });
         Ok(number)
     }
 

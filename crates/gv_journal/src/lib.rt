@@ -17,14 +17,18 @@
 #![tactic(auto)]
 
 mod applying;
+mod columns;
 mod item;
 mod item_store;
 mod journal;
 pub mod laws;
 mod note;
+mod part;
+mod reach;
 mod ready;
 mod refusal;
 mod restoring;
+mod room;
 mod settling;
 mod touching;
 mod undoing;

@@ -16,7 +16,7 @@ use std::alloc::Global;
 
 /// The number of the withdrawal of an item, where it is this one or above.
 fn crossed(note: &Note, to: u64) -> Option<u64>
-    ensures { result ≡ crossed to note.now.withdrawal }
+    ensures { result ≡ crossed to note.now }
 {
     match note.withdrawal() {
         Some(by) if by >= to => Some(by),

@@ -1,22 +1,29 @@
 //! Which items touch.
-ghost use Rattle.std.specs.Prelude.{◌≡◌, ℕ, ◌+◌, ◌<◌, ◌^◌, Bool, ◌&&◌, not, is_some, length, IsTrue, IfSome};
+ghost use Rattle.std.specs.Prelude.{◌≡◌, ℕ, ◌+◌, ◌<◌, ◌^◌, Bool, ◌≤◌, false, ◌&&◌, ◌-◌, take, drop, not, is_some, length, IsTrue, IfSome};
 ghost use Rattle.std.specs.List.{list_any};
-ghost use Rattle.gv_types.specs.Page.{IsPage};
+ghost use Rattle.gv_types.specs.Page.{IsPage, PAGES};
 ghost use Rattle.gv_types.specs.PageRange.{covers, meets};
 ghost use Rattle.gv_types.specs.Operation.{range_of};
 ghost use Rattle.gv_journal.specs.Items.{done_by};
-ghost use Rattle.gv_journal.specs.Notes.{reach_of, AreReaches, TellGone};
+ghost use Rattle.gv_journal.specs.Columns.{AreInSpace};
+ghost use Rattle.gv_journal.specs.Notes.{TellGone};
+ghost use Rattle.gv_journal.specs.Reach.{IsReachOf, AllApart};
 ghost use Rattle.gv_journal.specs.Restoring.{pages_named};
 ghost use Rattle.gv_journal.specs.Saying.{first_taken, last_covering};
 ghost use Rattle.gv_journal.specs.Withdrawing.{touch, touched_from};
 
 use crate::item::{Item, ItemKind};
 use crate::note::Note;
+use crate::part::Part;
+use crate::reach::Reach;
 use gv_space::OpUndo;
 use gv_types::{Entry, PageOp, PageRange};
 
 /// How many items are passed over at once, where none of them is reached.
 const BLOCK: usize = 8;
+
+/// From here on a number is what a lesser one leaves when a greater is taken off it.
+const SIGN: u64 = 1 << 63;
 
 /// The pages of an operation, if it names any.
 pub fn pages_of(op: &PageOp) -> Option<PageRange>
@@ -99,7 +106,7 @@ fn touch(ops: &[PageOp], others: &[PageOp]) -> bool
 }
 
 /// What an item did: a withdrawal has no operations of its own.
-fn done_by(kind: &ItemKind) -> &[PageOp]
+pub fn done_by(kind: &ItemKind) -> &[PageOp]
     ensures { result.now ≡ done_by kind.now }
 {
     match kind {
@@ -108,92 +115,102 @@ fn done_by(kind: &ItemKind) -> &[PageOp]
     }
 }
 
-/// Whether an item that isn't withdrawn touches operations: they are compared only where its note doesn't tell that none can
-/// meet.
-fn is_in_way(note: &Note, item: &Item, own: &Note, ops: &[PageOp]) -> bool
-    requires note { note.now.reach ≡ reach_of (done_by item.now.kind) }
-    requires own { own.now.reach ≡ reach_of ops.now }
-    ensures { result ≡ (touch ops.now (done_by item.now.kind) && not (is_some note.now.withdrawal)) }
+/// Whether an item that isn't withdrawn touches operations: they are compared only where what both reach doesn't tell that none
+/// can meet.
+fn is_in_way(note: &Note, item: &Item, reach: &Reach, own: &Reach, ops: &[PageOp]) -> bool
+    requires reach { IsReachOf reach.now (done_by item.now.kind) }
+    requires own { IsReachOf own.now ops.now }
+    ensures { result ≡ (touch ops.now (done_by item.now.kind) && not (is_some note.now)) }
 {
-    if note.is_withdrawn() {
+    if !own.reaches(reach) {
         return false;
     }
-    if !own.reaches(note) {
+    if note.is_withdrawn() {
         return false;
     }
     touch(ops, done_by(&item.kind))
 }
 
-/// As `first_touched`, one item after another.
-fn first_in_way(
-    items: &[Item],
-    notes: &[Note],
-    own: &Note,
-    ops: &[PageOp],
-    from: u64,
-) -> Option<u64>
-    requires numbers { from + length items.now < 2 ^ 64 }
-    requires beside { length notes.now ≡ length items.now }
-    requires notes { AreReaches notes.now items.now }
-    requires own { own.now.reach ≡ reach_of ops.now }
-    ensures { (gone : ℕ → Bool) → TellGone gone from notes.now → result ≡ touched_from gone ops.now from items.now }
+/// As `first_touched`, one item after another. It has a frame of its own: few blocks come here.
+#[inline(never)]
+fn first_in_way(part: &Part<'_>, own: &Reach, ops: &[PageOp], from: u64) -> Option<u64>
+    requires numbers { from + length part.now.items.now < 2 ^ 64 }
+    requires own { IsReachOf own.now ops.now }
+    ensures { (gone : ℕ → Bool) → TellGone gone from part.now.notes.now → result ≡ touched_from gone ops.now from part.now.items.now }
 {
-    for (index, note) in notes.iter().enumerate() {
-        if is_in_way(note, &items[index], own, ops) {
+    for (index, item) in part.items.iter().enumerate() {
+        let reach = part.reach(index);
+        if is_in_way(&part.notes[index], item, &reach, own, ops) {
             return Some(from + index as u64);
         }
     }
     None
 }
 
-/// As `first_touched`, for a block: its items are passed over at once where none has a region in common. Inlined, so that the number of the
-/// block's items is known.
+/// Whether some page from the least to the greatest of an item may be among those of another. The differences' signs stand for
+/// comparisons, gathered without a branch: so several items are compared at once. Inlined, so that the number of a block's items
+/// is known.
+#[inline(always)]
+fn may_meet(firsts: &[u64], pasts: &[u64], own: &Reach) -> bool
+    requires beside { length pasts.now ≡ length firsts.now }
+    requires in_space { AreInSpace pasts.now }
+    requires own { own.now.past ≤ PAGES }
+    ensures { result ≡ false → AllApart own.now.first own.now.past firsts.now pasts.now }
+{
+    let (first, past) = (own.first, own.past);
+    let mut signs: u64 = 0;
+    for index in 0..firsts.len() {
+        signs |= firsts[index].wrapping_sub(past) & first.wrapping_sub(pasts[index]);
+    }
+    signs >= SIGN
+}
+
+/// As `first_touched`, for the block from an index up to another: its items are passed over at once where the pages or the regions of
+/// none meet. Inlined, so that the number of the block's items is known.
 #[inline(always)]
 fn first_reached(
-    items: &[Item],
-    notes: &[Note],
-    own: &Note,
+    part: &Part<'_>,
+    start: usize,
+    end: usize,
+    own: &Reach,
     ops: &[PageOp],
     from: u64,
 ) -> Option<u64>
-    requires numbers { from + length items.now < 2 ^ 64 }
-    requires beside { length notes.now ≡ length items.now }
-    requires notes { AreReaches notes.now items.now }
-    requires own { own.now.reach ≡ reach_of ops.now }
-    ensures { (gone : ℕ → Bool) → TellGone gone from notes.now → result ≡ touched_from gone ops.now from items.now }
+    requires ordered { start ≤ end }
+    requires within { end ≤ length part.now.items.now }
+    requires numbers { from + (end - start) < 2 ^ 64 }
+    requires own { IsReachOf own.now ops.now }
+    requires in_space { own.now.past ≤ PAGES }
+    ensures { (gone : ℕ → Bool) → TellGone gone from (take (end - start) (drop start part.now.notes.now))
+        → result ≡ touched_from gone ops.now from (take (end - start) (drop start part.now.items.now)) }
 {
-    if !own.shares_region_with_any(notes) {
+    if !may_meet(&part.firsts[start..end], &part.pasts[start..end], own) {
         return None;
     }
-    first_in_way(items, notes, own, ops, from)
+    if !own.shares_region_with_any(&part.regions[start..end]) {
+        return None;
+    }
+    first_in_way(&part.between(start, end), own, ops, from)
 }
 
 /// The number of the first item that isn't withdrawn and touches the operations of another. The first of these items has the
-/// number `from`, and a note stands beside each. Nearly all items lie in other regions, so they are gone through in blocks of a
-/// fixed length, and a block where all do is passed over by one branch.
-pub fn first_touched(
-    items: &[Item],
-    notes: &[Note],
-    own: &Note,
-    ops: &[PageOp],
-    from: u64,
-) -> Option<u64>
-    requires numbers { from + length items.now < 2 ^ 64 }
-    requires beside { length notes.now ≡ length items.now }
-    requires notes { AreReaches notes.now items.now }
-    requires own { own.now.reach ≡ reach_of ops.now }
-    ensures { (gone : ℕ → Bool) → TellGone gone from notes.now → result ≡ touched_from gone ops.now from items.now }
+/// number `from`. Nearly all items lie elsewhere, so they are gone through in blocks of a fixed length, and a block where all do is
+/// passed over by one branch, or two.
+pub fn first_touched(part: &Part<'_>, own: &Reach, ops: &[PageOp], from: u64) -> Option<u64>
+    requires numbers { from + length part.now.items.now < 2 ^ 64 }
+    requires own { IsReachOf own.now ops.now }
+    requires in_space { own.now.past ≤ PAGES }
+    ensures { (gone : ℕ → Bool) → TellGone gone from part.now.notes.now → result ≡ touched_from gone ops.now from part.now.items.now }
 {
+    let many = part.items.len();
     let mut start = 0;
-    while notes.len() - start >= BLOCK {
+    while many - start >= BLOCK {
         let end = start + BLOCK;
-        let number = from + start as u64;
-        let found = first_reached(&items[start..end], &notes[start..end], own, ops, number);
+        let found = first_reached(part, start, end, own, ops, from + start as u64);
         if found.is_some() {
             return found;
         }
         start = end;
     }
-    let number = from + start as u64;
-    first_in_way(&items[start..], &notes[start..], own, ops, number)
+    first_in_way(&part.between(start, many), own, ops, from + start as u64)
 }

@@ -20,7 +20,7 @@ use Rattle.gv_types.proofs.limits.Limits.TheSendSync.{the_send as limits_send}
 use Rattle.gv_types.proofs.page_range.PageRange.TheSendSync.{the_send as range_send}
 use Rattle.gv_buffers.proofs.buffers.Buffers.TheSendSync.{the_send as buffers_send}
 use Rattle.gv_journal.proofs.item.ItemKind.TheSendSync.{the_send as kind_send}
-use Rattle.gv_journal.proofs.note.Note.TheSendSync.{the_send as note_send}
+use Rattle.gv_journal.proofs.columns.Columns.TheSendSync.{the_send as columns_send}
 use Rattle.gv_vm.proofs.jobs.Jobs.TheSendSync.{the_send as jobs_send}
 use Rattle.gv_vm.proofs.outcome.Outcome.TheSendSync.{the_send as outcome_send}
 use Rattle.gv_types.proofs.mapping.Mapping.TheSendSync.{the_send as mapping_send}
@@ -90,7 +90,7 @@ item_send : IsSend item
 item_send = declared_send item_type (kind_send, (Vec-send _ undo_send, tt))
 
 item_store_send : IsSend item_store
-item_store_send = view_send item_store_inside _ _ _ _ (declared_send item_store_type (Vec-send _ item_send, (search (sendable, crosses, note_send) depth 8, (number, tt))))
+item_store_send = view_send item_store_inside _ _ _ _ (declared_send item_store_type (Vec-send _ item_send, (columns_send, (number, tt))))
 
 journal_send : IsSend journal
 journal_send = view_send journal_inside _ _ _ _ (declared_send journal_type (item_store_send, (wide, (wide, tt))))

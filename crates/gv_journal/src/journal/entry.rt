@@ -24,8 +24,8 @@ pub struct Said {
 
 impl Journal {
     ghost use Rattle.gv_types.specs.Page.{IsPage};
-    ghost use Rattle.gv_journal.specs.Items.{entries, is_withdrawn, done_by};
-    ghost use Rattle.gv_journal.specs.Notes.{reach_of, notes_of};
+    ghost use Rattle.gv_journal.specs.Items.{entries, is_withdrawn};
+    ghost use Rattle.gv_journal.specs.Reach.{IsSilent};
     ghost use Rattle.gv_journal.specs.History.{base};
     ghost use Rattle.gv_journal.specs.Saying.{last_covering, live_taken};
     ghost use Rattle.gv_journal.specs.State.{FitsSpace};
@@ -37,7 +37,8 @@ impl Journal {
         ensures item { IfSome result (λ held. item_at self.now number ≡ Some held.item.now) }
         ensures withdrawn { IfSome result (λ held. held.is_withdrawn ≡ is_withdrawn (entries self.now) number) }
     {
-        let (item, note) = self.noted(number)?;
+        let index = self.index_of(number)?;
+        let (item, note) = self.noted(index);
         Some(HeldItem {
             item,
             is_withdrawn: note.is_withdrawn(),
@@ -45,17 +46,28 @@ impl Journal {
     }
 
     /// What the item with this number says of a page. None where it isn't held, and where no operation of it covers the page. An
-    /// item that doesn't reach there isn't read.
+    /// item that doesn't reach there isn't read. It is asked of many items one after another, so it is inlined as far as that.
+    #[inline(always)]
     pub fn said_of(&self, number: u64, page: u64) -> Option<Said>
         ensures op { option_map (λ said. said.op) result
             ≡ option_and_then (λ item. last_covering item.kind page) (item_at self.now number) }
         ensures withdrawn { IfSome result (λ said. said.is_withdrawn ≡ is_withdrawn (entries self.now) number) }
         ensures in_space { IfSome result (λ _. IsPage page) }
     {
-        let (item, note) = self.noted(number)?;
-        if !note.covers(page) {
-            return None;
-        }
+        let index = self.reaching(number, page)?;
+        self.said_at(index, page)
+    }
+
+    /// What the item at an index says of a page.
+    #[inline(never)]
+    fn said_at(&self, index: usize, page: u64) -> Option<Said>
+        requires { index < length self.now.items }
+        ensures op { option_map (λ said. said.op) result
+            ≡ option_and_then (λ item. last_covering item.kind page) (item_at self.now (self.now.first + index)) }
+        ensures withdrawn { IfSome result (λ said. said.is_withdrawn ≡ is_withdrawn (entries self.now) (self.now.first + index)) }
+        ensures in_space { IfSome result (λ _. IsPage page) }
+    {
+        let (item, note) = self.noted(index);
         let op = last_covering(&item.kind, page)?;
         Some(Said {
             op,
@@ -84,40 +96,61 @@ impl Journal {
     }
 
     /// What the item with this number took out of a page first, where it is live and an operation of it covers the page.
+    #[inline(always)]
     fn taken_by(&self, number: u64, page: u64) -> Option<Option<Entry>>
         ensures { result ≡ option_and_then (λ item. live_taken (is_withdrawn (entries self.now) number) item page) (item_at self.now number) }
     {
-        let (item, note) = self.noted(number)?;
+        let index = self.reaching(number, page)?;
+        self.taken_at(index, page)
+    }
+
+    /// The same of the item at an index.
+    #[inline(never)]
+    fn taken_at(&self, index: usize, page: u64) -> Option<Option<Entry>>
+        requires { index < length self.now.items }
+        ensures { result ≡ option_and_then (λ item. live_taken (is_withdrawn (entries self.now) (self.now.first + index)) item page)
+            (item_at self.now (self.now.first + index)) }
+    {
+        let (item, note) = self.noted(index);
         if note.is_withdrawn() {
-            return None;
-        }
-        if !note.covers(page) {
             return None;
         }
         first_taken_by(item, page)
     }
 
-    /// The item with this number, if it is held, with its note.
-    fn noted(&self, number: u64) -> Option<(&Item, &Note)>
+    /// The index among the held items of the one with this number, if it is held.
+    #[inline(always)]
+    fn index_of(&self, number: u64) -> Option<usize>
         ensures none { IfNone result (item_at self.now number ≡ None) }
-        ensures item { IfSome result (λ held. item_at self.now number ≡ Some held.0.now) }
-        ensures withdrawn { IfSome result (λ held. is_some held.1.now.withdrawal ≡ is_withdrawn (entries self.now) number) }
-        ensures reach { IfSome result (λ held. held.1.now.reach ≡ reach_of (done_by held.0.now.kind)) }
+        ensures index { IfSome result (λ index. (self.now.first + index ≡ number) × (index < length self.now.items)) }
     {
         if number < self.first || self.next() <= number {
             return None;
         }
-        let (items, notes) = (self.item_store.items(), self.item_store.notes());
-        let index = (number - self.first) as usize;
-        Some((&items[index], &notes[index]))
+        Some((number - self.first) as usize)
     }
 
-    /// The notes beside the items held, that of the oldest one first.
-    fn notes(&self) -> &[Note]
-        ensures value { result.now ≡ notes_of (entries self.now) }
-        ensures beside { length result.now ≡ length self.now.items }
+    /// The same, if the item reaches the page. It is asked of many items one after another, and reads none.
+    #[inline(always)]
+    fn reaching(&self, number: u64, page: u64) -> Option<usize>
+        ensures none { IfNone result (IsSilent (item_at self.now number) page) }
+        ensures index { IfSome result (λ index. (self.now.first + index ≡ number) × (index < length self.now.items)) }
     {
-        self.item_store.notes()
+        let index = self.index_of(number)?;
+        if !self.item_store.covers(index, page) {
+            return None;
+        }
+        Some(index)
+    }
+
+    /// The item at an index, with its note.
+    fn noted(&self, index: usize) -> (&Item, &Note)
+        requires { index < length self.now.items }
+        ensures item { item_at self.now (self.now.first + index) ≡ Some result.0.now }
+        ensures withdrawn { is_some result.1.now ≡ is_withdrawn (entries self.now) (self.now.first + index) }
+    {
+        let (items, notes) = (self.item_store.items(), self.item_store.notes());
+        (&items[index], &notes[index])
     }
 
     /// The index among the held items of an item that can be withdrawn, if there is room for one more.
@@ -130,17 +163,17 @@ impl Journal {
         if entry < first || self.next() <= entry {
             return Err(Fault::NoEntry);
         }
-        let (items, notes) = (self.items(), self.notes());
+        let held = self.item_store.held();
         let index = (entry - first) as usize;
-        let ItemKind::Bind { done, .. } = &items[index].kind else {
+        let ItemKind::Bind { done, .. } = &held.items[index].kind else {
             return Err(Fault::NotABind);
         };
-        let own = &notes[index];
-        if own.is_withdrawn() {
+        if held.notes[index].is_withdrawn() {
             return Err(Fault::Withdrawn);
         }
-        let from = index + 1;
-        match first_touched(&items[from..], &notes[from..], own, done, entry + 1) {
+        let own = held.reach(index);
+        let later = held.between(index + 1, held.items.len());
+        match first_touched(&later, &own, done, entry + 1) {
             Some(by) => Err(Fault::Touched { by }),
             None => Ok(index),
         }

@@ -5,9 +5,9 @@ use Rattle.gv_journal.proofs.touching.first_touched.Given as goal
 
 abbrev pub invariant-loop-start : goal.invariant-loop-start
 invariant-loop-start l = record {
-  within : l.start ≤ length l.notes;
-  rest : (gone : ℕ → Bool) → TellGone gone l.from l.notes → touched_from gone l.ops l.from l.items ≡ touched_from gone l.ops (l.from + l.start) (drop l.start l.items);
+  within : l.start ≤ length l.part.items.now;
+  rest : (gone : ℕ → Bool) → TellGone gone l.from l.part.notes.now → touched_from gone l.ops l.from l.part.items.now ≡ touched_from gone l.ops (l.from + l.start) (drop l.start l.part.items.now);
 }
 
 abbrev pub decreases-loop-start : goal.decreases-loop-start
-decreases-loop-start l = length l.notes - l.start
+decreases-loop-start l = length l.part.items.now - l.start

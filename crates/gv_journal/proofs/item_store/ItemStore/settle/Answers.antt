@@ -1,9 +1,10 @@
-use Rattle.std.proofs.Common.{◌≡◌, ◌≤◌, ◌-◌, ◌+◌, List, take, drop, length, sym, ◌∙◌, ap, subst, arith}
+use Rattle.std.proofs.Common.{◌≡◌, ◌≤◌, ◌-◌, ◌+◌, List, take, drop, length, refl, sym, ◌∙◌, ap, subst, arith}
 use Rattle.std.specs.List.{All}
-use Rattle.std.proofs.lemmas.List.{length-take-le, length-drop}
+use Rattle.std.proofs.lemmas.List.{length-take-le, length-drop, drop-drop}
 use Rattle.std.proofs.lemmas.List.Elements.{All-append}
 use Rattle.gv_journal.specs.ItemStore.{ItemStoreState, IsSpent}
 use Rattle.gv_journal.specs.declared.item.Item.{Item}
+use Rattle.gv_journal.proofs.Beside.{same_reaches, reaches_passed}
 use Rattle.gv_journal.proofs.ItemStores.{settled_items, items_written}
 use Rattle.gv_journal.proofs.item_store.ItemStore.settle.Goals as goal
 
@@ -30,6 +31,8 @@ invariant_of-self c =
     record {
       within = omega (arith, few c, length-drop spent all, c.self.inside.items.ok.0, c.self.invariant.within);
       beside = c.self.invariant.beside;
+      reaches = same_reaches (reaches_passed spent c.self.inside.columns.firsts c.self.inside.columns.pasts c.self.inside.columns.regions all c.self.invariant.reaches count)
+          refl refl refl (parts.0 ∙ drop-drop count spent all);
       spent_items = subst (λ (xs : List Item). All IsSpent xs) (sym parts.1) (All-append IsSpent (take spent all) c.release_items.new.items c.self.invariant.spent_items c.release_items.ensures.spent);
     }
 

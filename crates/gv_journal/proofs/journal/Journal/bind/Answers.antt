@@ -1,15 +1,13 @@
-use Rattle.std.proofs.Common.{◌≡◌, List, [], ◌∷◌, ◌++◌, None, length, reverse, arith, rules, sym, ◌∙◌, ap, subst, refl}
+use Rattle.std.proofs.Common.{◌≡◌, ℕ, Option, List, [], ◌∷◌, ◌++◌, None, length, reverse, arith, rules, sym, ◌∙◌, ap, subst, refl}
 use Rattle.gv_types.specs.declared.operation.Op.{Op}
 use Rattle.gv_types.specs.declared.operation.PageOp.{PageOp}
 use Rattle.gv_journal.specs.Items.{JournalState}
 use Rattle.gv_journal.specs.State.{FitsSpace}
 use Rattle.gv_journal.specs.Applying.{after_all, all_do}
 use Rattle.gv_journal.specs.Inside.{NameOlder, NameOnce}
-use Rattle.gv_journal.specs.Notes.{notes_of, extent_of, regions_of, reach_of}
+use Rattle.gv_journal.specs.Notes.{notes_of}
 use Rattle.gv_journal.specs.Verdict.{full_fault}
-use Rattle.gv_journal.specs.Note.{NoteState}
 use Rattle.gv_journal.proofs.Lists.{last_first}
-use Rattle.gv_journal.proofs.Noted.{fresh}
 use Rattle.gv_journal.proofs.Noting.{notes_bound}
 use Rattle.gv_journal.specs.Items.{numbered, entries}
 use Rattle.gv_journal.specs.declared.item.Item.{Item}
@@ -72,8 +70,7 @@ invariant_of-self-3 c =
       numbered_below = omega (arith, number_left c.args.self.now room, ap (λ (xs : List Item). length xs) turned, size, first_is);
       name_older = subst (λ (xs : List Item). NameOlder (numbered first xs)) (sym turned) (tt, c.self.invariant.name_older);
       name_once = subst (λ (xs : List Item). NameOnce first (numbered first xs)) (sym turned) (tt, c.self.invariant.name_once);
-      notes = c.push.ensures.notes ∙ ap (λ (n : NoteState). c.make_room.new.self.notes ++ n ∷ []) (fresh c.new-note.result (reach_of c.in-Ok.work.ops.items) c.new-note.ensures.withdrawal (c.new-note.ensures.extent ∙ c.extent_of.ensures ∙ ap extent_of c.deref-2.ensures.value) (c.new-note.ensures.regions ∙ c.regions_of.ensures ∙ ap regions_of c.deref-3.ensures.value))
-          ∙ ap (λ (ms : List NoteState). ms ++ record { withdrawal = None; reach = reach_of c.in-Ok.work.ops.items } ∷ []) (c.make_room.ensures.notes ∙ c.self.invariant.notes)
+      notes = c.push.ensures.notes ∙ ap (λ (ms : List (Option ℕ)). ms ++ None ∷ []) (c.make_room.ensures.notes ∙ c.self.invariant.notes)
           ∙ sym (notes_bound first (reverse all) c.args.ready.queue c.args.ready.number c.args.ready.request c.args.ready.seen c.in-Ok.work.ops c.in-Ok.work.undos c.self.invariant.name_older)
           ∙ ap (λ (xs : List Item). notes_of (numbered first xs)) (sym turned);
     }

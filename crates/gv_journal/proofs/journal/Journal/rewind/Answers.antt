@@ -1,4 +1,4 @@
-use Rattle.std.proofs.Common.{◌≡◌, ℕ, None, ◌+◌, ◌≤◌, take, arith, List, ◌∷◌, length, reverse, sym, ◌∙◌, ap, subst}
+use Rattle.std.proofs.Common.{◌≡◌, ℕ, Option, ◌+◌, ◌≤◌, take, arith, List, ◌∷◌, length, reverse, sym, ◌∙◌, ap, subst}
 use Rattle.gv_space.specs.State.{SpaceState}
 use Rattle.gv_journal.specs.Items.{JournalState, numbered}
 use Rattle.gv_journal.specs.History.{undos_of}
@@ -7,7 +7,6 @@ use Rattle.gv_journal.specs.declared.item.Item.{Item}
 use Rattle.gv_journal.specs.ItemStore.{ItemStoreState}
 use Rattle.gv_journal.specs.Notes.{notes_of, cleared}
 use Rattle.gv_journal.specs.Verdict.{numbers}
-use Rattle.gv_journal.specs.Note.{NoteState}
 use Rattle.std.proofs.lemmas.List.{length-reverse}
 use Rattle.gv_journal.proofs.Lists.{last_first}
 use Rattle.gv_journal.proofs.Held.{journaled, one_less, back_one_more}
@@ -41,16 +40,15 @@ invariant_of-self-in-Some c =
     let turned : reverse c.self.inside.item_store.items ≡ item ∷ reverse rest = last_first c.self.inside.item_store.items rest item c.in-Some.ensures.items in
     let older : NameOlder (numbered first (item ∷ reverse rest)) = subst (λ (xs : List Item). NameOlder (numbered first xs)) turned c.self.invariant.name_older in
     let once : NameOnce first (numbered first (item ∷ reverse rest)) = subst (λ (xs : List Item). NameOnce first (numbered first xs)) turned c.self.invariant.name_once in
-    let note : NoteState = record { withdrawal = None; reach = record { extent = None; regions = 0 } } in
     let size : length rest ≡ length (reverse rest) = sym (length-reverse rest) in
     record {
       numbered_below = omega (arith, c.self.invariant.numbered_below, ap (λ (xs : List Item). length xs) turned);
       name_older = older.1;
       name_once = once.1;
-      notes = c.in-Some.ensures.notes note
-          ∙ ap (λ (ms : List NoteState). cleared note item.kind first (take (length rest) ms)) (c.self.invariant.notes ∙ ap (λ (xs : List Item). notes_of (numbered first xs)) turned)
-          ∙ ap (λ (n : ℕ). cleared note item.kind first (take n (notes_of (numbered first (item ∷ reverse rest))))) size
-          ∙ notes_rewound first item.kind item.undos (reverse rest) note older once;
+      notes = c.in-Some.ensures.notes
+          ∙ ap (λ (ms : List (Option ℕ)). cleared item.kind first (take (length rest) ms)) (c.self.invariant.notes ∙ ap (λ (xs : List Item). notes_of (numbered first xs)) turned)
+          ∙ ap (λ (n : ℕ). cleared item.kind first (take n (notes_of (numbered first (item ∷ reverse rest))))) size
+          ∙ notes_rewound first item.kind item.undos (reverse rest) older once;
     }
 
 pub returns-in-Some-clause-item : goal.returns-in-Some-clause-item

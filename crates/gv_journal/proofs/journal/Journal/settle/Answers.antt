@@ -1,11 +1,10 @@
-use Rattle.std.proofs.Common.{ℕ, ◌+◌, List, drop, length, reverse, sym, ◌∙◌, ap, subst, arith}
+use Rattle.std.proofs.Common.{ℕ, ◌+◌, Option, List, drop, length, reverse, sym, ◌∙◌, ap, subst, arith}
 use Rattle.gv_space.specs.State.{AreKept}
 use Rattle.std.proofs.lemmas.List.{length-reverse, length-drop}
 use Rattle.gv_journal.specs.Items.{JournalState, numbered}
 use Rattle.gv_journal.specs.Inside.{NameOlder, NameOnce}
 use Rattle.gv_journal.specs.Notes.{notes_of}
 use Rattle.gv_journal.specs.declared.item.Item.{Item}
-use Rattle.gv_journal.specs.Note.{NoteState}
 use Rattle.gv_journal.proofs.NotesSettled.{once_settled, notes_settled, early_older}
 use Rattle.gv_journal.specs.History.{kept_by}
 use Rattle.gv_journal.specs.State.{FitsSpace}
@@ -35,7 +34,7 @@ invariant_of-self c =
           (names_later c.args.space.now c.args.space.now c.self.inside.limit first held count facts.1 c.self.invariant.name_older));
       name_once = subst (λ (xs : List Item). NameOnce c.args.to (numbered c.args.to (reverse xs))) (sym c.settle.ensures.items)
           (subst (λ (n : ℕ). NameOnce n (numbered n (reverse (drop count held)))) facts.0 (once_settled first held count facts.1 none c.self.invariant.name_once));
-      notes = c.settle.ensures.notes ∙ ap (λ (ms : List NoteState). drop count ms) c.self.invariant.notes
+      notes = c.settle.ensures.notes ∙ ap (λ (ms : List (Option ℕ)). drop count ms) c.self.invariant.notes
           ∙ notes_settled first held count facts.1 (early_older first held count facts.1 c.self.invariant.name_older)
           ∙ ap (λ (n : ℕ). notes_of (numbered n (reverse (drop count held)))) facts.0
           ∙ ap (λ (xs : List Item). notes_of (numbered c.args.to (reverse xs))) (sym c.settle.ensures.items);

@@ -1,4 +1,4 @@
-use Rattle.std.proofs.Common.{ℕ, ◌≤◌, set, get_or, Some, false, ◌≡◌, ◌+◌, ◌<◌, List, [], ◌∷◌, ◌++◌, length, reverse, None, sym, ◌∙◌, ap, subst, arith, rules}
+use Rattle.std.proofs.Common.{ℕ, Option, ◌≤◌, set, Some, false, ◌≡◌, ◌+◌, ◌<◌, List, [], ◌∷◌, ◌++◌, length, reverse, None, sym, ◌∙◌, ap, subst, arith, rules}
 use Rattle.gv_journal.specs.Items.{JournalState, numbered}
 use Rattle.gv_journal.specs.State.{FitsSpace}
 use Rattle.gv_journal.specs.Verdict.{full_fault}
@@ -6,10 +6,9 @@ use Rattle.gv_journal.specs.Inside.{NameOlder, NameOnce}
 use Rattle.gv_journal.specs.declared.item.Item.{Item}
 use Rattle.gv_journal.specs.Items.{is_withdrawn, entries}
 use Rattle.gv_journal.specs.Withdrawing.{item_at}
-use Rattle.gv_journal.proofs.Noted.{length-notes, fresh}
+use Rattle.gv_journal.proofs.Noted.{length-notes}
 use Rattle.gv_journal.proofs.Entries.{found_live}
-use Rattle.gv_journal.specs.Notes.{notes_of, reach_of}
-use Rattle.gv_journal.specs.Note.{NoteState}
+use Rattle.gv_journal.specs.Notes.{notes_of}
 use Rattle.gv_journal.proofs.Lists.{last_first}
 use Rattle.gv_journal.proofs.Noting.{notes_withdrawn}
 use Rattle.gv_journal.proofs.Held.{journaled, one_more, back_one_more, found_at, fits_room, number_left}
@@ -96,7 +95,7 @@ mark-requires-clause-index c =
     let first = c.self.inside.first in
     let size : length (reverse all) ≡ length c.args.self.now.items = ap (λ (j : JournalState). length j.items) c.self.view_is in
     let notes : length c.make_room.new.self.notes ≡ length (reverse all) =
-    ap (λ (ms : List NoteState). length ms) (c.make_room.ensures.notes ∙ c.self.invariant.notes) ∙ length-notes (numbered first (reverse all)) first (reverse all) in
+    ap (λ (ms : List (Option ℕ)). length ms) (c.make_room.ensures.notes ∙ c.self.invariant.notes) ∙ length-notes (numbered first (reverse all)) first (reverse all) in
     omega (arith, c.in-Ok.ensures.index.1, size, notes)
 
 pub invariant_of-self-3 : goal.invariant_of-self-3
@@ -111,7 +110,6 @@ invariant_of-self-3 c =
     let first_is : first ≡ c.args.self.now.first = ap (λ (j : JournalState). j.first) c.self.view_is in
     let size : length (reverse all) ≡ length c.args.self.now.items = ap (λ (j : JournalState). length j.items) c.self.view_is in
     let room : full_fault c.args.self.now ≡ None = search rules in
-    let note : NoteState = record { withdrawal = None; reach = reach_of [] } in
     let number : first + index ≡ c.args.entry = omega (arith, c.in-Ok.ensures.index.0, first_is) in
     let below : index < length (reverse all) = omega (arith, c.in-Ok.ensures.index.1, size) in
     let live : is_withdrawn (numbered first (reverse all)) c.args.entry ≡ false =
@@ -124,11 +122,10 @@ invariant_of-self-3 c =
       name_older = subst (λ (xs : List Item). NameOlder (numbered first xs)) (sym turned) (within, c.self.invariant.name_older);
       name_once = subst (λ (xs : List Item). NameOnce first (numbered first xs)) (sym turned) ((low, live), c.self.invariant.name_once);
       notes = c.push.ensures.notes
-          ∙ ap (λ (n : NoteState). c.mark.new.self.notes ++ n ∷ []) (fresh c.new-note.result (reach_of []) c.new-note.ensures.withdrawal c.new-note.ensures.extent c.new-note.ensures.regions)
-          ∙ ap (λ (ms : List NoteState). ms ++ note ∷ []) (c.mark.ensures.notes note
-          ∙ ap (λ (ms : List NoteState). set ms index (record (get_or ms index note) { withdrawal = Some c.next-number.result })) (c.make_room.ensures.notes ∙ c.self.invariant.notes)
-          ∙ ap (λ (n : ℕ). set (notes_of (numbered first (reverse all))) index (record (get_or (notes_of (numbered first (reverse all))) index note) { withdrawal = Some n })) by)
-          ∙ sym (notes_withdrawn first index (reverse all) c.in-Ok-restore_all.undos below c.self.invariant.name_older note)
+          ∙ ap (λ (ms : List (Option ℕ)). ms ++ None ∷ []) (c.mark.ensures.notes
+          ∙ ap (λ (ms : List (Option ℕ)). set ms index (Some c.next-number.result)) (c.make_room.ensures.notes ∙ c.self.invariant.notes)
+          ∙ ap (λ (n : ℕ). set (notes_of (numbered first (reverse all))) index (Some n)) by)
+          ∙ sym (notes_withdrawn first index (reverse all) c.in-Ok-restore_all.undos below c.self.invariant.name_older)
           ∙ ap (λ (n : ℕ). notes_of (numbered first (withdrawal n c.in-Ok-restore_all.undos ∷ reverse all))) number
           ∙ ap (λ (xs : List Item). notes_of (numbered first xs)) (sym turned);
     }

@@ -1,7 +1,0 @@
-use Rattle.std.proofs.Common.{◌≡◌, take}
-use Rattle.std.specs.List.{list_any}
-use Rattle.gv_journal.specs.Notes.{regions_meet}
-use Rattle.gv_journal.proofs.note.Note.shares_region_with_any.Given as goal
-
-abbrev pub invariant-loop-other : goal.invariant-loop-other
-invariant-loop-other l = l.any ≡ list_any (λ other. regions_meet l.self.reach.regions other.reach.regions) (take l.other-index l.others)
