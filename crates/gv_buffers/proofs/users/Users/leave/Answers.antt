@@ -7,8 +7,8 @@ use Rattle.gv_buffers.proofs.Joins.{is_of}
 use Rattle.gv_buffers.proofs.Ascending.{at-position, left-at, left-absent}
 use Rattle.gv_buffers.proofs.users.Users.leave.Goals as goal
 
-pub returns-then-not-self : goal.returns-then-not-self
-returns-then-not-self c = filter_same _ _ _ (λ x b f' k. search rules) _ _ c.retain.ensures.filtered
+pub returns-then-not-self-clause-without : goal.returns-then-not-self-clause-without
+returns-then-not-self-clause-without c = filter_same _ _ _ (λ x b f' k. search rules) _ _ c.retain.ensures.filtered
 
 pub invariant_of-self-in-Some : goal.invariant_of-self-in-Some
 invariant_of-self-in-Some c =
@@ -20,14 +20,14 @@ invariant_of-self-in-Some c =
           (all_pairs_remove (λ a b. a.job < b.job) users c.in-Some.index at.within (c.args.self.now.in_order known));
     }
 
-pub returns-in-Some : goal.returns-in-Some
-returns-in-Some c =
+pub returns-in-Some-clause-without : goal.returns-in-Some-clause-without
+returns-in-Some-clause-without c =
     let users : List User = c.args.self.now.list.items in
     let found : position (is_of c.args.job) users ≡ Some c.in-Some.index = ap (position (is_of c.args.job)) (sym c.deref.ensures.value) ∙ sym c.search.ensures ∙ c.in-Some.is in
     c.remove.ensures.items ∙ left-at users c.args.job c.in-Some.index (c.args.self.now.in_order c.if-not-self.false) (at-position users c.args.job c.in-Some.index found)
 
-pub returns-in_default : goal.returns-in_default
-returns-in_default c =
+pub returns-in_default-clause-without : goal.returns-in_default-clause-without
+returns-in_default-clause-without c =
     let users : List User = c.args.self.now.list.items in
     let missed : position (is_of c.args.job) users ≡ None = ap (position (is_of c.args.job)) (sym c.deref.ensures.value) ∙ sym c.search.ensures ∙ c.in_default.is in
     sym (left-absent c.args.job users missed)
