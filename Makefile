@@ -4,7 +4,7 @@ RT ?= rt
 PROGRAM := crates/gv_cli
 SOURCES := crates.txt HANDLES $(shell find crates -type f \( -name '*.rt' -o -name '*.antt' \) -not -path '*/out/*')
 
-.PHONY: build try run test check-documents fuzz refuse-memory measure clean lib install capi-test capi-measure
+.PHONY: build try run test check-documents long fuzz refuse-memory measure clean lib install capi-test capi-measure
 
 # The proved program, at ./vmbind.
 build: vmbind
@@ -46,6 +46,12 @@ test: check-documents
 check-documents:
 	@tools/check-documents
 
+# What the gate leaves out, each to its end: refuse-memory, ten minutes of fuzz, capi-test with ./vmbind there, and where OLD names
+# the folder of an older build, bench/run --guard beside it. The last line is 'N passed, M failed'.
+long: SECONDS = 600
+long:
+	@RT="$(RT)" OLD="$(OLD)" tools/long $(SECONDS)
+
 # Scripts by chance, from a seed on and for so many seconds, each run by the program's own call and by a model that is written
 # from the definitions. What differs is shrunk and printed; the last line is 'N passed, M failed'. The gate runs a few.
 SECONDS ?= 60
@@ -56,9 +62,8 @@ fuzz:
 # Outside the gate, since it has no way to refuse memory: a long script under limits of the address space, then rows of
 # events, of calls on a space, on a journal and on running queues, a script, and every example, with each request for memory refused
 # in turn until a run meets none. Each run is compared with what it may come to; the last line is 'N passed, M failed'.
-LAST ?= 120
 refuse-memory: vmbind
-	@RT="$(RT)" tools/refuse-memory $(LAST)
+	@RT="$(RT)" tools/refuse-memory
 
 # Times of edits and look-ups, and of running queues. The figures are of this machine.
 measure:

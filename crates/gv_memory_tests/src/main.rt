@@ -33,7 +33,7 @@ use std::{env, io};
 /// The rows of calls on a space, on a journal and on running queues, of a script with its replies, and of a dialogue.
 const APART: [&str; 5] = ["space", "journal", "queues", "replies", "dialogue"];
 
-/// More requests for memory than stand before the one that is refused.
+/// More requests for memory than a round of tools/refuse-memory has runs: the refused one is no further behind a row.
 const PAST_THE_REFUSED: u32 = 1_000;
 
 /// How a run came out.
@@ -94,10 +94,10 @@ fn one<R: Input + AllocGlobal + Threads + Wait + Sync>(
     if name == "script" {
         return of_script(rt, dummies);
     }
-    ask_for_nothing(rt.alloc(), dummies);
+    let is_before = ask_for_nothing(rt.alloc(), dummies);
     Ok(match ROWS.iter().find(|row| row.name == name) {
         Some(row) => of_row(rt.alloc(), row),
-        None => of_apart(rt, rt.alloc(), name),
+        None => of_apart(rt, rt.alloc(), name, is_before),
     })
 }
 
@@ -141,11 +141,16 @@ fn apart<R: Threads + Wait + Sync>(rt: &R, alloc: Global, name: &str) -> Result<
     }
 }
 
-/// Plays a row of calls. It met the request that is refused, where that does not come behind it.
-fn of_apart<R: Threads + Wait + Sync>(rt: &R, alloc: Global, name: &str) -> Verdict {
+/// Plays a row of calls. It met the request that is refused, where that comes neither before nor behind it.
+fn of_apart<R: Threads + Wait + Sync>(
+    rt: &R,
+    alloc: Global,
+    name: &str,
+    is_before: bool,
+) -> Verdict {
     if apart(rt, alloc, name).is_err() {
         Verdict::Otherwise
-    } else if ask_for_nothing(alloc, PAST_THE_REFUSED) {
+    } else if is_before || ask_for_nothing(alloc, PAST_THE_REFUSED) {
         Verdict::NothingRefused
     } else {
         Verdict::AsWanted
