@@ -90,18 +90,3 @@ read_to_end whole left has so_far none =
     let few : length (queues_of so_far.front) ≤ 1 = omega (arith, so_far.counted, at_most_one has) in
     let one : nat_le (length (queues_of so_far.front)) 1 ≡ true = grind (arith, nat_tests, few) in
     (so_far.front, all, rw (all, one) refl)
-
-kept : (read : Option (List Clause)) (first : Clause) (front : List Clause) (answer : Option (List Clause)) → (read >>= (λ xs. Some (first ∷ xs))) ≡ Some front → answer ≡ Some front →
-    (back : List Clause) × (read ≡ Some back) × (answer ≡ Some (first ∷ back))
-kept None first front answer all said = absurd (cc)
-kept (Some xs) first front answer all said = (xs, refl, said ∙ sym all)
-
--- all are read, and the first of them was kept
-pub read_to_list : (whole rest left : List (List (List ℕ))) (part : List (List ℕ)) (first : Clause) (has : Bool) → whole ≡ part ∷ rest → clause_of part ≡ Some first → IsReadTo whole left has → left ≡ [] →
-    (back : List Clause) × (all_read clause_of rest ≡ Some back) × (clauses_read whole ≡ Some (first ∷ back))
-read_to_list whole rest left part first has next is so_far none =
-    let end = read_to_end whole left has so_far none in
-    let all : all_read clause_of (part ∷ rest) ≡ Some end.0 = ap (all_read clause_of) (sym next) ∙ end.1 in
-    let opened : (Some first >>= (λ x. all_read clause_of rest >>= (λ xs. Some (x ∷ xs)))) ≡ Some end.0 =
-    ap (λ (o : Option Clause). o >>= (λ x. all_read clause_of rest >>= (λ xs. Some (x ∷ xs)))) (sym is) ∙ all in
-    kept (all_read clause_of rest) first end.0 (clauses_read whole) opened end.2

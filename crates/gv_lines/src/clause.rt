@@ -38,24 +38,6 @@ impl Clause {
         }
     }
 
-    /// The same clause.
-    pub(crate) fn again(&self) -> Clause
-        ensures { result ≡ self.now }
-    {
-        match self {
-            Clause::Change { operation } => Clause::Change {
-                operation: operation.again(),
-            },
-            Clause::Wait { point } => Clause::Wait {
-                point: point.again(),
-            },
-            Clause::Signal { point } => Clause::Signal {
-                point: point.again(),
-            },
-            Clause::Queue { queue } => Clause::Queue { queue: *queue },
-        }
-    }
-
     fn wait(words: Words<'_>) -> Option<Clause>
         ensures { result ≡ wait_clause words.entry }
     {

@@ -11,23 +11,18 @@ use std::marker::Model;
 /// Clauses that are left, in the order of their line.
 #[derive(Drop, Debug)]
 pub struct ClauseList<'a> {
-    /// The next clause, where it was read already: the first of a line is, when the line is read. Most lines have no other, and
-    /// so are read once.
-    first: Option<Clause>,
-    /// What follows it.
     parts: Clauses<'a>,
 }
 
 impl<'a> Model for ClauseList<'a> {
-    ghost use Rattle.std.specs.Prelude.{List, [], ◌++◌, IsSome, unwrap_or};
-    ghost use Rattle.std.specs.Option.{option_to_list};
+    ghost use Rattle.std.specs.Prelude.{List, [], IsSome, unwrap_or};
     ghost use Rattle.gv_lines.specs.Chain.{all_read};
     ghost use Rattle.gv_lines.specs.Clause.{clause_of};
     ghost use Rattle.gv_lines.specs.declared.clause.Clause.{Clause};
 
     ghost Value = { List Clause };
 
-    ghost view = { λ list. option_to_list list.first ++ unwrap_or (all_read clause_of list.parts) [] };
+    ghost view = { λ list. unwrap_or (all_read clause_of list.parts) [] };
 
     ghost invariant = { λ list. IsSome (all_read clause_of list.parts) };
 }
@@ -40,13 +35,8 @@ impl<'a> ClauseList<'a> {
     pub fn from_parts(parts: Clauses<'a>) -> Option<ClauseList<'a>>
         ensures { result ≡ clauses_read parts.entry }
     {
-        let mut parts = parts;
-        let Some(words) = parts.take_clause() else {
-            return Some(ClauseList { first: None, parts });
-        };
-        let first = Clause::from_words(words)?;
-        let mut has_queue = matches!(&first, Clause::Queue { queue: _ });
         let mut left = parts.again();
+        let mut has_queue = false;
         while let Some(words) = left.take_clause() {
             if let Clause::Queue { queue: _ } = Clause::from_words(words)? {
                 if has_queue {
@@ -55,10 +45,7 @@ impl<'a> ClauseList<'a> {
                 has_queue = true;
             }
         }
-        Some(ClauseList {
-            first: Some(first),
-            parts,
-        })
+        Some(ClauseList { parts })
     }
 
     /// The next clause, if one is left.
@@ -66,9 +53,6 @@ impl<'a> ClauseList<'a> {
         ensures { MatchOption result ((self.old ≡ []) × (self.new ≡ []))
             (λ clause. self.old ≡ clause ∷ self.new) }
     {
-        if self.first.is_some() {
-            return self.first.take();
-        }
         Clause::from_words(self.parts.take_clause()?)
     }
 
@@ -77,7 +61,6 @@ impl<'a> ClauseList<'a> {
         ensures { result ≡ self.now }
     {
         ClauseList {
-            first: self.first.as_ref().map(Clause::again),
             parts: self.parts.again(),
         }
     }

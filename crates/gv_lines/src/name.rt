@@ -45,13 +45,6 @@ impl Name {
         Some(Name { text })
     }
 
-    /// The same name.
-    pub(crate) fn again(&self) -> Name
-        ensures { result ≡ self.now }
-    {
-        Name { text: self.text }
-    }
-
     /// Its text.
     pub fn as_str(&self) -> &str
         ensures { result.now ≡ self.now }

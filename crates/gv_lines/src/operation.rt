@@ -37,45 +37,6 @@ pub enum Operation {
     },
 }
 
-impl Operation {
-    /// The same operation.
-    pub(crate) fn again(&self) -> Operation
-        ensures { result ≡ self.now }
-    {
-        match self {
-            Operation::Map {
-                addr,
-                len,
-                buffer,
-                offset,
-                read_only,
-            } => Operation::Map {
-                addr: *addr,
-                len: *len,
-                buffer: buffer.again(),
-                offset: *offset,
-                read_only: *read_only,
-            },
-            Operation::Zero {
-                addr,
-                len,
-                read_only,
-            } => Operation::Zero {
-                addr: *addr,
-                len: *len,
-                read_only: *read_only,
-            },
-            Operation::Unmap { addr, len } => Operation::Unmap {
-                addr: *addr,
-                len: *len,
-            },
-            Operation::UnmapAll { buffer } => Operation::UnmapAll {
-                buffer: buffer.again(),
-            },
-        }
-    }
-}
-
 /// The operation of a plan line.
 pub fn planned_operation(mut words: Words<'_>) -> Option<Operation>
     ensures { result ≡ planned_operation words.entry }

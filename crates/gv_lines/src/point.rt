@@ -22,14 +22,4 @@ impl NamedPoint {
         let value = words.take_number()?;
         words.is_done().then_some(NamedPoint { timeline, value })
     }
-
-    /// The same point.
-    pub(crate) fn again(&self) -> NamedPoint
-        ensures { result ≡ self.now }
-    {
-        NamedPoint {
-            timeline: self.timeline.again(),
-            value: self.value,
-        }
-    }
 }
