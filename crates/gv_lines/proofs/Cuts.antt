@@ -1,16 +1,16 @@
 -- Words cut at their first separator.
-use Rattle.std.proofs.Common.{◌≡◌, ℕ, zero, suc, ◌+◌, ◌<◌, List, [], ◌∷◌, ◌++◌, Option, Bool, true, false, not, length, take, drop, refl, sym, ap, ◌∙◌, append_assoc, length-append, arith}
+use Rattle.std.proofs.Common.{◌≡◌, ℕ, zero, suc, ◌+◌, ◌<◌, List, [], ◌∷◌, ◌++◌, Option, Some, Bool, true, false, not, cond, length, take, drop, refl, sym, ap, ◌∙◌, append_assoc, length-append, arith}
 use Rattle.std.proofs.lemmas.List.{take_all, take-append-drop}
-use Rattle.std.proofs.lemmas.List.Elements.{All-nil, All-cons, All-append}
+use Rattle.std.proofs.lemmas.List.Elements.{All-nil, All-cons, All-append, All-head, All-tail, All-take, All-weaker}
 use Rattle.std.proofs.lemmas.List.Splits.{slice_split_none, slice_split_at, length-slice_split}
 use Rattle.std.proofs.lemmas.List.Sums.{count_by-le-length}
 use Rattle.std.proofs.lemmas.List.{append-nil}
 use Rattle.std.proofs.Math.Seq.{take-append_seam}
-use Rattle.std.specs.List.{All}
-use Rattle.std.specs.Prelude.{is_some, IsTrue, ◌↔◌, ◌==◌}
+use Rattle.std.specs.List.{All, list_any, onto_first}
+use Rattle.std.specs.Prelude.{is_some, IsTrue, ◌↔◌, ◌==◌, ◌||◌}
 use Rattle.std.specs.Borrow.{Bor}
 use Rattle.gv_lines.proofs.PartsLemmas.{none_left}
-use Rattle.gv_lines.specs.Words.{parts_left, words, is_separator, clauses}
+use Rattle.gv_lines.specs.Words.{parts, parts_left, space_byte, words, is_separator, clauses}
 
 -- no line has more words than one above its bytes
 pub words_all : (line : List ℕ) → take (length line + 1) (words line) ≡ words line
@@ -67,3 +67,41 @@ pub cut_end : (whole left : List (List ℕ)) (count : ℕ) → IsCut whole count
 cut_end whole left count cut none =
     let all : whole ≡ cut.front = cut.whole_is ∙ ap (λ ys. cut.front ++ ys) none ∙ append-nil cut.front in
     ap clauses all ∙ slice_split_none is_separator cut.front cut.apart ∙ ap (λ f. f ∷ []) (sym all)
+
+neither : (a b : Bool) → (a || b) ≡ false → (a ≡ false) × (b ≡ false)
+neither true b h = absurd (cc)
+neither false b h = (refl, h)
+
+-- the byte of a semicolon
+abbrev pub semicolon : ℕ
+semicolon = 59
+
+-- a text without one
+abbrev HasNone : List ℕ → Type 0
+HasNone text = list_any (λ b. b == semicolon) text ≡ false
+
+none_in_part : (c : ℕ) (is_space : Bool) (ws : List (List ℕ)) → (c == semicolon) ≡ false → All HasNone ws → All HasNone (cond is_space ([] ∷ ws) (onto_first c ws))
+none_in_part c true ws other all = All-cons HasNone [] ws refl all
+none_in_part c false [] other all = All-cons HasNone (c ∷ []) [] (rw other refl) (All-nil HasNone)
+none_in_part c false (w ∷ ws) other all = All-cons HasNone (c ∷ w) ws (rw other (All-head HasNone w ws all)) (All-tail HasNone w ws all)
+
+none_in_parts : (text : List ℕ) → HasNone text → All HasNone (parts space_byte text)
+none_in_parts [] none = All-cons HasNone [] [] refl (All-nil HasNone)
+none_in_parts (c ∷ cs) none =
+    let both = neither (c == semicolon) (list_any (λ b. b == semicolon) cs) none in
+    none_in_part c (c == space_byte) (parts space_byte cs) both.0 (none_in_parts cs both.1)
+
+no_separator : (word : List ℕ) → HasNone word → is_separator word ≡ false
+no_separator [] none = refl
+no_separator (c ∷ cs) none = rw (neither (c == semicolon) (list_any (λ b. b == semicolon) cs) none).0 refl
+
+without : (limit : ℕ) (text : List ℕ) → HasNone text → clauses (take limit (parts space_byte text)) ≡ take limit (parts space_byte text) ∷ []
+without limit text none =
+    slice_split_none is_separator (take limit (parts space_byte text))
+    (All-take (λ w. is_separator w ≡ false) limit (parts space_byte text) (All-weaker HasNone (λ w. is_separator w ≡ false) no_separator (parts space_byte text) (none_in_parts text none)))
+
+-- words of a text without a semicolon are one clause
+pub one_clause : (limit : ℕ) (rest : Option (Bor (List ℕ))) (text : Bor (List ℕ)) (has : Bool) → rest ≡ Some text → has ≡ list_any (λ b. b == semicolon) text.now → IsTrue (not has) →
+    clauses (take limit (parts_left space_byte rest)) ≡ take limit (parts_left space_byte rest) ∷ []
+one_clause limit rest text true is found none = absurd (cc)
+one_clause limit rest text false is found none = rw is (without limit text.now (sym found))

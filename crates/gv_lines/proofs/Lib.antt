@@ -1,4 +1,5 @@
 pub mod PartsLemmas
+mod Ascii
 mod Digits
 mod Names
 mod HexDigits

@@ -22,7 +22,8 @@ impl Clause {
     ghost use Rattle.gv_lines.specs.Clause.{clause_of, wait_clause, signal_clause};
     ghost use Rattle.gv_lines.specs.Clause.{queue_clause, change_clause};
 
-    /// The clause that some words say.
+    /// The clause that some words say. Inlined, since the check of a line drops the clause, and then no byte of it is written.
+    #[inline(always)]
     pub fn from_words(mut words: Words<'_>) -> Option<Clause>
         ensures { result ≡ clause_of words.entry }
     {
@@ -59,6 +60,7 @@ impl Clause {
         words.is_done().then_some(Clause::Queue { queue })
     }
 
+    #[inline(always)]
     fn change(first: &[u8], more: Words<'_>) -> Option<Clause>
         ensures { result ≡ change_clause first.now more.entry }
     {

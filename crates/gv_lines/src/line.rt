@@ -5,7 +5,9 @@ use super::name::Name;
 use super::operation::Operation;
 use super::point::NamedPoint;
 
-/// A line of the language. Its lists stay in its text, and are read as they are gone through.
+/// A line of the language. Its lists stay in its text, and are read as they are gone through. Each line is handed on by copies
+/// of the whole value, so no variant may make it larger: the operation of a plan decides its size, and a list of clauses takes
+/// less.
 #[derive(Drop, Debug)]
 pub enum Line<'a> {
     /// An empty line, or a comment.
@@ -90,3 +92,6 @@ pub enum Line<'a> {
         job: u64,
     },
 }
+
+// What `parse_line` gives is copied too, and has 8 bytes more.
+const _: () = prove!(size_of::<Line<'static>>() == 72);

@@ -44,7 +44,9 @@ pub fn planned_operation(mut words: Words<'_>) -> Option<Operation>
     range_operation(words.take_word()?, words)
 }
 
-/// The operation on a range of addresses that begins with this word.
+/// The operation on a range of addresses that begins with this word. Inlined, as what it calls is: a value of this size isn't
+/// copied from call to call.
+#[inline(always)]
 pub fn range_operation(first: &[u8], more: Words<'_>) -> Option<Operation>
     ensures { result ≡ range_operation first.now more.entry }
 {
@@ -59,6 +61,7 @@ pub fn range_operation(first: &[u8], more: Words<'_>) -> Option<Operation>
     }
 }
 
+#[inline(always)]
 fn map_operation(mut words: Words<'_>) -> Option<Operation>
     ensures { result ≡ map_operation words.entry }
 {
@@ -76,6 +79,7 @@ fn map_operation(mut words: Words<'_>) -> Option<Operation>
     })
 }
 
+#[inline(always)]
 fn zero_operation(mut words: Words<'_>) -> Option<Operation>
     ensures { result ≡ zero_operation words.entry }
 {
@@ -89,6 +93,7 @@ fn zero_operation(mut words: Words<'_>) -> Option<Operation>
     })
 }
 
+#[inline(always)]
 fn unmap_operation(mut words: Words<'_>) -> Option<Operation>
     ensures { result ≡ unmap_operation words.entry }
 {

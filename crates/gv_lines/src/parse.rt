@@ -32,7 +32,7 @@ pub fn parse_line(text: &[u8]) -> Option<Line<'_>>
 fn is_ascii(text: &[u8]) -> bool
     ensures { result ≡ list_all is_ascii text.now }
 {
-    text.iter().all(u8::is_ascii)
+    text.is_ascii()
 }
 
 fn line_said(text: &[u8]) -> Option<Line<'_>>
