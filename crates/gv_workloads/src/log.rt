@@ -12,7 +12,7 @@ const TILE: u64 = 65_536;
 const STRIDE: u64 = 1 << 23;
 
 /// Where memory and sparse ranges begin.
-const MEMORY: u64 = 0x8000_0100_0000;
+pub const MEMORY: u64 = 0x8000_0100_0000;
 
 const SPARSE: u64 = 0x4000_0000_0000;
 
@@ -28,16 +28,26 @@ pub struct LogPlan {
     pub most_pages: u64,
     /// Memory is freed only once no tile is bound to it.
     pub is_tidy: bool,
+    /// Slots stand next to one another, and the memory of a slot always has the same size.
+    pub is_packed: bool,
     pub lines: u64,
 }
 
-/// A log so far: its text, its time, and how many pages each slot's memory has, 0 where there is none.
+/// Where the memory of a packed slot begins, and how many pages it has.
+#[derive(Clone, Copy)]
+struct Home {
+    first: u64,
+    pages: u64,
+}
+
+/// A log so far: its text, its time, how many pages each slot's memory has, 0 where there is none, and the homes of packed slots.
 #[derive(Drop)]
 struct Log {
     random: Random,
     text: Text,
     time: u64,
     pages: Vec<u64>,
+    homes: Vec<Home>,
 }
 
 /// The address of a tile in which memory of the slot may be bound.
@@ -61,7 +71,11 @@ pub fn compose(alloc: Global, seed: u64, plan: &LogPlan) -> Result<Text, Failure
         text: Text::new(alloc),
         time: 81_204_331_023_963,
         pages: Vec::new(alloc),
+        homes: Vec::new(alloc),
     };
+    if plan.is_packed {
+        log.pack(plan)?;
+    }
     let ranges = plan.slots.wrapping_mul(TILES) / RANGE;
     for range in 0..ranges.wrapping_add(1) {
         let start = SPARSE.wrapping_add(range.wrapping_mul(RANGE * TILE));
@@ -81,6 +95,7 @@ pub fn compose(alloc: Global, seed: u64, plan: &LogPlan) -> Result<Text, Failure
         text,
         time: _,
         pages: _,
+        homes: _,
     } = log;
     Ok(text)
 }
@@ -123,10 +138,10 @@ impl Log {
         }
     }
 
-    /// Memory for a slot: small, of whole tiles, or as large as can be.
-    fn make(&mut self, slot: u64, plan: &LogPlan) -> Result<(), AllocError> {
+    /// A size of memory: small, of whole tiles, or as large as can be.
+    fn size(&mut self, plan: &LogPlan) -> u64 {
         let tiles = plan.most_pages / 16;
-        let pages = match self.random.below(8) {
+        match self.random.below(8) {
             0..=2 => self.random.below(16).wrapping_add(1),
             3..=5 => self
                 .random
@@ -134,10 +149,37 @@ impl Log {
                 .wrapping_add(1)
                 .wrapping_mul(16),
             _ => plan.most_pages,
+        }
+    }
+
+    /// Gives each slot its home, next to the one before it.
+    fn pack(&mut self, plan: &LogPlan) -> Result<(), AllocError> {
+        let mut first = MEMORY;
+        for _slot in 0..plan.slots {
+            let pages = self.size(plan);
+            self.homes.push(Home { first, pages })?;
+            first = first.wrapping_add(pages.wrapping_mul(PAGE));
+        }
+        Ok(())
+    }
+
+    /// The first address of a slot's memory.
+    fn address(&self, slot: u64, plan: &LogPlan) -> u64 {
+        match self.homes.get(slot as usize) {
+            Some(home) => home.first,
+            None => plan.memory_address(slot),
+        }
+    }
+
+    /// Memory for a slot.
+    fn make(&mut self, slot: u64, plan: &LogPlan) -> Result<(), AllocError> {
+        let pages = match self.homes.get(slot as usize).copied() {
+            Some(home) => home.pages,
+            None => self.size(plan),
         };
         self.set_pages(slot, pages);
         let len = pages.wrapping_mul(PAGE);
-        self.event(plan.memory_address(slot), len, b"destroyed=0, is_virtual=0")
+        self.event(self.address(slot, plan), len, b"destroyed=0, is_virtual=0")
     }
 
     fn free(&mut self, slot: u64, plan: &LogPlan) -> Result<(), AllocError> {
@@ -146,7 +188,7 @@ impl Log {
         }
         let len = self.pages_of(slot).wrapping_mul(PAGE);
         self.set_pages(slot, 0);
-        self.event(plan.memory_address(slot), len, b"destroyed=1, is_virtual=0")
+        self.event(self.address(slot, plan), len, b"destroyed=1, is_virtual=0")
     }
 
     /// A tile bound or unbound, or memory that goes and mostly comes again.
@@ -160,8 +202,8 @@ impl Log {
             if kind < 5 || pages < 16 {
                 return self.bind(slot, tile, 1, 0);
             }
-            let to = plan
-                .memory_address(slot)
+            let to = self
+                .address(slot, plan)
                 .wrapping_add(part.wrapping_mul(TILE));
             return self.bind(slot, tile, 1, to);
         }

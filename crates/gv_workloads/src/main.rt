@@ -1,21 +1,28 @@
 //! Jobs that users of an address space wait for, each on input that it makes from a seed: logs, scripts, spaces, schedules, lists
-//! and pictures. A job prints counts and a digest of all its results, and no times.
+//! and pictures, questions. A job prints counts and a digest of all its results, and no times.
 //!
 //! ```text
-//! gv_workloads JOB SEED SIZE      JOB is replay, script, space, schedule, reports, awkward or all
+//! gv_workloads JOB SEED SIZE      JOB is replay, script, space, schedule, reports, awkward, packed, history, asking, life, million or all
 //! ```
 #![tactic(auto)]
 
+mod asking;
 mod awkward;
 mod binding;
 mod commands;
 mod crowd;
 mod digest;
 mod failure;
+mod history;
 mod holes;
+mod life;
 mod log;
+mod looking;
 mod machine;
+mod million;
 mod oldest;
+mod packed;
+mod questions;
 mod replays;
 mod reports;
 mod schedule;
@@ -79,6 +86,11 @@ fn done(alloc: Global, words: Words) -> Result<digest::Done, Failure> {
         Job::Space => spaces::edit_all(alloc, words.seed, words.size),
         Job::Schedule => schedule::schedule_all(alloc, words.seed, words.size),
         Job::Reports => reports::report_all(alloc, words.seed, words.size),
+        Job::Packed => packed::replay_all(alloc, words.seed, words.size),
+        Job::History => history::withdraw_all(alloc, words.seed, words.size),
+        Job::Asking => asking::ask_all(alloc, words.seed, words.size),
+        Job::Life => life::live_all(alloc, words.seed, words.size),
+        Job::Million => million::edit_all(alloc, words.seed, words.size),
         Job::Awkward | Job::All => awkward::strain_all(alloc, words.seed, words.size),
     }
 }

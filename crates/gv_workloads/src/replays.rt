@@ -14,18 +14,21 @@ const PLANS: [LogPlan; 3] = [
         slots: 4_000,
         most_pages: 16,
         is_tidy: true,
+        is_packed: false,
         lines: 4,
     },
     LogPlan {
         slots: 1_000,
         most_pages: 1_024,
         is_tidy: true,
+        is_packed: false,
         lines: 2,
     },
     LogPlan {
         slots: 16_000,
         most_pages: 256,
         is_tidy: false,
+        is_packed: false,
         lines: 3,
     },
 ];
@@ -40,19 +43,21 @@ pub fn replay_all(alloc: Global, seed: u64, size: u64) -> Result<Done, Failure> 
             slots: plan.slots.min(size),
             most_pages: plan.most_pages,
             is_tidy: plan.is_tidy,
+            is_packed: plan.is_packed,
             lines: plan.lines.wrapping_mul(part),
         };
         let log = log::compose(alloc, number, &cut)?;
         let terms = terms_of(Format::Radv);
-        replay_one(alloc, &log, &terms, cut.memory_address(2), &mut done)?;
+        let addresses = [tile_address(1, 1), cut.memory_address(2)];
+        replay_one(alloc, &log, &terms, &addresses, &mut done)?;
         number = number.wrapping_add(1);
     }
     trace_one(alloc, number, part, &mut done)?;
     Ok(done)
 }
 
-/// The report, and what two addresses reached.
-fn terms_of<'a>(format: Format) -> Terms<'a> {
+/// The report.
+pub fn terms_of<'a>(format: Format) -> Terms<'a> {
     Terms {
         format,
         flag_bits: FlagBits::Entry,
@@ -64,19 +69,19 @@ fn terms_of<'a>(format: Format) -> Terms<'a> {
     }
 }
 
-fn replay_one(
+/// Replays a log, with what some addresses reached.
+pub fn replay_one(
     alloc: Global,
     log: &Text,
     terms: &Terms<'_>,
-    addr: u64,
+    addresses: &[u64],
     done: &mut Done,
 ) -> Result<(), Failure> {
-    let addresses = [tile_address(1, 1), addr];
     let asked = Terms {
         format: terms.format,
         flag_bits: terms.flag_bits,
         pid: terms.pid,
-        addresses: &addresses,
+        addresses,
         all: terms.all,
         form: terms.form,
         sizes: terms.sizes,
@@ -98,11 +103,6 @@ fn trace_one(alloc: Global, seed: u64, lines: u64, done: &mut Done) -> Result<()
     let trace = tracing::compose(alloc, seed, lines)?;
     let terms = terms_of(Format::Amdgpu);
     let sizes = measure(alloc, &mut MemorySource::new(trace.bytes()), &terms)?;
-    replay_one(
-        alloc,
-        &trace,
-        &terms.sized(&sizes),
-        tracing::HOME << 12,
-        done,
-    )
+    let addresses = [tile_address(1, 1), tracing::HOME << 12];
+    replay_one(alloc, &trace, &terms.sized(&sizes), &addresses, done)
 }

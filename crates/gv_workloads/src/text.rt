@@ -43,6 +43,13 @@ impl Text {
         self.hex(number)
     }
 
+    /// A word, an address and the line's end.
+    pub fn line(&mut self, word: &[u8], addr: u64) -> Result<(), AllocError> {
+        self.word(word)?;
+        self.address(addr)?;
+        self.word(b"\n")
+    }
+
     /// A decimal number without leading zeros.
     pub fn decimal(&mut self, number: u64) -> Result<(), AllocError> {
         let mut digits = [b'0'; 20];

@@ -12,18 +12,28 @@ pub enum Job {
     Schedule,
     Reports,
     Awkward,
+    Packed,
+    History,
+    Asking,
+    Life,
+    Million,
     All,
 }
 
 impl Job {
     /// All but `All`.
-    pub const EACH: [Job; 6] = [
+    pub const EACH: [Job; 11] = [
         Job::Replay,
         Job::Script,
         Job::Space,
         Job::Schedule,
         Job::Reports,
         Job::Awkward,
+        Job::Packed,
+        Job::History,
+        Job::Asking,
+        Job::Life,
+        Job::Million,
     ];
 
     pub fn name(self) -> &'static str {
@@ -34,6 +44,11 @@ impl Job {
             Job::Schedule => "schedule",
             Job::Reports => "reports",
             Job::Awkward => "awkward",
+            Job::Packed => "packed",
+            Job::History => "history",
+            Job::Asking => "asking",
+            Job::Life => "life",
+            Job::Million => "million",
             Job::All => "all",
         }
     }
@@ -47,6 +62,11 @@ impl Job {
             "schedule" => Some(Job::Schedule),
             "reports" => Some(Job::Reports),
             "awkward" => Some(Job::Awkward),
+            "packed" => Some(Job::Packed),
+            "history" => Some(Job::History),
+            "asking" => Some(Job::Asking),
+            "life" => Some(Job::Life),
+            "million" => Some(Job::Million),
             "all" => Some(Job::All),
             _ => None,
         }
