@@ -55,6 +55,14 @@ fn edit(alloc: Global, vm: &mut Vm, random: Random, size: u64) -> Result<Done, F
         let op = work.in_the_middle();
         work.carry_out(alloc, vm, op)?;
     }
+    look(
+        vm,
+        &mut work.random,
+        work.pages / 2,
+        WINDOW,
+        WINDOW.min(size),
+        &mut work.done,
+    );
     look(vm, &mut work.random, 0, work.pages, size, &mut work.done);
     sum_up(vm, &mut work.done);
     Ok(work.done)
