@@ -82,28 +82,31 @@ impl Work {
         self.random.below((self.buffers.len() as u64).max(1))
     }
 
-    fn buffer(&self, place: u64) -> Result<BufferId, Failure> {
+    /// A map of up to so many pages of a buffer, anywhere.
+    fn map(&mut self, place: u64, most: u64) -> Result<Op, Failure> {
+        let first = self.random.below(self.area.max(1));
+        let count = self.random.below(most.max(1)).wrapping_add(1);
+        let page = self.random.below(PAGES / 2);
         match self.buffers.get(place as usize) {
-            Some(buffer) => Ok(*buffer),
+            Some(buffer) => Ok(map_of(first, count, *buffer, page)),
             None => Err(Failure::Differ),
         }
     }
 
-    /// A map of up to so many pages of a buffer, anywhere.
-    fn map(&mut self, buffer: BufferId, most: u64) -> Op {
-        let first = self.random.below(self.area.max(1));
-        let count = self.random.below(most.max(1)).wrapping_add(1);
-        let page = self.random.below(PAGES / 2);
-        map_of(first, count, buffer, page)
+    /// An unmap of a whole buffer.
+    fn unmap(&self, place: u64) -> Result<Op, Failure> {
+        match self.buffers.get(place as usize) {
+            Some(buffer) => Ok(Op::UnmapBuffer { buffer: *buffer }),
+            None => Err(Failure::Differ),
+        }
     }
 
     /// Maps a buffer as often as is its due, by one request.
     fn map_whole(&mut self, alloc: Global, vm: &mut Vm, place: u64) -> Result<(), Failure> {
-        let buffer = self.buffer(place)?;
         let times = TIMES.get((place % 8) as usize).copied().unwrap_or(1);
         let mut ops = Vec::new(alloc);
         for _time in 0..times {
-            ops.push(self.map(buffer, 4))?;
+            ops.push(self.map(place, 4)?)?;
         }
         self.turn.bind(alloc, vm, ops, &mut self.done)
     }
@@ -111,40 +114,42 @@ impl Work {
     /// Unmaps a whole buffer, and mostly maps it again.
     fn renew(&mut self, alloc: Global, vm: &mut Vm) -> Result<(), Failure> {
         let place = self.place();
-        let all = Op::UnmapBuffer {
-            buffer: self.buffer(place)?,
-        };
-        self.turn
-            .bind(alloc, vm, only(alloc, all)?, &mut self.done)?;
-        match self.random.below(4) {
-            0 => take_back(vm, &mut self.done),
-            _ => self.map_whole(alloc, vm, place)?,
+        let ops = only(alloc, self.unmap(place)?)?;
+        self.turn.bind(alloc, vm, ops, &mut self.done)?;
+        if self.random.below(4) == 0 {
+            take_back(vm, &mut self.done);
+            return Ok(());
         }
-        Ok(())
+        self.map_whole(alloc, vm, place)
     }
 
     /// Settles all; a buffer is unmapped, destroyed, and made anew.
     fn settle(&mut self, alloc: Global, vm: &mut Vm) -> Result<(), Failure> {
         let place = self.place();
-        let buffer = self.buffer(place)?;
-        let ops = only(alloc, Op::UnmapBuffer { buffer })?;
+        let ops = only(alloc, self.unmap(place)?)?;
         self.turn.bind(alloc, vm, ops, &mut self.done)?;
         vm.settle(vm.next())?;
-        vm.destroy(buffer)?;
+        self.replace(alloc, vm, place)?;
+        self.map_whole(alloc, vm, place)
+    }
+
+    fn replace(&mut self, alloc: Global, vm: &mut Vm, place: u64) -> Result<(), Failure> {
+        if let Some(old) = self.buffers.get(place as usize) {
+            vm.destroy(*old)?;
+        }
         let anew = vm.create(alloc, PAGES)?;
         if let Some(old) = self.buffers.get_mut(place as usize) {
             *old = anew;
         }
-        self.map_whole(alloc, vm, place)
+        Ok(())
     }
 
     /// A bind, some taken back, or a whole buffer; where an address leads.
     fn go_on(&mut self, alloc: Global, vm: &mut Vm) -> Result<(), Failure> {
         let place = self.place();
-        let buffer = self.buffer(place)?;
         match self.random.below(20) {
             0..=9 => {
-                let ops = only(alloc, self.map(buffer, 24))?;
+                let ops = only(alloc, self.map(place, 24)?)?;
                 self.turn.bind(alloc, vm, ops, &mut self.done)?;
             }
             10..=13 => {
