@@ -1,5 +1,6 @@
 pub mod Chain
 pub mod Words
+pub mod Cutting
 pub mod Operation
 pub mod Clause
 pub mod Job

@@ -34,11 +34,6 @@ is_separator word = bytes_eq word separator
 abbrev pub clauses : List (List ℕ) → List (List (List ℕ))
 clauses words = slice_split is_separator words
 
--- what is left of some words behind the last clause, in clauses
-abbrev pub clauses_left : Option (List (List ℕ)) → List (List (List ℕ))
-clauses_left None = []
-clauses_left (Some words) = clauses words
-
 -- how many bytes a name has at most
 abbrev pub name_bytes : ℕ
 name_bytes = 16

@@ -2,9 +2,9 @@
 ghost use Rattle.std.specs.Prelude.{◌≡◌, ◌∷◌, [], IfOk, MatchOption};
 
 use super::clause::Clause;
+use super::cutting::Clauses;
 use super::operation::Operation;
 use super::point::NamedPoint;
-use super::words::Clauses;
 use std::alloc::{AllocError, Global};
 use std::marker::Model;
 
@@ -30,6 +30,15 @@ impl<'a> Model for ClauseList<'a> {
 impl<'a> ClauseList<'a> {
     ghost use Rattle.gv_lines.specs.Clause.{clauses_read, queue_asked};
     ghost use Rattle.gv_lines.specs.Clause.{operations_of, waits_of, signals_of};
+
+    /// No clause.
+    pub fn none() -> Self
+        ensures { result ≡ [] }
+    {
+        ClauseList {
+            parts: Clauses::none(),
+        }
+    }
 
     /// The clauses that some words say, where each is of the language and at most one names a queue.
     pub fn from_parts(parts: Clauses<'a>) -> Option<ClauseList<'a>>

@@ -10,11 +10,12 @@ mod pattern;
 mod walk;
 mod word;
 
+use crate::cutting::Clauses;
 use crate::keyword::Keyword;
 use crate::parse::parse_line;
 use crate::reason::{Beginning, Form, Reason, Slip};
 use crate::serve_line::parse_serve_line;
-use crate::words::{Clauses, Words};
+use crate::words::Words;
 use bytes::bytes_slip;
 use likeness::{ACCESSES, CLAUSES, LINES, OPERATIONS, SERVE_LINES, meant};
 pub use mention::{Mention, Mentions, queue_in};

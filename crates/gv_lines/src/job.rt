@@ -1,7 +1,8 @@
 //! The accesses of jobs.
 ghost use Rattle.std.specs.Prelude.{◌≡◌, ◌∷◌, [], IfOk, MatchOption};
 
-use super::words::{Clauses, Words};
+use super::cutting::Clauses;
+use super::words::Words;
 use std::alloc::{AllocError, Global};
 use std::marker::Model;
 

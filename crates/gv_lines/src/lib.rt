@@ -4,6 +4,7 @@
 
 mod clause;
 mod clauses;
+mod cutting;
 mod digit;
 mod explaining;
 mod hex;

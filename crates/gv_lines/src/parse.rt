@@ -9,12 +9,13 @@ ghost use Rattle.gv_lines.specs.Grammar.{map_line, at_line, tables_line, rewind_
 ghost use Rattle.gv_lines.specs.Grammar.{withdraw_line, settle_line, told_line, job_line, end_line};
 
 use super::clauses::ClauseList;
+use super::cutting::Clauses;
 use super::job::AccessList;
 use super::keyword::Keyword;
 use super::line::Line;
 use super::operation::planned_operation;
 use super::point::NamedPoint;
-use super::words::{Clauses, Words, queue_of};
+use super::words::{Words, queue_of};
 
 /// What a line says, given without its line end, or `None` for a line that is not of the language. It takes no memory, and
 /// time linear in the line.
@@ -153,12 +154,11 @@ fn value_line(mut words: Words<'_>) -> Option<Line<'_>>
 fn bind_line(words: Words<'_>) -> Option<Line<'_>>
     ensures { result ≡ bind_line words.entry }
 {
-    let parts = if words.is_done() {
-        Clauses::none()
+    let clauses = if words.is_done() {
+        ClauseList::none()
     } else {
-        Clauses::new(words)
+        ClauseList::from_parts(Clauses::new(words))?
     };
-    let clauses = ClauseList::from_parts(parts)?;
     Some(Line::Bind { clauses })
 }
 

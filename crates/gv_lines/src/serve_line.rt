@@ -4,9 +4,10 @@ ghost use Rattle.gv_lines.specs.ServeLine.{serve_parsed, added, added_line, put_
 ghost use Rattle.gv_lines.specs.ServeLine.{show_line, past_line};
 
 use super::clauses::ClauseList;
+use super::cutting::Clauses;
 use super::line::Line;
 use super::parse::parse_line;
-use super::words::{Clauses, Words, queue_of};
+use super::words::{Words, queue_of};
 
 /// A line of a dialogue. Its lists stay in its text, as those of a `Line` do.
 #[derive(Drop, Debug)]
@@ -68,12 +69,11 @@ fn added_line<'a>(first: &[u8], words: Words<'a>) -> Option<ServeLine<'a>>
 fn put_line(words: Words<'_>) -> Option<ServeLine<'_>>
     ensures { result ≡ put_line words.entry }
 {
-    let parts = if words.is_done() {
-        Clauses::none()
+    let clauses = if words.is_done() {
+        ClauseList::none()
     } else {
-        Clauses::new(words)
+        ClauseList::from_parts(Clauses::new(words))?
     };
-    let clauses = ClauseList::from_parts(parts)?;
     Some(ServeLine::Put { clauses })
 }
 

@@ -1,8 +1,8 @@
-//! A line cut into words, and words cut into clauses.
+//! A line cut into words.
 ghost use Rattle.std.specs.Prelude.{◌≡◌, ◌∷◌, [], List, ℕ, None, Some, MatchOption, IsTrue, ◌↔◌};
 ghost use Rattle.std.specs.Prelude.{◌==◌, ◌<◌, length, position, IfSome};
 ghost use Rattle.std.specs.List.{list_any};
-ghost use Rattle.gv_lines.specs.Words.{words, clauses, clauses_left, parts, parts_left};
+ghost use Rattle.gv_lines.specs.Words.{words, clauses, parts, parts_left};
 ghost use Rattle.gv_lines.specs.Words.{first_name, first_number, first_queue, queue_of};
 
 use super::name::Name;
@@ -105,7 +105,7 @@ impl<'a> Words<'a> {
     }
 
     /// Whether no byte that is left is a semicolon, so that no word separates others. A look at many bytes at once, on a hot path.
-    fn are_one_clause(&self) -> bool
+    pub fn are_one_clause(&self) -> bool
         ensures { IsTrue result → clauses self.now ≡ self.now ∷ [] }
     {
         match self.rest {
@@ -115,7 +115,7 @@ impl<'a> Words<'a> {
     }
 
     /// The words before the first separator, and where there is one, those behind it.
-    fn split(self) -> (Words<'a>, Option<Words<'a>>)
+    pub fn split(self) -> (Words<'a>, Option<Words<'a>>)
         ensures { MatchOption result.1 (clauses self.entry ≡ result.0 ∷ [])
             (λ more. clauses self.entry ≡ result.0 ∷ clauses more) }
     {
@@ -136,77 +136,6 @@ impl<'a> Words<'a> {
             before += 1;
         }
         (Words { rest, limit }, None)
-    }
-}
-
-/// The clauses of some words that are left.
-#[derive(Drop, Debug)]
-pub struct Clauses<'a> {
-    rest: Option<Words<'a>>,
-    /// Whether what is left is known to be one clause, as a look for a semicolon tells: such a clause is given without a walk over
-    /// its words. Most lines have no other.
-    is_last: bool,
-}
-
-impl<'a> Model for Clauses<'a> {
-    ghost use Rattle.std.specs.Prelude.{◌≡◌, ◌∷◌, [], true, List, ℕ, IfSome};
-    ghost use Rattle.gv_lines.specs.Words.{clauses, clauses_left};
-
-    ghost Value = { List (List (List ℕ)) };
-
-    ghost view = { λ left. clauses_left left.rest };
-
-    ghost invariant = { λ left. left.is_last ≡ true → IfSome left.rest (λ words. clauses words ≡ words ∷ []) };
-}
-
-impl<'a> Clauses<'a> {
-    /// All clauses of some words, at least one.
-    pub fn new(words: Words<'a>) -> Self
-        ensures { result ≡ clauses words.entry }
-    {
-        let is_last = words.are_one_clause();
-        Clauses {
-            rest: Some(words),
-            is_last,
-        }
-    }
-
-    /// No clause.
-    pub fn none() -> Self
-        ensures { result ≡ [] }
-    {
-        Clauses {
-            rest: None,
-            is_last: true,
-        }
-    }
-
-    /// The same clauses.
-    pub fn again(&self) -> Clauses<'a>
-        ensures { result ≡ self.now }
-    {
-        Clauses {
-            rest: self.rest.as_ref().map(Words::again),
-            is_last: self.is_last,
-        }
-    }
-
-    /// The words of the next clause, if one is left.
-    pub fn take_clause(&mut self) -> Option<Words<'a>>
-        ensures { MatchOption result ((self.old ≡ []) × (self.new ≡ []))
-            (λ clause. self.old ≡ clause ∷ self.new) }
-    {
-        let words = self.rest.take()?;
-        if self.is_last {
-            return Some(words);
-        }
-        let (clause, rest) = words.split();
-        self.is_last = match &rest {
-            Some(more) => more.are_one_clause(),
-            None => true,
-        };
-        self.rest = rest;
-        Some(clause)
     }
 }
 
