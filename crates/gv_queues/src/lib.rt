@@ -15,6 +15,8 @@ mod running;
 mod serving;
 mod submitter;
 mod taking;
+#[cfg(test)]
+mod tests;
 mod vm_lock;
 mod waiting;
 mod worker;

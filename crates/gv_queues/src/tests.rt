@@ -1,0 +1,2 @@
+//! Tests of what no other crate can make.
+mod ends;
