@@ -78,19 +78,20 @@ enum {
   VMBIND_BAD_SIZE = 8,           /* a buffer of no page, or of over 2^36 */
   VMBIND_TOO_MANY_BUFFERS = 9,   /* as many buffers live as the limit says */
   VMBIND_MAPPED = 10,            /* `number` mappings of the buffer are in the list */
-  VMBIND_KEPT = 11,              /* `number` mappings of the buffer are kept, so that entries can be taken back */
+  VMBIND_KEPT = 11,              /* `number` mappings of the buffer are kept, so that entries can be taken back: until vmbind_settle lets
+                                  * these entries go, or vmbind_rewind takes them back */
   VMBIND_IN_USE = 12,            /* `number` running jobs use the buffer */
   VMBIND_CONFLICT = 13,          /* job `number` uses the buffer, and one of the two writes it */
   VMBIND_TOO_MANY_MAPPINGS = 14, /* the list would pass its limit, or over 2^62 mappings would be kept */
   VMBIND_TOO_MANY_OPS = 15,      /* a request of over 256 operations */
-  VMBIND_JOURNAL_FULL = 16,      /* the journal holds as many entries as the limit says */
+  VMBIND_JOURNAL_FULL = 16,      /* the journal holds as many entries as the limit says: vmbind_settle or vmbind_rewind makes room */
   VMBIND_NO_ENTRY = 17,          /* the journal holds no such entry: not yet, or it was taken back or settled */
   VMBIND_NOT_A_BIND = 18,        /* the entry is a withdrawal */
   VMBIND_WITHDRAWN = 19,         /* the entry is withdrawn already */
   VMBIND_TOUCHED = 20,           /* the live later entry `number` covers one of its pages */
   VMBIND_CROSSED = 21,           /* the later entry `number` withdraws one that would be settled */
   VMBIND_OUT_OF_TURN = 22,       /* never answered here: it is a fault of the library's own users */
-  VMBIND_QUEUE_SPENT = 23,       /* as many requests were put on the queue as the limit `told` says */
+  VMBIND_QUEUE_SPENT = 23,       /* as many requests were put on the queue as the limit `told` says: it never takes one again */
   VMBIND_UNMAPPED = 24,          /* access `number` is of a page that holds nothing */
   VMBIND_WRITE_TO_READ_ONLY = 25,/* access `number` writes a page that is read-only */
   VMBIND_QUEUE_FULL = 26,        /* as many requests wait on the queue as it has places */

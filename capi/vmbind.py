@@ -8,7 +8,8 @@
         vm.rewind()
 
 A call that is refused raises Refused. Calls hold the interpreter's lock, so threads may share a Vm.
-The library is looked for at the path in VMBIND_LIBRARY, beside this file, where `make install` puts it, and then by the loader.
+The library is looked for at the path in VMBIND_LIBRARY, beside this file, in build/ there, where `make install` puts it, and then by
+the loader.
 """
 import ctypes as c
 import os
@@ -287,14 +288,16 @@ class Vm:
             raise Refused(status, n=number.value)
         return number.value
 
-    def _listed(self, kind, call, *arguments):
-        """All of a list: how many there are, and then those."""
-        count, total = _u64(), _u64()
-        self._check(call(self._vm, *arguments, None, 0, count, total))
-        found = (kind * total.value)()
-        if total.value:
-            self._check(call(self._vm, *arguments, found, total.value, count, total))
-        return list(found)
+    def _listed(self, kind, call, *arguments, start=0):
+        """All of a list from one number on, as it is at one call: the first that has room for it. Another thread may change the list
+        between two calls."""
+        count, total, room = _u64(), _u64(), 0
+        while True:
+            found = (kind * room)()
+            self._check(call(self._vm, *arguments, found, room, count, total))
+            if total.value - start <= room:
+                return found[:count.value]
+            room = total.value - start
 
     # Buffers
 
@@ -347,12 +350,7 @@ class Vm:
 
     def told(self, queue=0, start=0):
         """The Outcomes of a queue's requests, from one number on."""
-        count, total = _u64(), _u64()
-        self._check(_told(self._vm, _number(queue), 0, None, 0, count, total))
-        room = max(total.value - _number(start), 0)
-        found = (Outcome * room)()
-        self._check(_told(self._vm, queue, start, found, room, count, total))
-        return list(found)
+        return self._listed(Outcome, _told, _number(queue), _number(start), start=start)
 
     # Timelines
 
@@ -384,16 +382,19 @@ class Vm:
         return range(first.value, after.value)
 
     def entry(self, number):
-        info, count = _Info(), _u64()
-        self._check(_entry(self._vm, _number(number), info, None, 0, count))
-        if info.kind == WITHDRAWAL:
-            return Entry(number, None, None, False, None, info.of)
-        ops = (Op * info.ops)()
-        self._check(_entry(self._vm, number, info, ops, info.ops, count))
-        return Entry(number, info.queue, info.number, bool(info.withdrawn), list(ops), None)
+        """An Entry that is held. Another thread may put another one in its place between two calls."""
+        info, count, room = _Info(), _u64(), 0
+        while True:
+            ops = (Op * room)()
+            self._check(_entry(self._vm, _number(number), info, ops, room, count))
+            if info.kind == WITHDRAWAL:
+                return Entry(number, None, None, False, None, info.of)
+            if info.ops <= room:
+                return Entry(number, info.queue, info.number, bool(info.withdrawn), ops[:count.value], None)
+            room = info.ops
 
     def entries(self):
-        """The entries that are held, the oldest one first."""
+        """The entries that are held, the oldest one first, each as it is when it is asked for."""
         return (self.entry(number) for number in self.journal())
 
     # Looking
