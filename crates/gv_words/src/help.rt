@@ -11,7 +11,7 @@ pub const RUN: &str =
     "Reads a script from standard input and writes its replies to standard output";
 
 /// What `serve` does.
-pub const SERVE: &str = "Answers the lines of standard input one after another, without end";
+pub const SERVE: &str = "Answers the lines of standard input one after another";
 
 /// What `--explain` says.
 pub const EXPLAIN: &str = "Says of a bad line what is wrong with it";
@@ -25,8 +25,8 @@ pub const FILE: &str = "The file to read in place of standard input";
 /// The lines of a dialogue.
 pub const SERVE_LINES: &str = "\
 Each line of 'vmbind run' is answered as there. Answers are written before the next read, so a program
-may wait for one before it sends the next line, over a pipe or at a terminal. There is no end to a
-dialogue but that of its input: a script may be of any length, and a line has at most 1048576 bytes.
+may wait for one before it sends the next line, over a pipe or at a terminal. It ends with its input:
+a script may be of any length, a line has at most 1048576 bytes, and a queue takes 65536 requests.
 A bad line changes nothing and is answered
   bad line K: REASON
 and a line for which memory is refused
@@ -158,7 +158,7 @@ The lines of a script:
   bind, or bind CLAUSE ; CLAUSE ..
       One request, applied whole or not at all. Answers 'accepted N', the entry; 'refused K FAULT',
       K the operation that is refused, counted from 0, and nothing changes; 'notready NAME N have N'
-      where a wait is not reached; or 'refused FAULT' where its queue takes no more.
+      where a wait is not reached; or 'refused FAULT' where its queue took 65536 requests already.
   plan OPERATION
       Prints the unmap, remap and map steps of the operation, and changes nothing.
   map
@@ -209,9 +209,10 @@ one space, and every line ends with a line end. The first bad line ends the run.
 
 Exit statuses:
   0  the script was run to its end, or help or the version was asked for
-  1  the script has a bad line, or is too long
-  2  the words of the command line are refused
-  3  standard input or standard output failed
+  1  the script has a bad line, or is too long; 'vmbind replay' found no line of the format; the lists
+     of 'vmbind compare' differ
+  2  the words of the command line are refused, or a list of 'vmbind compare'
+  3  standard input or standard output failed, or a FILE can't be opened or read
   4  the system refused to give memory
   5  the queues of 'vmbind threads' did not start, or disagree
 
