@@ -1,9 +1,11 @@
 //! The library in use: an address space alone, and a whole one with its requests.
 #![tactic(auto)]
 
+mod first;
 mod pages;
 mod requests;
 
+use first::look;
 use gv_types::{Bounds, Limits};
 use gv_vm::Vm;
 use pages::map_and_take_back;
@@ -22,8 +24,13 @@ fn main(rt: HostRuntime) -> io::Result<()> {
     let Ok(mut vm) = Vm::new(alloc, Bounds::whole(), Limits::full()) else {
         return println!(rt; "no memory");
     };
+    let looked = look(alloc, &mut vm);
     let found = withdraw_zeros(alloc, &mut vm);
     vm.close();
+    match looked {
+        Ok(place) => println!(rt; "looked up: {place:?}")?,
+        Err(fault) => println!(rt; "refused: {fault}")?,
+    }
     match found {
         Ok((over, back)) => {
             println!(rt; "zeros bound: {over:?}")?;

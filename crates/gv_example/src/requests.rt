@@ -37,7 +37,7 @@ pub fn withdraw_zeros(alloc: Global, vm: &mut Vm) -> Result<(Option<Place>, Opti
     Ok((over, vm.translate(0x1abc)))
 }
 
-/// Carries out the request with this number of queue 0, of one operation, once its point is reached. Else it is given up.
+/// Carries out the request with this number of queue 1, of one operation, once its point is reached. Else it is given up.
 fn bind(alloc: Global, vm: &mut Vm, clock: &Clock, number: u64, op: Op) -> Result<Outcome, Fault>
     requires { 0 < length clock.now }
 {
@@ -47,8 +47,8 @@ fn bind(alloc: Global, vm: &mut Vm, clock: &Clock, number: u64, op: Op) -> Resul
         signals: Vec::new(alloc),
     };
     let told = match clock.look(&START) {
-        Ok(reached) => vm.bind(alloc, 0, number, request, &[reached]),
-        Err(lacking) => vm.give_up(0, number, request, lacking),
+        Ok(reached) => vm.bind(alloc, 1, number, request, &[reached]),
+        Err(lacking) => vm.give_up(1, number, request, lacking),
     };
     match told {
         Ok(outcome) => Ok(outcome),
