@@ -1,4 +1,5 @@
-# Everything here needs the Rattle toolchain's command `rt` on the path, and nothing else; the C library a C compiler too.
+# Everything here needs the Rattle toolchain's command `rt` on the path, and nothing else; the C library a C compiler, objcopy and ar
+# too, its tests and times python3.
 
 RT ?= rt
 PROGRAM := crates/gv_cli
@@ -10,7 +11,7 @@ SOURCES := crates.txt HANDLES $(shell find crates -type f \( -name '*.rt' -o -na
 build: vmbind
 
 vmbind: $(SOURCES)
-	@echo 'Proves the program and the crates below it, then builds it: an hour and a half of processor time, less where an'
+	@echo 'Proves the program and the crates below it, then builds it: some 80 minutes of processor time, less where an'
 	@echo 'earlier run has left its proofs. "make run" shows the first example without them.'
 	@RT="$(RT)" tools/prove gv_cli
 	cd $(PROGRAM) && $(RT) run -- --help > /dev/null
@@ -30,11 +31,11 @@ WORDS ?= run
 try:
 	@RT="$(RT)" tools/try $(WORDS) < "$(SCRIPT)"
 
-# The gate: every proof from nothing, the must-fail edits, the tests and the programs. Before it, what no contract can
-# say: that the functions of the timelines wait for nobody (a function may wait only under a bound of that name), and that
-# the documents name what there is. Behind it, a dialogue over two pipes with the program that was built, which says nothing
-# where all is well.
-# Where each core has 4 GiB of free memory, which no part was seen to hold, as many parts run at once as there are cores; else
+# The gate: the proofs, the must-fail edits, the tests and the programs; of the first two only what changed since a run on this
+# machine passed, and what stands above it, from nothing. Before it, what no contract can say: that the functions of the
+# timelines wait for nobody (a function may wait only under a bound of that name), and that the documents name what there is.
+# Behind it, a dialogue over two pipes with the program that was built, which says nothing where all is well.
+# Where there are 4 GiB of free memory for each core, as many parts run at once as there are cores (one was seen to hold 5.1 GB); else
 # the toolchain chooses, which reckons up to 7.4 GB for a part.
 LANES = $(shell awk -v cores="$$(nproc)" '/^MemAvailable:/ && $$2 >= cores * 4194304 { print cores }' /proc/meminfo 2>/dev/null)
 test: check-documents
