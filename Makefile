@@ -33,13 +33,15 @@ try:
 
 # The gate: the proofs, the must-fail edits, the tests and the programs; of the first two only what changed since a run on this
 # machine passed, and what stands above it, from nothing. Before it, what no contract can say: that the functions of the
-# timelines wait for nobody (a function may wait only under a bound of that name), and that the documents name what there is.
+# timelines wait for nobody (a function may wait only under a bound of that name), that an undo value can't be let go, and that the
+# documents name what there is.
 # Behind it, a dialogue over two pipes with the program that was built, which says nothing where all is well.
 # Where there are 4 GiB of free memory for each core, as many parts run at once as there are cores (one was seen to hold 5.1 GB); else
 # the toolchain chooses, which reckons up to 7.4 GB for a part.
 LANES = $(shell awk -v cores="$$(nproc)" '/^MemAvailable:/ && $$2 >= cores * 4194304 { print cores }' /proc/meminfo 2>/dev/null)
 test: check-documents
 	@! grep -rnw Wait crates/gv_sync/src
+	@RT="$(RT)" tools/check-undo
 	RT_JOBS=$(LANES) $(RT) ci
 	@sh examples/dialogue.sh $(PROGRAM)/out/gv_cli > /dev/null
 
