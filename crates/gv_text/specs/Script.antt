@@ -1,6 +1,8 @@
 -- What a script does: its lines one after another, and the text of their replies.
 use Rattle.std.specs.Prelude.{◌≡◌, ◌≢◌, ℕ, ◌+◌, ◌≤◌, Bool, true, false, List, [], ◌∷◌, ◌++◌, length, Option, Some, None, Result, Ok, Err, ◌⊎◌}
 use Rattle.std.specs.Io.KnownBytes.{Appends}
+use Rattle.gv_types.specs.Fault.{number_of}
+use Rattle.gv_types.specs.declared.fault.Fault.TheVariants as fault
 use Rattle.gv_lines.specs.Grammar.{parsed}
 use Rattle.gv_lines.specs.Words.{parts}
 use Rattle.gv_lines.specs.declared.line.Line.TheVariants.{Silent}
@@ -105,6 +107,14 @@ pub record IsStart (script text : List ℕ) : Type 0 where
 abbrev pub fault_at : ℕ → LineFault → ScriptFault
 fault_at number Bad = BadLine number
 fault_at number NoMemory = OutOfMemory
+
+-- its number, which is no other fault's; what a device's fault has is none
+abbrev pub script_fault_number : ScriptFault → Option ℕ
+script_fault_number (BadLine number) = Some 27
+script_fault_number ScriptTooLong = Some 28
+script_fault_number ReadFault = None
+script_fault_number WriteFault = None
+script_fault_number OutOfMemory = Some (number_of fault.OutOfMemory)
 
 -- What a run of this script may answer, with what was written before it and after it.
 abbrev pub Ends : {T : Type 0} → List ℕ → Option (List ℕ) → Option (List ℕ) → Result T ScriptFault → Type 0

@@ -5,7 +5,7 @@ ghost use Rattle.gv_text.specs.declared.fault.LineFault.TheVariants as line_faul
 ghost use Rattle.gv_text.specs.Script.{fault_at};
 
 use crate::device::{ReadFault, WriteFault};
-use gv_types::OutOfMemory;
+use gv_types::{Fault, OutOfMemory};
 use std::alloc::AllocError;
 
 /// Why a script was not run to its end.
@@ -18,6 +18,22 @@ pub enum ScriptFault {
     ReadFault,
     WriteFault,
     OutOfMemory,
+}
+
+impl ScriptFault {
+    ghost use Rattle.gv_text.specs.Script.{script_fault_number};
+
+    /// Its number, which is never used for another fault. A device's fault has none; want of memory has that of `Fault`.
+    pub fn number(&self) -> Option<u8>
+        ensures { result ≡ script_fault_number self.now }
+    {
+        match self {
+            ScriptFault::BadLine { .. } => Some(27),
+            ScriptFault::ScriptTooLong => Some(28),
+            ScriptFault::ReadFault | ScriptFault::WriteFault => None,
+            ScriptFault::OutOfMemory => Some(Fault::OutOfMemory.number()),
+        }
+    }
 }
 
 impl From<ReadFault> for ScriptFault {

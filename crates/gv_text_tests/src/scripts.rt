@@ -115,6 +115,20 @@ fn script_is_read_in_as_many_reads_as_it_has_bytes(rt: HostRuntime) -> Result<()
     Ok(())
 }
 
+/// As docs/SCRIPT.md has them.
+#[test]
+fn script_faults_have_their_numbers(rt: HostRuntime) {
+    for (fault, number) in [
+        (ScriptFault::BadLine { line: 7 }, Some(27)),
+        (ScriptFault::ScriptTooLong, Some(28)),
+        (ScriptFault::ReadFault, None),
+        (ScriptFault::WriteFault, None),
+        (ScriptFault::OutOfMemory, Some(33)),
+    ] {
+        assert_eq!(rt; fault.number(), number);
+    }
+}
+
 #[test]
 fn failed_read_writes_nothing(rt: HostRuntime) {
     assert!(rt; is_read_fault_told(rt.alloc(), HOLE));
