@@ -28,7 +28,7 @@ pub use gate::{Gate, Turn};
 pub use put_all::PutAll;
 pub use put_end::PutEnd;
 pub use queues::Queues;
-pub use serving::{ReadyRequest, decline, serve};
+pub use serving::{ReachedRequest, decline, serve};
 pub use submitter::{PutFault, Submitter};
 pub use taking::Taken;
 pub use vm_lock::VmLock;

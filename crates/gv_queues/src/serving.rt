@@ -45,7 +45,7 @@ fn pay_for(timelines: &Timelines, seat: &mut Seat, item: &Item)
 
 /// A request that was taken, and the numbers at which its waits were reached.
 #[derive(Drop)]
-pub struct ReadyRequest<'a> {
+pub struct ReachedRequest<'a> {
     pub taken: Taken,
     pub reached: &'a [Reached],
 }
@@ -57,7 +57,7 @@ pub fn serve(
     vm: &mut Vm,
     timelines: &Timelines,
     seat: &mut Seat,
-    ready: ReadyRequest<'_>,
+    ready: ReachedRequest<'_>,
 ) -> Result<Outcome, NotTold>
     requires own { IsSeatOf timelines.now seat.old }
     requires fits { FitsTimelines (timeline_count timelines.now) ready.taken.request }
@@ -72,7 +72,7 @@ pub fn serve(
     ensures paid { IfOk result (ArePaid ready.entry.taken.request.signals.items seat.old seat.new) }
     ensures err { OnErr result ((vm.new ≡ vm.old) × (seat.new ≡ seat.old)) }
 {
-    let ReadyRequest { taken, reached } = ready;
+    let ReachedRequest { taken, reached } = ready;
     let (queue, number) = (taken.queue(), taken.number());
     let outcome = vm.bind(alloc, queue, number, taken.into_request(), reached)?;
     if let Outcome::Accepted { .. } = outcome {

@@ -6,7 +6,7 @@ ghost use Rattle.gv_queues.specs.Paying.{RaisedJust, all_owed};
 ghost use Rattle.gv_queues.specs.Working.{owed_by};
 
 use crate::gate::Gate;
-use crate::serving::{ReadyRequest, decline, serve};
+use crate::serving::{ReachedRequest, decline, serve};
 use crate::taking::{Taken, Taker};
 use crate::vm_lock::VmLock;
 use crate::waiting::Asking;
@@ -113,7 +113,7 @@ fn attend<G: Gate, R: Wait>(
     let mut vm = shared.lock.lock(rt);
     match waited {
         Ok(()) => {
-            let ready = ReadyRequest {
+            let ready = ReachedRequest {
                 taken,
                 reached: reached.as_slice(),
             };
