@@ -1,12 +1,22 @@
 //! The clauses of a bind line as a list.
 ghost use Rattle.std.specs.Prelude.{◌≡◌, ◌∷◌, [], IfOk, MatchOption};
+ghost use Rattle.gv_lines.specs.Clause.{clause_of};
 
 use super::clause::Clause;
 use super::cutting::Clauses;
 use super::operation::Operation;
 use super::point::NamedPoint;
+use super::words::Words;
 use std::alloc::{AllocError, Global};
 use std::marker::Model;
+
+/// The clause that some words say, for whoever keeps it.
+#[inline(never)]
+fn clause_said(words: Words<'_>) -> Option<Clause>
+    ensures { result ≡ clause_of words.entry }
+{
+    Clause::from_words(words)
+}
 
 /// Clauses that are left, in the order of their line.
 #[derive(Drop, Debug)]
@@ -57,12 +67,13 @@ impl<'a> ClauseList<'a> {
         Some(ClauseList { parts })
     }
 
-    /// The next clause, if one is left.
+    /// The next clause, if one is left. Inlined without the reading of a clause, so that the end of a list costs no call.
+    #[inline(always)]
     pub fn take(&mut self) -> Option<Clause>
         ensures { MatchOption result ((self.old ≡ []) × (self.new ≡ []))
             (λ clause. self.old ≡ clause ∷ self.new) }
     {
-        Clause::from_words(self.parts.take_clause()?)
+        clause_said(self.parts.take_clause()?)
     }
 
     /// The same clauses.

@@ -83,7 +83,8 @@ impl<'a> Clauses<'a> {
         }
     }
 
-    /// The words of the next clause, if one is left.
+    /// The words of the next clause, if one is left. Inlined without its cutting, as `ClauseList::take` is.
+    #[inline(always)]
     pub fn take_clause(&mut self) -> Option<Words<'a>>
         ensures { MatchOption result ((self.old ≡ []) × (self.new ≡ []))
             (λ clause. self.old ≡ clause ∷ self.new) }
