@@ -249,8 +249,62 @@ static long run(long n, int all, struct seen *last) {
   return lacks;
 }
 
+/* A page of a leaf of 2 MiB is cut out, so that a table comes, and the leaf is put back, so that it goes. The same in one request,
+ * which then wants further tables, with memory refused from number `n` on: it is reverted. Then all is taken back, entry by entry, with
+ * all memory refused: tables that went come back. How many operations were carried out before one was refused. */
+static uint64_t leaf_without_memory(long n) {
+  struct vmbind_vm vm = VMBIND_INIT;
+  struct vmbind_config config = VMBIND_CONFIG_DEFAULT;
+  struct vmbind_outcome outcome;
+  struct vmbind_request r;
+  struct seen steps[4], now;
+  uint64_t number, done;
+  long before;
+  vmbind_status status;
+  left = -1;
+  for_good = 1;
+  held = asked = 0;
+  memset(buffer, 0, sizeof buffer);
+  CALL(OK, create, &vm, &config);
+  CALL(OK, buffer_create, &vm, 512, &buffer[0]);
+  const struct vmbind_op leaf = map(0x200000, 0x200000, buffer[0], 0), hole = unmap(0x300000, PAGE);
+  const struct vmbind_op ops[3] = { leaf, hole, leaf };
+  for (int k = 0; k < 3; k++) {
+    look(&vm, &steps[k]);
+    r = asks(0, &ops[k], 1);
+    CALL(OK, bind, &vm, &r, &outcome);
+  }
+  look(&vm, &steps[3]);
+  for (int k = 0; k < 4; k++) CHECK(steps[k].tables.tables[4] == (k == 2));
+  const struct vmbind_op more[3] = { hole, leaf, map_zero(0x40000000000000, PAGE) };
+  left = n;
+  r = asks(0, more, 3);
+  status = vmbind_bind(&vm, &r, &outcome);
+  CHECK(status == VMBIND_OUT_OF_MEMORY || status == VMBIND_OK);
+  done = status == VMBIND_OK ? 3 : outcome.kind == VMBIND_REFUSED ? outcome.op : 0;
+  left = 0;
+  before = asked;
+  if (status == VMBIND_OK) CALL(OK, rewind, &vm, &number);
+  for (int k = 3; ; k--) {
+    look(&vm, &now);
+    CHECK(!memcmp(&now, &steps[k], sizeof now));
+    if (k == 0) break;
+    CALL(OK, rewind, &vm, &number);
+    CHECK(number == (uint64_t)k - 1);
+  }
+  CALL(OK, buffer_destroy, &vm, buffer[0], &number);
+  CHECK(asked == before);
+  CALL(OK, destroy, &vm);
+  CHECK(held == 0);
+  return done;
+}
+
 int main(void) {
   struct seen last;
+  uint64_t done = 0;
+  char reverted[4] = { 0 };
+  for (long n = 0; n < 100 && done < 3; n++) reverted[done = leaf_without_memory(n)] = 1;
+  CHECK(reverted[0] && reverted[2] && reverted[3]);
   run(-1, 0, &last);
   long most = asked;
   CHECK(most > 50 && last.next > last.first && last.mappings > 4);
