@@ -25,16 +25,6 @@ pub enum Left<'a> {
 }
 
 impl<'a> Left<'a> {
-    fn new(words: Words<'a>) -> Self
-        ensures { clauses_left result ≡ clauses words.entry }
-    {
-        if words.are_one_clause() {
-            Left::One(words)
-        } else {
-            Left::More(words)
-        }
-    }
-
     fn again(&self) -> Left<'a>
         ensures { clauses_left result ≡ clauses_left self.now }
     {
@@ -60,9 +50,12 @@ impl<'a> Clauses<'a> {
     pub fn new(words: Words<'a>) -> Self
         ensures { result ≡ clauses words.entry }
     {
-        Clauses {
-            left: Left::new(words),
-        }
+        let left = if words.are_one_clause() {
+            Left::One(words)
+        } else {
+            Left::More(words)
+        };
+        Clauses { left }
     }
 
     /// No clause.
@@ -96,7 +89,7 @@ impl<'a> Clauses<'a> {
         };
         let (clause, rest) = words.split();
         if let Some(more) = rest {
-            self.left = Left::new(more);
+            self.left = Left::More(more);
         }
         Some(clause)
     }
