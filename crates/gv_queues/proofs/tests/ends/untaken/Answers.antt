@@ -8,7 +8,11 @@ use Rattle.gv_queues.specs.Paying.{all_owed}
 use Rattle.gv_queues.proofs.tests.ends.untaken.Goals as goal
 
 pub new-worker-requires-clause-raised : goal.new-worker-requires-clause-raised
-new-worker-requires-clause-raised g c t =
-    let start = ap (λ (s : SeatState). (mark_of s t).raised) c.in_ok-own.ensures.given ∙ split_raised c.args.seat.now t in
+new-worker-requires-clause-raised g c =
     let none : all_owed c.new.result.items c.new-taker.result.taken ≡ [] = ap (λ (l : List Outcome). all_owed l c.new-taker.result.taken) c.new.ensures.items in
-    start ∙ sym (ap (λ (l : List Point). raised (values_on t l)) none)
+    let given = c.in_ok-own.ensures.given in record {
+      raises = ap (λ (s : SeatState). s.raises) given ∙ sym none;
+      raised = λ t.
+          ap (λ (s : SeatState). (mark_of s t).raised) given
+          ∙ (split_raised c.args.seat.now t ∙ sym (ap (λ (l : List Point). raised (values_on t l)) none));
+    }
