@@ -88,14 +88,17 @@ impl ItemStore {
         }
     }
 
-    /// Whether a page lies between the least and the greatest that an item covers. The item isn't read.
+    /// Whether a page lies between the least and the greatest that an item covers. The item isn't read. By what the pages are past the
+    /// first one, which wraps for a page before it, one comparison tells both: of many items one after another, nobody can foretell
+    /// on which side of them a page lies.
     #[inline(always)]
     pub fn covers(&self, index: usize, page: u64) -> bool
         requires { index < length self.now.items }
         ensures { (item : Item) → result ≡ item_covers (slice_index_or self.now.items index item) page }
     {
         let at = self.spent + index;
-        self.columns.firsts()[at] <= page && page < self.columns.pasts()[at]
+        let first = self.columns.firsts()[at];
+        page.wrapping_sub(first) < self.columns.pasts()[at].wrapping_sub(first)
     }
 
     /// How many items.
