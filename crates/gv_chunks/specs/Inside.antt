@@ -1,4 +1,4 @@
--- What a list in chunks keeps of its parts. No public clause cites it.
+-- What a list in chunks keeps of its parts. No public clause cites it but those of `Parts`.
 use Rattle.std.specs.Prelude.{◌≡◌, ◌<◌, ◌≤◌, ◌+◌, ◌-◌, ◌*◌, ℕ, List, [], length, take, drop, max, slice_index_or, vec_len}
 use Rattle.std.specs.Global.{Vec}
 use Rattle.gv_types.specs.declared.mapping.Mapping.{Mapping}

@@ -1,4 +1,4 @@
--- How a `Session` is seen as a `SessionState`, and what it keeps of its parts. No public clause cites this module.
+-- How a `Session` is seen as a `SessionState`, and what it keeps of its parts. Of this module public clauses cite `HasTimelines` alone.
 use Rattle.std.specs.Prelude.{◌≡◌, ◌≤◌, length}
 use Rattle.gv_sync.specs.Seats.{most_timelines}
 use Rattle.gv_text.specs.State.{SessionState}
