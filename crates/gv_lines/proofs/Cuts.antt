@@ -1,16 +1,16 @@
 -- Words cut at their first separator.
-use Rattle.std.proofs.Common.{◌≡◌, ℕ, zero, suc, ◌+◌, ◌<◌, List, [], ◌∷◌, ◌++◌, Option, Some, Bool, true, false, not, cond, length, take, drop, refl, sym, ap, ◌∙◌, append_assoc, length-append, arith}
+use Rattle.std.proofs.Common.{◌≡◌, ℕ, zero, suc, ◌+◌, ◌<◌, List, [], ◌∷◌, ◌++◌, Bool, true, false, not, cond, length, take, drop, refl, sym, ap, ◌∙◌, append_assoc, length-append, arith}
 use Rattle.std.proofs.lemmas.List.{take_all, take-append-drop}
+use Rattle.std.proofs.lemmas.Bool.Decides.{nat_tests}
 use Rattle.std.proofs.lemmas.List.Elements.{All-nil, All-cons, All-append, All-head, All-tail, All-take, All-weaker}
 use Rattle.std.proofs.lemmas.List.Splits.{slice_split_none, slice_split_at, length-slice_split}
 use Rattle.std.proofs.lemmas.List.Sums.{count_by-le-length}
 use Rattle.std.proofs.lemmas.List.{append-nil}
 use Rattle.std.proofs.Math.Seq.{take-append_seam}
 use Rattle.std.specs.List.{All, list_any, onto_first}
-use Rattle.std.specs.Prelude.{is_some, IsTrue, ◌↔◌, ◌==◌, ◌||◌}
-use Rattle.std.specs.Borrow.{Bor}
-use Rattle.gv_lines.proofs.PartsLemmas.{none_left}
-use Rattle.gv_lines.specs.Words.{parts, parts_left, space_byte, words, is_separator, clauses}
+use Rattle.std.specs.Prelude.{IsTrue, ◌↔◌, ◌==◌, ◌||◌, nat_eq}
+use Rattle.gv_lines.proofs.PartsLemmas.{parts_some}
+use Rattle.gv_lines.specs.Words.{parts, space_byte, words, is_separator, clauses}
 
 -- no line has more words than one above its bytes
 pub words_all : (line : List ℕ) → take (length line + 1) (words line) ≡ words line
@@ -21,15 +21,12 @@ front_none zero xs some none = absurd (omega arith)
 front_none (suc limit) [] some none = refl
 front_none (suc limit) (x ∷ xs) some none = absurd (cc)
 
-front_of_none : {X : Type 0} (limit : ℕ) → take {A = X} limit [] ≡ []
-front_of_none zero = refl
-front_of_none (suc limit) = refl
-
--- whether a line whose rest may be none has words left, where more are allowed
-pub none_left_below : (byte limit : ℕ) (rest : Option (Bor (List ℕ))) (done : Bool) → 0 < limit → is_some rest ≡ not done → IsTrue done ↔ (take limit (parts_left byte rest) ≡ [])
-none_left_below byte limit rest done some found =
-    let whole = none_left byte rest done found in
-    (λ is. ap (take limit) (whole.0 is) ∙ front_of_none limit, λ none. whole.1 (front_none limit (parts_left byte rest) some none))
+-- whether no word is left, by how many are allowed
+pub none_left : (limit : ℕ) (text : List ℕ) (done : Bool) → nat_eq limit 0 ≡ done → IsTrue done ↔ (take limit (words text) ≡ [])
+none_left zero text true is = (λ _. refl, λ _. refl)
+none_left zero text false is = absurd (cc)
+none_left (suc limit) text true is = absurd (grind (arith, nat_tests, is))
+none_left (suc limit) text false is = (λ done. absurd (cc), λ none. absurd (parts_some space_byte text (front_none (suc limit) (words text) (omega arith) none)))
 
 -- the words so far, none of them a separator, and the words left are all
 pub record IsCut (whole : List (List ℕ)) (count : ℕ) (left : List (List ℕ)) : Type 0 where
@@ -101,7 +98,7 @@ without limit text none =
     (All-take (λ w. is_separator w ≡ false) limit (parts space_byte text) (All-weaker HasNone (λ w. is_separator w ≡ false) no_separator (parts space_byte text) (none_in_parts text none)))
 
 -- words of a text without a semicolon are one clause
-pub one_clause : (limit : ℕ) (rest : Option (Bor (List ℕ))) (text : Bor (List ℕ)) (has : Bool) → rest ≡ Some text → has ≡ list_any (λ b. b == semicolon) text.now → IsTrue (not has) →
-    clauses (take limit (parts_left space_byte rest)) ≡ take limit (parts_left space_byte rest) ∷ []
-one_clause limit rest text true is found none = absurd (cc)
-one_clause limit rest text false is found none = rw is (without limit text.now (sym found))
+pub one_clause : (limit : ℕ) (text : List ℕ) (has : Bool) → has ≡ list_any (λ b. b == semicolon) text → IsTrue (not has) →
+    clauses (take limit (words text)) ≡ take limit (words text) ∷ []
+one_clause limit text true found none = absurd (cc)
+one_clause limit text false found none = without limit text (sym found)

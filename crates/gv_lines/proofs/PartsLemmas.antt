@@ -1,24 +1,16 @@
 -- For callers: a text cut at its first such byte.
-use Rattle.std.proofs.Common.{◌≡◌, ℕ, ◌+◌, ◌<◌, ◌≤◌, List, [], ◌∷◌, Option, Some, None, Bool, true, false, cond, ◌==◌, length, take, drop, refl, ap, arith}
+use Rattle.std.proofs.Common.{◌≡◌, ℕ, ◌+◌, ◌<◌, ◌≤◌, List, [], ◌∷◌, Some, None, Bool, true, false, cond, ◌==◌, length, take, drop, refl, ap, arith}
 use Rattle.std.proofs.lemmas.Bool.{ltb-true, ltb-false}
 use Rattle.std.proofs.lemmas.Option.{cond_some}
 use Rattle.std.proofs.lemmas.List.Splits.{slice_split_first, length-slice_split}
 use Rattle.std.specs.List.{position, position_or_len, prefix_len, onto_first}
-use Rattle.std.specs.Prelude.{not, is_some, IsTrue, ◌↔◌}
-use Rattle.std.specs.Borrow.{Bor}
-use Rattle.gv_lines.specs.Words.{parts, parts_left}
+use Rattle.std.specs.Prelude.{not}
+use Rattle.gv_lines.specs.Words.{parts}
 
 -- a text in parts is never empty
 pub parts_some : (byte : ℕ) (text : List ℕ) → parts byte text ≡ [] → ⊥
 parts_some byte text none =
     let e = ap length none in omega (arith, length-slice_split (λ b. b == byte) text, e)
-
--- whether a line whose rest may be none has words left
-pub none_left : (byte : ℕ) (rest : Option (Bor (List ℕ))) (done : Bool) → is_some rest ≡ not done → IsTrue done ↔ (parts_left byte rest ≡ [])
-none_left byte None true found = (λ _. refl, λ _. refl)
-none_left byte None false found = absurd (cc)
-none_left byte (Some text) true found = absurd (cc)
-none_left byte (Some text) false found = (λ done. absurd (cc), λ none. absurd (parts_some byte text.now none))
 
 -- a text without that byte is one part
 uncut : (byte : ℕ) (text : List ℕ) → length text ≤ position_or_len (λ b. b == byte) text → parts byte text ≡ text ∷ []

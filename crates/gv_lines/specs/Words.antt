@@ -2,18 +2,12 @@
 use Rattle.std.specs.Prelude.{ℕ, ◌+◌, ◌-◌, ◌*◌, ◌^◌, Bool, false, not, ◌&&◌, ◌||◌, ◌==◌, nat_lt, nat_le, if◌then◌else◌, List, [], ◌∷◌, length, drop, Option, Some, None, codes, bytes_eq}
 use Rattle.std.specs.List.{slice_split, list_all, starts_with}
 use Rattle.std.specs.Char.{is_ascii_lowercase, is_ascii_digit}
-use Rattle.std.specs.Borrow.{Bor}
 use Rattle.gv_lines.specs.Chain.{◌>>=◌}
 use Rattle.gv_lines.specs.Hex.{number_limit, hex_digits}
 
 -- the parts of a text between the places of a byte
 abbrev pub parts : ℕ → List ℕ → List (List ℕ)
 parts byte text = slice_split (λ b. b == byte) text
-
--- what is left of a text behind its last cut, in parts
-abbrev pub parts_left : ℕ → Option (Bor (List ℕ)) → List (List ℕ)
-parts_left byte None = []
-parts_left byte (Some text) = parts byte text.now
 
 -- the byte of a space
 abbrev pub space_byte : ℕ

@@ -5,35 +5,21 @@ ghost use Rattle.gv_lines.specs.Cutting.{clauses_left};
 
 use super::words::Words;
 use std::marker::Model;
-use std::mem;
 
-/// The clauses of some words that are left.
+/// No clause is left.
+const NONE: usize = 0;
+
+/// One clause is left, as a look for a semicolon told: it is given without a walk over its words. Most lines have no other.
+const ONE: usize = 1;
+
+/// One clause is left, or more.
+const MORE: usize = 2;
+
+/// The clauses of some words that are left. How many is a number as wide as what stands beside it, as `Words` says why.
 #[derive(Drop, Debug)]
 pub struct Clauses<'a> {
-    left: Left<'a>,
-}
-
-/// What is left to be cut into clauses. A flag beside the words would say the same, but a byte with a gap behind it, in a value that
-/// each line is handed on by, is copied by parts that overlap and wait for one another: it took 25 ns of each line.
-#[derive(Drop, Debug)]
-pub enum Left<'a> {
-    Nothing,
-    /// One clause, as a look for a semicolon told: it is given without a walk over its words. Most lines have no other.
-    One(Words<'a>),
-    /// One clause or more.
-    More(Words<'a>),
-}
-
-impl<'a> Left<'a> {
-    fn again(&self) -> Left<'a>
-        ensures { clauses_left result ≡ clauses_left self.now }
-    {
-        match self {
-            Left::Nothing => Left::Nothing,
-            Left::One(words) => Left::One(words.again()),
-            Left::More(words) => Left::More(words.again()),
-        }
-    }
+    words: Words<'a>,
+    left: usize,
 }
 
 impl<'a> Model for Clauses<'a> {
@@ -42,7 +28,7 @@ impl<'a> Model for Clauses<'a> {
 
     ghost Value = { List (List (List ℕ)) };
 
-    ghost view = { λ clauses. clauses_left clauses.left };
+    ghost view = { λ clauses. clauses_left clauses.left clauses.words };
 }
 
 impl<'a> Clauses<'a> {
@@ -50,12 +36,8 @@ impl<'a> Clauses<'a> {
     pub fn new(words: Words<'a>) -> Self
         ensures { result ≡ clauses words.entry }
     {
-        let left = if words.are_one_clause() {
-            Left::One(words)
-        } else {
-            Left::More(words)
-        };
-        Clauses { left }
+        let left = if words.are_one_clause() { ONE } else { MORE };
+        Clauses { words, left }
     }
 
     /// No clause.
@@ -63,7 +45,8 @@ impl<'a> Clauses<'a> {
         ensures { result ≡ [] }
     {
         Clauses {
-            left: Left::Nothing,
+            words: Words::none(),
+            left: NONE,
         }
     }
 
@@ -72,7 +55,8 @@ impl<'a> Clauses<'a> {
         ensures { result ≡ self.now }
     {
         Clauses {
-            left: self.left.again(),
+            words: self.words.again(),
+            left: self.left,
         }
     }
 
@@ -82,14 +66,23 @@ impl<'a> Clauses<'a> {
         ensures { MatchOption result ((self.old ≡ []) × (self.new ≡ []))
             (λ clause. self.old ≡ clause ∷ self.new) }
     {
-        let words = match mem::replace(&mut self.left, Left::Nothing) {
-            Left::Nothing => return None,
-            Left::One(words) => return Some(words),
-            Left::More(words) => words,
-        };
+        if self.left == NONE {
+            return None;
+        }
+        let words = self.words.again();
+        if self.left == ONE {
+            self.left = NONE;
+            return Some(words);
+        }
         let (clause, rest) = words.split();
-        if let Some(more) = rest {
-            self.left = Left::More(more);
+        match rest {
+            Some(more) => {
+                *self = Clauses {
+                    words: more,
+                    left: MORE,
+                }
+            }
+            None => self.left = NONE,
         }
         Some(clause)
     }

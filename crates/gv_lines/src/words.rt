@@ -2,7 +2,7 @@
 ghost use Rattle.std.specs.Prelude.{◌≡◌, ◌∷◌, [], List, ℕ, None, Some, MatchOption, IsTrue, ◌↔◌};
 ghost use Rattle.std.specs.Prelude.{◌==◌, ◌<◌, length, position, IfSome};
 ghost use Rattle.std.specs.List.{list_any};
-ghost use Rattle.gv_lines.specs.Words.{words, clauses, parts, parts_left};
+ghost use Rattle.gv_lines.specs.Words.{words, clauses, parts};
 ghost use Rattle.gv_lines.specs.Words.{first_name, first_number, first_queue, queue_of};
 
 use super::name::Name;
@@ -12,20 +12,21 @@ use std::marker::Model;
 /// How many queues there are.
 pub const QUEUES: u64 = 16;
 
-/// Words that are left: those of the text, but no more than the limit.
+/// Words that are left: those of the text, but no more than the limit, which is 0 once the last one is taken. No flag says that:
+/// a line's value is copied from call to call, and a byte with a gap behind it would be copied by parts that wait for one another.
 #[derive(Drop, Debug)]
 pub struct Words<'a> {
-    rest: Option<&'a [u8]>,
+    rest: &'a [u8],
     limit: usize,
 }
 
 impl<'a> Model for Words<'a> {
     ghost use Rattle.std.specs.Prelude.{List, ℕ, take, ◌<◌, ◌^◌};
-    ghost use Rattle.gv_lines.specs.Words.{space_byte, parts_left};
+    ghost use Rattle.gv_lines.specs.Words.{words};
 
     ghost Value = { List (List ℕ) };
 
-    ghost view = { λ left. take left.limit (parts_left space_byte left.rest) };
+    ghost view = { λ left. take left.limit (words left.rest.now) };
 
     ghost invariant = { λ left. left.limit < 2 ^ 64 };
 }
@@ -36,8 +37,18 @@ impl<'a> Words<'a> {
         ensures { result ≡ words line.entry.now }
     {
         Words {
-            rest: Some(line),
+            rest: line,
             limit: line.len() + 1,
+        }
+    }
+
+    /// No word.
+    pub fn none() -> Self
+        ensures { result ≡ [] }
+    {
+        Words {
+            rest: &[],
+            limit: 0,
         }
     }
 
@@ -49,15 +60,15 @@ impl<'a> Words<'a> {
         if self.limit == 0 {
             return None;
         }
-        let text = self.rest?;
-        self.limit -= 1;
+        let text = self.rest;
         match split_once(text, b' ') {
             Some((word, rest)) => {
-                self.rest = Some(rest);
+                self.rest = rest;
+                self.limit -= 1;
                 Some(word)
             }
             None => {
-                self.rest = None;
+                self.limit = 0;
                 Some(text)
             }
         }
@@ -91,7 +102,7 @@ impl<'a> Words<'a> {
     pub fn is_done(&self) -> bool
         ensures { IsTrue result ↔ (self.now ≡ []) }
     {
-        self.limit == 0 || self.rest.is_none()
+        self.limit == 0
     }
 
     /// The same words.
@@ -108,10 +119,7 @@ impl<'a> Words<'a> {
     pub fn are_one_clause(&self) -> bool
         ensures { IsTrue result → clauses self.now ≡ self.now ∷ [] }
     {
-        match self.rest {
-            Some(text) => !has_byte(text, b';'),
-            None => true,
-        }
+        !has_byte(self.rest, b';')
     }
 
     /// The words before the first separator, and where there is one, those behind it.

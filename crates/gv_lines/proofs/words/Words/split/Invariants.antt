@@ -1,10 +1,10 @@
 use Rattle.std.proofs.Common.{length, take}
-use Rattle.gv_lines.specs.Words.{parts_left, space_byte}
+use Rattle.gv_lines.specs.Words.{words}
 use Rattle.gv_lines.proofs.Cuts.{IsCut}
 use Rattle.gv_lines.proofs.words.Words.split.Given as goal
 
 abbrev pub invariant-loop-word : goal.invariant-loop-word
-invariant-loop-word l = IsCut (take l.limit (parts_left space_byte l.rest)) l.before l.left
+invariant-loop-word l = IsCut (take l.limit (words l.rest)) l.before l.left
 
 abbrev pub decreases-loop-word : goal.decreases-loop-word
 decreases-loop-word l = length l.left
