@@ -44,7 +44,7 @@ extern "C" {
  *     say. Of an array only as many elements are written as is told; the others stay as they were.
  *   - VMBIND_OUT_OF_MEMORY is answered where malloc refused memory. All is as before and the call may be made again, but for
  *     vmbind_bind and vmbind_serve, where the outcome says whether the request stays on its queue. Of the calls that only look,
- *     vmbind_plan alone takes memory.
+ *     vmbind_plan and vmbind_past alone take memory.
  *   - It calls nothing back, starts no thread, takes no lock, never aborts, and writes to no stream or file. Memory comes from
  *     malloc and goes to free. Two handles share nothing, so calls on them may run at once.
  */
@@ -347,6 +347,25 @@ struct vmbind_mapping {
  * many were written, and *total how many there are. */
 vmbind_status vmbind_mappings(struct vmbind_vm *vm, uint64_t from, struct vmbind_mapping *list, size_t room, uint64_t *count,
                               uint64_t *total);
+
+/* What an entry that is held says of an address: by the last of its operations that covers the page. `withdrawn` is 1 where a later
+ * entry withdraws it, else 0; `place` is where the address leads by that operation, with `run` 0, and of the kind VMBIND_NOTHING
+ * where that is an unmap. `reserved` is 0. */
+struct vmbind_past_entry {
+  uint64_t entry;
+  uint32_t withdrawn, reserved;
+  struct vmbind_translation place;
+};
+
+/* What the entries that are held say of an address, in bytes: those with an operation that covers its page, the newest first. As
+ * many are written as `list` has room for, from the one with the number `from` on, which counts these alone. *count is how many
+ * were written, and *total how many there are. Nothing is taken back. Each call goes through all entries that are held.
+ *   VMBIND_OUT_OF_MEMORY  only where there are some */
+vmbind_status vmbind_past(struct vmbind_vm *vm, uint64_t address, uint64_t from, struct vmbind_past_entry *list, size_t room,
+                          uint64_t *count, uint64_t *total);
+
+/* Where an address leads by what lies under the oldest entry that is held: once all of them were taken back. `run` is 0. */
+vmbind_status vmbind_base(struct vmbind_vm *vm, uint64_t address, struct vmbind_translation *translation);
 
 /* How many tables the page table has: tables[0] at the top level 4, down to tables[4] at level 0. */
 struct vmbind_table_counts { uint64_t tables[5]; };

@@ -21,6 +21,7 @@ static void on_empty(struct vmbind_vm *vm) {
   struct vmbind_request request = asks(0, &op, 1);
   struct vmbind_translation translation, translations[2];
   struct vmbind_mapping mappings[2];
+  struct vmbind_past_entry past[2];
   struct vmbind_table_counts counts;
   struct vmbind_step steps[2];
   struct vmbind_entry_info info;
@@ -52,6 +53,9 @@ static void on_empty(struct vmbind_vm *vm) {
   CHECK(is_stale(translations, sizeof translations));
   SPOIL(mappings); SPOIL(a); SPOIL(b); CALL(NO_VM, mappings, vm, 0, mappings, 2, &a, &b); ZERO(a); ZERO(b);
   CHECK(is_stale(mappings, sizeof mappings));
+  SPOIL(past); SPOIL(a); SPOIL(b); CALL(NO_VM, past, vm, 0, 0, past, 2, &a, &b); ZERO(a); ZERO(b);
+  CHECK(is_stale(past, sizeof past));
+  SPOIL(translation); CALL(NO_VM, base, vm, 0, &translation); ZERO(translation);
   SPOIL(counts); CALL(NO_VM, tables, vm, &counts); ZERO(counts);
   op.kind = 77;
   SPOIL(steps); SPOIL(a); SPOIL(b); CALL(NO_VM, plan, vm, &op, steps, 2, &a, &b); ZERO(a); ZERO(b);
@@ -608,6 +612,58 @@ static void names(void) {
   CHECK(VMBIND_VERSION == VMBIND_VERSION_MAJOR * 10000 + VMBIND_VERSION_MINOR * 100 + VMBIND_VERSION_PATCH);
 }
 
+/* What entries say of an address, and what lies under them. */
+static void asking_the_past(void) {
+  struct vmbind_vm vm = made(greatest);
+  struct vmbind_buffer b;
+  struct vmbind_outcome o;
+  struct vmbind_translation t;
+  struct vmbind_past_entry past[4];
+  uint64_t n, count, total;
+  CALL(OK, buffer_create, &vm, 4, &b);
+  struct vmbind_op all = map(0, 4 * PAGE, b, 0), rows[3] = { all, unmap(PAGE, PAGE), map_zero(PAGE, PAGE) };
+  rows[2].flags = VMBIND_READ_ONLY;
+  CALL(OK, past, &vm, 0, 0, NULL, 0, &count, &total);
+  CHECK(count == 0 && total == 0);
+  for (int k = 0; k < 3; k++) {
+    struct vmbind_request request = asks(0, &rows[k], 1);
+    CALL(OK, bind, &vm, &request, &o);
+  }
+  CALL(OK, withdraw, &vm, 2, &n);
+  const struct vmbind_past_entry wanted[3] = {
+    { 2, 1, 0, { VMBIND_ZEROS, VMBIND_READ_ONLY, 0, { 0, 0, 0 }, 0 } },
+    { 1, 0, 0, { VMBIND_NOTHING, 0, 0, { 0, 0, 0 }, 0 } },
+    { 0, 0, 0, { VMBIND_BUFFER, 0, 0, b, 0x1abc } },
+  };
+  SPOIL(past);
+  CALL(OK, past, &vm, 0x1abc, 0, past, 4, &count, &total);
+  CHECK(count == 3 && total == 3 && !memcmp(past, wanted, sizeof wanted) && is_stale(past + 3, sizeof *past));
+  SPOIL(past);
+  CALL(OK, past, &vm, 0x1abc, 1, past, 1, &count, &total);
+  CHECK(count == 1 && total == 3 && !memcmp(past, wanted + 1, sizeof *past) && is_stale(past + 1, 3 * sizeof *past));
+  CALL(OK, past, &vm, 0x1abc, 2, past, 4, &count, &total);
+  CHECK(count == 1 && total == 3 && past[0].entry == 0);
+  CALL(OK, past, &vm, 0x1abc, 3, past, 4, &count, &total);
+  CHECK(count == 0 && total == 3);
+  CALL(OK, past, &vm, 0x1abc, UINT64_MAX, NULL, 0, &count, &total);
+  CHECK(count == 0 && total == 3);
+  CALL(OK, past, &vm, 0x2000, 0, past, 4, &count, &total);
+  CHECK(count == 1 && total == 1 && past[0].entry == 0 && past[0].place.byte == 0x2000);
+  CALL(OK, past, &vm, UINT64_C(1) << 57, 0, past, 4, &count, &total);
+  CHECK(count == 0 && total == 0);
+  SPOIL(t);
+  CALL(OK, base, &vm, 0x1abc, &t);
+  CHECK(is_zero(&t, sizeof t));
+  CALL(OK, settle, &vm, 1, &n);
+  CALL(OK, base, &vm, 0x1abc, &t);
+  CHECK(!memcmp(&t, &wanted[2].place, sizeof t));
+  CALL(OK, past, &vm, 0x1abc, 0, past, 4, &count, &total);
+  CHECK(count == 2 && total == 2 && !memcmp(past, wanted, 2 * sizeof *past));
+  CALL(OK, base, &vm, UINT64_MAX, &t);
+  CHECK(is_zero(&t, sizeof t));
+  CALL(OK, destroy, &vm);
+}
+
 int main(void) {
   handles();
   configs();
@@ -615,6 +671,7 @@ int main(void) {
   picture();
   queues();
   going_back();
+  asking_the_past();
   buffers_and_jobs();
   names();
   /* FUNCTIONS: how many the header declares */

@@ -75,25 +75,28 @@ static void look(struct vmbind_vm *vm, struct seen *s) {
     struct vmbind_translation t;
     CALL(OK, translate, vm, s->list[k].start, &t);
     CHECK(t.kind == s->list[k].kind && t.run == s->list[k].size);
+    CALL(OK, base, vm, s->list[k].start, &t);
   }
   CHECK(asked == before);   /* looking takes no memory */
 }
 
-enum doing { MAKE, BIND, PUT, SERVE, GIVE_UP, RAISE, REWIND, WITHDRAW, SETTLE, JOB, END, PLAN, DESTROY, DOINGS };
+enum doing { MAKE, BIND, PUT, SERVE, GIVE_UP, RAISE, REWIND, WITHDRAW, SETTLE, JOB, END, PLAN, PAST, DESTROY, DOINGS };
 
 /* Which may want memory. */
-static const char grows[DOINGS] = { [MAKE] = 1, [BIND] = 1, [PUT] = 1, [SERVE] = 1, [GIVE_UP] = 1, [WITHDRAW] = 1, [JOB] = 1, [PLAN] = 1 };
+static const char grows[DOINGS] = { [MAKE] = 1, [BIND] = 1, [PUT] = 1, [SERVE] = 1, [GIVE_UP] = 1, [WITHDRAW] = 1, [JOB] = 1, [PLAN] = 1, [PAST] = 1 };
 static char lacked[DOINGS], left_as[5];   /* and what a bind then was told */
 
 struct row { enum doing doing; uint64_t a, b; vmbind_status wanted; };
 
-/* BIND and PUT are of request `a` on queue `b`, which SERVE and GIVE_UP name too. MAKE makes buffer `a` of `b` pages. */
+/* BIND and PUT are of request `a` on queue `b`, which SERVE and GIVE_UP name too. MAKE makes buffer `a` of `b` pages. PAST lists
+ * `b` entries of address `a`. */
 static const struct row rows[] = {
   { MAKE, 0, 4096, VMBIND_OK }, { MAKE, 1, 600, VMBIND_OK }, { MAKE, 2, 4, VMBIND_OK }, { MAKE, 3, 4, VMBIND_OK },
   { MAKE, 4, 4, VMBIND_OK }, { MAKE, 5, 4, VMBIND_OK }, { MAKE, 6, 4, VMBIND_OK }, { MAKE, 7, 4, VMBIND_OK },
   { MAKE, 8, 4, VMBIND_OK }, { MAKE, 9, 4, VMBIND_OK },
   { BIND, 0, 0, VMBIND_OK }, { BIND, 1, 0, VMBIND_OK }, { BIND, 2, 0, VMBIND_OK }, { BIND, 3, 0, VMBIND_OK },
   { BIND, 4, 0, VMBIND_OK }, { BIND, 5, 0, VMBIND_OUT_OF_BUFFER }, { PLAN, 0x20000000, 0x200000, VMBIND_OK },
+  { PAST, 0x1000, 3, VMBIND_OK },
   { JOB, 0x1000, 0x20000000, VMBIND_OK }, { JOB, 0x2000, 0x5000, VMBIND_OK }, { BIND, 6, 0, VMBIND_OK },
   { WITHDRAW, 2, 0, VMBIND_OK }, { WITHDRAW, 0, 0, VMBIND_TOUCHED }, { REWIND, 6, 0, VMBIND_OK },
   { WITHDRAW, 3, 0, VMBIND_OK },
@@ -151,6 +154,7 @@ static vmbind_status once(struct vmbind_vm *vm, const struct row *row, struct vm
   struct vmbind_access accesses[2] = { { row->a, VMBIND_READ, 0 }, { row->b, VMBIND_READ, 0 } };
   struct vmbind_op op = map(row->a, row->b, buffer[0], 0);
   struct vmbind_step steps[4];
+  struct vmbind_past_entry past[4];
   uint64_t n, m;
   vmbind_status status;
   memset(outcome, 0, sizeof *outcome);
@@ -166,6 +170,10 @@ static vmbind_status once(struct vmbind_vm *vm, const struct row *row, struct vm
     case JOB: return vmbind_job_begin(vm, accesses, 2, &n);
     case END: return vmbind_job_end(vm, row->a);
     case PLAN: return vmbind_plan(vm, &op, steps, 4, &n, &m);
+    case PAST:
+      status = vmbind_past(vm, row->a, 0, past, 4, &n, &m);
+      CHECK(n == m && m == (status ? 0 : row->b));
+      return status;
     case DESTROY: return vmbind_buffer_destroy(vm, buffer[row->a], &n);
     default: return VMBIND_BAD_ARGUMENT;
   }

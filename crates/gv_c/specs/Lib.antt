@@ -7,3 +7,4 @@ pub mod Reading
 pub mod Lists
 pub mod Binding
 pub mod Entries
+pub mod Past

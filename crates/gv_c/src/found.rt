@@ -166,7 +166,7 @@ impl ListedMapping {
 }
 
 /// 1 where it is so, else 0.
-fn bit(is: bool) -> u32
+pub fn bit(is: bool) -> u32
     ensures { result ≡ bit is }
 {
     if is { 1 } else { 0 }

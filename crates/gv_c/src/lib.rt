@@ -14,6 +14,7 @@ mod lists;
 mod loose;
 mod making;
 mod outcome;
+mod past;
 mod reading;
 mod request;
 mod status;

@@ -1,7 +1,7 @@
 //! Calls that write lists, and change nothing.
-ghost use Rattle.std.specs.Prelude.{◌≡◌, ◌-◌, map, min, length};
+ghost use Rattle.std.specs.Prelude.{◌≡◌, ◌-◌, ◌≤◌, map, min, length};
 ghost use Rattle.gv_space.specs.Refusal.{operation_fault};
-ghost use Rattle.gv_c.specs.Lists.{IsTold, AreListed, IsPlanned, ArePlanned, IsWritten, numbered};
+ghost use Rattle.gv_c.specs.Lists.{IsTold, AreListed, IsPlanned, ArePlanned, IsWritten, numbered, written_over};
 ghost use Rattle.gv_c.specs.Values.{c_mapping, c_step};
 
 use crate::found::{ListedMapping, SplitStep};
@@ -9,7 +9,7 @@ use crate::handle::Handle;
 use crate::outcome::RequestOutcome;
 use crate::status::{BAD_ARGUMENT, NO_VM, OK, of};
 use crate::values::Operation;
-use gv_ranges::RangeList;
+use gv_ranges::{RangeList, Run};
 use gv_split::Step;
 use gv_types::Op;
 use gv_vm::{Outcome, QUEUES, Vm};
@@ -93,34 +93,34 @@ pub extern "C" fn vmbind_plan(
         vm.put(held);
         return BAD_ARGUMENT;
     };
-    let planned = write_plan(alloc, held.world.vm(), &op, list);
+    let listing = write_plan(alloc, held.world.vm(), &op, list);
     vm.put(held);
-    *count = planned.count;
-    *total = planned.total;
-    planned.status
+    *count = listing.count;
+    *total = listing.total;
+    listing.status
 }
 
 /// A status, how many were written, and how many there are.
 #[derive(Clone, Copy)]
-struct Planned {
-    status: u32,
-    count: u64,
-    total: u64,
+pub struct Listing {
+    pub status: u32,
+    pub count: u64,
+    pub total: u64,
 }
 
-fn write_plan(alloc: Global, vm: &Vm, op: &Op, list: &mut [SplitStep]) -> Planned
+fn write_plan(alloc: Global, vm: &Vm, op: &Op, list: &mut [SplitStep]) -> Listing
     ensures { ArePlanned vm.now.space op.now (operation_fault vm.now.space op.now) list.old result.status list.new result.count result.total }
 {
     match vm.plan(alloc, op) {
         Ok(steps) => {
             let all = steps.as_slice();
-            Planned {
+            Listing {
                 status: OK,
                 count: write_steps(list, all),
                 total: all.len() as u64,
             }
         }
-        Err(fault) => Planned {
+        Err(fault) => Listing {
             status: of(fault),
             count: 0,
             total: 0,
@@ -152,10 +152,23 @@ fn write_mappings(list: &mut [ListedMapping], mappings: &RangeList, from: u64) -
     ensures { IsWritten (map c_mapping mappings.now.mappings) from list.old list.new result (length mappings.now.mappings) }
 {
     let count = fitting(list.len(), mappings.len(), from);
-    for k in 0..count {
-        list[k] = ListedMapping::of(mappings.get(from as usize + k));
+    if count == 0 {
+        return 0;
     }
+    write_run(list, mappings.run(from as usize, count));
     count as u64
+}
+
+/// Writes the mappings of a run, one after another, for which there is room.
+fn write_run(list: &mut [ListedMapping], run: Run<'_>)
+    requires { length run ≤ length list.old }
+    ensures { list.new ≡ written_over list.old (map c_mapping run.entry) }
+{
+    let mut k = 0;
+    for mapping in run {
+        list[k] = ListedMapping::of(mapping);
+        k += 1;
+    }
 }
 
 fn write_steps(list: &mut [SplitStep], steps: &[Step]) -> u64

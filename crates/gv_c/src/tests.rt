@@ -2,14 +2,15 @@
 use crate::binding::{vmbind_bind, vmbind_serve, vmbind_submit};
 use crate::entry::{EntryInfo, vmbind_entry};
 use crate::events::{
-    vmbind_buffer_create, vmbind_buffer_destroy, vmbind_rewind, vmbind_timeline_raise,
-    vmbind_withdraw,
+    vmbind_buffer_create, vmbind_buffer_destroy, vmbind_rewind, vmbind_settle,
+    vmbind_timeline_raise, vmbind_withdraw,
 };
 use crate::found::{ListedMapping, Translation};
 use crate::handle::Handle;
 use crate::lists::vmbind_mappings;
 use crate::making::{vmbind_create, vmbind_destroy};
 use crate::outcome::{ACCEPTED, GIVEN_UP, PENDING, REFUSED, RequestOutcome};
+use crate::past::{PastEntry, vmbind_base, vmbind_past};
 use crate::reading::vmbind_translate;
 use crate::values::{BindRequest, Buffer, Config, MAP, Operation, SyncPoint};
 use std::test::Fail;
@@ -201,5 +202,51 @@ fn lists_are_written_as_far_as_there_is_room(rt: HostRuntime) -> Result<(), Fail
     assert_eq!(rt; (shown, seen), (0, (1, 1, 2, 1)));
     let none = vmbind_entry(alloc, vm, 2, &mut info, asked, &mut count);
     assert_eq!(rt; (none, info.kind, count), (17, 0, 0));
+    Ok(())
+}
+
+#[test]
+fn entries_say_what_an_address_was(rt: HostRuntime) -> Result<(), Fail> {
+    let alloc = rt.alloc();
+    let vm = &mut Handle::none(alloc);
+    let mut buffer = Buffer::none();
+    let mut at = Translation::of(None, 0);
+    assert_eq!(rt; vmbind_base(alloc, vm, 0, &mut at), 65);
+    assert_eq!(rt; vmbind_create(alloc, vm, &CONFIG), 0);
+    assert_eq!(rt; vmbind_buffer_create(alloc, vm, 4, &mut buffer), 0);
+    let unmap = Operation {
+        kind: 3,
+        ..map(buffer)
+    };
+    let mut outcome = RequestOutcome::none();
+    for op in [map(buffer), unmap] {
+        let request = BindRequest {
+            queue: 0,
+            ops: &[op],
+            waits: &[],
+            signals: &[],
+        };
+        assert_eq!(rt; vmbind_bind(alloc, vm, &request, &mut outcome), 0);
+    }
+    let mut number = 0;
+    assert_eq!(rt; vmbind_withdraw(alloc, vm, 1, &mut number), 0);
+    let (mut count, mut total) = (0, 0);
+    let list = &mut [PastEntry {
+        entry: 9,
+        withdrawn: 9,
+        reserved: 9,
+        place: at,
+    }; 3];
+    let said = vmbind_past(alloc, vm, 0x4abc, 0, list, &mut count, &mut total);
+    assert_eq!(rt; (said, count, total), (0, 2, 2));
+    let newest = (list[0].entry, list[0].withdrawn, list[0].place.kind);
+    assert_eq!(rt; newest, (1, 1, 0));
+    let oldest = (list[1].entry, list[1].withdrawn, list[1].place.byte);
+    assert_eq!(rt; oldest, (0, 0, 0xabc));
+    let said = vmbind_past(alloc, vm, 0x4abc, 1, list, &mut count, &mut total);
+    assert_eq!(rt; (said, count, total, list[0].entry), (0, 1, 2, 0));
+    let settled = vmbind_settle(alloc, vm, 1, &mut number);
+    let under = vmbind_base(alloc, vm, 0x4abc, &mut at);
+    assert_eq!(rt; (settled, under, at.byte, at.run), (0, 0, 0xabc, 0));
     Ok(())
 }

@@ -1,39 +1,39 @@
-use Rattle.std.proofs.Common.{◌≡◌, ℕ, ◌+◌, length, map, drop, refl, sym, ap, ◌∙◌, arith}
+use Rattle.std.proofs.Common.{◌≡◌, List, length, map, take, drop, sym, ap, ◌∙◌, arith}
 use Rattle.std.specs.Prelude.{min}
-use Rattle.std.proofs.lemmas.List.{length-set, length-map, length-drop}
+use Rattle.std.proofs.lemmas.List.{length-map, length-drop, take-map, drop-map}
+use Rattle.gv_types.specs.declared.mapping.Mapping.{Mapping}
+use Rattle.gv_c.specs.Lists.{written_over}
 use Rattle.gv_c.specs.Values.{c_mapping}
-use Rattle.gv_c.proofs.Written.{over_nil, over_all, at_map, write_one}
+use Rattle.gv_c.proofs.Written.{over_nil, over_all}
 use Rattle.gv_c.proofs.lists.write_mappings.Goals as goal
 
-pub loop-k-init : goal.loop-k-init
-loop-k-init c = record { long = refl; is = sym (over_nil c.args.list.now) }
-
-pub loop-k-preserved : goal.loop-k-preserved
-loop-k-preserved c =
-    let ms = c.args.mappings.now.mappings in
-    let all = map c_mapping ms in
-    let from = c.args.from in
-    let k = c.loop-k.k in
-    let long = length-map ms c_mapping in
-    let left = length-drop from all in
+pub returns-then-count-eq0 : goal.returns-then-count-eq0
+returns-then-count-eq0 c =
+    let all = map c_mapping c.args.mappings.now.mappings in
+    let many = length-map c.args.mappings.now.mappings c_mapping in
+    let left = length-drop c.args.from all in
+    let none : 0 ≡ min (length c.args.list.now) (length (drop c.args.from all)) =
+    omega (arith, c.if-count-eq0.true, c.fitting-count.ensures, c.len.ensures.len, many, left) in
     record {
-      long = length-set c.loop-k.list k c.of.result ∙ c.loop-k.invariant.long;
-      is =
-          write_one c.args.list.now c.loop-k.list all from k c.of.result c.loop-k.invariant.is
-          (omega (arith, c.fitting-count.ensures, c.loop-k.invariant.long)) (omega (arith, c.fitting-count.ensures, c.len.ensures.len, long, left))
-          (c.of.ensures ∙ ap c_mapping (c.get.ensures c.get.result.now) ∙ sym (at_map c_mapping ms (from + k) c.of.result c.get.result.now (omega (arith, c.fitting-count.ensures, c.len.ensures.len))));
+      list = sym (over_nil c.args.list.now) ∙ over_all c.args.list.now (drop c.args.from all) 0 none;
+      written = none;
+      in_all = sym many;
     }
 
 pub returns : goal.returns
 returns c =
     let ms = c.args.mappings.now.mappings in
     let all = map c_mapping ms in
-    let long = length-map ms c_mapping in
-    let left = length-drop c.args.from all in
-    let count : c.fitting-count.result ≡ min (length c.args.list.now) (length (drop c.args.from all)) =
-    c.fitting-count.ensures ∙ ap (λ (n : ℕ). min (length c.args.list.now) n) (omega (arith, c.len.ensures.len, long, left)) in
+    let from = c.args.from in
+    let n = c.fitting-count.result in
+    let many = length-map ms c_mapping in
+    let left = length-drop from all in
+    let count : n ≡ min (length c.args.list.now) (length (drop from all)) = omega (arith, c.fitting-count.ensures, c.len.ensures.len, many, left) in
+    let taken : map c_mapping c.run.result ≡ take n (drop from all) =
+    ap (λ (xs : List Mapping). map c_mapping xs) c.run.ensures ∙ sym (take-map c_mapping n (drop from ms))
+    ∙ ap (λ (xs : List _). take n xs) (sym (drop-map c_mapping from ms)) in
     record {
-      list = c.loop-k.invariant.is ∙ over_all c.args.list.now (drop c.args.from all) c.loop-k.k (let e : c.loop-k.k ≡ c.fitting-count.result = omega arith in e ∙ count);
+      list = c.write_run.ensures ∙ ap (λ (xs : List _). written_over c.args.list.now xs) taken ∙ over_all c.args.list.now (drop from all) n count;
       written = count;
-      in_all = sym long;
+      in_all = sym many;
     }
