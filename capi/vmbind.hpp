@@ -28,6 +28,7 @@ using outcome = vmbind_outcome;
 using translation = vmbind_translation;
 using mapping = vmbind_mapping;
 using step = vmbind_step;
+using past_entry = vmbind_past_entry;
 using access = vmbind_access;
 using config = vmbind_config;
 
@@ -227,6 +228,17 @@ public:
     return listed<mapping>([&](mapping *list, std::size_t room, std::uint64_t *count, std::uint64_t *total) {
       return vmbind_mappings(&vm_, 0, list, room, count, total);
     });
+  }
+  // What the entries that are held say of an address, the newest first, and where it leads by what lies under them all.
+  std::vector<past_entry> past(std::uint64_t address) const {
+    return listed<past_entry>([&](past_entry *list, std::size_t room, std::uint64_t *count, std::uint64_t *total) {
+      return vmbind_past(&vm_, address, 0, list, room, count, total);
+    });
+  }
+  vmbind::translation base(std::uint64_t address) const {
+    vmbind::translation found{};
+    ok(vmbind_base(&vm_, address, &found));
+    return found;
   }
   std::array<std::uint64_t, 5> tables() const {   // of the levels 4, 3, 2, 1 and 0
     vmbind_table_counts found{};

@@ -54,6 +54,8 @@ static void calls() {
   CHECK(vm.plan(vmbind::unmap(0, 0x1000)).size() == 1 && vm.plan(vmbind::unmap(0x1000, 0x1000)).empty());
   CHECK(vm.journal().first == 0 && vm.journal().second == 2 && vm.entry(1).ops.size() == 2 && vm.entry(1).info.queue == 3);
   CHECK(vm.entry(1).ops[1].kind == VMBIND_UNMAP && vm.told(3).size() == 1 && vm.told(3)[0].entry == 1 && vm.told(4).empty());
+  CHECK(vm.past(0x1abc).size() == 2 && vm.past(0x1abc)[0].entry == 1 && vm.past(0x1abc)[0].place.kind == VMBIND_NOTHING);
+  CHECK(vm.past(0x1abc)[1].place.byte == 0x1abc && vm.past(0x4000).empty() && vm.base(0x1abc).kind == VMBIND_NOTHING);
   // refused: at its second operation, and in hand
   const vmbind::refused it = thrown([&] { vm.bind({vmbind::unmap(0, 0x1000), vmbind::map(0, 0x5000, b)}); });
   CHECK(it.status == VMBIND_OUT_OF_BUFFER && it.told.op == 1 && it.told.kind == VMBIND_REFUSED);
