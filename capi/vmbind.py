@@ -13,7 +13,7 @@ the loader.
 """
 import ctypes as c
 import os
-from collections import namedtuple
+from typing import Any, Dict, Iterable, Iterator, List, NamedTuple, Optional, Sequence, Tuple, Type, Union
 
 OK, BAD_ARGUMENT, NO_VM, NOT_NULL, IDLE, NOT_READY = 0, 64, 65, 66, 67, 68
 NAMES = {
@@ -34,7 +34,7 @@ _u32, _u64, _size, _address_of = c.c_uint32, c.c_uint64, c.c_size_t, c.addressof
 _MOST = (1 << 64) - 1
 
 
-def _number(it):
+def _number(it: int) -> int:
     """A number of 64 bits. ctypes would cut a greater one off in silence."""
     if not 0 <= it < 1 << 64:
         raise ValueError(f"not a number of 64 bits: {it}")
@@ -44,16 +44,16 @@ def _number(it):
 class _Value(c.Structure):
     """A structure that is compared and shown by its fields."""
 
-    def _fields_of(self):
+    def _fields_of(self) -> Tuple[Any, ...]:
         return tuple(getattr(self, name) for name, *_ in self._fields_)
 
-    def __eq__(self, other):
+    def __eq__(self, other: object) -> bool:
         return type(self) is type(other) and bytes(self) == bytes(other)
 
-    def __hash__(self):
+    def __hash__(self) -> int:
         return hash(bytes(self))
 
-    def __repr__(self):
+    def __repr__(self) -> str:
         return f"{type(self).__name__}({', '.join(f'{n}={getattr(self, n)!r}' for n, *_ in self._fields_)})"
 
 
@@ -68,58 +68,108 @@ class _Config(c.Structure):
 
 class Buffer(_Value):
     """A buffer's id."""
+    generation: int
+    index: int
+    made: int
     _fields_ = [("generation", _u64), ("index", _u32), ("made", _u32)]
 
 
 class Op(_Value):
     """An operation: see Map, MapZero, Unmap and UnmapAll."""
+    kind: int
+    flags: int
+    start: int
+    size: int
+    buffer: Buffer
+    offset: int
     _fields_ = [("kind", _u32), ("flags", _u32), ("start", _u64), ("size", _u64), ("buffer", Buffer), ("offset", _u64)]
 
 
 class Point(_Value):
     """A number on a timeline."""
+    timeline: int
+    value: int
     _fields_ = [("timeline", _u64), ("value", _u64)]
 
 
+# A request's points: each a Point, or a pair of a timeline and a value.
+Points = Iterable[Union[Point, Tuple[int, int]]]
+
+
 class _Request(c.Structure):
+    lists: Any
     _fields_ = [("queue", _u64), ("ops", c.c_void_p), ("op_count", _size), ("waits", c.c_void_p), ("wait_count", _size),
                 ("signals", c.c_void_p), ("signal_count", _size)]
 
 
 class Outcome(_Value):
     """What became of a request."""
+    kind: int
+    fault: int
+    number: int
+    entry: int
+    op: int
+    carried: int
+    point: Point
+    have: int
     _fields_ = [("kind", _u32), ("fault", _u32), ("number", _u64), ("entry", _u64), ("op", _u64), ("carried", _u64),
                 ("point", Point), ("have", _u64)]
 
 
 class _Backed(_Value):
     """What has a kind and flags. It is true where something stands behind it."""
+    kind: int
+    flags: int
 
-    def __bool__(self):
+    def __bool__(self) -> bool:
         return self.kind != NOTHING
 
     @property
-    def read_only(self):
+    def read_only(self) -> bool:
         return self.flags == 1
 
 
 class Translation(_Backed):
     """Where an address leads. It is true where something is mapped."""
+    run: int
+    buffer: Buffer
+    byte: int
     _fields_ = [("kind", _u32), ("flags", _u32), ("run", _u64), ("buffer", Buffer), ("byte", _u64)]
 
 
 class Mapping(_Backed):
     """A mapping of the list. It is true where it is one."""
+    start: int
+    size: int
+    buffer: Buffer
+    offset: int
     _fields_ = [("kind", _u32), ("flags", _u32), ("start", _u64), ("size", _u64), ("buffer", Buffer), ("offset", _u64)]
 
 
 class Step(_Value):
     """A step of an operation's plan."""
+    kind: int
+    keep: int
+    mapping: Mapping
+    prev: Mapping
+    next: Mapping
     _fields_ = [("kind", _u32), ("keep", _u32), ("mapping", Mapping), ("prev", Mapping), ("next", Mapping)]
+
+
+class PastEntry(_Value):
+    """What an entry says of an address: its number, whether a later entry withdraws it, and where the address leads by it."""
+    entry: int
+    withdrawn: int
+    reserved: int
+    place: Translation
+    _fields_ = [("entry", _u64), ("withdrawn", _u32), ("reserved", _u32), ("place", Translation)]
 
 
 class Uses(_Value):
     """A buffer's pages, and how many mappings of it are in the list and kept."""
+    pages: int
+    mapped: int
+    kept: int
     _fields_ = [("pages", _u64), ("mapped", _u64), ("kept", _u64)]
 
 
@@ -135,15 +185,30 @@ class _Info(c.Structure):
     _fields_ = [("kind", _u32), ("withdrawn", _u32), ("queue", _u64), ("number", _u64), ("ops", _u64), ("of", _u64)]
 
 
-# An entry of the journal. `ops` are a request's operations; a withdrawal has None there, and `of` is what it withdraws.
-Entry = namedtuple("Entry", "entry queue number withdrawn ops of")
+class Entry(NamedTuple):
+    """An entry of the journal. `ops` are a request's operations; a withdrawal has None there, and `of` is what it withdraws."""
+    entry: int
+    queue: Optional[int]
+    number: Optional[int]
+    withdrawn: bool
+    ops: Optional[List["Op"]]
+    of: Optional[int]
 
 
 class Refused(Exception):
-    """A call was refused. `fault` is its status, `name` that status's name, `op` the operation of a request that has the fault
-    (None where there is none), `n` the number that the fault carries (0: none), `outcome` what a request was told."""
+    """A call was refused: each fault below is a class of its own. `fault` is its status, `name` that status's name, `op` the operation of
+    a request that has the fault (None where there is none), `n` the number that the fault carries (0: none), `outcome` what a
+    request was told."""
+    fault: int
+    name: str
+    op: Optional[int]
+    n: int
+    outcome: Optional[Outcome]
 
-    def __init__(self, fault, op=None, n=0, outcome=None):
+    def __new__(cls, fault: object = None, *_: object, **__: object) -> "Refused":
+        return super().__new__(_KINDS.get(fault, cls) if cls is Refused else cls)
+
+    def __init__(self, fault: int, op: Optional[int] = None, n: int = 0, outcome: Optional[Outcome] = None) -> None:
         self.fault, self.op, self.n, self.outcome = fault, op, n, outcome
         self.name = NAMES.get(fault, "Unknown")
         super().__init__(self.name + (f" {n}" if n else "") + ("" if op is None else f" at operation {op}"))
@@ -151,13 +216,55 @@ class Refused(Exception):
 
 class NotReady(Refused):
     """A request stays on its queue, or was given up (outcome.kind), since `point` isn't reached: its timeline is at `have`."""
+    point: Point
+    have: int
+    outcome: Outcome
 
-    def __init__(self, outcome):
+    def __init__(self, outcome: Outcome) -> None:
         super().__init__(NOT_READY, outcome=outcome)
         self.point, self.have = outcome.point, outcome.have
 
 
-def _load():
+# The faults, by the names of their statuses.
+class Unaligned(Refused): """The address, the size or the offset is no multiple of 4,096."""
+class Empty(Refused): """The size is 0."""
+class OutOfSpace(Refused): """A page is outside the address space."""
+class Reserved(Refused): """A page is in the reserved region."""
+class NoBuffer(Refused): """The id is of no buffer, or the buffer was destroyed."""
+class OutOfBuffer(Refused): """The offset plus the size is past the buffer's end."""
+class BadSize(Refused): """A buffer of no page, or of over 2^36."""
+class TooManyBuffers(Refused): """As many buffers live as the limit says."""
+class Mapped(Refused): """`n` mappings of the buffer are in the list."""
+class Kept(Refused): """`n` mappings of the buffer are kept, so that entries can be taken back."""
+class InUse(Refused): """`n` running jobs use the buffer."""
+class Conflict(Refused): """Job `n` uses the buffer, and one of the two writes it."""
+class TooManyMappings(Refused): """The list would pass its limit."""
+class TooManyOps(Refused): """A request of over 256 operations."""
+class JournalFull(Refused): """The journal holds as many entries as the limit says."""
+class NoEntry(Refused): """The journal holds no such entry."""
+class NotABind(Refused): """The entry is a withdrawal."""
+class Withdrawn(Refused): """The entry is withdrawn already."""
+class Touched(Refused): """The live later entry `n` covers one of its pages."""
+class Crossed(Refused): """The later entry `n` withdraws one that would be settled."""
+class OutOfTurn(Refused): """Never raised here: a fault of the library's own users."""
+class QueueSpent(Refused): """The queue takes no request any more."""
+class Unmapped(Refused): """Access `n` is of a page that holds nothing."""
+class WriteToReadOnly(Refused): """Access `n` writes a page that is read-only."""
+class QueueFull(Refused): """As many requests wait on the queue as it has places."""
+class TooManyJobs(Refused): """1,024 jobs run."""
+class TooManyAccesses(Refused): """A job of over 256 accesses."""
+class NoJob(Refused): """No such job runs."""
+class QueueGone(Refused): """Never raised here, as OutOfTurn."""
+class OutOfMemory(Refused): """The system refused memory. Nothing changed."""
+class BadArgument(Refused): """A kind, a flag, a queue or a timeline that there is not, or limits or bounds of no address space."""
+class NoVm(Refused): """The Vm was closed."""
+class NotNull(Refused): """Never raised here: of a handle of C's."""
+class Idle(Refused): """No request waits on the queue."""
+
+_KINDS: Dict[object, Type[Refused]] = {number: globals()[name] for number, name in NAMES.items() if number not in (OK, NOT_READY)}
+
+
+def _load() -> c.CDLL:
     here = os.path.dirname(os.path.abspath(__file__))
     named = os.environ.get("VMBIND_LIBRARY")
     if named:
@@ -173,7 +280,7 @@ _library = _load()
 _to = c.POINTER
 
 
-def _declare(name, *types):
+def _declare(name: str, *types: Any) -> Any:
     call = getattr(_library, "vmbind_" + name)
     call.argtypes, call.restype = (_to(_Handle), *types), _u32
     return call
@@ -201,6 +308,9 @@ _translate_many = _declare("translate_many", c.c_void_p, _size, c.c_void_p, _siz
 _walk = _declare("walk", _u64, c.c_void_p)
 _walk.argtypes = _translate.argtypes
 _walk_many = _declare("walk_many", c.c_void_p, _size, c.c_void_p, _size)
+_past = _declare("past", _u64, _u64, c.c_void_p, _size, _to(_u64), _to(_u64))
+_base = _declare("base", _u64, c.c_void_p)
+_base.argtypes = _translate.argtypes
 _mappings = _declare("mappings", _u64, c.c_void_p, _size, _to(_u64), _to(_u64))
 _tables = _declare("tables", _to(_Counts))
 _plan = _declare("plan", _to(Op), c.c_void_p, _size, _to(_u64), _to(_u64))
@@ -210,36 +320,36 @@ _job_end = _declare("job_end", _u64)
 _NO_BUFFER, _EMPTY = Buffer(), (None, 0)
 
 
-def Map(start, size, buffer, offset=0, read_only=False):
+def Map(start: int, size: int, buffer: Buffer, offset: int = 0, read_only: bool = False) -> Op:
     """Map a buffer's bytes from `offset` on."""
     return Op(1, int(read_only), _number(start), _number(size), buffer, _number(offset))
 
 
-def MapZero(start, size, read_only=False):
+def MapZero(start: int, size: int, read_only: bool = False) -> Op:
     """Map zeros."""
     return Op(2, int(read_only), _number(start), _number(size), _NO_BUFFER, 0)
 
 
-def Unmap(start, size):
+def Unmap(start: int, size: int) -> Op:
     """Cut out what lies there."""
     return Op(3, 0, _number(start), _number(size), _NO_BUFFER, 0)
 
 
-def UnmapAll(buffer):
+def UnmapAll(buffer: Buffer) -> Op:
     """Unmap every mapping of a buffer."""
     return Op(4, 0, 0, 0, buffer, 0)
 
 
-def _array(kind, items):
+def _array(kind: Any, items: Sequence[Any]) -> Tuple[Any, int]:
     return ((kind * len(items))(*items), len(items)) if items else _EMPTY
 
 
-def _points(points):
+def _points(points: Points) -> Tuple[Any, int]:
     """Points, or pairs of a timeline and a value, as an array."""
     return _array(Point, [it if isinstance(it, Point) else Point(_number(it[0]), _number(it[1])) for it in points])
 
 
-def _numbers(items):
+def _numbers(items: Any) -> Tuple[Any, int]:
     """An array of 64-bit numbers: where the items lie, if they lie in a buffer that may be written, else a copy."""
     try:
         view = memoryview(items)
@@ -255,40 +365,41 @@ def _numbers(items):
 class Vm:
     """An address space. Sizes are in bytes; the limits are those of struct vmbind_config."""
 
-    def __init__(self, *, start=0, size=END, reserved=(0, 0), buffers=65536, mappings=1 << 20, items=65536, told=65536,
-                 queues=16, depth=65536, timelines=64):
+    def __init__(self, *, start: int = 0, size: int = END, reserved: Tuple[int, int] = (0, 0), buffers: int = 65536,
+                 mappings: int = 1 << 20, items: int = 65536, told: int = 65536, queues: int = 16, depth: int = 65536,
+                 timelines: int = 64) -> None:
         self._vm = _Handle()
         self._at = _address_of(self._vm)
         numbers = (start, size, *reserved, buffers, mappings, items, told, queues, depth, timelines)
         self._check(_create(self._vm, _Config(*map(_number, numbers))))
 
-    def close(self):
+    def close(self) -> None:
         """Gives the address space up. A second time it does nothing; other calls are refused then, as NoVm."""
         _destroy(self._vm)
 
-    def __del__(self):
+    def __del__(self) -> None:
         if hasattr(self, "_vm"):
             _destroy(self._vm)
 
-    def __enter__(self):
+    def __enter__(self) -> "Vm":
         return self
 
-    def __exit__(self, *_):
+    def __exit__(self, *_: object) -> None:
         self.close()
 
     @staticmethod
-    def _check(status, n=0):
+    def _check(status: int, n: int = 0) -> None:
         if status:
             raise Refused(status, n=n)
 
-    def _counted(self, call, *arguments):
+    def _counted(self, call: Any, *arguments: Any) -> int:
         number = _u64()
         status = call(self._vm, *arguments, number)
         if status:
             raise Refused(status, n=number.value)
         return number.value
 
-    def _listed(self, kind, call, *arguments, start=0):
+    def _listed(self, kind: Any, call: Any, *arguments: Any, start: int = 0) -> List[Any]:
         """All of a list from one number on, as it is at one call: the first that has room for it. Another thread may change the list
         between two calls."""
         count, total, room = _u64(), _u64(), 0
@@ -301,17 +412,17 @@ class Vm:
 
     # Buffers
 
-    def buffer(self, pages):
+    def buffer(self, pages: int) -> Buffer:
         """A new buffer of so many pages."""
         made = Buffer()
         self._check(_buffer_create(self._vm, _number(pages), made))
         return made
 
-    def destroy(self, buffer):
+    def destroy(self, buffer: Buffer) -> None:
         number = _u64()
         self._check(_buffer_destroy(self._vm, buffer, number), number.value)
 
-    def uses(self, buffer):
+    def uses(self, buffer: Buffer) -> Uses:
         uses = Uses()
         self._check(_buffer_uses(self._vm, buffer, uses))
         return uses
@@ -319,7 +430,7 @@ class Vm:
     # Requests
 
     @staticmethod
-    def _request(ops, waits, signals, queue):
+    def _request(ops: Sequence[Op], waits: Points, signals: Points, queue: int) -> _Request:
         lists = _array(Op, ops), _points(waits), _points(signals)
         places = (it for array, count in lists for it in (array and _address_of(array), count))
         asked = _Request(_number(queue), *places)
@@ -327,61 +438,61 @@ class Vm:
         return asked
 
     @staticmethod
-    def _told_of(status, outcome):
+    def _told_of(status: int, outcome: Outcome) -> Outcome:
         if status == NOT_READY:
             raise NotReady(outcome)
         if status:
             raise Refused(status, outcome.op if outcome.kind == REFUSED else None, outcome.carried, outcome)
         return outcome
 
-    def bind(self, *ops, waits=(), signals=(), queue=0):
+    def bind(self, *ops: Op, waits: Points = (), signals: Points = (), queue: int = 0) -> int:
         """Puts a request and serves its queue up to it. The entry's number; Refused, or NotReady where it stays."""
         outcome = Outcome()
         return self._told_of(_bind(self._vm, self._request(ops, waits, signals, queue), outcome), outcome).entry
 
-    def submit(self, *ops, waits=(), signals=(), queue=0):
+    def submit(self, *ops: Op, waits: Points = (), signals: Points = (), queue: int = 0) -> int:
         """Puts a request and serves nothing. Its number on the queue."""
         return self._counted(_submit, self._request(ops, waits, signals, queue))
 
-    def serve(self, queue=0, give_up=False):
+    def serve(self, queue: int = 0, give_up: bool = False) -> Outcome:
         """Serves one request. Its Outcome; Refused (IDLE where nothing waits), or NotReady."""
         outcome = Outcome()
         return self._told_of(_serve(self._vm, _number(queue), int(give_up), outcome), outcome)
 
-    def told(self, queue=0, start=0):
+    def told(self, queue: int = 0, start: int = 0) -> List[Outcome]:
         """The Outcomes of a queue's requests, from one number on."""
         return self._listed(Outcome, _told, _number(queue), _number(start), start=start)
 
     # Timelines
 
-    def raise_to(self, timeline, value):
+    def raise_to(self, timeline: int, value: int) -> int:
         """Raises a timeline, where it is lower. Its number then."""
         return self._counted(_timeline_raise, _number(timeline), _number(value))
 
-    def value(self, timeline):
+    def value(self, timeline: int) -> int:
         return self._counted(_timeline_value, _number(timeline))
 
     # Going back
 
-    def rewind(self):
+    def rewind(self) -> int:
         """Takes the newest entry back. Its number."""
         return self._counted(_rewind)
 
-    def withdraw(self, entry):
+    def withdraw(self, entry: int) -> int:
         """Withdraws an older request. The number of the withdrawal, which is an entry."""
         return self._counted(_withdraw, _number(entry))
 
-    def settle(self, to):
+    def settle(self, to: int) -> int:
         """Lets go of the entries below a number. How many."""
         return self._counted(_settle, _number(to))
 
-    def journal(self):
+    def journal(self) -> range:
         """The range of the entries that are held."""
         first, after = _u64(), _u64()
         self._check(_journal(self._vm, first, after))
         return range(first.value, after.value)
 
-    def entry(self, number):
+    def entry(self, number: int) -> Entry:
         """An Entry that is held. Another thread may put another one in its place between two calls."""
         info, count, room = _Info(), _u64(), 0
         while True:
@@ -393,31 +504,31 @@ class Vm:
                 return Entry(number, info.queue, info.number, bool(info.withdrawn), ops[:count.value], None)
             room = info.ops
 
-    def entries(self):
+    def entries(self) -> Iterator[Entry]:
         """The entries that are held, the oldest one first, each as it is when it is asked for."""
         return (self.entry(number) for number in self.journal())
 
     # Looking
 
-    def translate(self, address):
+    def translate(self, address: int) -> Translation:
         """The Translation of an address, in bytes, by one search in the list."""
         return self._looked(_translate, address)
 
-    def walk(self, address):
+    def walk(self, address: int) -> Translation:
         """The same by the page table, faster and without how far: its run is 0."""
         return self._looked(_walk, address)
 
-    def translate_many(self, addresses, out=None):
+    def translate_many(self, addresses: Any, out: Any = None) -> Any:
         """The Translations of many addresses, as an array. `addresses` is any row of numbers; a buffer of unsigned 64-bit
         numbers (array.array("Q"), numpy.uint64) is read where it lies. `out` may be an earlier answer of as many, which is
         written again."""
         return self._looked_all(_translate_many, addresses, out)
 
-    def walk_many(self, addresses, out=None):
+    def walk_many(self, addresses: Any, out: Any = None) -> Any:
         """The same by the page table, as walk is to translate."""
         return self._looked_all(_walk_many, addresses, out)
 
-    def _looked(self, look, address):
+    def _looked(self, look: Any, address: int) -> Translation:
         place = Translation()
         if not 0 <= address <= _MOST:
             _number(address)
@@ -426,7 +537,7 @@ class Vm:
             raise Refused(status)
         return place
 
-    def _looked_all(self, look_all, addresses, out):
+    def _looked_all(self, look_all: Any, addresses: Any, out: Any) -> Any:
         numbers, count = _numbers(addresses)
         if out is None:
             out = (Translation * count)()
@@ -435,28 +546,38 @@ class Vm:
         self._check(look_all(self._vm, numbers, count, out, len(out)))
         return out
 
-    def mappings(self):
+    def mappings(self) -> Iterator[Mapping]:
         """The mappings, ascending, as they are now."""
         return iter(self._listed(Mapping, _mappings, 0))
 
-    def tables(self):
+    def past(self, address: int) -> List[PastEntry]:
+        """What the entries that are held say of an address, in bytes: a PastEntry for each that covers its page, the newest first.
+        Nothing is taken back."""
+        return self._listed(PastEntry, _past, _number(address), 0)
+
+    def base(self, address: int) -> Translation:
+        """Where an address leads by what lies under the oldest entry that is held: its run is 0."""
+        return self._looked(_base, address)
+
+    def tables(self) -> Tuple[int, ...]:
         """How many tables there are at the levels 4, 3, 2, 1 and 0."""
         counts = _Counts()
         self._check(_tables(self._vm, counts))
         return tuple(counts.tables)
 
-    def plan(self, op):
+    def plan(self, op: Op) -> List[Step]:
         """The Steps that an operation would take now."""
         return self._listed(Step, _plan, op)
 
     # Jobs
 
-    def job(self, reads=(), writes=(), accesses=None):
+    def job(self, reads: Iterable[int] = (), writes: Iterable[int] = (),
+            accesses: Optional[Iterable[Tuple[int, bool]]] = None) -> int:
         """Begins a job that reads and writes these addresses. `accesses` has pairs of an address and whether it is written,
         where their order counts. The job's number."""
         if accesses is None:
             accesses = [(it, False) for it in reads] + [(it, True) for it in writes]
         return self._counted(_job_begin, *_array(_Access, [_Access(_number(at), int(writes), 0) for at, writes in accesses]))
 
-    def end(self, job):
+    def end(self, job: int) -> None:
         self._check(_job_end(self._vm, _number(job)))

@@ -3,10 +3,12 @@
 import array
 import ctypes
 import gc
+import inspect
 import os
 import re
 import sys
 import threading
+import typing
 
 sys.path.insert(0, os.path.join(os.path.dirname(os.path.abspath(__file__)), ".."))
 import vmbind as v  # noqa: E402
@@ -46,7 +48,7 @@ def header():
     check((numbers["ENTRY_BIND"], numbers["ENTRY_WITHDRAWAL"]) == (v.BIND, v.WITHDRAWAL), "kinds of entries")
     ours = dict(vm=v._Handle, config=v._Config, buffer=v.Buffer, uses=v.Uses, op=v.Op, point=v.Point, request=v._Request,
                 outcome=v.Outcome, entry_info=v._Info, translation=v.Translation, mapping=v.Mapping, table_counts=v._Counts,
-                step=v.Step, access=v._Access)
+                step=v.Step, access=v._Access, past_entry=v.PastEntry)
     sizes = {"uint64_t": 8, "size_t": 8, "uint32_t": 4}
     structs = dict(re.findall(r"^struct vmbind_(\w+) \{(.*?)\};", text, re.S | re.M))
     check(set(structs) == set(ours), "structures")
@@ -72,6 +74,24 @@ def living():
     for _ in range(50):
         v.Vm().buffer(3)   # given up by the collector
     gc.collect()
+
+
+def kinds():
+    """Each fault is a class of its own, and each public call tells its types."""
+    for number, name in v.NAMES.items():
+        if number not in (v.OK, v.NOT_READY):
+            check(type(v.Refused(number)) is getattr(v, name) and issubclass(getattr(v, name), v.Refused), name)
+    check(type(v.Refused(777)) is v.Refused and v.Refused(777).name == "Unknown", "a number that has no name")
+    vm = v.Vm(buffers=1)
+    b = vm.buffer(2)
+    check(raised(v.TooManyBuffers, vm.buffer, 1) and raised(v.NoBuffer, vm.uses, v.Buffer()), "by their names")
+    check(raised(v.OutOfBuffer, vm.bind, v.Map(0, 0x3000, b)).outcome.op == 0 and raised(v.Idle, vm.serve), "of requests")
+    calls = [v.Map, v.MapZero, v.Unmap, v.UnmapAll] + [it for name, it in vars(v.Vm).items() if inspect.isfunction(it)]
+    for call in calls:
+        named = set(inspect.signature(call).parameters) - {"self"} | {"return"}
+        check(named == set(typing.get_type_hints(call)), f"types of {call.__name__}")
+    for kind in (v.Buffer, v.Op, v.Point, v.Outcome, v.Translation, v.Mapping, v.Step, v.PastEntry, v.Uses):
+        check({name for name, *_ in kind._fields_} <= set(typing.get_type_hints(kind)), f"types of {kind.__name__}")
 
 
 def refusals():
@@ -128,6 +148,23 @@ def lists():
     check([it.kind for it in steps] == [v.STEP_UNMAP, v.STEP_UNMAP, v.STEP_MAP] and not steps[0].prev and steps[0].mapping, "a plan")
     check(vm.plan(v.UnmapAll(b))[199].mapping == list(vm.mappings())[199], "a plan of all")
     check(len({b, vm.buffer(1), b}) == 2, "ids in a set")
+
+
+def past():
+    vm = v.Vm()
+    b = vm.buffer(40)
+    check(vm.past(0) == [] and not vm.base(0), "nothing yet")
+    for k in range(40):
+        vm.bind(v.Map(0, 0x1000, b, 0x1000 * k, read_only=k % 2 == 1))
+    vm.bind(v.Unmap(0, 0x1000))
+    vm.withdraw(40)
+    told = vm.past(0x234)
+    check([it.entry for it in told] == list(range(40, -1, -1)), "the newest first")
+    check([it.withdrawn for it in told] == [1] + [0] * 40 and not told[0].place, "withdrawn")
+    check(all(it.place.byte == 0x1000 * it.entry + 0x234 and it.place.read_only == (it.entry % 2 == 1) for it in told[1:]), "places")
+    check(vm.past(0x1000) == [] and vm.past((1 << 64) - 1) == [], "of other pages")
+    check(vm.settle(30) == 30 and len(vm.past(0)) == 11 and vm.base(0x234).byte == 0x1000 * 29 + 0x234, "under them")
+    check(raised(ValueError, vm.past, -1) and raised(ValueError, vm.base, 1 << 64), "not an address")
 
 
 def many():
@@ -187,7 +224,7 @@ def threads():
     check(not wrong and len(list(vm.mappings())) == 32 and len(vm.journal()) == 1200, "threads on one address space")
 
 
-for test in (header, living, refusals, waiting, lists, many, jobs, threads):
+for test in (header, living, kinds, refusals, waiting, lists, past, many, jobs, threads):
     test()
 print(f"module.py: {passed} passed, {failed} failed")
 sys.exit(1 if failed or not passed else 0)

@@ -202,6 +202,13 @@ class Session:
         for address, found in zip(addresses, self.vm.translate_many(addresses)):
             if found != self.look(address):
                 raise AssertionError(f"address {address:#x} leads to {found} among many")
+            self.remember(address)
+
+    def remember(self, address):
+        """An address leads where the newest live entry says that says something of it, and else where what lies under all does."""
+        said = [it.place for it in self.vm.past(address) if not it.withdrawn] + [self.vm.base(address)]
+        if self.vm.walk(address) != said[0]:
+            raise AssertionError(f"address {address:#x} leads to {self.vm.walk(address)}, and by the entries to {said[0]}")
 
 
 def number(text):
