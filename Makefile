@@ -106,21 +106,23 @@ $(SHOWN:capi/%=$(CAPI)/%): $(CAPI)/%: capi/%
 	@mkdir -p $(CAPI)
 	cp $< $@
 
-# pkg_config PREFIX INCLUDE LIB
-pkg_config = sed 's|@PREFIX@|$(1)|; s|@INCLUDE@|$(2)|; s|@LIB@|$(3)|; s|@VERSION@|$(VERSION)|' capi/vmbind.pc.in
+# described FILE PREFIX INCLUDE LIB: what tells pkg-config or CMake where the library is
+described = sed 's|@PREFIX@|$(2)|; s|@INCLUDE@|$(3)|; s|@LIB@|$(4)|; s|@VERSION@|$(VERSION)|; s|@MINOR@|$(basename $(VERSION))|' capi/$(1).in
 
 $(CAPI)/vmbind.pc: capi/vmbind.pc.in capi/vmbind.h
 	@mkdir -p $(CAPI)
-	$(call pkg_config,$(CURDIR)/$(CAPI),$(CURDIR)/$(CAPI),$(CURDIR)/$(CAPI)) > $@
+	$(call described,vmbind.pc,$(CURDIR)/$(CAPI),$(CURDIR)/$(CAPI),$(CURDIR)/$(CAPI)) > $@
 
 install: lib
-	install -d $(DESTDIR)$(PREFIX)/include $(DESTDIR)$(PREFIX)/lib/pkgconfig $(DESTDIR)$(PREFIX)/share/vmbind
+	install -d $(addprefix $(DESTDIR)$(PREFIX)/,include lib/pkgconfig lib/cmake/vmbind share/vmbind)
 	install -m 644 capi/vmbind.h capi/vmbind.hpp $(DESTDIR)$(PREFIX)/include
 	install -m 644 $(CAPI)/libvmbind.a $(DESTDIR)$(PREFIX)/lib
 	install -m 755 $(CAPI)/libvmbind.so $(DESTDIR)$(PREFIX)/lib/libvmbind.so.0
 	ln -sf libvmbind.so.0 $(DESTDIR)$(PREFIX)/lib/libvmbind.so
 	install -m 644 capi/vmbind.py $(DESTDIR)$(PREFIX)/share/vmbind
-	$(call pkg_config,$(PREFIX),$(PREFIX)/include,$(PREFIX)/lib) > $(DESTDIR)$(PREFIX)/lib/pkgconfig/vmbind.pc
+	$(call described,vmbind.pc,$(PREFIX),$(PREFIX)/include,$(PREFIX)/lib) > $(DESTDIR)$(PREFIX)/lib/pkgconfig/vmbind.pc
+	for file in vmbind-config.cmake vmbind-config-version.cmake; do \
+	    $(call described,$$file,$(PREFIX),$(PREFIX)/include,$(PREFIX)/lib) > $(DESTDIR)$(PREFIX)/lib/cmake/vmbind/$$file || exit 1; done
 
 # The tests of the C library. They stand beside the gate, and `make test` doesn't call them: a build of the library proves its crates
 # once more. With ./vmbind there (make), scripts by chance are compared with what it writes. The last line is 'N passed, M failed'.
