@@ -13,7 +13,9 @@ use gv_types::Request;
 use gv_vm::{Event, Looked, Reply};
 use std::alloc::Global;
 
-/// One event on the way of a request, and what it is told of it.
+/// One event on the way of a request, and what it is told of it. Inlined, so that neither the event nor the reply is copied from
+/// frame to frame: a copy in parts that overlap waits for what was just written.
+#[inline(always)]
 fn ask(
     alloc: Global,
     session: &mut Session,
