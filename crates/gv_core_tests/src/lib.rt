@@ -15,6 +15,8 @@ mod full_tables;
 #[cfg(test)]
 mod lines;
 #[cfg(test)]
+mod many_buffers;
+#[cfg(test)]
 mod no_lines;
 #[cfg(test)]
 mod ranges;
