@@ -91,3 +91,11 @@ row-counted before now next level i old row after below same counted painted tar
     let counts = counted target in
     let end = painted target in
     omega (arith, change, counts, end)
+
+-- a row of which some slots are painted is counted as it was
+pub row-still : (before now : TableCounts) (level : ℕ) (old row : List Slot) → IsRowOf before level old →
+    ((target : ℕ) → count_at now target + row_tables_at target level old ≡ count_at before target + row_tables_at target level row) → IsRowOf now level row
+row-still before now level old row part counted = record {
+  counted = λ target. let counts = counted target in let all = part.counted target in omega (arith, counts, all);
+  room = λ target. let counts = counted target in let all = part.room target in omega (arith, counts, all);
+}

@@ -10,9 +10,12 @@ pub mod Wants
 pub mod Trees
 mod Ends
 pub mod Rows
+pub mod Written
 mod Runs
 pub mod Matches
 pub mod Painted
+pub mod InOne
+pub mod Whole
 pub mod Needs
 mod Around
 pub mod Foresight

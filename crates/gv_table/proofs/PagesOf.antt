@@ -79,3 +79,10 @@ over-rises a b p some up =
           absurd (omega (arith, i, j, r)))
       | inr from ↦ from
     ]
+
+-- so many whole slots lie in so many pages
+pub whole-part : (distance k p : ℕ) → 0 < p → k < distance / p → k * p + p ≤ distance
+whole-part distance k p some below =
+    let h = index-within distance p some in
+    let up = rows-rise k (distance / p) p below in
+    omega (arith, h, up)

@@ -1,5 +1,5 @@
 -- What is wanted of a slot, by what the list says of its pages.
-use Rattle.std.proofs.Common.{◌≡◌, ℕ, zero, suc, ◌+◌, ◌-◌, ◌*◌, ◌<◌, ◌≤◌, Bool, true, false, List, Option, Some, None, nat_le, refl, arith, ap, if◌then◌else◌}
+use Rattle.std.proofs.Common.{◌≡◌, ℕ, zero, suc, ◌+◌, ◌-◌, ◌*◌, ◌<◌, ◌≤◌, Bool, true, false, List, length, get_or, Option, Some, None, nat_le, refl, arith, ap, if◌then◌else◌}
 use Rattle.std.proofs.lemmas.Bool.{lt-leb, le-leb}
 use Rattle.gv_types.specs.PageRange.{span, lies_in}
 use Rattle.gv_types.specs.Mapping.{part}
@@ -12,9 +12,9 @@ use Rattle.gv_table.specs.Levels.{pages_of, slot_pages}
 use Rattle.gv_table.specs.Reads.{any_meets, covering, IsReadBy}
 use Rattle.gv_types.specs.Mapping.{entry_advanced}
 use Rattle.gv_table.specs.Wanted.{wanted, leaf_or_table, is_divided}
-use Rattle.gv_table.proofs.Spans.{le-true}
+use Rattle.gv_table.proofs.Spans.{le-true, lies-bounds, meets-from}
 use Rattle.gv_table.proofs.Clips.{SayAlike}
-use Rattle.gv_table.proofs.Covered.{any_meets-part, covering-part, covering-meets, page-covered}
+use Rattle.gv_table.proofs.Covered.{any_meets-part, covering-part, covering-meets, page-covered, met-at}
 use Rattle.gv_table.proofs.PagesOf.{pages_of-zero, pages_of-some, pages_of-more, part-within}
 
 pub wanted-nothing : (ms : List Mapping) (level first : ℕ) → any_meets ms (slot_pages level first) ≡ false → wanted ms level first ≡ variant.Nothing
@@ -41,6 +41,15 @@ pub wanted-leaf : (ms : List Mapping) (level first : ℕ) (m : Mapping) → IsRe
 wanted-leaf ms level first m read low whole =
     let covered : covering ms (slot_pages level first) ≡ Some (part m first) = rw whole at read.1 in
     wanted-covered ms level first (part m first) read.0 low covered
+
+-- the mapping at a position that holds a slot whole
+pub held-leaf : (ms : List Mapping) (level first position : ℕ) (d : Mapping) → IsLaidOut ms → position < length ms → level ≤ 2 →
+    lies_in (slot_pages level first) (get_or ms position d).range ≡ true → wanted ms level first ≡ variant.Entry (part (get_or ms position d) first)
+held-leaf ms level first position d laid inside low whole =
+    let some = pages_of-some level in
+    let bounds = lies-bounds (slot_pages level first) (get_or ms position d).range whole in
+    let met = meets-from (get_or ms position d).range (slot_pages level first) (omega (arith, bounds, some)) (omega (arith, bounds, some)) in
+    wanted-leaf ms level first (get_or ms position d) (met-at ms 0 position d (slot_pages level first) laid inside some met) low whole
 
 pub wanted-high : (ms : List Mapping) (level first : ℕ) → any_meets ms (slot_pages level first) ≡ true → 2 < level → wanted ms level first ≡ variant.Table
 unfolding wanted

@@ -1,9 +1,9 @@
 //! The shape of the tables.
-ghost use Rattle.std.specs.Prelude.{◌≡◌, ◌+◌, ◌*◌, ◌-◌, ◌/◌, ◌<◌, ◌≤◌, ℕ, IsTrue};
+ghost use Rattle.std.specs.Prelude.{◌≡◌, ◌+◌, ◌*◌, ◌-◌, ◌/◌, ◌<◌, ◌≤◌, ℕ, IsTrue, IfSome};
 ghost use Rattle.gv_types.specs.Page.{PAGES};
 ghost use Rattle.gv_types.specs.PageRange.{span, end_of, meets};
 ghost use Rattle.gv_table.specs.Levels.{top_level, root_level, slots_per_table};
-ghost use Rattle.gv_table.specs.Levels.{pages_of, slot_pages};
+ghost use Rattle.gv_table.specs.Levels.{pages_of, slot_pages, IsInPart};
 
 use gv_types::PageRange;
 
@@ -69,4 +69,25 @@ pub fn slots_met(level: usize, first: u64, range: PageRange) -> (usize, usize)
     let low = slots_in(level, range.first().saturating_sub(first));
     let high = slots_in(level, range.end() - first - 1) + 1;
     (low as usize, high.min(SLOTS as u64) as usize)
+}
+
+/// Which part of a slot the whole range lies in, if one above level 0 does. The slot meets the range.
+#[inline(always)]
+pub fn part_around(level: usize, first: u64, range: PageRange) -> Option<usize>
+    requires known { level ≤ top_level }
+    requires in_space { end_of (slot_pages level first) ≤ PAGES }
+    requires met { IsTrue (meets (slot_pages level first) range) }
+    ensures part { IfSome result (λ index. IsInPart range level first index) }
+    ensures met { IfSome result (λ index.
+        IsTrue (meets (slot_pages (level - 1) (first + index * pages_of (level - 1))) range)) }
+{
+    if level <= 1 || range.first() < first {
+        return None;
+    }
+    let pages = pages_of(level - 1);
+    let index = slots_in(level - 1, range.first() - first);
+    if first + index * pages + pages < range.end() {
+        return None;
+    }
+    Some(index as usize)
 }

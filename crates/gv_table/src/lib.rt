@@ -2,9 +2,11 @@
 //! 512 pages and of 262,144 pages.
 #![tactic(auto)]
 
+mod alike;
 mod fill;
 mod give_back;
 pub mod laws;
+mod leaves;
 mod levels;
 mod page_table;
 mod pages;

@@ -16,11 +16,13 @@ ghost use Rattle.gv_table.specs.Counts.{tables_at, row_tables_at, count_at};
 ghost use Rattle.gv_table.specs.Counts.{IsPartOf, IsRowOf};
 ghost use Rattle.gv_types.specs.Mapping.{entry_advanced, HasSmallPages};
 
-use crate::levels::{SLOTS, pages_of, slots_met};
+use crate::alike::{Alike, alike_from};
+use crate::leaves::{make_leaf, paint_alike};
+use crate::levels::{SLOTS, pages_of, part_around, slots_met};
 use crate::pages::paint_pages;
 use crate::place::{Excerpt, Place};
 use crate::position::advance;
-use crate::release::{clear, clear_unwanted};
+use crate::release::clear_unwanted;
 use crate::slot::{Slot, overwrite};
 use crate::spares::Spares;
 use crate::table_counts::TableCounts;
@@ -127,34 +129,69 @@ pub fn paint_slot(
     let Place { level, first } = place;
     match slot_wanted(excerpt, place) {
         Wanted::Nothing => clear_unwanted(slot, place, excerpt.range, spares, counts),
-        Wanted::Entry(entry) => {
-            let lost = clear(slot, level, spares, counts);
-            overwrite(slot, Slot::leaf(entry));
-            lost
-        }
+        Wanted::Entry(entry) => make_leaf(slot, level, entry, spares, counts),
         Wanted::Table => {
             make_table(slot, level, spares, counts);
-            let mappings = excerpt.mappings.near(excerpt.position);
-            let excerpt = Excerpt {
-                mappings: &mappings,
-                range: excerpt.range,
-                position: excerpt.position,
-            };
             let place = Place {
                 level: level - 1,
                 first,
             };
             match slot {
-                Slot::Table(slots) => paint_row(slots, place, &excerpt, spares, counts),
+                Slot::Table(slots) => paint_row(slots, place, excerpt, spares, counts),
                 Slot::Empty | Slot::Zero { .. } | Slot::Buffer { .. } => unreachable!(),
             }
         }
     }
 }
 
-/// The same for the slots of a table, of which those are visited that meet the range.
+/// The same for the slots of a table. Where the whole range lies in one of them, as mostly, that one is all that is looked at.
 #[cycle(paint)]
 fn paint_row(
+    slots: &mut [Slot; SLOTS],
+    place: Place,
+    excerpt: &Excerpt<'_, '_>,
+    spares: &mut Spares,
+    counts: &mut TableCounts,
+) -> u64
+    requires known { place.level ≤ root_level }
+    requires in_space { place.first + slots_per_table * pages_of place.level ≤ PAGES }
+    requires laid_out { IsLaidOut excerpt.now.mappings.now }
+    requires position { IsIndexOfPage excerpt.now.mappings.now (first_within excerpt.now.range place.first)
+        excerpt.now.position }
+    requires met { IsTrue (meets (span place.first (slots_per_table * pages_of place.level)) excerpt.now.range) }
+    requires outside { (k : ℕ) → k < slots_per_table
+        → IsTreeOutside excerpt.now.mappings.now excerpt.now.range place.level
+        (place.first + k * pages_of place.level) (slice_index_or slots.old k Empty) }
+    requires enough { row_gained excerpt.now.mappings.now place.level place.first slots.old ≤ spares.old }
+    requires part { IsRowOf counts.old place.level slots.old }
+    ensures lost { result ≡ row_lost excerpt.now.mappings.now place.level place.first slots.old }
+    ensures tree { (k : ℕ) → k < slots_per_table → IsTreeOf excerpt.now.mappings.now place.level
+        (place.first + k * pages_of place.level) (slice_index_or slots.new k Empty) }
+    ensures exchanged { spares.new + row_gained excerpt.now.mappings.now place.level place.first slots.old
+        ≡ spares.old + row_lost excerpt.now.mappings.now place.level place.first slots.old }
+    ensures counted { (target : ℕ) → count_at counts.new target + row_tables_at target place.level slots.old
+        ≡ count_at counts.old target + row_tables_at target place.level slots.new }
+{
+    let Place { level, first } = place;
+    if let Some(index) = part_around(level + 1, first, excerpt.range) {
+        let place = Place {
+            level,
+            first: first + index as u64 * pages_of(level),
+        };
+        return paint_slot(&mut slots[index], place, excerpt, spares, counts);
+    }
+    let mappings = excerpt.mappings.near(excerpt.position);
+    let excerpt = Excerpt {
+        mappings: &mappings,
+        range: excerpt.range,
+        position: excerpt.position,
+    };
+    paint_slots(slots, place, &excerpt, spares, counts)
+}
+
+/// The same, whichever slots meet the range: those are visited.
+#[cycle(paint)]
+fn paint_slots(
     slots: &mut [Slot; SLOTS],
     place: Place,
     excerpt: &Excerpt<'_, '_>,
@@ -193,10 +230,11 @@ fn paint_row(
     let pages = pages_of(level);
     let (low, high) = slots_met(level, first, range);
     let mut lost = 0;
-    for index in low..high {
+    let mut index = low;
+    while index < high {
         let start = first + index as u64 * pages;
         position = advance(mappings, position, start.max(range.first()));
-        let place = Place {
+        let part = Place {
             level,
             first: start,
         };
@@ -205,7 +243,16 @@ fn paint_row(
             range,
             position,
         };
-        lost += paint_slot(&mut slots[index], place, &excerpt, spares, counts);
+        let Alike { count, held } = alike_from(&excerpt, part);
+        let alike = count.min((high - index) as u64) as usize;
+        if alike == 0 {
+            lost += paint_slot(&mut slots[index], part, &excerpt, spares, counts);
+            index += 1;
+        } else {
+            let run = index..index + alike;
+            lost += paint_alike(slots, place, run, held, &excerpt, spares, counts);
+            index += alike;
+        }
     }
     lost
 }

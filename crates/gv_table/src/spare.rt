@@ -1,16 +1,17 @@
 //! How many tables a paint may need.
-ghost use Rattle.std.specs.Prelude.{◌≡◌, ◌+◌, ◌*◌, ◌≤◌, ◌<◌, IsTrue, IfSome};
+ghost use Rattle.std.specs.Prelude.{◌≡◌, ◌+◌, ◌*◌, ◌≤◌, ◌<◌, ℕ, false, IsTrue, List};
 ghost use Rattle.gv_types.specs.Page.{PAGES};
-ghost use Rattle.gv_types.specs.PageRange.{span, meets, end_of};
+ghost use Rattle.gv_types.specs.PageRange.{span, meets, end_of, PageRangeState};
+ghost use Rattle.gv_types.specs.declared.mapping.Mapping.{Mapping};
 ghost use Rattle.gv_ranges.specs.List.{IsLaidOut, IsIndexOfPage, AreEnded};
 ghost use Rattle.gv_table.specs.declared.slot.Slot.TheVariants.{Empty};
 ghost use Rattle.gv_table.specs.Levels.{top_level, root_level, slots_per_table, pages_of, slot_pages, first_within};
-ghost use Rattle.gv_table.specs.Levels.{LiesInSlot, IsInPart};
 ghost use Rattle.gv_table.specs.Sums.{sum_below};
 ghost use Rattle.gv_table.specs.Tree.{is_table, child};
 ghost use Rattle.gv_table.specs.Counts.{needed, may_divide, one_if_not};
 
-use crate::levels::{TOP_LEVEL, pages_of, slots_in, slots_met};
+use crate::alike::alike_from;
+use crate::levels::{TOP_LEVEL, pages_of, part_around, slots_met};
 use crate::place::{Excerpt, Place};
 use crate::position::advance;
 use crate::slot::Slot;
@@ -40,6 +41,17 @@ fn one_if_not_table(slot: &Slot) -> u64
     }
 }
 
+/// Whether a slot needs no table, whatever the pieces are: it is a page, or its one table stands.
+fn needs_none(slot: &Slot, level: usize) -> bool
+    ensures none { IsTrue result → (pieces : List Mapping) (range : PageRangeState) (first : ℕ) → needed pieces range level first slot.now ≡ 0 }
+    ensures some { result ≡ false → 0 < level }
+{
+    match slot {
+        Slot::Table(_) => level <= 1,
+        Slot::Empty | Slot::Zero { .. } | Slot::Buffer { .. } => level == 0,
+    }
+}
+
 /// Whether a slot may have to be a table, where a list will have the pieces in the range.
 fn may_be_table(excerpt: &Excerpt<'_, '_>, place: Place) -> bool
     requires known { place.level ≤ top_level }
@@ -64,6 +76,19 @@ fn may_be_table(excerpt: &Excerpt<'_, '_>, place: Place) -> bool
     }
 }
 
+/// How many slots from a place on lie in the range and need no table: one piece holds them whole, or no piece meets them.
+#[inline(always)]
+fn undivided_from(excerpt: &Excerpt<'_, '_>, place: Place) -> u64
+    requires known { place.level ≤ top_level }
+    requires laid_out { IsLaidOut excerpt.now.mappings.now }
+    requires position { IsIndexOfPage excerpt.now.mappings.now (first_within excerpt.now.range place.first)
+        excerpt.now.position }
+    ensures { (k : ℕ) → k < result → may_divide excerpt.now.mappings.now excerpt.now.range place.level
+        (place.first + k * pages_of place.level) ≡ false }
+{
+    alike_from(excerpt, place).count
+}
+
 /// How many positions of a slot may need a table where it has none.
 #[cycle(spare)]
 #[inline(always)]
@@ -77,7 +102,7 @@ fn needed_in(slot: &Slot, place: Place, excerpt: &Excerpt<'_, '_>) -> u64
     ensures bound { result + 1 ≤ pages_of place.level }
 {
     let Place { level, first } = place;
-    if level == 0 || !may_be_table(excerpt, place) {
+    if needs_none(slot, level) || !may_be_table(excerpt, place) {
         return 0;
     }
     let one = one_if_not_table(slot);
@@ -115,8 +140,8 @@ fn needed_below(slot: &Slot, place: Place, excerpt: &Excerpt<'_, '_>) -> u64
     let empty = Slot::Empty;
     let mut total = 0;
     let (low, high) = slots_met(level, first, range);
-    for index in low..high {
-        let part = child_of(slot, index, &empty);
+    let mut index = low;
+    while index < high {
         let start = first + index as u64 * pages;
         position = advance(pieces, position, start.max(range.first()));
         let place = Place {
@@ -128,28 +153,16 @@ fn needed_below(slot: &Slot, place: Place, excerpt: &Excerpt<'_, '_>) -> u64
             range,
             position,
         };
-        total += needed_in(part, place, &excerpt);
+        let undivided = undivided_from(&excerpt, place).min((high - index) as u64);
+        if undivided == 0 {
+            let part = child_of(slot, index, &empty);
+            total += needed_in(part, place, &excerpt);
+            index += 1;
+        } else {
+            index += undivided as usize;
+        }
     }
     total
-}
-
-/// Which part of a slot the whole range lies in, if one above level 0 does.
-#[inline(always)]
-fn part_around(level: usize, first: u64, range: PageRange) -> Option<usize>
-    requires known { level ≤ top_level }
-    requires in_space { end_of (slot_pages level first) ≤ PAGES }
-    requires within { LiesInSlot range level first }
-    ensures { IfSome result (λ index. IsInPart range level first index) }
-{
-    if level <= 1 {
-        return None;
-    }
-    let pages = pages_of(level - 1);
-    let index = slots_in(level - 1, range.first() - first);
-    if first + index * pages + pages < range.end() {
-        return None;
-    }
-    Some(index as usize)
 }
 
 /// How many positions of the tree may need a table where it has none. As long as the range lies in one part of a slot, only that

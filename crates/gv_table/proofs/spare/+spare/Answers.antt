@@ -1,4 +1,5 @@
-use Rattle.std.proofs.Common.{arith, ◌≡◌, ◌≤◌, ◌+◌, ◌-◌, ◌*◌, ℕ, true, sym, ap, ◌∙◌, subst}
+use Rattle.std.proofs.Common.{arith, ◌≡◌, ◌≤◌, ◌<◌, ◌+◌, ◌-◌, ◌*◌, ℕ, true, false, sym, ap, ◌∙◌, subst}
+use Rattle.std.proofs.Math.Nat.{add-mul}
 use Rattle.gv_types.specs.PageRange.{span, meets}
 use Rattle.gv_table.specs.declared.slot.Slot.{Slot}
 use Rattle.gv_table.specs.Levels.{pages_of, slot_pages}
@@ -10,19 +11,19 @@ use Rattle.gv_table.proofs.Positions.{ended-later, position-ended}
 use Rattle.gv_table.proofs.Spans.{meets-before, meets-after}
 use Rattle.gv_table.proofs.Sums.{sum_below-zeros, sum_below-more, sum_below-rest}
 use Rattle.gv_table.proofs.spare.+spare.Goals as goal
-use Rattle.gv_table.proofs.spare.+spare.Goals.{needed_in-then-level-eq0-via-then-level-eq0, needed_in-then-level-eq0-via-else-level-eq0+then-not-may_be_table}
+use Rattle.gv_table.proofs.spare.+spare.Goals.{needed_in-then-needs_none-via-then-needs_none, needed_in-then-needs_none-via-else-needs_none+then-not-may_be_table}
 
-pub needed_in-returns-then-level-eq0-clause-count : goal.needed_in-returns-then-level-eq0-clause-count
-needed_in-returns-then-level-eq0-clause-count t c =
-    elim c.then-level-eq0.branch [
-      | needed_in-then-level-eq0-via-then-level-eq0 w ↦
-          sym (ap (λ (n : ℕ). needed c.args.excerpt.now.mappings.now c.args.excerpt.now.range n c.args.place.first c.args.slot.now) w.if-level-eq0.true ∙ needed-zero c.args.excerpt.now.mappings.now c.args.excerpt.now.range c.args.place.first c.args.slot.now)
-      | needed_in-then-level-eq0-via-else-level-eq0+then-not-may_be_table w ↦
+pub needed_in-returns-then-needs_none-clause-count : goal.needed_in-returns-then-needs_none-clause-count
+needed_in-returns-then-needs_none-clause-count t c =
+    elim c.then-needs_none.branch [
+      | needed_in-then-needs_none-via-then-needs_none w ↦
+          sym (c.needs_none.ensures.none w.if-needs_none.true c.args.excerpt.now.mappings.now c.args.excerpt.now.range c.args.place.first)
+      | needed_in-then-needs_none-via-else-needs_none+then-not-may_be_table w ↦
           sym (needed-none c.args.excerpt.now.mappings.now c.args.excerpt.now.range c.args.place.level c.args.place.first c.args.slot.now (sym w.may_be_table.ensures ∙ w.if-not-may_be_table.true))
     ]
 
-pub needed_in-returns-then-level-eq0-clause-bound : goal.needed_in-returns-then-level-eq0-clause-bound
-needed_in-returns-then-level-eq0-clause-bound t c = pages_of-some c.args.place.level
+pub needed_in-returns-then-needs_none-clause-bound : goal.needed_in-returns-then-needs_none-clause-bound
+needed_in-returns-then-needs_none-clause-bound t c = pages_of-some c.args.place.level
 
 pub needed_in-returns-then-level-eq1-clause-count : goal.needed_in-returns-then-level-eq1-clause-count
 needed_in-returns-then-level-eq1-clause-count t c =
@@ -92,10 +93,11 @@ needed_below-loop-index-init t c =
       position = ended-later c.args.excerpt.now.mappings.now _ _ c.args.excerpt.now.position (omega arith) c.requires.position;
       counted = omega (arith, z);
       bound = omega (arith, up);
+      last = c.slots_met-low.ensures.ordered;
     }
 
-pub needed_below-loop-index-preserved : goal.needed_below-loop-index-preserved
-needed_below-loop-index-preserved t c =
+pub needed_below-loop-index-preserved-then-undivided-eq0 : goal.needed_below-loop-index-preserved-then-undivided-eq0
+needed_below-loop-index-preserved-then-undivided-eq0 t c =
     let f = λ (k : ℕ). needed c.args.excerpt.now.mappings.now c.args.excerpt.now.range c.args.place.level (c.args.place.first + k * pages_of c.args.place.level) (child c.args.slot.now k) in
     let more = sum_below-more c.loop-index.index f in
     let start : c.args.place.first + c.loop-index.index * c.pages_of-pages.result ≡ c.args.place.first + c.loop-index.index * pages_of c.args.place.level =
@@ -109,12 +111,42 @@ needed_below-loop-index-preserved t c =
       position = position-ended c.args.excerpt.now.mappings.now c.max.result _ c.advance-position.result (omega (arith, start, product)) c.advance-position.ensures;
       counted = omega (arith, more, here, c.loop-index.invariant.counted);
       bound = omega (arith, product, c.loop-index.invariant.bound, c.needed_in-total.ensures.bound);
+      last = omega (arith, c.loop-index-test.true);
+    }
+
+-- the slots of a run need nothing
+pub needed_below-loop-index-preserved : goal.needed_below-loop-index-preserved
+needed_below-loop-index-preserved t c =
+    let ms = c.args.excerpt.now.mappings.now in
+    let range = c.args.excerpt.now.range in
+    let p : ℕ = pages_of c.args.place.level in
+    let i : ℕ = c.loop-index.index in
+    let n : ℕ = c.min-undivided.result in
+    let f = λ (k : ℕ). needed ms range c.args.place.level (c.args.place.first + k * pages_of c.args.place.level) (child c.args.slot.now k) in
+    let start : c.args.place.first + c.loop-index.index * c.pages_of-pages.result ≡ c.args.place.first + c.loop-index.index * pages_of c.args.place.level =
+    ap (λ (n : ℕ). c.args.place.first + c.loop-index.index * n) c.pages_of-pages.ensures.pages in
+    let none : (k : ℕ) → i ≤ k → k < i + n → f k ≡ 0 = λ k from below.
+    let far : ℕ = k - c.loop-index.index in
+    let whole : c.loop-index.index + far ≡ k = omega (arith, from) in
+    let product = add-mul c.loop-index.index far p in
+    let all : (c.loop-index.index + far) * p ≡ k * p = ap (λ (m : ℕ). m * p) whole in
+    let there : c.args.place.first + c.loop-index.index * c.pages_of-pages.result + far * p ≡ c.args.place.first + k * p = omega (arith, start, product, all) in
+    needed-none ms range c.args.place.level (c.args.place.first + k * pages_of c.args.place.level) (child c.args.slot.now k)
+    (subst (λ (m : ℕ). may_divide ms range c.args.place.level m ≡ false) there (c.undivided_from.ensures far (omega (arith, from, below, c.min-undivided.ensures)))) in
+    let rest = sum_below-rest (i + n) f i (omega arith) none in
+    let product = add-mul c.loop-index.index c.min-undivided.result p in
+    let up = product-up n p (pages_of-some c.args.place.level) in
+    record {
+      position = position-ended ms c.max.result _ c.advance-position.result (omega (arith, start, product)) c.advance-position.ensures;
+      counted = omega (arith, rest, c.loop-index.invariant.counted);
+      bound = omega (arith, product, up, c.loop-index.invariant.bound);
+      last = omega (arith, c.loop-index-test.true, c.min-undivided.ensures);
     }
 
 pub needed_below-returns-clause-count : goal.needed_below-returns-clause-count
 needed_below-returns-clause-count t c =
     let f = λ (k : ℕ). needed c.args.excerpt.now.mappings.now c.args.excerpt.now.range c.args.place.level (c.args.place.first + k * pages_of c.args.place.level) (child c.args.slot.now k) in
-    let last : c.loop-index.index ≤ c.slots_met-low.result.1 = c.loop-index.auto.index-end c.slots_met-low.ensures.ordered in
+    let last : c.loop-index.index ≤ c.slots_met-low.result.1 = c.loop-index.invariant.last in
     let rest = sum_below-rest 512 f c.loop-index.index (omega (arith, last, c.slots_met-low.ensures.within)) (λ k from below.
     needed-apart c.args.excerpt.now.mappings.now c.args.excerpt.now.range c.args.place.level (c.args.place.first + k * pages_of c.args.place.level) (child c.args.slot.now k)
     (meets-after (slot_pages c.args.place.level (c.args.place.first + k * pages_of c.args.place.level)) c.args.excerpt.now.range
@@ -123,5 +155,5 @@ needed_below-returns-clause-count t c =
 
 pub needed_below-returns-clause-bound : goal.needed_below-returns-clause-bound
 needed_below-returns-clause-bound t c =
-    let last : c.loop-index.index ≤ c.slots_met-low.result.1 = c.loop-index.auto.index-end c.slots_met-low.ensures.ordered in
+    let last : c.loop-index.index ≤ c.slots_met-low.result.1 = c.loop-index.invariant.last in
     rest-bound c.loop-index.total c.loop-index.index (pages_of c.args.place.level) c.loop-index.invariant.bound (omega (arith, last, c.slots_met-low.ensures.within)) (pages_of-some c.args.place.level)

@@ -27,7 +27,7 @@ loop-index-preserved c =
     let index : ℕ = c.in-Some.index in
     let slot = c.loop-index.slot.now in
     let range = c.args.range in
-    let is = c.in-Some.ensures in
+    let is = c.in-Some.ensures.part in
     let all = pages_of-below level (let h = is.some in omega (arith, h)) in
     let fits = part-within index (512 * pages_of (level - 1)) (pages_of (level - 1)) is.known (omega arith) in
     let start : first + index * pages_of (level - 1) ≡ first + index * c.pages_of.result = ap (λ (n : ℕ). first + index * n) (sym c.pages_of.ensures.pages) in

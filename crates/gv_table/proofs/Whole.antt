@@ -1,0 +1,56 @@
+-- Slots that one mapping holds whole, or that no mapping meets.
+use Rattle.std.proofs.Common.{◌≡◌, ℕ, ◌+◌, ◌<◌, ◌≤◌, inl, inr, false, List, length, get_or, Option, Some, None, MatchOption, Bor, arith, ap, ◌∙◌}
+use Rattle.std.proofs.lemmas.Bool.{cases_lt}
+use Rattle.gv_types.specs.PageRange.{end_of}
+use Rattle.gv_types.specs.Mapping.{part}
+use Rattle.gv_types.specs.declared.mapping.Mapping.{Mapping}
+use Rattle.gv_ranges.specs.List.{IsLaidOut, IsIndexOfPage}
+use Rattle.gv_ranges.proofs.LookupLemmas.{firsts_rise}
+use Rattle.gv_ranges.proofs.PartLemmas.{All-take_at}
+use Rattle.gv_table.specs.declared.slot.Slot.{Slot}
+use Rattle.gv_table.specs.declared.slot.Slot.TheVariants.{Empty}
+use Rattle.gv_table.specs.declared.wanted.Wanted.TheVariants as variant
+use Rattle.gv_table.specs.Levels.{pages_of, slot_pages}
+use Rattle.gv_table.specs.Tree.{is_table, leaf, IsTreeOf}
+use Rattle.gv_table.specs.Wanted.{wanted, is_divided}
+use Rattle.gv_table.proofs.Covered.{met-none}
+use Rattle.gv_table.proofs.Slots.{is_table-Empty, is_table-leaf}
+use Rattle.gv_table.proofs.Spans.{meets-before, meets-after}
+use Rattle.gv_table.proofs.Trees.{IsTreeOf-nothing, IsTreeOf-leaf}
+use Rattle.gv_table.proofs.Wants.{wanted-nothing}
+
+-- nothing is wanted of a slot between two mappings
+pub gap-wanted : (ms : List Mapping) (level first page position : ℕ) → IsLaidOut ms → IsIndexOfPage ms page position → page ≤ first →
+    ((d : Mapping) → position < length ms → first + pages_of level ≤ (get_or ms position d).range.first) → wanted ms level first ≡ variant.Nothing
+gap-wanted ms level first page position laid is up next =
+    wanted-nothing ms level first
+    (met-none ms (slot_pages level first) (λ j d inside.
+    elim (cases_lt j position) [
+      | inl less ↦ (
+          let ends = All-take_at (λ (m : Mapping). end_of m.range ≤ page) ms position j d is.within is.ended less in
+          meets-before (get_or ms j d).range (slot_pages level first) (omega (arith, ends, up)))
+      | inr from ↦ (
+          let rise = firsts_rise ms 0 laid position j d from inside in
+          let begins = next d (omega arith) in
+          meets-after (get_or ms j d).range (slot_pages level first) (omega (arith, rise, begins)))
+    ]))
+
+module _ (ms : List Mapping) (level first : ℕ) where
+  -- such a slot is no table
+  pub alike-undivided : (held : Option (Bor Mapping)) →
+      MatchOption held (wanted ms level first ≡ variant.Nothing) (λ m. wanted ms level first ≡ variant.Entry (part m.now first)) →
+      is_divided (wanted ms level first) ≡ false
+  alike-undivided None is = ap is_divided is
+  alike-undivided (Some m) is = ap is_divided is
+
+  -- and painted so it is that of the tree
+  pub alike-tree : (held : Option (Bor Mapping)) (slot : Slot) →
+      MatchOption held (wanted ms level first ≡ variant.Nothing) (λ m. wanted ms level first ≡ variant.Entry (part m.now first)) →
+      MatchOption held (slot ≡ Empty) (λ m. slot ≡ leaf (part m.now first)) → IsTreeOf ms level first slot
+  alike-tree None slot is made = IsTreeOf-nothing ms level first slot is made
+  alike-tree (Some m) slot is made = IsTreeOf-leaf ms level first (part m.now first) slot is made
+
+pub alike-no-table : (held : Option (Bor Mapping)) (first : ℕ) (slot : Slot) →
+    MatchOption held (slot ≡ Empty) (λ m. slot ≡ leaf (part m.now first)) → is_table slot ≡ false
+alike-no-table None first slot made = ap is_table made ∙ is_table-Empty
+alike-no-table (Some m) first slot made = ap is_table made ∙ is_table-leaf (part m.now first)

@@ -1,0 +1,62 @@
+use Rattle.std.proofs.Common.{arith, ◌≡◌, ◌+◌, ◌*◌, ◌<◌, ℕ, get_or, slice_index_or, Option, Bor, MatchOption, IfSome, sym, ap, ◌∙◌, subst}
+use Rattle.gv_types.specs.PageRange.{end_of}
+use Rattle.gv_types.specs.Mapping.{part, IsMapping}
+use Rattle.gv_types.specs.declared.mapping.Mapping.{Mapping}
+use Rattle.gv_ranges.proofs.LookupLemmas.{is_mapping}
+use Rattle.gv_table.specs.declared.wanted.Wanted.TheVariants as variant
+use Rattle.gv_table.specs.Levels.{pages_of, slot_pages, first_within}
+use Rattle.gv_table.specs.Wanted.{wanted}
+use Rattle.gv_table.proofs.Whole.{gap-wanted}
+use Rattle.gv_table.proofs.PagesOf.{pages_of-some, whole-part}
+use Rattle.gv_table.proofs.Spans.{lies-from}
+use Rattle.gv_table.proofs.Wants.{held-leaf}
+use Rattle.gv_table.proofs.alike.alike_from.Goals as goal
+use Rattle.gv_table.proofs.alike.alike_from.Goals.{then-first, else-first+then-excerpt-len+then-first-2, else-first+then-excerpt-len+else-first-2+then-level-le-GREATEST_LEAF_LEVEL, else-first+then-excerpt-len+else-first-2+else-level-le-GREATEST_LEAF_LEVEL, else-first+else-excerpt-len}
+
+pub returns-clause-wanted : goal.returns-clause-wanted
+returns-clause-wanted c = λ k below.
+    let ms = c.args.excerpt.now.mappings.now in
+    let level : ℕ = c.args.place.level in
+    let slot : ℕ = c.args.place.first + k * pages_of c.args.place.level in
+    let Says : Option (Bor Mapping) → Type 0 = λ held.
+    MatchOption held (wanted ms level slot ≡ variant.Nothing) (λ m. wanted ms level slot ≡ variant.Entry (part m.now slot)) in
+    let some = pages_of-some c.args.place.level in
+    let fits = whole-part c.saturating_sub.result k (pages_of c.args.place.level) some (subst (λ (n : ℕ). k < n) c.slots_in-count.ensures below) in
+    let gap = gap-wanted ms level slot (first_within c.args.excerpt.now.range c.args.place.first) c.args.excerpt.now.position c.requires.laid_out c.requires.position in
+    elim c.if-first.branch [
+      | then-first w ↦ absurd (omega (arith, fits, some, w.end-is, c.saturating_sub.ensures))
+      | else-first+then-excerpt-len+then-first-2 w ↦
+          subst Says (sym w.held-is) (gap (omega (arith, w.if-first.false, c.first.ensures.value)) (λ d inside.
+          let begins : w.first-then-first-2.result ≡ (get_or c.args.excerpt.now.mappings.now c.args.excerpt.now.position d).range.first =
+          w.first-then-first-2.ensures.value ∙ ap (λ (m : Mapping). m.range.first) (w.get-m.ensures d) in
+          omega (arith, begins, fits, w.end-is, w.min-end.ensures, c.saturating_sub.ensures)))
+      | else-first+then-excerpt-len+else-first-2+then-level-le-GREATEST_LEAF_LEVEL w ↦ (
+          let m = w.get-m.result.now in
+          let is = w.get-m.ensures m in
+          let low : w.first-then-excerpt-len.result ≡ (slice_index_or c.args.excerpt.now.mappings.now c.args.excerpt.now.position m).range.first =
+          w.first-then-excerpt-len.ensures.value ∙ ap (λ (m : Mapping). m.range.first) is in
+          let high : w.end.result ≡ end_of (slice_index_or c.args.excerpt.now.mappings.now c.args.excerpt.now.position m).range =
+          w.end.ensures.value ∙ ap (λ (m : Mapping). end_of m.range) is in
+          let held = held-leaf ms level slot c.args.excerpt.now.position m c.requires.laid_out (omega (arith, w.if-excerpt-len.true, w.len.ensures.len)) (omega (arith, w.if-level-le-GREATEST_LEAF_LEVEL.true))
+          (lies-from (slot_pages level slot) (slice_index_or c.args.excerpt.now.mappings.now c.args.excerpt.now.position m).range
+          (omega (arith, low, w.if-first-2.false))
+          (omega (arith, high, fits, w.end-is, w.min-end-then-level-le-GREATEST_LEAF_LEVEL.ensures, c.saturating_sub.ensures))) in
+          subst Says (sym w.held-is) (held ∙ ap (λ (m : Mapping). variant.Entry (part m slot)) (sym is)))
+      | else-first+then-excerpt-len+else-first-2+else-level-le-GREATEST_LEAF_LEVEL w ↦ absurd (omega (arith, fits, some, w.end-is, c.saturating_sub.ensures))
+      | else-first+else-excerpt-len w ↦
+          subst Says (sym w.held-is) (gap (omega (arith, w.if-first.false, c.first.ensures.value)) (λ d inside. absurd (omega (arith, inside, w.if-excerpt-len.false, w.len.ensures.len))))
+    ]
+
+pub returns-clause-mapping : goal.returns-clause-mapping
+returns-clause-mapping c =
+    let Is : Option (Bor Mapping) → Type 0 = λ held. IfSome held (λ m. IsMapping m.now) in
+    elim c.if-first.branch [
+      | then-first w ↦ subst Is (sym w.held-is) tt
+      | else-first+then-excerpt-len+then-first-2 w ↦ subst Is (sym w.held-is) tt
+      | else-first+then-excerpt-len+else-first-2+then-level-le-GREATEST_LEAF_LEVEL w ↦ (
+          let m = w.get-m.result.now in
+          subst Is (sym w.held-is) (subst IsMapping (sym (w.get-m.ensures m))
+          (is_mapping c.args.excerpt.now.mappings.now 0 c.args.excerpt.now.position m c.requires.laid_out (omega (arith, w.if-excerpt-len.true, w.len.ensures.len)))))
+      | else-first+then-excerpt-len+else-first-2+else-level-le-GREATEST_LEAF_LEVEL w ↦ subst Is (sym w.held-is) tt
+      | else-first+else-excerpt-len w ↦ subst Is (sym w.held-is) tt
+    ]

@@ -1,0 +1,133 @@
+use Rattle.std.proofs.Common.{rules, arith, refl, ◌≡◌, ◌≢◌, ◌≤◌, ◌<◌, ◌+◌, ◌*◌, ℕ, ◌⊎◌, inl, inr, List, length, slice_index_or, slice_set, MatchOption, sym, ap, ◌∙◌, subst}
+use Rattle.std.proofs.lemmas.List.{get_or_default}
+use Rattle.gv_types.specs.Mapping.{part}
+use Rattle.gv_table.specs.declared.slot.Slot.{Slot}
+use Rattle.gv_table.specs.declared.slot.Slot.TheVariants.{Empty}
+use Rattle.gv_table.specs.Levels.{pages_of}
+use Rattle.gv_table.specs.Tree.{IsTreeOf, leaf}
+use Rattle.gv_table.specs.Counts.{tables_in, tables_at, lost}
+use Rattle.gv_table.proofs.Counting.{row-part, row-counted}
+use Rattle.gv_table.proofs.Counts.{tables_at-other}
+use Rattle.gv_table.proofs.Fewness.{row_lost-few}
+use Rattle.gv_table.proofs.Matches.{lost-whole, gained-none}
+use Rattle.gv_table.proofs.Painted.{painted-gained, painted-lost, painted-above}
+use Rattle.gv_table.proofs.Rows.{row-other, row-here}
+use Rattle.gv_table.proofs.Sums.{sum_below-at}
+use Rattle.gv_table.proofs.Whole.{alike-undivided, alike-tree, alike-no-table}
+use Rattle.gv_table.proofs.leaves.paint_alike.Goals as goal
+
+pub loop-index-init : goal.loop-index-init
+loop-index-init c = record {
+  painted = λ k from below. absurd (omega (arith, from, below));
+  before = λ k below. refl;
+  untouched = λ k from. refl;
+  lost = omega arith;
+  gained = refl;
+  put = omega arith;
+  standing = λ target. refl;
+}
+
+pub paint_whole-lost-requires-clause-counted : goal.paint_whole-lost-requires-clause-counted
+paint_whole-lost-requires-clause-counted c = λ target.
+    let ms = c.args.excerpt.now.mappings.now in
+    let i : ℕ = c.loop-index.index in
+    let row = c.loop-index.slots in
+    let page : ℕ = c.args.place.first + c.loop-index.index * pages_of c.args.place.level in
+    let within : c.loop-index.index < length c.loop-index.slots = search rules in
+    let below : c.loop-index.index < 512 = omega (arith, c.loop-index-test.true, c.requires.within) in
+    let start : c.args.place.first + c.loop-index.index * c.pages_of-pages.result ≡ c.args.place.first + c.loop-index.index * pages_of c.args.place.level =
+    ap (λ (n : ℕ). c.args.place.first + c.loop-index.index * n) c.pages_of-pages.ensures.pages in
+    let read : slice_index_or row i c.index-slots-index.result ≡ slice_index_or row i Empty = get_or_default row i c.index-slots-index.result Empty within in
+    let here = row-part c.args.counts.now c.loop-index.counts c.args.place.level i c.args.slots.now row below c.requires.part c.loop-index.invariant.standing in
+    let counted = here.counted target in
+    let same = ap (λ (s : Slot). tables_at target c.args.place.level s) read in
+    omega (arith, counted, same)
+
+pub overflow_add-lost : goal.overflow_add-lost
+overflow_add-lost c =
+    let ms = c.args.excerpt.now.mappings.now in
+    let i : ℕ = c.loop-index.index in
+    let row = c.loop-index.slots in
+    let page : ℕ = c.args.place.first + c.loop-index.index * pages_of c.args.place.level in
+    let within : c.loop-index.index < length c.loop-index.slots = search rules in
+    let below : c.loop-index.index < 512 = omega (arith, c.loop-index-test.true, c.requires.within) in
+    let start : c.args.place.first + c.loop-index.index * c.pages_of-pages.result ≡ c.args.place.first + c.loop-index.index * pages_of c.args.place.level =
+    ap (λ (n : ℕ). c.args.place.first + c.loop-index.index * n) c.pages_of-pages.ensures.pages in
+    let read : slice_index_or row i c.index-slots-index.result ≡ slice_index_or row i Empty = get_or_default row i c.index-slots-index.result Empty within in
+    let want = c.requires.wanted c.loop-index.index c.loop-index.auto.index c.loop-index-test.true in
+    let none = alike-undivided ms c.args.place.level page c.args.held want in
+    let whole = lost-whole ms c.args.place.level page (slice_index_or row i Empty) c.requires.laid_out none in
+    let count = ap (λ (s : Slot). tables_in c.args.place.level s) read in
+    let part = sum_below-at 512 (λ (k : ℕ). lost ms c.args.place.level (c.args.place.first + k * pages_of c.args.place.level) (slice_index_or row k Empty)) i below in
+    let few = row_lost-few ms c.args.place.level c.args.place.first c.args.slots.now in
+    omega (arith, whole, count, part, few, c.requires.in_space, c.loop-index.invariant.lost, c.paint_whole-lost.ensures.count)
+
+split : (k i : ℕ) → k < i + 1 → (k < i) ⊎ (k ≡ i)
+split k i below = grind arith
+
+pub loop-index-preserved : goal.loop-index-preserved
+loop-index-preserved c =
+    let inv = c.loop-index.invariant in
+    let ms = c.args.excerpt.now.mappings.now in
+    let i : ℕ = c.loop-index.index in
+    let row = c.loop-index.slots in
+    let page : ℕ = c.args.place.first + c.loop-index.index * pages_of c.args.place.level in
+    let within : c.loop-index.index < length c.loop-index.slots = search rules in
+    let below : c.loop-index.index < 512 = omega (arith, c.loop-index-test.true, c.requires.within) in
+    let start : c.args.place.first + c.loop-index.index * c.pages_of-pages.result ≡ c.args.place.first + c.loop-index.index * pages_of c.args.place.level =
+    ap (λ (n : ℕ). c.args.place.first + c.loop-index.index * n) c.pages_of-pages.ensures.pages in
+    let read : slice_index_or row i c.index-slots-index.result ≡ slice_index_or row i Empty = get_or_default row i c.index-slots-index.result Empty within in
+    let want = c.requires.wanted c.loop-index.index c.loop-index.auto.index c.loop-index-test.true in
+    let none = alike-undivided ms c.args.place.level page c.args.held want in
+    let whole = lost-whole ms c.args.place.level page (slice_index_or row i Empty) c.requires.laid_out none in
+    let count = ap (λ (s : Slot). tables_in c.args.place.level s) read in
+    let after : List Slot = slice_set row i c.paint_whole-lost.new.slot in
+    let same : (k : ℕ) → k ≢ i → slice_index_or after k Empty ≡ slice_index_or row k Empty = row-other after row i _ refl in
+    let new : slice_index_or after i Empty ≡ c.paint_whole-lost.new.slot = row-here after row i _ refl within in
+    let P : ℕ → Slot → Type 0 = λ n s. MatchOption c.args.held (s ≡ Empty) (λ m. s ≡ leaf (part m.now n)) in
+    let made : P page (slice_index_or after i Empty) = subst (P page) (sym new) (subst (λ (n : ℕ). P n c.paint_whole-lost.new.slot) start c.paint_whole-lost.ensures.slot) in
+    let here : IsTreeOf ms c.args.place.level page (slice_index_or after i Empty) = alike-tree ms c.args.place.level page c.args.held _ want made in
+    let g = painted-gained ms c.args.place.level c.args.place.first i c.args.slots.now row after same inv.untouched c.requires.laid_out here below in
+    let l = painted-lost ms c.args.place.level c.args.place.first i c.args.slots.now row after same inv.untouched c.requires.laid_out here below in
+    let nothing = gained-none ms c.args.place.level page (slice_index_or row i Empty) none in
+    record {
+      painted = λ k from less. elim (split k i less) [
+        | inl smaller ↦ (let differ : k ≢ i = omega arith in
+            subst (λ (s : Slot). IsTreeOf ms c.args.place.level (c.args.place.first + k * pages_of c.args.place.level) s) (sym (same k differ)) (inv.painted k from smaller))
+        | inr e ↦ (let P : ℕ → Type 0 = λ j. IsTreeOf ms c.args.place.level (c.args.place.first + j * pages_of c.args.place.level) (slice_index_or after j Empty) in subst P (sym e) here)
+      ];
+      before = λ k less. let differ : k ≢ i = omega (arith, less, c.loop-index.auto.index) in same k differ ∙ inv.before k less;
+      untouched = painted-above ms c.args.place.level c.args.place.first i c.args.slots.now row after same inv.untouched c.requires.laid_out here;
+      lost = omega (arith, l, whole, count, inv.lost, c.paint_whole-lost.ensures.count);
+      gained = omega (arith, g, nothing, inv.gained);
+      put = omega (arith, count, inv.put, c.paint_whole-lost.ensures.put, c.paint_whole-lost.ensures.count);
+      standing = row-counted c.args.counts.now c.loop-index.counts c.paint_whole-lost.new.counts c.args.place.level i c.args.slots.now row after below same inv.standing
+          (λ target.
+          let old = ap (λ (s : Slot). tables_at target c.args.place.level s) read in
+          let end = tables_at-other target c.args.place.level (slice_index_or after i Empty) (alike-no-table c.args.held page _ made) in
+          let counted = c.paint_whole-lost.ensures.counted target in
+          omega (arith, old, end, counted));
+    }
+
+pub returns-clause-painted : goal.returns-clause-painted
+returns-clause-painted c = λ k from below. c.loop-index.invariant.painted k from (omega (arith, below, c.loop-index-test.false))
+
+pub returns-clause-before : goal.returns-clause-before
+returns-clause-before c = c.loop-index.invariant.before
+
+pub returns-clause-behind : goal.returns-clause-behind
+returns-clause-behind c = λ k from.
+    let last : c.loop-index.index ≤ c.args.run.end = c.loop-index.auto.index-end c.requires.ordered in
+    c.loop-index.invariant.untouched k (omega (arith, from, last))
+
+pub returns-clause-lost : goal.returns-clause-lost
+returns-clause-lost c = c.loop-index.invariant.lost
+
+pub returns-clause-gained : goal.returns-clause-gained
+returns-clause-gained c = c.loop-index.invariant.gained
+
+pub returns-clause-put : goal.returns-clause-put
+returns-clause-put c = c.loop-index.invariant.put
+
+pub returns-clause-counted : goal.returns-clause-counted
+returns-clause-counted c = c.loop-index.invariant.standing

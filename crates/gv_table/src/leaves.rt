@@ -1,0 +1,123 @@
+//! Slots that need no table painted, with the tables that they lose.
+ghost use Rattle.std.specs.Prelude.{◌≡◌, ◌≤◌, ◌<◌, ◌+◌, ◌*◌, ℕ, IsTrue, IfSome, MatchOption, slice_index_or};
+ghost use Rattle.gv_types.specs.Page.{PAGES};
+ghost use Rattle.gv_types.specs.PageRange.{covers};
+ghost use Rattle.gv_types.specs.Mapping.{part, IsMapping};
+ghost use Rattle.gv_ranges.specs.List.{IsLaidOut};
+ghost use Rattle.gv_table.specs.declared.slot.Slot.TheVariants.{Empty};
+ghost use Rattle.gv_table.specs.Levels.{top_level, root_level, slots_per_table, pages_of};
+ghost use Rattle.gv_table.specs.Tree.{IsTreeOf, leaf};
+ghost use Rattle.gv_table.specs.Counts.{tables_in, tables_at, row_tables_at, count_at, row_gained, row_lost, IsRowOf};
+ghost use Rattle.gv_table.specs.Wanted.{wanted};
+
+use crate::levels::{SLOTS, pages_of};
+use crate::place::{Excerpt, Place};
+use crate::release::clear;
+use crate::slot::{Slot, overwrite};
+use crate::spares::Spares;
+use crate::table_counts::TableCounts;
+use crate::wanted::Wanted;
+use gv_types::{Entry, Mapping};
+use std::ops::Range;
+
+/// Makes a slot a leaf, takes its tables off the counts, and puts them to the spares: how many they were.
+#[inline(always)]
+pub fn make_leaf(
+    slot: &mut Slot,
+    level: usize,
+    entry: Entry,
+    spares: &mut Spares,
+    counts: &mut TableCounts,
+) -> u64
+    requires known { level ≤ top_level }
+    requires counted { (target : ℕ) → tables_at target level slot.old ≤ count_at counts.old target }
+    ensures count { result ≡ tables_in level slot.old }
+    ensures leaf { slot.new ≡ leaf entry }
+    ensures put { spares.new ≡ spares.old + tables_in level slot.old }
+    ensures counted { (target : ℕ) → count_at counts.new target + tables_at target level slot.old
+        ≡ count_at counts.old target }
+{
+    let lost = clear(slot, level, spares, counts);
+    overwrite(slot, Slot::leaf(entry));
+    lost
+}
+
+/// Makes a slot what the mapping says that holds it whole, or empties it where there is none: how many tables it lost.
+#[inline(always)]
+fn paint_whole(
+    slot: &mut Slot,
+    place: Place,
+    held: Option<&Mapping>,
+    spares: &mut Spares,
+    counts: &mut TableCounts,
+) -> u64
+    requires known { place.level ≤ top_level }
+    requires mapping { IfSome held (λ m. IsMapping m.now) }
+    requires covered { IfSome held (λ m. IsTrue (covers m.now.range place.first)) }
+    requires counted { (target : ℕ) → tables_at target place.level slot.old ≤ count_at counts.old target }
+    ensures count { result ≡ tables_in place.level slot.old }
+    ensures slot { MatchOption held.entry (slot.new ≡ Empty) (λ m. slot.new ≡ leaf (part m.now place.first)) }
+    ensures put { spares.new ≡ spares.old + tables_in place.level slot.old }
+    ensures counted { (target : ℕ) → count_at counts.new target + tables_at target place.level slot.old
+        ≡ count_at counts.old target }
+{
+    match held {
+        Some(m) => make_leaf(slot, place.level, m.part(place.first), spares, counts),
+        None => clear(slot, place.level, spares, counts),
+    }
+}
+
+/// Makes the slots of a run what the mapping says that holds each of them whole, or empties them where no mapping meets them: how
+/// many tables they lost. The place is that of the row's first slot.
+pub fn paint_alike(
+    slots: &mut [Slot; SLOTS],
+    place: Place,
+    run: Range<usize>,
+    held: Option<&Mapping>,
+    excerpt: &Excerpt<'_, '_>,
+    spares: &mut Spares,
+    counts: &mut TableCounts,
+) -> u64
+    requires known { place.level ≤ root_level }
+    requires in_space { place.first + slots_per_table * pages_of place.level ≤ PAGES }
+    requires laid_out { IsLaidOut excerpt.now.mappings.now }
+    requires ordered { run.start ≤ run.end }
+    requires within { run.end ≤ slots_per_table }
+    requires wanted { (k : ℕ) → run.start ≤ k → k < run.end → MatchOption held
+        (wanted excerpt.now.mappings.now place.level (place.first + k * pages_of place.level) ≡ Wanted.Nothing)
+        (λ m. wanted excerpt.now.mappings.now place.level (place.first + k * pages_of place.level)
+        ≡ Wanted.Entry (part m.now (place.first + k * pages_of place.level))) }
+    requires mapping { IfSome held (λ m. IsMapping m.now) }
+    requires covered { (k : ℕ) → run.start ≤ k → k < run.end
+        → IfSome held (λ m. IsTrue (covers m.now.range (place.first + k * pages_of place.level))) }
+    requires part { IsRowOf counts.old place.level slots.old }
+    ensures painted { (k : ℕ) → run.start ≤ k → k < run.end → IsTreeOf excerpt.now.mappings.now place.level
+        (place.first + k * pages_of place.level) (slice_index_or slots.new k Empty) }
+    ensures before { (k : ℕ) → k < run.start
+        → slice_index_or slots.new k Empty ≡ slice_index_or slots.old k Empty }
+    ensures behind { (k : ℕ) → run.end ≤ k
+        → slice_index_or slots.new k Empty ≡ slice_index_or slots.old k Empty }
+    ensures lost { result + row_lost excerpt.now.mappings.now place.level place.first slots.new
+        ≡ row_lost excerpt.now.mappings.now place.level place.first slots.old }
+    ensures gained { row_gained excerpt.now.mappings.now place.level place.first slots.new
+        ≡ row_gained excerpt.now.mappings.now place.level place.first slots.old }
+    ensures put { spares.new ≡ spares.old + result }
+    ensures counted { (target : ℕ) → count_at counts.new target + row_tables_at target place.level slots.old
+        ≡ count_at counts.old target + row_tables_at target place.level slots.new }
+{
+    let Place { level, first } = place;
+    let Range {
+        start: low,
+        end: high,
+    } = run;
+    let pages = pages_of(level);
+    let mut lost = 0;
+    for index in low..high {
+        let part = Place {
+            level,
+            first: first + index as u64 * pages,
+        };
+        lost += paint_whole(&mut slots[index], part, held, spares, counts);
+    }
+    lost
+}
