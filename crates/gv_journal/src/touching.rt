@@ -1,5 +1,5 @@
 //! Which items touch.
-ghost use Rattle.std.specs.Prelude.{◌≡◌, ℕ, ◌+◌, ◌<◌, ◌^◌, Bool, ◌≤◌, false, ◌&&◌, ◌-◌, take, drop, not, is_some, length, IsTrue, IfSome};
+ghost use Rattle.std.specs.Prelude.{◌≡◌, ℕ, ◌⊎◌, ◌+◌, ◌<◌, ◌^◌, Bool, ◌≤◌, false, ◌&&◌, ◌-◌, take, drop, not, is_some, length, IsTrue, IfSome};
 ghost use Rattle.std.specs.List.{list_any};
 ghost use Rattle.gv_types.specs.Page.{IsPage, PAGES};
 ghost use Rattle.gv_types.specs.PageRange.{covers, meets};
@@ -7,7 +7,7 @@ ghost use Rattle.gv_types.specs.Operation.{range_of};
 ghost use Rattle.gv_journal.specs.Items.{done_by};
 ghost use Rattle.gv_journal.specs.Columns.{AreInSpace};
 ghost use Rattle.gv_journal.specs.Notes.{TellGone};
-ghost use Rattle.gv_journal.specs.Reach.{IsReachOf, AllApart};
+ghost use Rattle.gv_journal.specs.Reach.{IsReachOf, AllApart, regions_meet};
 ghost use Rattle.gv_journal.specs.Restoring.{pages_named};
 ghost use Rattle.gv_journal.specs.Saying.{first_taken, last_covering};
 ghost use Rattle.gv_journal.specs.Withdrawing.{touch, touched_from};
@@ -165,8 +165,39 @@ fn may_meet(firsts: &[u64], pasts: &[u64], own: &Reach) -> bool
     signs >= SIGN
 }
 
-/// As `first_touched`, for the block from an index up to another: its items are passed over at once where the pages or the regions of
-/// none meet. Inlined, so that the number of the block's items is known.
+/// Whether a block's items are told to be apart from another, by the pages of each or by its regions. First comes the test that told it
+/// of the last block, since neighbours in a journal mostly lie alike: with one operation each by their pages, with several, on both
+/// sides, by their regions. Inlined, so that the number of the block's items is known.
+#[inline(always)]
+fn are_apart(
+    firsts: &[u64],
+    pasts: &[u64],
+    regions: &[u128],
+    own: &Reach,
+    by_regions: &mut bool,
+) -> bool
+    requires beside { length pasts.now ≡ length firsts.now }
+    requires in_space { AreInSpace pasts.now }
+    requires own { own.now.past ≤ PAGES }
+    ensures { IsTrue result → (AllApart own.now.first own.now.past firsts.now pasts.now)
+        ⊎ (list_any (λ other. regions_meet own.now.regions other) regions.now ≡ false) }
+{
+    if !*by_regions && !may_meet(firsts, pasts, own) {
+        return true;
+    }
+    if !own.shares_region_with_any(regions) {
+        *by_regions = true;
+        return true;
+    }
+    if *by_regions && !may_meet(firsts, pasts, own) {
+        *by_regions = false;
+        return true;
+    }
+    false
+}
+
+/// As `first_touched`, for the block from an index up to another: its items are passed over at once where all are apart. Inlined, so
+/// that the number of the block's items is known.
 #[inline(always)]
 fn first_reached(
     part: &Part<'_>,
@@ -175,6 +206,7 @@ fn first_reached(
     own: &Reach,
     ops: &[PageOp],
     from: u64,
+    by_regions: &mut bool,
 ) -> Option<u64>
     requires ordered { start ≤ end }
     requires within { end ≤ length part.now.items.now }
@@ -184,10 +216,13 @@ fn first_reached(
     ensures { (gone : ℕ → Bool) → TellGone gone from (take (end - start) (drop start part.now.notes.now))
         → result ≡ touched_from gone ops.now from (take (end - start) (drop start part.now.items.now)) }
 {
-    if !may_meet(&part.firsts[start..end], &part.pasts[start..end], own) {
-        return None;
-    }
-    if !own.shares_region_with_any(&part.regions[start..end]) {
+    if are_apart(
+        &part.firsts[start..end],
+        &part.pasts[start..end],
+        &part.regions[start..end],
+        own,
+        by_regions,
+    ) {
         return None;
     }
     first_in_way(&part.between(start, end), own, ops, from)
@@ -195,7 +230,7 @@ fn first_reached(
 
 /// The number of the first item that isn't withdrawn and touches the operations of another. The first of these items has the
 /// number `from`. Nearly all items lie elsewhere, so they are gone through in blocks of a fixed length, and a block where all do is
-/// passed over by one branch, or two.
+/// passed over by one test, or two.
 pub fn first_touched(part: &Part<'_>, own: &Reach, ops: &[PageOp], from: u64) -> Option<u64>
     requires numbers { from + length part.now.items.now < 2 ^ 64 }
     requires own { IsReachOf own.now ops.now }
@@ -203,10 +238,12 @@ pub fn first_touched(part: &Part<'_>, own: &Reach, ops: &[PageOp], from: u64) ->
     ensures { (gone : ℕ → Bool) → TellGone gone from part.now.notes.now → result ≡ touched_from gone ops.now from part.now.items.now }
 {
     let many = part.items.len();
+    let mut by_regions = false;
     let mut start = 0;
     while many - start >= BLOCK {
         let end = start + BLOCK;
-        let found = first_reached(part, start, end, own, ops, from + start as u64);
+        let number = from + start as u64;
+        let found = first_reached(part, start, end, own, ops, number, &mut by_regions);
         if found.is_some() {
             return found;
         }
