@@ -48,7 +48,7 @@ class _Value(c.Structure):
         return tuple(getattr(self, name) for name, *_ in self._fields_)
 
     def __eq__(self, other: object) -> bool:
-        return type(self) is type(other) and bytes(self) == bytes(other)
+        return isinstance(other, _Value) and type(self) is type(other) and bytes(self) == bytes(other)
 
     def __hash__(self) -> int:
         return hash(bytes(self))
@@ -407,7 +407,8 @@ class Vm:
             found = (kind * room)()
             self._check(call(self._vm, *arguments, found, room, count, total))
             if total.value - start <= room:
-                return found[:count.value]
+                listed: List[Any] = found[:count.value]
+                return listed
             room = total.value - start
 
     # Buffers
