@@ -12,6 +12,7 @@ use Rattle.gv_journal.specs.Reach.{extents_joined, extent_from, extent_of, regio
 use Rattle.gv_journal.specs.declared.reach.Reach.{Reach}
 use Rattle.gv_journal.proofs.Regions.{AreMarked, AllMarked, all_marked, no_region_met}
 use Rattle.gv_journal.specs.Withdrawing.{touch}
+use Rattle.gv_journal.proofs.Touches.{nothing_met}
 
 -- pages that lie in others
 abbrev pub LieIn : Option PageRangeState → Option PageRangeState → Type 0
@@ -87,9 +88,6 @@ module _ (extent other : Option PageRangeState) (bits others : ℕ) (far : IsFar
       by_cases : IsFar extent bits other others → meets r s ≡ false
       by_cases (inl unmet) = no_extent_met r s extent other h.0 k.0 unmet
       by_cases (inr unset) = no_region_met r s bits others h.1 k.1 unset
-
-  nothing_met : (s : PageRangeState) → meets (span 0 0) s ≡ false
-  nothing_met s = grind (arith, nat_tests)
 
   meets_nothing : (s : PageRangeState) → meets s (span 0 0) ≡ false
   meets_nothing s = grind (arith, nat_tests)

@@ -6,13 +6,15 @@ use Rattle.std.proofs.lemmas.List.{reverse-append, drop_more}
 use Rattle.std.proofs.lemmas.Bool.Decides.{nat_tests}
 use Rattle.std.proofs.lemmas.Bool.{or_parts}
 use Rattle.gv_types.specs.Page.{IsPage}
-use Rattle.gv_types.specs.PageRange.{PageRangeState, covers, meets}
+use Rattle.gv_types.specs.PageRange.{PageRangeState, span, covers, meets}
 use Rattle.gv_types.specs.Operation.{range_of, own_part, view as view_of_ops}
 use Rattle.gv_types.specs.declared.mapping.Entry.{Entry}
 use Rattle.gv_types.specs.declared.operation.PageOp.{PageOp}
+use Rattle.gv_types.specs.declared.operation.PageOp.TheVariants.{Map, Unmap, UnmapBuffer}
 use Rattle.gv_space.specs.Undo.{OpUndoState}
 use Rattle.gv_journal.specs.Items.{numbered, done_by, ops_without}
 use Rattle.gv_journal.specs.History.{Save}
+use Rattle.gv_journal.specs.Restoring.{pages_named}
 use Rattle.gv_journal.specs.Withdrawing.{touch, touched_from}
 use Rattle.gv_journal.specs.declared.item.Item.{Item}
 use Rattle.gv_journal.proofs.Views.{view-at}
@@ -63,6 +65,17 @@ apart_from_all r [] page none here = refl
 apart_from_all r (other ∷ others) page none here =
     let first : covers (range_of other) page ≡ false = apart r (range_of other) page (or_parts (meets r (range_of other)) (list_any (λ (o : PageOp). meets r (range_of o)) others) none).0 here in
     rw (first, apart_from_all r others page (or_parts (meets r (range_of other)) (list_any (λ (o : PageOp). meets r (range_of o)) others) none).1 here) refl
+
+-- no page is met by none
+pub nothing_met : (s : PageRangeState) → meets (span 0 0) s ≡ false
+nothing_met s = grind (arith, nat_tests)
+
+-- an operation that names no pages meets none
+pub nowhere_met : (op : PageOp) (others : List PageOp) → pages_named op ≡ None → list_any (λ other. meets (range_of op) (range_of other)) others ≡ false
+nowhere_met op [] none = refl
+nowhere_met (Map range backing flags) (other ∷ others) none = cc
+nowhere_met (Unmap range) (other ∷ others) none = cc
+nowhere_met (UnmapBuffer buffer) (other ∷ others) none = rw (nothing_met (range_of other), nowhere_met (UnmapBuffer buffer) others none) refl
 
 -- operations that touch no others leave their pages alone
 pub touch_none : (ops others : List PageOp) (page : ℕ) → touch ops others ≡ false → covers_any ops page ≡ true → covers_any others page ≡ false

@@ -41,11 +41,11 @@ impl Reach {
         }
     }
 
-    /// Whether some page may be in what both cover. All tests are always made: that costs less than branches between them.
+    /// Whether some page may be in what both cover. The regions are asked first: where they don't meet, as mostly, no more is read.
     pub fn reaches(&self, other: &Reach) -> bool
         ensures { result ≡ reaches self.now other.now }
     {
-        (self.first < other.past) & (other.first < self.past) & self.shares_region(other.regions)
+        self.shares_region(other.regions) && self.first < other.past && other.first < self.past
     }
 
     /// Whether it covers pages in one of these regions, as far as the bits tell.

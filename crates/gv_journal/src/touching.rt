@@ -22,6 +22,13 @@ use gv_types::{Entry, PageOp, PageRange};
 /// How many items are passed over at once, where none of them is reached.
 const BLOCK: usize = 8;
 
+/// From this trust on a block's pages are asked where its regions tell nothing. Where they tell nothing either, they aren't asked of the
+/// next blocks, as many as this, that come so far.
+const ASKED: u32 = 8;
+
+/// From this trust on they are asked first: they alone told so many blocks in a row as lie between.
+const FIRST: u32 = 12;
+
 /// From here on a number is what a lesser one leaves when a greater is taken off it.
 const SIGN: u64 = 1 << 63;
 
@@ -81,13 +88,13 @@ pub fn first_taken_by(item: &Item, page: u64) -> Option<Option<Entry>>
     first_taken(done_by(&item.kind), &item.undos, page)
 }
 
-/// Whether some page is covered by both.
-fn meet(op: &PageOp, other: &PageOp) -> bool
-    ensures { result ≡ meets (range_of op.now) (range_of other.now) }
+/// Whether some page of a range is covered by the operation.
+fn meets(range: PageRange, other: &PageOp) -> bool
+    ensures { result ≡ meets range (range_of other.now) }
 {
-    match (pages_of(op), pages_of(other)) {
-        (Some(range), Some(other)) => range.meets(other),
-        _ => false,
+    match pages_of(other) {
+        Some(other) => range.meets(other),
+        None => false,
     }
 }
 
@@ -95,7 +102,10 @@ fn meet(op: &PageOp, other: &PageOp) -> bool
 fn meets_any(op: &PageOp, others: &[PageOp]) -> bool
     ensures { result ≡ list_any (λ other. meets (range_of op.now) (range_of other)) others.now }
 {
-    others.iter().any(|other| meet(op, other))
+    match pages_of(op) {
+        Some(range) => others.iter().any(|other| meets(range, other)),
+        None => false,
+    }
 }
 
 /// Whether some page is covered by an operation of each.
@@ -165,34 +175,35 @@ fn may_meet(firsts: &[u64], pasts: &[u64], own: &Reach) -> bool
     signs >= SIGN
 }
 
-/// Whether a block's items are told to be apart from another, by the pages of each or by its regions. First comes the test that told it
-/// of the last block, since neighbours in a journal mostly lie alike: with one operation each by their pages, with several, on both
-/// sides, by their regions. Inlined, so that the number of the block's items is known.
+/// Whether a block's items are told to be apart from another, by its regions, which costs least, or by the pages of each. Neighbours in a
+/// journal mostly lie alike: those of several operations, on both sides, are told by their regions or not at all, those in one region
+/// by their pages. So `trust` says whether the pages are asked, by what they told of the last blocks. Inlined, so that the number of
+/// the block's items is known.
 #[inline(always)]
-fn are_apart(
-    firsts: &[u64],
-    pasts: &[u64],
-    regions: &[u128],
-    own: &Reach,
-    by_regions: &mut bool,
-) -> bool
+fn are_apart(firsts: &[u64], pasts: &[u64], regions: &[u128], own: &Reach, trust: &mut u32) -> bool
     requires beside { length pasts.now ≡ length firsts.now }
     requires in_space { AreInSpace pasts.now }
     requires own { own.now.past ≤ PAGES }
     ensures { IsTrue result → (AllApart own.now.first own.now.past firsts.now pasts.now)
         ⊎ (list_any (λ other. regions_meet own.now.regions other) regions.now ≡ false) }
 {
-    if !*by_regions && !may_meet(firsts, pasts, own) {
+    let before = *trust;
+    if before >= FIRST && !may_meet(firsts, pasts, own) {
         return true;
     }
     if !own.shares_region_with_any(regions) {
-        *by_regions = true;
+        *trust = before.min(ASKED);
         return true;
     }
-    if *by_regions && !may_meet(firsts, pasts, own) {
-        *by_regions = false;
+    if before < ASKED {
+        *trust = before + 1;
+        return false;
+    }
+    if before < FIRST && !may_meet(firsts, pasts, own) {
+        *trust = before + 1;
         return true;
     }
+    *trust = 0;
     false
 }
 
@@ -206,7 +217,7 @@ fn first_reached(
     own: &Reach,
     ops: &[PageOp],
     from: u64,
-    by_regions: &mut bool,
+    trust: &mut u32,
 ) -> Option<u64>
     requires ordered { start ≤ end }
     requires within { end ≤ length part.now.items.now }
@@ -221,7 +232,7 @@ fn first_reached(
         &part.pasts[start..end],
         &part.regions[start..end],
         own,
-        by_regions,
+        trust,
     ) {
         return None;
     }
@@ -238,12 +249,12 @@ pub fn first_touched(part: &Part<'_>, own: &Reach, ops: &[PageOp], from: u64) ->
     ensures { (gone : ℕ → Bool) → TellGone gone from part.now.notes.now → result ≡ touched_from gone ops.now from part.now.items.now }
 {
     let many = part.items.len();
-    let mut by_regions = false;
+    let mut trust = ASKED;
     let mut start = 0;
     while many - start >= BLOCK {
         let end = start + BLOCK;
         let number = from + start as u64;
-        let found = first_reached(part, start, end, own, ops, number, &mut by_regions);
+        let found = first_reached(part, start, end, own, ops, number, &mut trust);
         if found.is_some() {
             return found;
         }
