@@ -4,11 +4,12 @@ ghost use Rattle.gv_types.specs.Limits.{greatest, IsFromOneTo};
 
 use crate::counter::Counter;
 use crate::indices::{Indices, forget};
-use crate::live_buffer::{LiveBuffer, NO_PAGE, NOTED};
+use crate::live_buffer::LiveBuffer;
+use crate::places::Places;
 use crate::slots::Slots;
 use crate::usage::Usage;
 use crate::users::Users;
-use gv_types::{BUFFER_PAGES, BufferId, Fault, Generation};
+use gv_types::{BUFFER_PAGES, BufferId, Fault, Generation, OutOfMemory};
 use std::alloc::Global;
 use std::collections::HashMap;
 use std::marker::Model;
@@ -101,7 +102,7 @@ impl Buffers {
             pages,
             uses: 0,
             kept: 0,
-            noted: [NO_PAGE; NOTED],
+            places: Places::new(alloc),
             users: Users::new(alloc),
         };
         self.slots.put_in(buffer);
@@ -151,38 +152,37 @@ impl Buffers {
         self.slots.get(id).map(|slot| slot.pages)
     }
 
-    /// Counts one more mapping in the list. It takes no memory.
-    pub fn count_in(&mut self, id: BufferId)
-        requires { IsSomeAnd (uses self.old id) (λ count. count < most_counted) }
-        ensures { self.new ≡ changed id (raised Counter.Uses 1) self.old }
+    /// Makes room for the places of more mappings in the list. `OutOfMemory` where the system refuses it; none is needed where the
+    /// buffer has over 64, or an older one of its mappings isn't known.
+    pub fn make_places(&mut self, id: BufferId, more: u64) -> Result<(), OutOfMemory>
+        ensures { self.new ≡ self.old }
     {
-        self.raise(Counter::Uses, id, NO_PAGE);
+        Ok(self.slots.make_places(id.index, more)?)
     }
 
-    /// As `count_in`, for a mapping that begins at this page, which is noted. It takes no memory.
-    pub fn count_in_at(&mut self, id: BufferId, page: u64)
+    /// Counts one more mapping in the list, which begins at a page. It takes no memory.
+    pub fn count_in(&mut self, id: BufferId, page: u64)
         requires { IsSomeAnd (uses self.old id) (λ count. count < most_counted) }
         ensures { self.new ≡ changed id (raised Counter.Uses 1) self.old }
     {
         self.raise(Counter::Uses, id, page);
     }
 
-    /// Pages at which mappings of the buffer may begin: the last four different ones that `count_in_at` noted, the newest first.
-    /// Whether one begins there still, and whether there are others, has to be looked up. Where there were fewer, the rest are
-    /// numbers that no page has.
-    pub fn noted(&self, id: BufferId) -> [u64; 4] {
+    /// The pages at which the buffer's mappings begin, ascending, where they are at most 64, there was always room for them, and each
+    /// count told its page; else none. So whether they are as many as the mappings, and each one's, has to be looked up.
+    pub fn places(&self, id: BufferId) -> &[u64] {
         match self.slots.get(id) {
-            Some(slot) => slot.noted,
-            None => [NO_PAGE; NOTED],
+            Some(slot) => slot.places.pages(),
+            None => &[],
         }
     }
 
-    /// Counts one mapping less in the list. It takes no memory.
-    pub fn count_out(&mut self, id: BufferId)
+    /// Counts one mapping less in the list, which began at a page. It takes no memory.
+    pub fn count_out(&mut self, id: BufferId, page: u64)
         requires { IsSomeAnd (uses self.old id) (λ count. 0 < count) }
         ensures { self.new ≡ changed id (lowered Counter.Uses 1) self.old }
     {
-        self.lower(Counter::Uses, id);
+        self.lower(Counter::Uses, id, page);
     }
 
     /// Counts one more mapping in undo values. It takes no memory.
@@ -190,7 +190,7 @@ impl Buffers {
         requires { IsSomeAnd (kept self.old id) (λ count. count < most_counted) }
         ensures { self.new ≡ changed id (raised Counter.Kept 1) self.old }
     {
-        self.raise(Counter::Kept, id, NO_PAGE);
+        self.raise(Counter::Kept, id, 0);
     }
 
     /// Counts one mapping less in undo values. It takes no memory.
@@ -198,7 +198,7 @@ impl Buffers {
         requires { IsSomeAnd (kept self.old id) (λ count. 0 < count) }
         ensures { self.new ≡ changed id (lowered Counter.Kept 1) self.old }
     {
-        self.lower(Counter::Kept, id);
+        self.lower(Counter::Kept, id, 0);
     }
 
     // How many buffers are alive.
@@ -224,12 +224,12 @@ impl Buffers {
         self.slots.raise(id.index, counter, page);
     }
 
-    /// Counts one mapping less.
-    fn lower(&mut self, counter: Counter, id: BufferId)
+    /// Counts one mapping less, which began at a page.
+    fn lower(&mut self, counter: Counter, id: BufferId, page: u64)
         requires { IsSomeAnd (counted counter self.old id) (λ count. 0 < count) }
         ensures { self.new ≡ changed id (lowered counter 1) self.old }
     {
-        self.slots.lower(id.index, counter);
+        self.slots.lower(id.index, counter, page);
     }
 
     /// Lets a job use a buffer; one that uses it already gets the stronger usage. `NoBuffer` where

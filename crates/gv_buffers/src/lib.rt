@@ -7,6 +7,7 @@ mod counter;
 mod indices;
 pub mod laws;
 mod live_buffer;
+mod places;
 mod slots;
 mod usage;
 mod users;

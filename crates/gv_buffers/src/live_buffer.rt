@@ -4,17 +4,10 @@ ghost use Rattle.gv_buffers.specs.Slots.{buffer_at};
 ghost use Rattle.gv_buffers.specs.Buffers.{count, raised, lowered, most_counted, use_fault};
 
 use crate::counter::Counter;
+use crate::places::Places;
 use crate::users::Users;
 use gv_types::{Fault, Generation};
-
-/// So many pages are noted of a buffer: most have a mapping, or a few.
-pub const NOTED: usize = 4;
-
-/// Of a buffer with more mappings than this no further page is noted: they would be looked up only once nearly all had gone.
-const FEW: u64 = 2 * NOTED as u64;
-
-/// Noted where no page is: no page has this number.
-pub const NO_PAGE: u64 = u64::MAX;
+use std::alloc::AllocError;
 
 /// A live buffer at its index.
 #[derive(Drop)]
@@ -23,9 +16,8 @@ pub struct LiveBuffer {
     pub pages: u64,
     pub uses: u64,
     pub kept: u64,
-    // Where mappings of the buffer began as they came into the list, the newest first. Whether they begin there still, and whether
-    // there are others, who asks has to look up. They stand beside the counts, which change at the same time.
-    pub noted: [u64; NOTED],
+    // They stand beside the counts, which change at the same time.
+    pub places: Places,
     pub users: Users,
 }
 
@@ -46,32 +38,33 @@ impl LiveBuffer {
         ensures { (index : ℕ) → buffer_at index self.new ≡ raised counter 1 (buffer_at index self.old) }
     {
         match counter {
-            Counter::Uses => self.uses += 1,
+            Counter::Uses => {
+                self.places.come(page, self.uses);
+                self.uses += 1;
+            }
             Counter::Kept => self.kept += 1,
         }
-        self.note(page);
     }
 
-    /// Notes a page, if it is one and isn't noted yet, and the buffer has few mappings.
-    fn note(&mut self, page: u64)
-        ensures { (index : ℕ) → buffer_at index self.new ≡ buffer_at index self.old }
-    {
-        if page == NO_PAGE || self.uses > FEW || self.noted.contains(&page) {
-            return;
-        }
-        let [newest, second, third, _] = self.noted;
-        self.noted = [page, newest, second, third];
-    }
-
-    /// Counts one mapping less.
-    pub fn lower(&mut self, counter: Counter)
+    /// Counts one mapping less, which began at a page.
+    pub fn lower(&mut self, counter: Counter, page: u64)
         requires { 0 < count counter (buffer_at 0 self.old) }
         ensures { (index : ℕ) → buffer_at index self.new ≡ lowered counter 1 (buffer_at index self.old) }
     {
         match counter {
-            Counter::Uses => self.uses -= 1,
+            Counter::Uses => {
+                self.places.leave(page, self.uses);
+                self.uses -= 1;
+            }
             Counter::Kept => self.kept -= 1,
         }
+    }
+
+    /// Makes room for the places of more mappings in the list.
+    pub fn make_places(&mut self, more: u64) -> Result<(), AllocError>
+        ensures { (index : ℕ) → buffer_at index self.new ≡ buffer_at index self.old }
+    {
+        self.places.make_room(self.uses, more)
     }
 
     /// `Mapped`, `Kept` or `InUse`, in this order, where something names the buffer.

@@ -108,8 +108,8 @@ impl Slots {
         raise_slot(&mut self.entries[index as usize], counter, page);
     }
 
-    /// Counts one mapping less of the buffer at an index.
-    pub fn lower(&mut self, index: u32, counter: Counter)
+    /// Counts one mapping less of the buffer at an index, which began at a page.
+    pub fn lower(&mut self, index: u32, counter: Counter, page: u64)
         requires { IsSomeAnd (option_map (count counter) (buffer_in self.old.entries.items index)) (λ count. 0 < count) }
         ensures here { buffer_in self.new.entries.items index
             ≡ option_map (lowered counter 1) (buffer_in self.old.entries.items index) }
@@ -117,7 +117,19 @@ impl Slots {
         ensures length { length self.new.entries.items ≡ length self.old.entries.items }
         ensures vacant { self.new.vacant ≡ self.old.vacant }
     {
-        lower_slot(&mut self.entries[index as usize], counter);
+        lower_slot(&mut self.entries[index as usize], counter, page);
+    }
+
+    /// Makes room for the places of more mappings of the buffer at an index, if there is one.
+    pub fn make_places(&mut self, index: u32, more: u64) -> Result<(), AllocError>
+        ensures same { (other : ℕ) → buffer_in self.new.entries.items other ≡ buffer_in self.old.entries.items other }
+        ensures length { length self.new.entries.items ≡ length self.old.entries.items }
+        ensures vacant { self.new.vacant ≡ self.old.vacant }
+    {
+        if (index as usize) < self.entries.len() {
+            make_places_in(&mut self.entries[index as usize], more)?;
+        }
+        Ok(())
     }
 
     /// Makes room for a job among the users of the buffer at an index, and notes the index for the job, where it is no user yet.
@@ -194,14 +206,24 @@ fn raise_slot(slot: &mut Option<LiveBuffer>, counter: Counter, page: u64)
     }
 }
 
+/// Makes room for the places of more mappings of the buffer in a slot, where one is.
+fn make_places_in(slot: &mut Option<LiveBuffer>, more: u64) -> Result<(), AllocError>
+    ensures { (index : ℕ) → option_map (buffer_at index) slot.new ≡ option_map (buffer_at index) slot.old }
+{
+    if let Some(buffer) = slot {
+        buffer.make_places(more)?;
+    }
+    Ok(())
+}
+
 /// Counts one mapping less of the buffer in a slot, where one is.
-fn lower_slot(slot: &mut Option<LiveBuffer>, counter: Counter)
+fn lower_slot(slot: &mut Option<LiveBuffer>, counter: Counter, page: u64)
     requires { IsSomeAnd (option_map (count counter) (option_map (buffer_at 0) slot.old)) (λ count. 0 < count) }
     ensures { (index : ℕ) → option_map (buffer_at index) slot.new
         ≡ option_map (lowered counter 1) (option_map (buffer_at index) slot.old) }
 {
     if let Some(buffer) = slot {
-        buffer.lower(counter);
+        buffer.lower(counter, page);
     }
 }
 

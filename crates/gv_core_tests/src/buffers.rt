@@ -43,8 +43,8 @@ fn count(buffers: &mut Buffers, id: &BufferId, call: &Call) -> Result<(), &'stat
     let uses = buffers.uses(*id).ok_or("no uses")?;
     let kept = buffers.kept(*id).ok_or("none kept")?;
     match call {
-        Call::CountIn if uses < 10 => buffers.count_in(*id),
-        Call::CountOut if uses > 0 => buffers.count_out(*id),
+        Call::CountIn if uses < 10 => buffers.count_in(*id, uses),
+        Call::CountOut if uses > 0 => buffers.count_out(*id, uses - 1),
         Call::Keep if kept < 10 => buffers.keep(*id),
         Call::Unkeep if kept > 0 => buffers.unkeep(*id),
         _ => return Err("no count"),
@@ -108,41 +108,6 @@ fn play(rt: &(impl Abort + AllocGlobal), limit: u64, rows: &[Row]) -> Result<Vec
         assert_eq!(rt; look(&buffers, id), *counts, "row {row}");
     }
     Ok(ids)
-}
-
-/// A mapping that begins at a page is counted in: the pages that are noted then.
-fn noted_after(buffers: &mut Buffers, id: &BufferId, page: u64) -> Result<[u64; 4], &'static str> {
-    let uses = buffers.uses(*id).ok_or("no uses")?;
-    if uses >= 10 {
-        return Err("no count");
-    }
-    buffers.count_in_at(*id, page);
-    if buffers.uses(*id) != Some(uses + 1) {
-        return Err("not counted");
-    }
-    Ok(buffers.noted(*id))
-}
-
-#[test]
-fn the_last_four_pages_are_noted(rt: HostRuntime) -> Result<(), Fail> {
-    let none = u64::MAX;
-    let mut buffers = Buffers::new(rt.alloc(), 1)?;
-    let id = buffers.create(rt.alloc(), 8)?;
-    assert_eq!(rt; buffers.noted(id), [none; 4]);
-    let rows = [
-        (5, [5, none, none, none]),
-        (7, [7, 5, none, none]),
-        (5, [7, 5, none, none]),
-        (none, [7, 5, none, none]),
-        (0, [0, 7, 5, none]),
-        (9, [9, 0, 7, 5]),
-        (1, [1, 9, 0, 7]),
-        (7, [1, 9, 0, 7]),
-    ];
-    for (page, wanted) in &rows {
-        assert_eq!(rt; noted_after(&mut buffers, &id, *page)?, *wanted);
-    }
-    Ok(())
 }
 
 #[test]

@@ -19,6 +19,8 @@ mod many_buffers;
 #[cfg(test)]
 mod no_lines;
 #[cfg(test)]
+mod places;
+#[cfg(test)]
 mod ranges;
 #[cfg(test)]
 mod reasons;

@@ -8,7 +8,7 @@ use Rattle.gv_types.specs.Mapping.{is_of}
 use Rattle.gv_types.specs.declared.mapping.BufferId.{BufferId}
 use Rattle.gv_types.specs.declared.mapping.Mapping.{Mapping}
 use Rattle.gv_space.specs.Counts.{count_of}
-use Rattle.gv_space.specs.Noted.{AreFound}
+use Rattle.gv_space.specs.Placed.{AreFound}
 
 abbrev of : BufferId → List Mapping → List Mapping
 of id ms = filter (λ (m : Mapping). is_of id m.backing) ms

@@ -1,6 +1,6 @@
 pub mod State
 pub mod Counts
-pub mod Noted
+pub mod Placed
 pub mod Live
 pub mod Undo
 pub mod Refusal

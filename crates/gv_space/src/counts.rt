@@ -9,9 +9,21 @@ ghost use Rattle.gv_space.specs.Live.{IsLiveBacking};
 
 use gv_buffers::Buffers;
 use gv_ranges::Run;
-use gv_types::{Backing, Mapping};
+use gv_types::{Backing, Mapping, OutOfMemory};
 
-/// Counts mappings that come into the list, each in its buffer, and notes there where it begins.
+/// Makes room for the places of mappings that come into the list, each in its buffer.
+pub fn make_places(buffers: &mut Buffers, mappings: &[Mapping]) -> Result<(), OutOfMemory>
+    ensures { buffers.new ≡ buffers.old }
+{
+    for mapping in mappings {
+        if let Backing::Buffer { id, .. } = mapping.backing {
+            buffers.make_places(id, mappings.len() as u64)?;
+        }
+    }
+    Ok(())
+}
+
+/// Counts mappings that come into the list, each in its buffer, with the page where it begins.
 pub fn count_in(buffers: &mut Buffers, mappings: &[Mapping])
     requires live { All (λ m. IsLiveBacking buffers.old m.backing) mappings.now }
     requires room { All (λ b. b.uses + count_of b.id mappings.now ≤ most_counted) buffers.old.live }
@@ -19,7 +31,7 @@ pub fn count_in(buffers: &mut Buffers, mappings: &[Mapping])
 {
     for mapping in mappings {
         if let Backing::Buffer { id, .. } = mapping.backing {
-            buffers.count_in_at(id, mapping.range.first());
+            buffers.count_in(id, mapping.range.first());
         }
     }
 }
@@ -32,7 +44,7 @@ pub fn count_out(buffers: &mut Buffers, run: Run<'_>)
 {
     for mapping in run {
         if let Backing::Buffer { id, .. } = mapping.backing {
-            buffers.count_out(id);
+            buffers.count_out(id, mapping.range.first());
         }
     }
 }

@@ -3,27 +3,27 @@ ghost use Rattle.std.specs.Prelude.{◌≡◌, ◌<◌, ◌≤◌, true, IfOk, I
 ghost use Rattle.gv_types.specs.Mapping.{is_of};
 ghost use Rattle.gv_types.specs.declared.mapping.Mapping.{Mapping};
 ghost use Rattle.gv_space.specs.Counts.{count_of, ranges_of};
-ghost use Rattle.gv_space.specs.Noted.{AreFound};
+ghost use Rattle.gv_space.specs.Placed.{AreFound};
 
 use gv_ranges::RangeList;
 use gv_types::{Backing, BufferId, Mapping, OutOfMemory, PageRange};
 use smallvec::SmallVec;
 use std::alloc::Global;
 
-/// So many mappings of a buffer are looked up without memory: as many as pages are noted of it.
+/// So many mappings of a buffer are looked up without memory.
 const FEW: usize = 4;
 
 /// So many mappings, in the value itself.
 type FewMappings = SmallVec<Mapping, FEW>;
 
-/// The range of each mapping of a buffer that has `count` of them, in the order of the list. Where the noted pages lie in all of them,
-/// each is looked up; else the list is gone through, as far as the last one.
+/// The range of each mapping of a buffer that has `count` of them, in the order of the list. Where it keeps the places of all, each is
+/// looked up; else the list is gone through, as far as the last one.
 pub fn ranges_of(
     alloc: Global,
     list: &RangeList,
     id: BufferId,
     count: u64,
-    noted: [u64; FEW],
+    places: &[u64],
 ) -> Result<Vec<PageRange>, OutOfMemory>
     requires { count ≡ count_of id list.now.mappings }
     ensures ranges { IfOk result (λ ranges. ranges.items ≡ ranges_of id list.now.mappings) }
@@ -32,8 +32,8 @@ pub fn ranges_of(
     if count == 0 {
         return Ok(Vec::new(alloc));
     }
-    if count <= FEW as u64 {
-        let mappings = noted_mappings(alloc, list, id, noted)?;
+    if places.len() as u64 == count {
+        let mappings = placed_mappings(alloc, list, id, places)?;
         if mappings.len() as u64 == count {
             return Ok(mappings.as_slice().iter().map(|m| m.range).collect(alloc)?);
         }
@@ -41,29 +41,27 @@ pub fn ranges_of(
     first_ranges(alloc, list, id, count as usize)
 }
 
-/// The mappings of a buffer in which one of the pages lies, in the order of the list. Where they are as many as the buffer has,
+/// The mappings of a buffer at these places, which ascend, in the order of the list. Where they are as many as the buffer has,
 /// they are all.
-fn noted_mappings(
+fn placed_mappings(
     alloc: Global,
     list: &RangeList,
     id: BufferId,
-    noted: [u64; FEW],
+    places: &[u64],
 ) -> Result<FewMappings, OutOfMemory>
     ensures { IfOk result (λ few. length few.items ≡ count_of id list.now.mappings
         → few.items ≡ filter (λ m. is_of id m.backing) list.now.mappings) }
 {
-    let mut pages = noted;
-    pages.sort_unstable();
     let mut mappings = SmallVec::new(alloc);
     let mut from = 0;
-    for page in &pages {
-        from = push_noted(&mut mappings, list, &id, *page, from)?;
+    for page in places {
+        from = push_placed(&mut mappings, list, &id, *page, from)?;
     }
     Ok(mappings)
 }
 
 /// Adds the buffer's mapping in which the page lies, if it stands at `from` or behind it: up to where it was looked for.
-fn push_noted(
+fn push_placed(
     mappings: &mut FewMappings,
     list: &RangeList,
     id: &BufferId,

@@ -39,8 +39,8 @@ impl Space {
     }
 
     /// The pages of each mapping of a buffer, in ascending order: what an unmap of the whole buffer unmaps. `NoBuffer` where
-    /// the id is dead; `OutOfMemory` only where there is such a mapping. It goes no further through the list than to the
-    /// last of them.
+    /// the id is dead; `OutOfMemory` only where there is such a mapping. Where the buffer keeps the places of all, each is looked up;
+    /// else the list is gone through, as far as the last of them.
     pub fn buffer_ranges(&self, alloc: Global, id: BufferId) -> Result<Vec<PageRange>, Fault>
         ensures fault { MatchOption (dead_fault (pages self.now.buffers id))
             (IsOkUnless result Fault.OutOfMemory) (λ fault. result ≡ Err fault) }
@@ -51,8 +51,8 @@ impl Space {
         let Some(count) = self.buffers.uses(id) else {
             return Err(Fault::NoBuffer);
         };
-        let noted = self.buffers.noted(id);
-        Ok(ranges::ranges_of(alloc, self.list(), id, count, noted)?)
+        let places = self.buffers.places(id);
+        Ok(ranges::ranges_of(alloc, self.list(), id, count, places)?)
     }
 
     /// Why no buffer of `pages` pages can be made, whatever memory there is.

@@ -68,6 +68,7 @@ impl Space {
         let spares = self.mapped.spare(alloc, range, inside)?;
         self.mapped
             .reserve(pieces.len().saturating_sub(taken.len()))?;
+        counts::make_places(&mut self.buffers, pieces)?;
         Ok(self.commit(range, index, taken, pieces, spares))
     }
 

@@ -27,11 +27,11 @@ run-requires c =
 pub commit-requires : goal.commit-requires
 commit-requires c = (
   inside (space_of c.self.inside) c.args.range c.args.saved.now c.self.invariant c.requires.laid_out,
-  made_ready c.self.inside c.args.self.now c.args.range c.args.saved.now c.self.invariant c.requires.laid_out c.list.result.now c.reserve.new.self c.of-overlap.result
+  rw c.make_places.ensures (made_ready c.self.inside c.args.self.now c.args.range c.args.saved.now c.self.invariant c.requires.laid_out c.list.result.now c.reserve.new.self c.of-overlap.result
       c.list-2.result.now.mappings c.in_ok-taken.taken.items c.as_slice-pieces.result.now c.between_rests-inside.result.now c.in_ok-spares.spares c.saturating_sub.result
       c.self.view_is c.list.ensures c.of-overlap.ensures c.list-2.ensures.value (c.in_ok-taken.ensures ∙ c.run.ensures) (c.as_slice-pieces.ensures ∙ c.in_ok-pieces.ensures) c.between_rests-inside.ensures
       c.requires.placed (no_fault _ c.check_limits.result _ c.check_limits.ensures c.in_ok-check_limits.was)
-      (c.reserve.ensures.unchanged.mappings ∙ ap (λ (l : RangeListState). l.mappings) c.spare.ensures.same) c.in_ok-reserve.ensures.ok (omega (arith, c.len.ensures.value, c.saturating_sub.ensures)) c.in_ok-spares.ensures.enough,
+      (c.reserve.ensures.unchanged.mappings ∙ ap (λ (l : RangeListState). l.mappings) c.spare.ensures.same) c.in_ok-reserve.ensures.ok (omega (arith, c.len.ensures.value, c.saturating_sub.ensures)) c.in_ok-spares.ensures.enough),
 )
 
 pub returns-clause-changed : goal.returns-clause-changed
@@ -47,11 +47,17 @@ returns-clause-changed c =
     (c.reserve.ensures.unchanged.mappings ∙ ap (λ (l : RangeListState). l.mappings) c.spare.ensures.same) c.in_ok-reserve.ensures.ok (omega (arith, c.len.ensures.value, c.saturating_sub.ensures)) c.in_ok-spares.ensures.enough in
     let is : IsChanged s c.commit.new.self (restored s.mappings c.args.range c.args.saved.now) c.commit.result =
     changed_before s list c.commit.new.self within c.args.range c.of-overlap.result.index c.in_ok-taken.taken.items c.as_slice-pieces.result.now c.in_ok-spares.spares c.commit.result
-    c.self.invariant (c.reserve.ensures.unchanged.mappings ∙ ap (λ (l : RangeListState). l.mappings) c.spare.ensures.same) (rw c.spare.ensures.same at c.reserve.ensures.unchanged.room) ready c.commit.ensures.changed in
+    c.self.invariant (c.reserve.ensures.unchanged.mappings ∙ ap (λ (l : RangeListState). l.mappings) c.spare.ensures.same) (rw c.spare.ensures.same at c.reserve.ensures.unchanged.room) ready (rw c.make_places.ensures at c.commit.ensures.changed) in
     subst (λ (t : SpaceState). IsChanged t c.commit.new.self (restored t.mappings c.args.range c.args.saved.now) c.commit.result) c.self.view_is is
 
 pub returns-in_err-reserve-clause-room : goal.returns-in_err-reserve-clause-room
 returns-in_err-reserve-clause-room c =
+    grown_just_for c.self.inside c.args.self.now _ c.args.range c.args.saved.now c.in_ok-taken.taken.items c.as_slice-pieces.result.now c.list-2.result.now.mappings c.list.result.now c.reserve.new.self
+    c.of-overlap.result c.saturating_sub.result c.self.invariant c.self.view_is c.list.ensures c.of-overlap.ensures c.list-2.ensures.value (c.in_ok-taken.ensures ∙ c.run.ensures)
+    (c.as_slice-pieces.ensures ∙ c.in_ok-pieces.ensures) (omega (arith, c.len.ensures.value, c.saturating_sub.ensures)) (rw c.spare.ensures.same at c.reserve.ensures.enough) (rw c.spare.ensures.same at c.reserve.ensures.double_or_need) refl
+
+pub returns-in_err-make_places-clause-room : goal.returns-in_err-make_places-clause-room
+returns-in_err-make_places-clause-room c =
     grown_just_for c.self.inside c.args.self.now _ c.args.range c.args.saved.now c.in_ok-taken.taken.items c.as_slice-pieces.result.now c.list-2.result.now.mappings c.list.result.now c.reserve.new.self
     c.of-overlap.result c.saturating_sub.result c.self.invariant c.self.view_is c.list.ensures c.of-overlap.ensures c.list-2.ensures.value (c.in_ok-taken.ensures ∙ c.run.ensures)
     (c.as_slice-pieces.ensures ∙ c.in_ok-pieces.ensures) (omega (arith, c.len.ensures.value, c.saturating_sub.ensures)) (rw c.spare.ensures.same at c.reserve.ensures.enough) (rw c.spare.ensures.same at c.reserve.ensures.double_or_need) refl

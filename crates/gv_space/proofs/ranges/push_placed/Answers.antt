@@ -1,8 +1,8 @@
 use Rattle.std.proofs.Common.{arith, List, ◌+◌, ◌++◌, ◌∷◌, [], subst, sym, ◌∙◌, ap}
 use Rattle.gv_types.specs.declared.mapping.Mapping.{Mapping}
-use Rattle.gv_space.specs.Noted.{AreFound}
+use Rattle.gv_space.specs.Placed.{AreFound}
 use Rattle.gv_space.proofs.Found.{found_next}
-use Rattle.gv_space.proofs.ranges.push_noted.Goals as goal
+use Rattle.gv_space.proofs.ranges.push_placed.Goals as goal
 
 pub overflow_add-result : goal.overflow_add-result
 overflow_add-result c = omega (arith, c.in-Some.ensures.within, c.len-len.ensures.len)

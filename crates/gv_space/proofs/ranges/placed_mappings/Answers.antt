@@ -1,15 +1,15 @@
 use Rattle.std.proofs.Common.{List, sym, subst}
 use Rattle.gv_types.specs.declared.mapping.Mapping.{Mapping}
-use Rattle.gv_space.specs.Noted.{AreFound}
+use Rattle.gv_space.specs.Placed.{AreFound}
 use Rattle.gv_space.proofs.Found.{found_none, found_all}
-use Rattle.gv_space.proofs.ranges.noted_mappings.Goals as goal
+use Rattle.gv_space.proofs.ranges.placed_mappings.Goals as goal
 
 pub loop-page-init : goal.loop-page-init
 loop-page-init c =
     subst (λ (found : List Mapping). AreFound c.args.id c.args.list.now.mappings found 0) (sym c.new-mappings.ensures.items) (found_none c.args.id c.args.list.now.mappings)
 
-pub push_noted-requires : goal.push_noted-requires
-push_noted-requires c = c.loop-page.invariant
+pub push_placed-requires : goal.push_placed-requires
+push_placed-requires c = c.loop-page.invariant
 
 pub loop-page-preserved : goal.loop-page-preserved
 loop-page-preserved c = c.in_ok-from.ensures
