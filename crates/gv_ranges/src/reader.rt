@@ -46,7 +46,8 @@ impl<'a> Reader<'a> {
         }
     }
 
-    /// The list, read from the mapping before the index on.
+    /// The list, read from the mapping before the index on. Inlined, so that it isn't copied as it is made.
+    #[inline(always)]
     pub fn of_list(list: &'a RangeList, index: usize) -> Reader<'a>
         requires { index ≤ length list.now.mappings }
         ensures { result ≡ list.now.mappings }
@@ -60,6 +61,7 @@ impl<'a> Reader<'a> {
     }
 
     /// The list, read from an index on.
+    #[inline(always)]
     fn from_base(list: &'a RangeList, base: usize) -> Reader<'a>
         requires { base ≤ length list.now.mappings }
         ensures { result ≡ list.now.mappings }
