@@ -96,17 +96,6 @@ pub child-Empty : (index : ℕ) → child Empty index ≡ Empty
 unfolding child
 child-Empty index = ap (λ (l : layer.Slot-F Slot). layer_child l index) out-Empty
 
--- a chain that begins with no table has none
-pub IsChainOf-no : (count : ℕ) (slot : Slot) → IsChainOf count slot → is_table slot ≡ false → count ≡ 0
-unfolding IsChainOf
-IsChainOf-no zero slot chain other = refl
-IsChainOf-no (suc count) slot chain other = let table : is_table slot ≡ true = chain.0 in cc
-
--- a chain of none begins with no table
-pub IsChainOf-empty : (slot : Slot) → IsChainOf 0 slot → is_table slot ≡ false
-unfolding IsChainOf
-IsChainOf-empty slot chain = ap is_table chain ∙ is_table-Empty
-
 -- an empty table before a chain
 pub IsChainOf-more :
     (count : ℕ) (slots : Box (List Slot) Global) (rest : Slot) → length slots.value ≡ 512 → AreEmpty slots.value → IsChainOf count rest →
@@ -129,12 +118,6 @@ IsChainOf-more count slots rest long empty chain linked e =
 pub IsChainOf-none : IsChainOf 0 Empty
 unfolding IsChainOf
 IsChainOf-none = refl
-
--- a chain of some tables begins with one
-pub IsChainOf-first : (count : ℕ) (slot : Slot) → 0 < count → IsChainOf count slot → is_table slot ≡ true
-unfolding IsChainOf
-IsChainOf-first zero slot some chain = absurd (omega arith)
-IsChainOf-first (suc count) slot some chain = chain.0
 
 pub IsChainOf-rest : (count : ℕ) (slots : Box (List Slot) Global) → 0 < count → IsChainOf count (Table slots) → IsChainOf (count - 1) (slice_index_or slots.value 0 Empty)
 unfolding IsChainOf

@@ -1,7 +1,8 @@
 -- A chain of empty tables, linked through their first slots.
-use Rattle.std.specs.Prelude.{◌≡◌, ℕ, zero, suc, ◌+◌, ◌<◌, true, List, slice_index_or}
+use Rattle.std.specs.Prelude.{◌≡◌, ℕ, Box, zero, suc, ◌+◌, ◌<◌, true, List, slice_index_or, Option, Some, None}
+use Rattle.std.specs.Global.{Global}
 use Rattle.gv_table.specs.declared.slot.Slot.{Slot}
-use Rattle.gv_table.specs.declared.slot.Slot.TheVariants.{Empty}
+use Rattle.gv_table.specs.declared.slot.Slot.TheVariants.{Empty, Table}
 use Rattle.gv_table.specs.declared.slot.Slot.TheOpen as layer
 use Rattle.gv_table.specs.declared.slot.Slot.TheFolds.{fold-Slot}
 use Rattle.gv_table.specs.Levels.{slots_per_table}
@@ -28,3 +29,8 @@ IsChainOf zero slot = slot ≡ Empty
 IsChainOf (suc count) slot =
     (is_table slot ≡ true) × IsChainOf count (child slot 0) ×
     ((k : ℕ) → 0 < k → k < slots_per_table → child slot k ≡ Empty)
+
+-- the slot that links to a table, if there is one
+abbrev pub link_to : Option (Box (List Slot) Global) → Slot
+link_to None = Empty
+link_to (Some slots) = Table slots

@@ -1,10 +1,10 @@
 //! Tables that are in no tree.
-ghost use Rattle.std.specs.Prelude.{◌≡◌, ◌+◌, ◌<◌, ◌≤◌, ◌↔◌, IsTrue, OnOk, OnErr};
-ghost use Rattle.gv_table.specs.Chain.{AreEmpty};
+ghost use Rattle.std.specs.Prelude.{◌≡◌, ℕ, ◌+◌, ◌<◌, ◌≤◌, ◌↔◌, IsTrue, OnOk, OnErr};
+ghost use Rattle.gv_table.specs.Chain.{AreEmpty, IsChainOf, link_to};
 
 use crate::give_back::give_back_unread;
 use crate::levels::SLOTS;
-use crate::slot::Slot;
+use crate::slot::{Slot, overwrite};
 use std::alloc::{AllocError, Global};
 use std::marker::Model;
 use std::mem;
@@ -12,18 +12,18 @@ use std::mem;
 /// Empty tables, linked through their first slots: a paint takes from them and puts back to them.
 /// Contracts see how many they are.
 pub struct Spares {
-    first: Slot,
+    first: Option<Box<[Slot; SLOTS]>>,
 }
 
 impl Model for Spares {
     ghost use Rattle.std.specs.Prelude.{ℕ};
-    ghost use Rattle.gv_table.specs.Chain.{IsChainOf, chain_length};
+    ghost use Rattle.gv_table.specs.Chain.{IsChainOf, chain_length, link_to};
 
     ghost Value = { ℕ };
 
-    ghost view = { λ s. chain_length s.first };
+    ghost view = { λ s. chain_length (link_to s.first) };
 
-    ghost invariant = { λ s. IsChainOf (chain_length s.first) s.first };
+    ghost invariant = { λ s. IsChainOf (chain_length (link_to s.first)) (link_to s.first) };
 }
 
 impl Drop for Spares {
@@ -35,19 +35,39 @@ impl Drop for Spares {
     }
 }
 
+/// The slot that links to a table, if there is one.
+fn link_to(first: Option<Box<[Slot; SLOTS]>>) -> Slot
+    ensures { result ≡ link_to first }
+{
+    match first {
+        Some(slots) => Slot::Table(slots),
+        None => Slot::Empty,
+    }
+}
+
+/// The table to which a slot links, if it does.
+fn linked(slot: Slot) -> Option<Box<[Slot; SLOTS]>>
+    ensures { (count : ℕ) → IsChainOf count slot → link_to result ≡ slot }
+{
+    match slot {
+        Slot::Table(slots) => Some(slots),
+        Slot::Empty | Slot::Zero { .. } | Slot::Buffer { .. } => None,
+    }
+}
+
 impl Spares {
     /// No table. It takes no memory.
     pub fn new() -> Spares
         ensures { result ≡ 0 }
     {
-        Spares { first: Slot::Empty }
+        Spares { first: None }
     }
 
     /// Whether there is no table.
     pub(crate) fn is_empty(&self) -> bool
         ensures { IsTrue result ↔ (self.now ≡ 0) }
     {
-        !self.first.is_table()
+        self.first.is_none()
     }
 
     /// Takes `count` tables off, as spares of their own. It takes no memory. Inlined, since mostly they are none.
@@ -69,8 +89,8 @@ impl Spares {
         requires { AreEmpty slots.value }
         ensures { self.new ≡ self.old + 1 }
     {
-        slots[0] = mem::replace(&mut self.first, Slot::Empty);
-        self.first = Slot::Table(slots);
+        overwrite(&mut slots[0], link_to(self.first.take()));
+        self.first = Some(slots);
     }
 
     /// Takes an empty table off.
@@ -79,12 +99,12 @@ impl Spares {
         ensures empty { AreEmpty result.value }
         ensures fewer { self.new + 1 ≡ self.old }
     {
-        match mem::replace(&mut self.first, Slot::Empty) {
-            Slot::Table(mut slots) => {
-                self.first = mem::replace(&mut slots[0], Slot::Empty);
+        match self.first.take() {
+            Some(mut slots) => {
+                self.first = linked(mem::replace(&mut slots[0], Slot::Empty));
                 slots
             }
-            Slot::Empty | Slot::Zero { .. } | Slot::Buffer { .. } => unreachable!(),
+            None => unreachable!(),
         }
     }
 

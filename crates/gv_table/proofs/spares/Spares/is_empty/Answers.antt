@@ -1,21 +1,17 @@
-use Rattle.std.proofs.Common.{◌≡◌, ◌∙◌, sym, ap, refl, ℕ, Bool, true, false, not, subst}
-use Rattle.gv_table.specs.Chain.{chain_length, IsChainOf}
-use Rattle.gv_table.specs.Tree.{is_table}
-use Rattle.gv_table.proofs.Slots.{IsChainOf-no, IsChainOf-empty}
+use Rattle.std.proofs.Common.{◌≡◌, ℕ, Bool, true, false, not, is_some, List, Box, Global, Option, Some, None, arith, refl, subst}
+use Rattle.gv_table.specs.declared.slot.Slot.{Slot}
+use Rattle.gv_table.specs.Chain.{chain_length, link_to}
+use Rattle.gv_table.proofs.Slots.{chain_length-Empty, chain_length-Table}
 use Rattle.gv_table.proofs.spares.Spares.is_empty.Goals as goal
 
-not-true : (b : Bool) → not b ≡ true → b ≡ false
-not-true true e = cc
-not-true false e = refl
+by_cases : (first : Option (Box (List Slot) Global)) (none : Bool) → is_some first ≡ not none →
+    (none ≡ true → chain_length (link_to first) ≡ 0) × (chain_length (link_to first) ≡ 0 → none ≡ true)
+by_cases None true e = (λ h. chain_length-Empty, λ zero. refl)
+by_cases None false e = cc
+by_cases (Some slots) true e = cc
+by_cases (Some slots) false e = (λ h. cc, λ zero. let one = chain_length-Table slots in absurd (omega (arith, one, zero)))
 
 pub returns : goal.returns
 returns c =
-    let slot = c.self.inside.first in
-    let count : ℕ = chain_length c.self.inside.first in (
-      λ none.
-          let other : is_table slot ≡ false = sym c.is_table.ensures ∙ not-true c.is_table.result none in
-          sym c.self.view_is ∙ IsChainOf-no count slot c.self.invariant other,
-      λ zero.
-          let chain : IsChainOf 0 slot = subst (λ (n : ℕ). IsChainOf n slot) (c.self.view_is ∙ zero) c.self.invariant in
-          ap not (c.is_table.ensures ∙ IsChainOf-empty slot chain),
-    )
+    let P : ℕ → Type 0 = λ n. (c.is_none.result ≡ true → n ≡ 0) × (n ≡ 0 → c.is_none.result ≡ true) in
+    subst P c.self.view_is (by_cases c.self.inside.first c.is_none.result c.is_none.ensures)
