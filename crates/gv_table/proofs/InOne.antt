@@ -21,7 +21,7 @@ row-pages level = let lower : level + 1 - 1 ≡ level = omega arith in rw lower 
 pub in-row : (range : PageRangeState) (level first index : ℕ) → IsInPart range (level + 1) first index → LiesInSlot range level (first + index * pages_of level)
 in-row range level first index is = let lower : level + 1 - 1 ≡ level = omega arith in rw lower at is.part
 
-sides : (k i : ℕ) → (k ≡ i) ⊎ ((k < i) ⊎ (i < k))
+pub sides : (k i : ℕ) → (k ≡ i) ⊎ ((k < i) ⊎ (i < k))
 sides k i = grind arith
 
 module _ (ms : List Mapping) (range : PageRangeState) (level first i : ℕ) (row after : List Slot)

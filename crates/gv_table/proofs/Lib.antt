@@ -15,6 +15,7 @@ mod Runs
 pub mod Matches
 pub mod Painted
 pub mod InOne
+mod Kept
 pub mod Whole
 pub mod Needs
 mod Around

@@ -1,5 +1,5 @@
 -- What is wanted of a slot, by what the list says of its pages.
-use Rattle.std.proofs.Common.{◌≡◌, ℕ, zero, suc, ◌+◌, ◌-◌, ◌*◌, ◌<◌, ◌≤◌, Bool, true, false, List, length, get_or, Option, Some, None, nat_le, refl, arith, ap, if◌then◌else◌}
+use Rattle.std.proofs.Common.{◌≡◌, ℕ, zero, suc, ◌+◌, ◌-◌, ◌*◌, ◌<◌, ◌≤◌, Bool, true, false, List, length, get_or, Option, Some, None, nat_le, refl, arith, sym, ap, ◌∙◌, if◌then◌else◌}
 use Rattle.std.proofs.lemmas.Bool.{lt-leb, le-leb}
 use Rattle.gv_types.specs.PageRange.{span, lies_in}
 use Rattle.gv_types.specs.Mapping.{part}
@@ -150,3 +150,16 @@ undivided-part ms level first k laid below whole = undivided-by ms level first k
 pub table-above : (ms : List Mapping) (level first : ℕ) → wanted ms level first ≡ variant.Table → 0 < level
 table-above ms zero first want = absurd (page-no-table ms first want)
 table-above ms (suc level) first want = omega arith
+
+divided-by : (w : Wanted) → (is_divided w ≡ false → ⊥) → w ≡ variant.Table
+divided-by variant.Nothing divided = absurd (divided refl)
+divided-by (variant.Entry entry) divided = absurd (divided refl)
+divided-by variant.Table divided = refl
+
+-- so a slot with a part that is to be a table is to be one
+pub table-around : (ms : List Mapping) (level first k : ℕ) → IsLaidOut ms → k < 512 → wanted ms level (first + k * pages_of level) ≡ variant.Table →
+    wanted ms (level + 1) first ≡ variant.Table
+table-around ms level first k laid below want =
+    let more : level + 1 ≡ suc level = omega arith in
+    rw more (divided-by (wanted ms (suc level) first) (λ whole.
+    let bad : true ≡ false = sym (ap is_divided want) ∙ undivided-part ms level first k laid below whole in cc))

@@ -15,6 +15,7 @@ mod place;
 mod pool;
 mod position;
 mod release;
+mod short;
 mod slot;
 mod spare;
 mod spares;

@@ -15,6 +15,7 @@ use crate::paint::paint_slot;
 use crate::place::{Excerpt, Place};
 use crate::pool::Pool;
 use crate::position::advance;
+use crate::short::paint_in_slot;
 use crate::slot::Slot;
 use crate::spare::needed_in_tree;
 use crate::spares::Spares;
@@ -166,6 +167,9 @@ impl PageTable {
             range,
             position,
         };
+        if paint_in_slot(&mut self.root, place, &excerpt) {
+            return 0;
+        }
         paint_slot(&mut self.root, place, &excerpt, spares, &mut self.counts)
     }
 }
