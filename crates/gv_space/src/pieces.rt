@@ -1,5 +1,5 @@
 //! What comes to stand where a range meets a list.
-ghost use Rattle.std.specs.Prelude.{◌≡◌, ◌≤◌, ◌++◌, length, List, IfOk, OnOk};
+ghost use Rattle.std.specs.Prelude.{◌≡◌, ◌≤◌, ◌++◌, [], length, List, OnOk};
 ghost use Rattle.std.specs.Option.{option_to_list};
 ghost use Rattle.gv_types.specs.PageRange.{end_of, IsInSpace};
 ghost use Rattle.gv_types.specs.declared.mapping.Mapping.{Mapping};
@@ -11,7 +11,6 @@ use crate::overlap::Overlap;
 use gv_ranges::Run;
 use gv_types::{Mapping, OutOfMemory, PageRange};
 use smallvec::SmallVec;
-use std::alloc::Global;
 
 /// How many mappings an undo value keeps in itself: most operations meet one or two.
 const INLINE: usize = 2;
@@ -25,15 +24,16 @@ const INCOMING: usize = 3;
 /// The mappings that come in, in the value itself where they are at most three.
 pub type Incoming = SmallVec<Mapping, INCOMING>;
 
-/// The mappings of a run, copied.
-pub fn copied(alloc: Global, run: Run<'_>) -> Result<Pieces, OutOfMemory>
-    ensures { IfOk result (λ p. p.items ≡ run.entry) }
+/// Copies the mappings of a run to where they stay, which asks for just their room.
+pub fn copy_run(pieces: &mut Pieces, run: Run<'_>) -> Result<(), OutOfMemory>
+    requires { pieces.old.items ≡ [] }
+    ensures { OnOk result (pieces.new.items ≡ run.entry) }
 {
-    let mut pieces = SmallVec::with_capacity(alloc, run.len())?;
+    pieces.reserve_exact(run.len())?;
     for mapping in run {
         pieces.push(*mapping)?;
     }
-    Ok(pieces)
+    Ok(())
 }
 
 /// How many of the saved mappings have pages in the range.
@@ -64,26 +64,27 @@ fn push_clipped(
     Ok(())
 }
 
-/// What stands where the range met the list, with what of the saved mappings lies in it: the rests on both sides of that.
+/// What stands where the range met the list, with what of the saved mappings lies in it: the rests on both sides of that. It is put
+/// where it stays, since a copy would wait for what was just written.
 pub fn with_rests(
-    alloc: Global,
+    pieces: &mut Incoming,
     overlap: &Overlap,
     saved: &[Mapping],
     range: PageRange,
-) -> Result<Incoming, OutOfMemory>
-    requires { IsLaidOut saved.now }
-    ensures { IfOk result (λ p. p.items ≡ option_to_list overlap.now.prev
+) -> Result<(), OutOfMemory>
+    requires none { pieces.old.items ≡ [] }
+    requires laid_out { IsLaidOut saved.now }
+    ensures { OnOk result (pieces.new.items ≡ option_to_list overlap.now.prev
         ++ clipped range.first (end_of range) saved.now ++ option_to_list overlap.now.next) }
 {
-    let mut pieces = SmallVec::new(alloc);
     if let Some(rest) = overlap.prev {
         pieces.push(rest)?;
     }
-    push_clipped(&mut pieces, saved, range)?;
+    push_clipped(pieces, saved, range)?;
     if let Some(rest) = overlap.next {
         pieces.push(rest)?;
     }
-    Ok(pieces)
+    Ok(())
 }
 
 /// The pieces between the rests.

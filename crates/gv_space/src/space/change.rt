@@ -13,10 +13,11 @@ ghost use Rattle.gv_space.specs.Ready.{IsReady};
 use super::Space;
 use crate::counts;
 use crate::overlap::Overlap;
-use crate::pieces::{Pieces, between_rests, copied, with_rests};
+use crate::pieces::{Pieces, between_rests, copy_run, with_rests};
 use crate::undo::OpUndo;
 use gv_table::Spares;
 use gv_types::{Fault, Mapping, PageRange};
+use smallvec::SmallVec;
 use std::alloc::Global;
 
 impl Space {
@@ -61,8 +62,10 @@ impl Space {
         let overlap = Overlap::of(self.mapped.list(), range);
         self.check_limits(range, &overlap, saved)?;
         let index = overlap.index;
-        let taken = copied(alloc, self.list().run(index, overlap.count))?;
-        let pieces = with_rests(alloc, &overlap, saved, range)?;
+        let mut taken = SmallVec::new(alloc);
+        copy_run(&mut taken, self.list().run(index, overlap.count))?;
+        let mut pieces = SmallVec::new(alloc);
+        with_rests(&mut pieces, &overlap, saved, range)?;
         let pieces = pieces.as_slice();
         let inside = between_rests(&overlap, pieces);
         let spares = self.mapped.spare(alloc, range, inside)?;
