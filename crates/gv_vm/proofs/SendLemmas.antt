@@ -72,7 +72,7 @@ wide : IsSend (as_row u64-field)
 wide = search (sendable, crosses) depth 5
 
 spares_send : IsSend spares
-spares_send = view_send spares_inside _ _ _ _ (declared_send spares_type (slot_send, tt))
+spares_send = view_send spares_inside _ _ _ _ (declared_send spares_type (search (sendable, crosses, slot_send) depth 12, tt))
 
 pool_send : IsSend pool
 pool_send = view_send pool_inside _ _ _ _ (declared_send pool_type (spares_send, (wide, tt)))
