@@ -1,11 +1,11 @@
 -- A buffer is made, or destroyed.
-use Rattle.std.proofs.Common.{◌≡◌, ◌≢◌, ℕ, ◌+◌, ◌<◌, ◌≤◌, ◌||◌, Bool, List, ◌∷◌, [], length, reverse, drop, slice_get, unwrap_or, vec_len, vec_capacity, true, false, cond, not, eqb, ltb, leb, arith, refl, sym, ◌∙◌, ap, subst, ⊎_elim, Some, None, Option, zero-add}
+use Rattle.std.proofs.Common.{◌≡◌, ◌≢◌, ℕ, ◌+◌, ◌-◌, ◌<◌, ◌≤◌, ◌||◌, Bool, List, ◌∷◌, [], length, reverse, drop, get_or, slice_get, unwrap_or, vec_len, vec_capacity, true, false, cond, not, eqb, ltb, leb, arith, refl, sym, ◌∙◌, ap, subst, ⊎_elim, Some, None, Option, zero-add}
 use Rattle.std.specs.Option.{option_map}
-use Rattle.std.proofs.lemmas.List.{length-reverse}
+use Rattle.std.proofs.lemmas.List.{length-reverse, length-drop, get_or-reverse}
 use Rattle.std.specs.List.{insert, filter}
 use Rattle.std.proofs.lemmas.Bool.{cases_eq, ne_eqb, eq-eqb, le-ltb, lt-leb, le-leb}
 use Rattle.std.proofs.lemmas.Bool.Decides.{nat_tests}
-use Rattle.std.proofs.lemmas.Option.{none-some, same_Some}
+use Rattle.std.proofs.lemmas.Option.{none-some, same_Some, get_or_from_slice_get, slice_get_within}
 use Rattle.std.proofs.lemmas.List.Elements.{All-nil}
 use Rattle.gv_types.specs.Page.{pages_per_buffer}
 use Rattle.gv_types.specs.Mapping.{buffer_id}
@@ -56,12 +56,25 @@ no_first [] none = refl
 no_first (v ∷ vs) none = absurd (none-some v (sym none))
 
 -- the next vacant slot has the next index: where none is vacant, as many buffers live as there are slots
-next_from_slots : (slots : SlotList) (vacant : List ℕ) (first : Option ℕ) → slice_get (reverse vacant) 0 ≡ first → AreVacant slots vacant →
+pub next_from_slots : (slots : SlotList) (vacant : List ℕ) (first : Option ℕ) → slice_get (reverse vacant) 0 ≡ first → AreVacant slots vacant →
     unwrap_or first (length slots) ≡ unwrap_or first (length (buffers_from 0 slots))
 next_from_slots slots vacant None is are =
     let none : length vacant ≡ 0 = sym (length-reverse vacant) ∙ no_first (reverse vacant) is in
     omega (arith, none, are.all, length-buffers_from 0 slots)
 next_from_slots slots vacant (Some v) is are = refl
+
+-- and where the slots are at most the limit's, with fewer alive, it is below the limit
+pub next_few : (slots : SlotList) (vacant : List ℕ) (limit : ℕ) (first : Option ℕ) → slice_get (reverse vacant) 0 ≡ first → AreVacant slots vacant → length (buffers_from 0 slots) < limit →
+    length slots ≤ limit → unwrap_or first (length slots) < limit
+next_few slots vacant limit None is are few within =
+    let none : length vacant ≡ 0 = sym (length-reverse vacant) ∙ no_first (reverse vacant) is in
+    omega (arith, none, are.all, length-buffers_from 0 slots, few)
+next_few slots vacant limit (Some v) is are few within =
+    let some : 0 < length vacant = omega (arith, slice_get_within (reverse vacant) 0 v is, length-reverse vacant) in
+    let here = are.each (length vacant - 1 - 0) v (omega (arith, some)) in
+    let same : get_or vacant (length vacant - 1 - 0) v ≡ v = sym (get_or-reverse vacant 0 v some) ∙ get_or_from_slice_get (reverse vacant) 0 v v is in
+    let below : v < length slots = subst (λ (n : ℕ). n < length slots) same here.within in
+    omega (arith, below, within)
 
 -- a buffer is put into a free slot
 pub made : (a : Inside) (t : BuffersState) (slots : Slots) (key pages : ℕ) (slot : LiveBuffer) → AreSoundBuffers a → table_of a ≡ t →
@@ -95,6 +108,18 @@ made a t slots key pages slot sound view room some few next free updates len are
             (cases_eq position key);
         vacant = are;
         room = indices;
+        within = omega (
+          arith,
+          are.all,
+          len,
+          sound.vacant.all,
+          sound.within,
+          room,
+          ap length rest,
+          length-reverse slots.vacant.items,
+          length-reverse a.slots.vacant.items,
+          length-drop 1 (reverse a.slots.vacant.items),
+        );
       };
       created = subst (λ (s : BuffersState). IsCreated s (table_of (record a { made = a.made + 1; slots = slots })) (buffer_id key a.made) pages) view (record {
         id_is = name;
@@ -176,6 +201,7 @@ destroyed a t slots id v sound view found updates len are noted indices =
             (cases_eq position id.index);
         vacant = are;
         room = indices;
+        within = omega (arith, are.all, len, sound.vacant.all, sound.within, ap length noted, length-reverse slots.vacant.items, length-reverse a.slots.vacant.items);
       };
       table = ap (λ (live : List Buffer). record { limit = a.limit; made = a.made; live = live; vacant = reverse slots.vacant.items }) list
           ∙ ap (λ (vs : List ℕ). record (without id (table_of a)) { vacant = vs }) noted ∙ ap (without id) view;

@@ -133,6 +133,7 @@ sound_map a b f sound limit made vacant long each keeps notes =
       vacant = rw vacant (AreVacant-alike a.slots.entries.items b.slots.entries.items a.slots.vacant.items long same_len
           (λ index nothing. nothing_seen index (get b.slots.entries.items index) (each index ∙ ap (λ o. option_map f (option_map (buffer_at index) o)) nothing)) sound.vacant);
       room = rw (vacant, long) sound.room;
+      within = rw (limit, long) sound.within;
     }
 
 -- what a sound table's buffers keep

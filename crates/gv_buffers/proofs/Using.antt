@@ -143,6 +143,7 @@ grown a t new sound view same same_vacant room =
         noted = rw same sound.noted;
         vacant = rw (same, same_vacant) sound.vacant;
         room = room;
+        within = rw same sound.within;
       };
       table = ap (λ (slots : SlotList). record { limit = a.limit; made = a.made; live = buffers_from 0 slots; vacant = reverse new.vacant.items }) same
           ∙ ap (λ (vs : List ℕ). record { limit = a.limit; made = a.made; live = buffers_from 0 a.slots.entries.items; vacant = reverse vs }) same_vacant ∙ view;

@@ -10,7 +10,7 @@ table_of b =
     record { limit = b.limit; made = b.made; live = buffers_from 0 b.slots.entries.items; vacant = reverse b.slots.vacant.items }
 
 -- at most the limit's buffers are alive, each buffer's index is noted for each of its users, and the vacant indices are known,
--- with room for all indices among them
+-- with room for all indices among them, and no more slots than the limit
 pub record AreSoundBuffers (b : Inside) : Type 0 where
   pub limit : IsFromOneTo greatest.buffers b.limit
   pub few : live_count b.slots.entries.items ≤ b.limit
@@ -18,3 +18,4 @@ pub record AreSoundBuffers (b : Inside) : Type 0 where
   pub noted : (index : ℕ) → AreNoted b.indices index (buffer_in b.slots.entries.items index)
   pub vacant : AreVacant b.slots.entries.items b.slots.vacant.items
   pub room : length b.slots.entries.items ≤ vec_capacity b.slots.vacant
+  pub within : length b.slots.entries.items ≤ b.limit

@@ -41,7 +41,7 @@ impl Model for Buffers {
 }
 
 impl Buffers {
-    ghost use Rattle.gv_buffers.specs.Buffers.{no_buffers, uses, kept, pages, IsTable};
+    ghost use Rattle.gv_buffers.specs.Buffers.{no_buffers, next_index, uses, kept, pages, IsTable};
     ghost use Rattle.gv_buffers.specs.Buffers.{create_fault, destroy_fault, join_fault, IsCreated};
     ghost use Rattle.gv_buffers.specs.Buffers.{without, changed, left_everywhere};
     ghost use Rattle.gv_buffers.specs.Buffers.{counted, raised, lowered};
@@ -79,6 +79,15 @@ impl Buffers {
             return Some(Fault::TooManyBuffers);
         }
         None
+    }
+
+    /// The index that the next buffer gets, where fewer than the limit's are alive.
+    pub fn next_index(&self) -> u32
+        requires { length self.now.live < self.now.limit }
+        ensures index { result ≡ next_index self.now }
+        ensures few { result < greatest.buffers }
+    {
+        self.slots.next_index()
     }
 
     /// Makes a buffer of `pages` pages, unless `create_fault` says why none can be, or memory is

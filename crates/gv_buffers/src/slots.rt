@@ -1,5 +1,5 @@
 //! The indices of live buffers.
-ghost use Rattle.std.specs.Prelude.{◌≡◌, ◌≢◌, ◌+◌, ◌<◌, ◌≤◌, ◌∷◌, ℕ, Contains, IfOk, OnOk, IsOkUnless};
+ghost use Rattle.std.specs.Prelude.{◌≡◌, ◌≢◌, ◌+◌, ◌<◌, ◌≤◌, ◌∷◌, ◌^◌, ℕ, Contains, IfOk, OnOk, IsOkUnless};
 ghost use Rattle.std.specs.Prelude.{Some, None, false, length, reverse, drop, slice_get, unwrap_or};
 ghost use Rattle.std.specs.Prelude.{IsSomeAnd, vec_len, vec_capacity};
 ghost use Rattle.std.specs.Option.{option_copied, option_map};
@@ -57,6 +57,17 @@ impl Slots {
         match u32::try_from(self.entries.len()) {
             Ok(index) => Ok(index),
             Err(_) => Err(Fault::OutOfMemory),
+        }
+    }
+
+    /// The index of the next buffer.
+    pub fn next_index(&self) -> u32
+        requires { length self.now.entries.items < 2 ^ 32 }
+        ensures { result ≡ next_slot self.now.entries.items self.now.vacant.items }
+    {
+        match self.vacant.last() {
+            Some(index) => *index,
+            None => self.entries.len() as u32,
         }
     }
 
