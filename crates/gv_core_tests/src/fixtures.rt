@@ -3,8 +3,9 @@ ghost use Rattle.std.specs.Prelude.{◌≡◌, ◌+◌, ◌≤◌, ◌++◌, [],
 ghost use Rattle.std.specs.List.{All};
 ghost use Rattle.std.specs.Option.{option_to_list};
 ghost use Rattle.gv_types.specs.PageRange.{span, meets};
-ghost use Rattle.gv_types.specs.Mapping.{IsMapping};
-ghost use Rattle.gv_types.specs.Operation.{IsPageOp, range_of};
+ghost use Rattle.gv_types.specs.Mapping.{buffer_id, IsMapping};
+ghost use Rattle.gv_types.specs.Operation.{IsPageOp, own_mapping, range_of};
+ghost use Rattle.gv_types.specs.declared.mapping.Backing.TheVariants.{Buffer};
 ghost use Rattle.gv_ranges.specs.List.{run, IsLaidOut};
 ghost use Rattle.gv_ranges.specs.Edit.{edited};
 
@@ -27,6 +28,7 @@ pub fn entry(page: u32) -> Entry {
 /// `count` pages of a buffer from its page `page` on, at the page `first`.
 pub fn mapping(first: u64, count: u64, index: u32, page: u32) -> Result<Mapping, &'static str>
     ensures range { IfOk result (λ m. m.range ≡ span first count) }
+    ensures backing { IfOk result (λ m. m.backing ≡ Buffer (buffer_id index 1) page) }
     ensures mapping { IfOk result IsMapping }
 {
     Ok(Mapping {
@@ -41,7 +43,9 @@ pub fn mapping(first: u64, count: u64, index: u32, page: u32) -> Result<Mapping,
 
 /// A map of these pages.
 pub fn map(first: u64, count: u64, index: u32, page: u32) -> Result<PageOp, &'static str>
-    ensures { IfOk result IsPageOp }
+    ensures op { IfOk result IsPageOp }
+    ensures own { IfOk result (λ op. All (λ m. (m.range ≡ span first count) × (m.backing ≡ Buffer (buffer_id index 1) page))
+        (own_mapping op)) }
 {
     let own = mapping(first, count, index, page)?;
     Ok(PageOp::Map {
@@ -52,7 +56,8 @@ pub fn map(first: u64, count: u64, index: u32, page: u32) -> Result<PageOp, &'st
 }
 
 pub fn unmap(first: u64, count: u64) -> Result<PageOp, &'static str>
-    ensures { IfOk result IsPageOp }
+    ensures op { IfOk result IsPageOp }
+    ensures own { IfOk result (λ op. own_mapping op ≡ []) }
 {
     Ok(PageOp::Unmap {
         range: PageRange::new(first, count).ok_or("no range")?,

@@ -1,17 +1,21 @@
 //! The page table: trees painted to new lists and back, and their spare tables.
-ghost use Rattle.std.specs.Prelude.{◌≡◌, ◌≤◌, IfOk, List, OnOk};
+ghost use Rattle.std.specs.Prelude.{◌≡◌, IfOk, List, [], OnOk, Some, slice_get};
 ghost use Rattle.gv_types.specs.PageRange.{end_of};
 ghost use Rattle.gv_types.specs.Operation.{IsPageOp, own_mapping, range_of};
+ghost use Rattle.gv_types.specs.Mapping.{buffer_id};
+ghost use Rattle.gv_types.specs.declared.mapping.BufferId.{BufferId};
 ghost use Rattle.gv_types.specs.declared.mapping.Mapping.{Mapping};
 ghost use Rattle.gv_ranges.specs.List.{IsLaidOut};
 ghost use Rattle.gv_ranges.specs.Edit.{clipped};
+ghost use Rattle.gv_table.specs.Names.{AreNamed};
 ghost use Rattle.gv_table.specs.Reads.{AreAlikeOutside};
+ghost use Rattle.gv_table.specs.Kinds.{AreEnough};
 ghost use Rattle.gv_table.specs.Table.{IsTree, FitsOutside, gained_by};
 
 use crate::fixtures::{edit, entry, map, spread, to_vec, unmap};
 use gv_ranges::RangeList;
 use gv_table::{PageTable, Spares, laws};
-use gv_types::{Fault, PageOp, PageRange};
+use gv_types::{BufferId, Fault, PageOp, PageRange};
 use std::alloc::Global;
 use std::process::Abort;
 use std::test::Fail;
@@ -22,7 +26,7 @@ fn spares_for(alloc: Global, table: &PageTable, op: &PageOp) -> Result<Spares, F
     ensures { IfOk result (λ spares. (ms : List Mapping) → IsLaidOut ms
         → FitsOutside ms (range_of op.now) table.now
         → clipped (range_of op.now).first (end_of (range_of op.now)) ms ≡ own_mapping op.now
-        → gained_by ms table.now ≤ spares) }
+        → AreEnough spares (gained_by ms table.now)) }
 {
     match op.own_mapping() {
         Some(own) => table.spare(alloc, op.range(), &[own]),
@@ -30,8 +34,17 @@ fn spares_for(alloc: Global, table: &PageTable, op: &PageOp) -> Result<Spares, F
     }
 }
 
+/// How many tables fewer stand, level by level.
+fn fewer(before: [u64; 5], after: [u64; 5]) -> u64 {
+    let mut count = 0;
+    for (one, other) in before.iter().zip(&after) {
+        count = one.saturating_sub(*other).saturating_add(count);
+    }
+    count
+}
+
 /// Paints the tree to the new list, back to the old one with just the tables that it lost, and to
-/// the new one again: how many it lost at first.
+/// the new one again: how many it loses by that.
 fn sway(
     table: &mut PageTable,
     old: &RangeList,
@@ -42,26 +55,30 @@ fn sway(
     requires old { IsLaidOut old.now.mappings }
     requires new { IsLaidOut new.now.mappings }
     requires alike { AreAlikeOutside range old.now.mappings new.now.mappings }
+    requires old_named { AreNamed table.old.names old.now.mappings }
+    requires new_named { AreNamed table.old.names new.now.mappings }
     requires tree { IsTree old.now.mappings table.old }
-    requires enough { gained_by new.now.mappings table.old ≤ spares.old }
-    ensures { OnOk result (IsTree new.now.mappings table.new) }
+    requires enough { AreEnough spares.old (gained_by new.now.mappings table.old) }
+    ensures tree { OnOk result (IsTree new.now.mappings table.new) }
+    ensures names { table.new.names ≡ table.old.names }
 {
     let (place, _) = new.overlapping(range);
     let before = table.tables();
-    let lost = table.paint(new, range, place, spares);
+    let mut lost = Spares::new();
+    table.paint(new, range, place, spares, &mut lost);
     let after = table.tables();
-    let mut kept = spares.split(lost);
     let (back_from, _) = old.overlapping(range);
-    table.paint(old, range, back_from, &mut kept);
+    let mut gained = Spares::new();
+    table.paint(old, range, back_from, &mut lost, &mut gained);
     let back = table.tables();
-    table.paint(new, range, place, &mut kept);
+    table.paint(new, range, place, &mut gained, &mut lost);
     (before == back)
         .then_some(())
         .ok_or("the tables as before")?;
     (after == table.tables())
         .then_some(())
         .ok_or("the tables as after")?;
-    Ok(lost)
+    Ok(fewer(before, after))
 }
 
 /// Changes the list and its twin by the operation, and the tree with them: how many tables it lost.
@@ -75,6 +92,10 @@ fn apply(
     requires operation { IsPageOp op.now }
     requires twins { twin.old.mappings ≡ list.old.mappings }
     requires tree { IsTree list.old.mappings table.old }
+    requires named { AreNamed table.old.names list.old.mappings }
+    requires own { AreNamed table.old.names (own_mapping op.now) }
+    ensures named { OnOk result (AreNamed table.new.names list.new.mappings) }
+    ensures names { table.new.names ≡ table.old.names }
     ensures twins { OnOk result (twin.new.mappings ≡ list.new.mappings) }
     ensures tree { OnOk result (IsTree list.new.mappings table.new) }
 {
@@ -89,21 +110,41 @@ fn apply(
 /// and how many stand at each level then.
 type Row = (bool, u64, u64, u64, [u64; 5]);
 
+/// It is of the buffer that the tree has to name.
 fn map_or_unmap(is_map: bool, first: u64, count: u64) -> Result<PageOp, &'static str>
-    ensures { IfOk result IsPageOp }
+    ensures op { IfOk result IsPageOp }
+    ensures own { IfOk result (λ op. (names : List BufferId) → slice_get names 1 ≡ Some (buffer_id 1 1)
+        → AreNamed names (own_mapping op)) }
 {
     if is_map {
+        if count > MOST_PAGES {
+            return Err("more pages than a buffer has");
+        }
         map(first, count, 1, 0)
     } else {
         unmap(first, count)
     }
 }
 
+/// A buffer has no more pages.
+const MOST_PAGES: u64 = 1 << 36;
+
+/// A tree of no mapping that names the buffer of the rows.
+fn named_tree(alloc: Global) -> Result<PageTable, Fault>
+    ensures tree { IfOk result (IsTree []) }
+    ensures named { IfOk result (λ table. slice_get table.names 1 ≡ Some (buffer_id 1 1)) }
+{
+    let mut table = PageTable::new(alloc);
+    table.reserve_name(1)?;
+    table.name(BufferId::new(1, 1));
+    Ok(table)
+}
+
 /// Plays the rows on a tree of no mapping.
 fn play(rt: &(impl Abort + AllocGlobal), rows: &[Row]) -> Result<PageTable, Fail> {
     let mut list = RangeList::new(rt.alloc());
     let mut twin = RangeList::new(rt.alloc());
-    let mut table = PageTable::new();
+    let mut table = named_tree(rt.alloc())?;
     for (is_map, first, count, lost, wanted) in rows {
         let op = &map_or_unmap(*is_map, *first, *count)?;
         let seen = apply(rt.alloc(), &mut list, &mut twin, &mut table, op)?;
@@ -156,14 +197,14 @@ fn long_chain_of_spares(rt: HostRuntime) -> Result<(), Fail> {
     let list = spread(rt.alloc(), LONG_CHAIN, 512)?;
     let range = PageRange::new(0, 1 << 45).ok_or("a range")?;
     let mappings = to_vec(rt.alloc(), &list)?;
-    drop(PageTable::new().spare(rt.alloc(), range, &mappings)?);
+    drop(PageTable::new(rt.alloc()).spare(rt.alloc(), range, &mappings)?);
     Ok(())
 }
 
 #[test]
 fn nothing_is_spared_for_nothing(rt: HostRuntime) -> Result<(), Fail> {
     drop(Spares::new());
-    let table = PageTable::new();
+    let table = PageTable::new(rt.alloc());
     let range = PageRange::new(0, 1 << 45).ok_or("a range")?;
     drop(table.spare(rt.alloc(), range, &[])?);
     Ok(())

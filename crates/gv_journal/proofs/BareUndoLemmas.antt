@@ -86,7 +86,7 @@ withdrawal_undos_alike before (op ∷ ops) ms (u ∷ us) (v ∷ vs) are also =
 -- What they take back has nothing of memory.
 
 abbrev filled : BareUndo → OpUndoState
-filled u = record { change = u.change; range = u.range; tables = 0 }
+filled u = record { change = u.change; range = u.range; tables = record { pages = 0; slots = 0 } }
 
 abbrev pub all_filled : List BareUndo → List OpUndoState
 all_filled us = map filled us

@@ -48,7 +48,7 @@ pub IsTable-by_count : (change : Buffer → ℕ → Buffer) (ms : List Mapping) 
 IsTable-by_count change ms t of_counts table =
     IsTable-each (λ b. change b (count_of b.id ms)) t (keeping change ms of_counts) (λ b. of_counts.users b (count_of b.id ms)) table
 
-is_some-map : (f : Buffer → Buffer) (o : Option Buffer) → is_some (option_map f o) ≡ is_some o
+pub is_some-map : (f : Buffer → Buffer) (o : Option Buffer) → is_some (option_map f o) ≡ is_some o
 is_some-map f None = refl
 is_some-map f (Some b) = refl
 

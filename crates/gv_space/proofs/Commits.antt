@@ -4,7 +4,7 @@ use Rattle.std.specs.List.{All, splice}
 use Rattle.gv_types.specs.PageRange.{PageRangeState}
 use Rattle.gv_types.specs.Mapping.{IsMapping}
 use Rattle.gv_types.specs.declared.mapping.Mapping.{Mapping}
-use Rattle.gv_ranges.specs.List.{AreEnded, IsLaidOut, RangeListState}
+use Rattle.gv_ranges.specs.List.{AreEnded, IsLaidOut}
 use Rattle.gv_ranges.proofs.IndexLemmas.{met-ended}
 use Rattle.gv_ranges.specs.Edit.{Undo, replaced, undone}
 use Rattle.gv_ranges.proofs.KeptLemmas.{All-replaced}
@@ -12,10 +12,13 @@ use Rattle.gv_ranges.proofs.OrderLemmas.{laid_out-replaced}
 use Rattle.gv_ranges.proofs.ReplacedLemmas.{all_mappings, replaced_run_in_place, undone-replaced}
 use Rattle.gv_ranges.proofs.RestLemmas.{laid_out-take, laid_out-drop}
 use Rattle.gv_table.specs.Reads.{AreAlikeOutside}
+use Rattle.gv_table.specs.declared.tables.Tables.{Tables}
+use Rattle.gv_table.specs.Kinds.{AreEnough}
 use Rattle.gv_table.specs.Table.{IsTree, gained_by}
 use Rattle.gv_table.specs.declared.page_table.PageTable.{PageTable}
 use Rattle.gv_table.proofs.EditLemmas.{replaced-alike}
 use Rattle.gv_buffers.specs.Buffers.{BuffersState}
+use Rattle.gv_space.specs.Mapped.{MappedState}
 use Rattle.gv_space.specs.Counts.{by_count, counted, more_used, less_used, more_kept}
 use Rattle.gv_space.specs.State.{SpaceState, IsSpace, IsPlaced, AreKept}
 use Rattle.gv_space.specs.Undo.{OpUndoState, IsUndoOf}
@@ -25,9 +28,18 @@ use Rattle.gv_space.proofs.Lengths.{length-splice}
 use Rattle.gv_space.proofs.Placed.{placed_pieces}
 use Rattle.gv_space.proofs.Recounted.{moved_counts}
 use Rattle.gv_space.proofs.KeptLemmas.{All-taken, AreKept-changed_room, reverted-changed_room}
+use Rattle.gv_space.proofs.ByCountLemmas.{more_used_of_counts, less_used_of_counts, more_kept_of_counts}
+use Rattle.gv_space.proofs.LiveNames.{LivedIn, lived-by_count}
 use Rattle.gv_space.proofs.Spaces.{IsSpace-changed, IsSpace-room}
 
-module _ (inside : List Mapping) (s : SpaceState) (range : PageRangeState) (index : ℕ) (taken pieces : List Mapping) (spares : ℕ) (space : IsSpace s) (ready : IsReady inside s range index taken pieces spares) where
+-- who lives after the change lived before it
+pub lived_after : (taken pieces : List Mapping) (t : BuffersState) → LivedIn t (by_count less_used taken (by_count more_used pieces (by_count more_kept taken t)))
+lived_after taken pieces t id lives =
+    lived-by_count more_kept taken t more_kept_of_counts id
+    (lived-by_count more_used pieces (by_count more_kept taken t) more_used_of_counts id
+    (lived-by_count less_used taken (by_count more_used pieces (by_count more_kept taken t)) less_used_of_counts id lives))
+
+module _ (inside : List Mapping) (s : SpaceState) (range : PageRangeState) (index : ℕ) (taken pieces : List Mapping) (spares : Tables) (space : IsSpace s) (ready : IsReady inside s range index taken pieces spares) where
   -- the list after the change
   abbrev pub after : List Mapping
   after = splice s.mappings index (index + length taken) pieces
@@ -46,8 +58,8 @@ module _ (inside : List Mapping) (s : SpaceState) (range : PageRangeState) (inde
   pub after_alike : AreAlikeOutside range s.mappings after
   after_alike = rw after_is (replaced-alike s.mappings inside range space.laid_out ready.lie)
 
-  pub spares_are_enough : (table : PageTable) → IsTree s.mappings table → gained_by after table ≤ spares
-  spares_are_enough table tree = subst (λ (ms : List Mapping). gained_by ms table ≤ spares) (sym after_is) (ready.enough table tree)
+  pub spares_are_enough : (table : PageTable) → IsTree s.mappings table → AreEnough spares (gained_by after table)
+  spares_are_enough table tree = subst (λ (ms : List Mapping). AreEnough spares (gained_by ms table)) (sym after_is) (ready.enough table tree)
 
   pub taken_placed : All (IsPlaced s.area s.buffers) taken
   taken_placed = All-taken (IsPlaced s.area s.buffers) s.mappings taken index (length taken) ready.taken_is space.placed
@@ -64,7 +76,7 @@ module _ (inside : List Mapping) (s : SpaceState) (range : PageRangeState) (inde
       (All-replaced (IsPlaced s.area s.buffers) taken range inside (placed_pieces s.area s.buffers)
       (All-taken IsMapping s.mappings taken index (length taken) ready.taken_is mappings_of) taken_placed ready.placed)
 
-  after_placed : All (IsPlaced s.area s.buffers) after
+  pub after_placed : All (IsPlaced s.area s.buffers) after
   after_placed =
       subst (All (IsPlaced s.area s.buffers)) (sym after_is)
       (All-replaced (IsPlaced s.area s.buffers) s.mappings range inside (placed_pieces s.area s.buffers) mappings_of space.placed ready.placed)
@@ -73,7 +85,7 @@ module _ (inside : List Mapping) (s : SpaceState) (range : PageRangeState) (inde
   pieces_are_few = omega (arith, length-splice s.mappings pieces index (length taken) ready.met.within, ready.met.within)
 
   -- what the parts of the space are after the change
-  pub state_after : (list : RangeListState) (buffers : BuffersState) (count : ℕ) → list.mappings ≡ after → buffers ≡ by_count less_used taken (by_count more_used pieces (by_count more_kept taken s.buffers)) → count ≡ length taken →
+  pub state_after : (list : MappedState) (buffers : BuffersState) (count : ℕ) → list.mappings ≡ after → buffers ≡ by_count less_used taken (by_count more_used pieces (by_count more_kept taken s.buffers)) → count ≡ length taken →
       record s { mappings = list.mappings; room = list.room; buffers = buffers; kept_count = s.kept_count + count } ≡ record (changed_to after taken s) { room = list.room }
   state_after list buffers count list_is buffers_is count_is =
       let tables : buffers ≡ by_count counted after (by_count more_kept taken s.buffers) =
@@ -93,7 +105,7 @@ module _ (inside : List Mapping) (s : SpaceState) (range : PageRangeState) (inde
   undone_after =
       rw (after_is, ready.pieces_are) (rw (← ready.taken_is) at (undone-replaced s.mappings range inside index (length taken) space.laid_out ready.met))
 
-  undo_after : (tables : ℕ) → ((table : PageTable) → IsTree after table → gained_by s.mappings table ≡ tables) →
+  undo_after : (tables : Tables) → ((table : PageTable) → IsTree after table → gained_by s.mappings table ≡ tables) →
       IsUndoOf s.mappings after (record { change = change_of; range = range; tables = tables })
   undo_after tables owed = record {
     laid_out = space.laid_out;
@@ -107,7 +119,7 @@ module _ (inside : List Mapping) (s : SpaceState) (range : PageRangeState) (inde
     tables = owed;
   }
 
-  pub change_is : (new : SpaceState) (tables : ℕ) → new ≡ record (changed_to after taken s) { room = new.room } → s.room ≤ new.room →
+  pub change_is : (new : SpaceState) (tables : Tables) → new ≡ record (changed_to after taken s) { room = new.room } → s.room ≤ new.room →
       ((table : PageTable) → IsTree after table → gained_by s.mappings table ≡ tables) →
       IsChanged s new after (record { change = change_of; range = range; tables = tables })
   change_is new tables is room owed =

@@ -1,5 +1,6 @@
 pub mod Clips
 pub mod FaultLemmas
+pub mod Names
 pub mod Lengths
 pub mod Limits
 pub mod Placed
@@ -14,6 +15,7 @@ pub mod ByCountLemmas
 pub mod Recounted
 pub mod KeptLemmas
 pub mod Rooms
+pub mod LiveNames
 pub mod LivesLemmas
 pub mod Jobs
 pub mod Spaces

@@ -33,7 +33,7 @@ fresh_is_apart old new id other size made lives same =
     let index : found.b.id.index ≡ other.index = eqb-true _ _ (and_parts (eqb found.b.id.index other.index) (eqb found.b.id.generation other.generation) found.same_id).0 in
     found.holds (index ∙ ap (λ (i : BufferId). i.index) same)
 
-inside_is_live : (t : BuffersState) (id : BufferId) (page count : ℕ) → LieInside t (BufferPages id page) count → IsLive t id
+pub inside_is_live : (t : BuffersState) (id : BufferId) (page count : ℕ) → LieInside t (BufferPages id page) count → IsLive t id
 inside_is_live t id page count inside = counted_lives t id (λ b. b.pages) (λ size. page + count ≤ size) inside
 
 KeepsSize-made : (old new : BuffersState) (id : BufferId) (size : ℕ) (backing : Backing) (count : ℕ) → IsCreated old new id size → LieInside old backing count → KeepsSize old new backing

@@ -13,9 +13,12 @@ use Rattle.gv_ranges.proofs.KeptLemmas.{All-clipped}
 use Rattle.gv_ranges.proofs.OrderLemmas.{laid_out-clipped, laid_out-replaced, lie_in-clipped}
 use Rattle.gv_ranges.proofs.ReplacedLemmas.{all_mappings}
 use Rattle.gv_table.specs.Reads.{AreAlikeOutside}
+use Rattle.gv_table.specs.declared.tables.Tables.{Tables}
+use Rattle.gv_table.specs.Kinds.{AreEnough}
 use Rattle.gv_table.specs.Table.{IsTree, gained_by}
 use Rattle.gv_table.specs.declared.page_table.PageTable.{PageTable}
 use Rattle.gv_table.proofs.EditLemmas.{replaced-alike, replaced-pieces}
+use Rattle.gv_space.specs.Mapped.{MappedState, list_of}
 use Rattle.gv_space.specs.State.{SpaceState, IsSpace, IsPlaced, most_kept}
 use Rattle.gv_space.specs.Undo.{OpUndoState, IsUndoOf}
 use Rattle.gv_space.specs.Change.{IsChanged, GrowsJustFor}
@@ -58,12 +61,12 @@ module _ (s : SpaceState) (range : PageRangeState) (saved : List Mapping) (space
       All-clipped (IsPlaced s.area s.buffers) range.first (end_of range) saved
       (λ k d below n is. placed_pieces s.area s.buffers range.first (end_of range) _ n (mappings k d below) (placed k d below) is)
 
-  pub ready_from : (list : RangeListState) (overlap : Overlap) (taken pieces : List Mapping) (spares more : ℕ) → All (IsPlaced s.area s.buffers) saved →
+  pub ready_from : (list : MappedState) (overlap : Overlap) (taken pieces : List Mapping) (spares : Tables) (more : ℕ) → All (IsPlaced s.area s.buffers) saved →
       IsOverlap s.mappings range overlap → taken ≡ run s.mappings overlap.index overlap.count →
       pieces ≡ option_to_list overlap.prev ++ inside ++ option_to_list overlap.next →
       list.mappings ≡ s.mappings → length list.mappings + more ≤ list.room → length pieces ≤ length taken + more →
       limit_fault s range (restored s.mappings range saved) ≡ None →
-      ((ms : List Mapping) (table : PageTable) → IsLaidOut ms → AreAlikeOutside range s.mappings ms → clipped range.first (end_of range) ms ≡ inside → IsTree s.mappings table → gained_by ms table ≤ spares) →
+      ((ms : List Mapping) (table : PageTable) → IsLaidOut ms → AreAlikeOutside range s.mappings ms → clipped range.first (end_of range) ms ≡ inside → IsTree s.mappings table → AreEnough spares (gained_by ms table)) →
       IsReady inside (record s { mappings = list.mappings; room = list.room }) range overlap.index taken pieces spares
   ready_from list overlap taken pieces spares more placed is taken_is pieces_is same room fits none enough =
       let lie : LieIn range inside = lie_in-clipped range saved in
@@ -87,7 +90,7 @@ module _ (s : SpaceState) (range : PageRangeState) (saved : List Mapping) (space
       subst (λ (ms : List Mapping). IsReady inside (record s { mappings = ms; room = list.room }) range overlap.index taken pieces spares) (sym same) ready
 
 -- What room was made before a change is the change's own.
-pub changed_before : (s : SpaceState) (list : RangeListState) (new : SpaceState) (within : List Mapping) (range : PageRangeState) (index : ℕ) (taken pieces : List Mapping) (spares : ℕ) (u : OpUndoState) →
+pub changed_before : (s : SpaceState) (list : MappedState) (new : SpaceState) (within : List Mapping) (range : PageRangeState) (index : ℕ) (taken pieces : List Mapping) (spares : Tables) (u : OpUndoState) →
     IsSpace s → list.mappings ≡ s.mappings → s.room ≤ list.room →
     IsReady within (record s { mappings = list.mappings; room = list.room }) range index taken pieces spares →
     IsChanged (record s { mappings = list.mappings; room = list.room }) new (splice list.mappings index (index + length taken) pieces) u →
@@ -108,14 +111,14 @@ changed_before s list new within range index taken pieces spares u space same ro
     }
 
 -- the same from what each step of a change answers
-pub made_ready : (i : Inside) (now : SpaceState) (range : PageRangeState) (saved : List Mapping) (space : IsSpace (space_of i)) (laid : IsLaidOut saved) (list reserved : RangeListState) (overlap : Overlap)
-    (shown taken pieces middle : List Mapping) (spares more : ℕ) → space_of i ≡ now → list ≡ i.mapped → IsOverlap list.mappings range overlap →
+pub made_ready : (i : Inside) (now : SpaceState) (range : PageRangeState) (saved : List Mapping) (space : IsSpace (space_of i)) (laid : IsLaidOut saved) (list : RangeListState) (reserved : MappedState) (overlap : Overlap)
+    (shown taken pieces middle : List Mapping) (spares : Tables) (more : ℕ) → space_of i ≡ now → list ≡ list_of i.mapped → IsOverlap list.mappings range overlap →
     shown ≡ now.mappings → taken ≡ run shown overlap.index overlap.count →
     pieces ≡ option_to_list overlap.prev ++ inside (space_of i) range saved space laid ++ option_to_list overlap.next →
     ((within : List Mapping) → pieces ≡ option_to_list overlap.prev ++ within ++ option_to_list overlap.next → middle ≡ within) →
     All (IsPlaced now.area now.buffers) saved → limit_fault now range (restored now.mappings range saved) ≡ None →
     reserved.mappings ≡ i.mapped.mappings → length reserved.mappings + more ≤ reserved.room → length pieces ≤ length taken + more →
-    ((ms : List Mapping) (table : PageTable) → IsLaidOut ms → AreAlikeOutside range i.mapped.mappings ms → clipped range.first (end_of range) ms ≡ middle → IsTree i.mapped.mappings table → gained_by ms table ≤ spares) →
+    ((ms : List Mapping) (table : PageTable) → IsLaidOut ms → AreAlikeOutside range i.mapped.mappings ms → clipped range.first (end_of range) ms ≡ middle → IsTree i.mapped.mappings table → AreEnough spares (gained_by ms table)) →
     IsReady (inside (space_of i) range saved space laid) (record (space_of i) { mappings = reserved.mappings; room = reserved.room }) range overlap.index taken pieces spares
 made_ready i now range saved space laid list reserved overlap shown taken pieces middle spares more space_is list_is is shown_is taken_is pieces_is middle_is placed none same room fits enough =
     let s : SpaceState = space_of i in
@@ -147,8 +150,8 @@ grown_for s new range saved taken pieces overlap more room space is taken_is pie
     }
 
 -- the same from what each step of a change answers
-pub grown_just_for : (i : Inside) (now new : SpaceState) (range : PageRangeState) (saved taken pieces shown : List Mapping) (list reserved : RangeListState) (overlap : Overlap) (more : ℕ) → IsSpace (space_of i) →
-    space_of i ≡ now → list ≡ i.mapped → IsOverlap list.mappings range overlap → shown ≡ now.mappings → taken ≡ run shown overlap.index overlap.count →
+pub grown_just_for : (i : Inside) (now new : SpaceState) (range : PageRangeState) (saved taken pieces shown : List Mapping) (list : RangeListState) (reserved : MappedState) (overlap : Overlap) (more : ℕ) → IsSpace (space_of i) →
+    space_of i ≡ now → list ≡ list_of i.mapped → IsOverlap list.mappings range overlap → shown ≡ now.mappings → taken ≡ run shown overlap.index overlap.count →
     pieces ≡ option_to_list overlap.prev ++ clipped range.first (end_of range) saved ++ option_to_list overlap.next → more ≡ length pieces - length taken →
     (length i.mapped.mappings + more ≤ i.mapped.room → reserved.room ≡ i.mapped.room) → reserved.room ≤ max (2 * i.mapped.room) (length i.mapped.mappings + more) → new.room ≡ reserved.room →
     GrowsJustFor (restored now.mappings range saved) now new

@@ -2,15 +2,18 @@
 use Rattle.std.proofs.Common.{◌≡◌, ℕ, ◌+◌, ◌-◌, ◌≤◌, List, length, arith, refl, sym, subst, ap, ◌∙◌}
 use Rattle.std.specs.List.{All, splice}
 use Rattle.gv_types.specs.declared.mapping.Mapping.{Mapping}
-use Rattle.gv_ranges.specs.List.{AreEnded, RangeListState, run}
+use Rattle.gv_ranges.specs.List.{AreEnded, run}
 use Rattle.gv_ranges.proofs.IndexLemmas.{ended-unspliced}
 use Rattle.gv_ranges.specs.Edit.{replaced, undone}
 use Rattle.gv_ranges.proofs.ReplacedLemmas.{replaced_run_in_place, undone-replaced}
 use Rattle.gv_table.specs.Reads.{AreAlikeOutside}
+use Rattle.gv_table.specs.Kinds.{AreEnough}
 use Rattle.gv_table.specs.Table.{IsTree, gained_by}
+use Rattle.gv_table.proofs.KindLemmas.{enough-same}
 use Rattle.gv_table.specs.declared.page_table.PageTable.{PageTable}
 use Rattle.gv_table.proofs.EditLemmas.{replaced-alike, alike-mutual}
 use Rattle.gv_buffers.specs.Buffers.{BuffersState, most_counted}
+use Rattle.gv_space.specs.Mapped.{MappedState}
 use Rattle.gv_space.specs.Counts.{count_of, by_count, counted, more_used, less_used, less_kept}
 use Rattle.gv_space.specs.Live.{IsLiveBacking}
 use Rattle.gv_space.specs.State.{SpaceState, IsSpace, IsPlaced}
@@ -18,7 +21,8 @@ use Rattle.gv_space.specs.Undo.{OpUndoState, IsUndoOf, CanRevert, reverted}
 use Rattle.gv_space.specs.Inside.{space_of}
 use Rattle.gv_space.specs.declared.space.Space.TheInside.{Inside}
 use Rattle.gv_space.specs.declared.undo.OpUndo.TheInside.{Inside as UndoInside}
-use Rattle.gv_space.proofs.ByCountLemmas.{live_from_placed}
+use Rattle.gv_space.proofs.ByCountLemmas.{live_from_placed, more_used_of_counts, less_used_of_counts, less_kept_of_counts}
+use Rattle.gv_space.proofs.LiveNames.{LivedIn, lived-by_count}
 use Rattle.gv_space.proofs.Lengths.{length-splice}
 use Rattle.gv_space.proofs.Recounted.{moved_back}
 use Rattle.gv_space.proofs.Rooms.{room_to_count, run_is_counted, saved_are_kept, length-taken-le-most_kept}
@@ -30,6 +34,13 @@ pub undone_is : (before now : List Mapping) (u : OpUndoState) → IsUndoOf befor
 undone_is before now u is =
     let old = undone-replaced before u.range is.pieces u.change.index (length u.change.taken) is.laid_out is.met in
     rw (is.made, is.put_in) (rw (← is.taken) at old)
+
+-- who lives after it is taken back lived before
+pub lived_before : (gone taken : List Mapping) (t : BuffersState) → LivedIn t (by_count less_used gone (by_count more_used taken (by_count less_kept taken t)))
+lived_before gone taken t id lives =
+    lived-by_count less_kept taken t less_kept_of_counts id
+    (lived-by_count more_used taken (by_count less_kept taken t) more_used_of_counts id
+    (lived-by_count less_used gone (by_count more_used taken (by_count less_kept taken t)) less_used_of_counts id lives))
 
 module _ (s : SpaceState) (u : OpUndoState) (space : IsSpace s) (fits : CanRevert s u) where
   -- the list before the change
@@ -65,8 +76,8 @@ module _ (s : SpaceState) (u : OpUndoState) (space : IsSpace s) (fits : CanRever
       alike-mutual old s.mappings u.range
       (subst (λ (ms : List Mapping). AreAlikeOutside u.range old ms) (sym fits.undo.made) (replaced-alike old fits.undo.pieces u.range fits.undo.laid_out fits.undo.lie))
 
-  pub tables_are_enough : (table : PageTable) → IsTree s.mappings table → gained_by old table ≤ u.tables
-  tables_are_enough table tree = omega (arith, fits.undo.tables table tree)
+  pub tables_are_enough : (table : PageTable) → IsTree s.mappings table → AreEnough u.tables (gained_by old table)
+  tables_are_enough table tree = enough-same (fits.undo.tables table tree)
 
   taken_placed : All (IsPlaced s.area s.buffers) u.change.taken
   taken_placed = All-front (IsPlaced s.area s.buffers) u.change.taken fits.kept.others fits.kept.are_kept.placed
@@ -86,7 +97,7 @@ module _ (s : SpaceState) (u : OpUndoState) (space : IsSpace s) (fits : CanRever
   pub gone_counted : All (λ b. count_of b.id gone ≤ b.uses) s.buffers.live
   gone_counted = run_is_counted s gone u.change.index u.change.put_in space refl
 
-  pub state_before : (list : RangeListState) (buffers : BuffersState) (count : ℕ) → list.mappings ≡ old → list.room ≡ s.room →
+  pub state_before : (list : MappedState) (buffers : BuffersState) (count : ℕ) → list.mappings ≡ old → list.room ≡ s.room →
       buffers ≡ by_count less_used gone (by_count more_used u.change.taken (by_count less_kept u.change.taken s.buffers)) → count ≡ length u.change.taken →
       record s { mappings = list.mappings; room = list.room; buffers = buffers; kept_count = s.kept_count - count } ≡ reverted s u
   state_before list buffers count list_is room_is buffers_is count_is =
@@ -94,11 +105,12 @@ module _ (s : SpaceState) (u : OpUndoState) (space : IsSpace s) (fits : CanRever
       buffers_is ∙ moved_back s.mappings gone u.change.taken u.change.index u.change.put_in s.buffers refl space.used in
       rw (list_is, room_is, tables, count_is) refl
 
+  pub old_placed : All (IsPlaced s.area s.buffers) old
+  old_placed = All-splice (IsPlaced s.area s.buffers) s.mappings u.change.taken u.change.index (u.change.index + u.change.put_in) space.placed taken_placed
+
   pub space_before : IsSpace (reverted s u)
   space_before =
-      IsSpace-reverted s u fits.kept.others space fits.undo.laid_out fits.few
-      (All-splice (IsPlaced s.area s.buffers) s.mappings u.change.taken u.change.index (u.change.index + u.change.put_in) space.placed taken_placed)
-      fits.kept.are_kept
+      IsSpace-reverted s u fits.kept.others space fits.undo.laid_out fits.few old_placed fits.kept.are_kept
 
 -- an undo value as contracts see it
 abbrev pub undo_of : UndoInside → OpUndoState
@@ -109,7 +121,7 @@ fits_inside s u space undo space_is undo_is fits =
     subst (λ (v : OpUndoState). CanRevert (space_of s) v) (sym undo_is) (subst (λ (t : SpaceState). CanRevert t undo) (sym space_is) fits)
 
 -- the list is spliced and the counts are moved back: that is the space before the change
-pub state_made : (s : SpaceState) (u : OpUndoState) (space : IsSpace s) (fits : CanRevert s u) (gone_now taken put_back : List Mapping) (list : RangeListState) (buffers : BuffersState) (count : ℕ) →
+pub state_made : (s : SpaceState) (u : OpUndoState) (space : IsSpace s) (fits : CanRevert s u) (gone_now taken put_back : List Mapping) (list : MappedState) (buffers : BuffersState) (count : ℕ) →
     gone_now ≡ run s.mappings u.change.index u.change.put_in → taken ≡ u.change.taken → put_back ≡ u.change.taken →
     list.mappings ≡ splice s.mappings u.change.index (u.change.index + u.change.put_in) put_back → list.room ≡ s.room →
     buffers ≡ by_count less_used gone_now (by_count more_used taken (by_count less_kept taken s.buffers)) →

@@ -1,4 +1,5 @@
 -- What an address space keeps of its parts. No public clause cites this module.
+use Rattle.gv_space.specs.Mapped.{AreLiveNamed}
 use Rattle.gv_space.specs.State.{SpaceState, IsSpace}
 use Rattle.gv_space.specs.declared.space.Space.TheInside.{Inside}
 
@@ -13,5 +14,7 @@ space_of s =
       kept_count = s.kept_count;
     }
 
-abbrev pub IsSoundSpace : Inside → Type 0
-IsSoundSpace s = IsSpace (space_of s)
+-- the space is sound, and its page table can name each live buffer
+pub record IsSoundSpace (s : Inside) : Type 0 where
+  pub space : IsSpace (space_of s)
+  pub named : AreLiveNamed s.buffers s.mapped.names

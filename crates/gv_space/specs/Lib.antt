@@ -5,6 +5,7 @@ pub mod Live
 pub mod Undo
 pub mod Refusal
 pub mod Change
+pub mod Mapped
 pub mod Inside
 pub mod Ready
 pub mod Laws

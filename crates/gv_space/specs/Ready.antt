@@ -8,6 +8,8 @@ use Rattle.gv_types.specs.declared.mapping.Mapping.{Mapping}
 use Rattle.gv_ranges.specs.List.{IsLaidOut, IsOverlappingRun, run}
 use Rattle.gv_ranges.specs.Edit.{LieIn, clipped, replaced}
 use Rattle.gv_table.specs.declared.page_table.PageTable.{PageTable}
+use Rattle.gv_table.specs.declared.tables.Tables.{Tables}
+use Rattle.gv_table.specs.Kinds.{AreEnough}
 use Rattle.gv_table.specs.Table.{IsTree, gained_by}
 use Rattle.gv_space.specs.State.{SpaceState, IsPlaced, most_kept}
 use Rattle.gv_space.specs.declared.overlap.Overlap.{Overlap}
@@ -20,7 +22,7 @@ pub record IsOverlap (ms : List Mapping) (range : PageRangeState) (overlap : Ove
 
 -- The run that meets a range is to give way to the pieces inside it and the rests on both sides. There is room for them,
 -- no limit is passed, and the spare tables are enough.
-pub record IsReady (inside : List Mapping) (s : SpaceState) (range : PageRangeState) (index : ℕ) (taken pieces : List Mapping) (spares : ℕ) : Type 0 where
+pub record IsReady (inside : List Mapping) (s : SpaceState) (range : PageRangeState) (index : ℕ) (taken pieces : List Mapping) (spares : Tables) : Type 0 where
   pub sorted : IsLaidOut inside
   pub lie : LieIn range inside
   pub placed : All (IsPlaced s.area s.buffers) inside
@@ -31,4 +33,4 @@ pub record IsReady (inside : List Mapping) (s : SpaceState) (range : PageRangeSt
   pub old_room : length s.mappings ≤ s.room
   pub few : length (replaced s.mappings range inside) ≤ s.limits.mappings
   pub few_kept : s.kept_count + length taken ≤ most_kept
-  pub enough : (table : PageTable) → IsTree s.mappings table → gained_by (replaced s.mappings range inside) table ≤ spares
+  pub enough : (table : PageTable) → IsTree s.mappings table → AreEnough spares (gained_by (replaced s.mappings range inside) table)

@@ -5,16 +5,17 @@ use Rattle.gv_types.specs.declared.mapping.Mapping.{Mapping}
 use Rattle.gv_ranges.specs.List.{at, IsLaidOut, IsOverlappingRun, run}
 use Rattle.gv_ranges.specs.Edit.{Undo, LieIn, replaced, undone}
 use Rattle.gv_table.specs.declared.page_table.PageTable.{PageTable}
+use Rattle.gv_table.specs.declared.tables.Tables.{Tables}
 use Rattle.gv_table.specs.Table.{IsTree, gained_by}
 use Rattle.gv_space.specs.Counts.{by_count, counted, less_kept}
 use Rattle.gv_space.specs.State.{SpaceState, AreKept}
 
--- what contracts see of an `OpUndo`: the change of the list, the range that it was made in, and how many tables that
--- left the tree it owns
+-- what contracts see of an `OpUndo`: the change of the list, the range that it was made in, and how many tables of
+-- each kind that left the tree it owns
 pub record OpUndoState : Type 0 where
   pub change : Undo
   pub range : PageRangeState
-  pub tables : ℕ
+  pub tables : Tables
 
 -- Some pieces were put in the range of the old list, which made it the new one. The undo value has just the run of the
 -- old list that met the range, at its index, and how many mappings stand for it now; and just the tables that the tree

@@ -1,17 +1,22 @@
 //! The list of mappings with its page table.
-ghost use Rattle.std.specs.Prelude.{◌≡◌, ◌+◌, ◌*◌, ◌<◌, ◌≤◌, [], length, List, max, IfOk, IsOkUnless, OnOk, OnErr};
+ghost use Rattle.std.specs.Prelude.{◌≡◌, ◌≢◌, ◌+◌, ◌*◌, ◌<◌, ◌≤◌, ℕ, [], length, List, max, Some, slice_get};
+ghost use Rattle.std.specs.Prelude.{IfOk, IsOkUnless, OnOk, OnErr};
+ghost use Rattle.gv_types.specs.declared.mapping.BufferId.{BufferId};
+ghost use Rattle.gv_table.specs.Names.{most_names, AreNamed};
+ghost use Rattle.gv_space.specs.Mapped.{list_of, AreApart};
 ghost use Rattle.std.specs.List.{splice};
 ghost use Rattle.gv_types.specs.PageRange.{end_of};
 ghost use Rattle.gv_types.specs.declared.mapping.Mapping.{Mapping};
 ghost use Rattle.gv_ranges.specs.List.{at, AreEnded, IsLaidOut, IsUnchangedList};
 ghost use Rattle.gv_ranges.specs.Edit.{clipped};
 ghost use Rattle.gv_table.specs.Reads.{AreAlikeOutside};
+ghost use Rattle.gv_table.specs.Kinds.{AreEnough};
 ghost use Rattle.gv_table.specs.Table.{IsTree, IsHeldAt, gained_by, tables_of};
 ghost use Rattle.gv_table.specs.declared.page_table.PageTable.{PageTable};
 
 use gv_ranges::RangeList;
 use gv_table::{PageTable, Pool, Spares};
-use gv_types::{Entry, Fault, Mapping, OutOfMemory, PageRange};
+use gv_types::{BufferId, Entry, Fault, Mapping, OutOfMemory, PageRange};
 use std::alloc::Global;
 use std::marker::Model;
 
@@ -25,17 +30,17 @@ pub struct ListWithTable {
 }
 
 impl Model for ListWithTable {
-    ghost use Rattle.gv_ranges.specs.List.{RangeListState};
     ghost use Rattle.gv_table.specs.Table.{IsTree};
+    ghost use Rattle.gv_space.specs.Mapped.{MappedState};
 
-    ghost Value = { RangeListState };
+    ghost Value = { MappedState };
 
-    ghost view = { λ p. p.list };
+    ghost view = { λ p. record { mappings = p.list.mappings; room = p.list.room; names = p.table.names } };
 
     ghost use Rattle.std.specs.Prelude.{◌≤◌};
     ghost use Rattle.gv_table.specs.Table.{tables_standing};
 
-    ghost invariant = { λ p. (IsTree p.list.mappings p.table) × (p.pool ≤ tables_standing p.table) };
+    ghost invariant = { λ p. (IsTree p.list.mappings p.table) × (p.pool ≤ (tables_standing p.table).pages) };
 }
 
 impl ListWithTable {
@@ -46,14 +51,14 @@ impl ListWithTable {
     {
         ListWithTable {
             list: RangeList::new(alloc),
-            table: PageTable::new(),
+            table: PageTable::new(alloc),
             pool: Pool::new(),
         }
     }
 
     /// The list of mappings.
     pub fn list(&self) -> &RangeList
-        ensures { result.now ≡ self.now }
+        ensures { result.now ≡ list_of self.now }
     {
         &self.list
     }
@@ -91,7 +96,8 @@ impl ListWithTable {
 
     /// Makes room for `more` mappings beside those in the list, only where it is missing, and at most the double or the need.
     pub fn reserve(&mut self, more: usize) -> Result<(), OutOfMemory>
-        ensures unchanged { IsUnchangedList self.old self.new }
+        ensures unchanged { IsUnchangedList (list_of self.old) (list_of self.new) }
+        ensures names { self.new.names ≡ self.old.names }
         ensures ok { OnOk result (length self.new.mappings + more ≤ self.new.room) }
         ensures needed { OnErr result (self.old.room < length self.old.mappings + more) }
         ensures enough { length self.old.mappings + more ≤ self.old.room
@@ -114,7 +120,7 @@ impl ListWithTable {
         ensures enough { IfOk result (λ spares. (ms : List Mapping) (table : PageTable) → IsLaidOut ms
             → AreAlikeOutside range self.old.mappings ms
             → clipped range.first (end_of range) ms ≡ pieces.now
-            → IsTree self.old.mappings table → gained_by ms table ≤ spares) }
+            → IsTree self.old.mappings table → AreEnough spares (gained_by ms table)) }
         ensures err { IsOkUnless result Fault.OutOfMemory }
         ensures same { self.new ≡ self.old }
     {
@@ -128,6 +134,32 @@ impl ListWithTable {
         ensures same { self.new ≡ self.old }
     {
         self.pool.put(tables, &self.table);
+    }
+
+    /// Makes room for the name of a buffer's index. `OutOfMemory` where the system refuses it.
+    pub fn reserve_name(&mut self, index: u32) -> Result<(), Fault>
+        requires few { index < most_names }
+        requires named { AreNamed self.old.names self.old.mappings }
+        ensures list { list_of self.new ≡ list_of self.old }
+        ensures ok { OnOk result (index < length self.new.names) }
+        ensures same { (k : ℕ) (id : BufferId) → slice_get self.old.names k ≡ Some id → slice_get self.new.names k ≡ Some id }
+        ensures err { IsOkUnless result Fault.OutOfMemory }
+        ensures unchanged { OnErr result (self.new ≡ self.old) }
+    {
+        self.table.reserve_name(index)
+    }
+
+    /// Tells which buffer an index stands for from now on, where there is room for its name and no mapping has that index.
+    pub fn name(&mut self, id: BufferId)
+        requires room { id.index < length self.old.names }
+        requires named { AreNamed self.old.names self.old.mappings }
+        requires apart { AreApart id.index self.old.mappings }
+        ensures list { list_of self.new ≡ list_of self.old }
+        ensures named { slice_get self.new.names id.index ≡ Some id }
+        ensures others { (other : BufferId) → other.index ≢ id.index → slice_get self.old.names other.index ≡ Some other
+            → slice_get self.new.names other.index ≡ Some other }
+    {
+        self.table.name(id);
     }
 
     /// Replaces `out_count` mappings from `index` on by `pieces`, and paints the range. The mappings before the index have
@@ -148,11 +180,13 @@ impl ListWithTable {
             (splice self.old.mappings index (index + out_count) pieces.now) }
         requires alike { AreAlikeOutside range self.old.mappings
             (splice self.old.mappings index (index + out_count) pieces.now) }
+        requires named { AreNamed self.old.names (splice self.old.mappings index (index + out_count) pieces.now) }
         requires enough { (table : PageTable) → IsTree self.old.mappings table
-            → gained_by (splice self.old.mappings index (index + out_count) pieces.now) table ≤ spares }
+            → AreEnough spares (gained_by (splice self.old.mappings index (index + out_count) pieces.now) table) }
         ensures mappings { self.new.mappings
             ≡ splice self.old.mappings index (index + out_count) pieces.now }
         ensures room { self.new.room ≡ self.old.room }
+        ensures names { self.new.names ≡ self.old.names }
         ensures tables { (table : PageTable) → IsTree self.new.mappings table
             → gained_by self.old.mappings table ≡ result }
     {
@@ -160,8 +194,9 @@ impl ListWithTable {
         // Tells that the list is laid out.
         let _len = self.list.len();
         self.list.splice(index, out_count, pieces);
-        let lost = self.table.paint(&self.list, range, index, &mut spares);
-        let left = spares.split(lost);
+        let mut left = Spares::new();
+        self.table
+            .paint(&self.list, range, index, &mut spares, &mut left);
         self.pool.put(spares, &self.table);
         left
     }
@@ -182,11 +217,13 @@ impl ListWithTable {
             (splice self.old.mappings index (index + out_count) pieces.now) }
         requires alike { AreAlikeOutside range self.old.mappings
             (splice self.old.mappings index (index + out_count) pieces.now) }
+        requires named { AreNamed self.old.names (splice self.old.mappings index (index + out_count) pieces.now) }
         requires enough { (table : PageTable) → IsTree self.old.mappings table
-            → gained_by (splice self.old.mappings index (index + out_count) pieces.now) table ≤ spares }
+            → AreEnough spares (gained_by (splice self.old.mappings index (index + out_count) pieces.now) table) }
         ensures mappings { self.new.mappings
             ≡ splice self.old.mappings index (index + out_count) pieces.now }
         ensures room { self.new.room ≡ self.old.room }
+        ensures names { self.new.names ≡ self.old.names }
     {
         let lost = self.replace(range, index, out_count, pieces, spares);
         self.keep(lost);

@@ -3,10 +3,11 @@ use Rattle.std.proofs.Common.{◌≡◌, ℕ, ◌+◌, ◌-◌, ◌*◌, ◌<◌
 use Rattle.std.proofs.lemmas.Bool.{cases_lt}
 use Rattle.gv_types.specs.PageRange.{PageRangeState, meets, lies_in}
 use Rattle.gv_types.specs.declared.mapping.Mapping.{Mapping}
+use Rattle.gv_table.specs.Kinds.{Kind, one_of, unless}
 use Rattle.gv_table.specs.declared.slot.Slot.{Slot}
 use Rattle.gv_table.specs.Levels.{pages_of, slot_pages, IsInPart}
 use Rattle.gv_table.specs.Tree.{is_table, child}
-use Rattle.gv_table.specs.Counts.{needed, may_divide, one_if_not}
+use Rattle.gv_table.specs.Counts.{needed, may_divide}
 use Rattle.gv_table.proofs.Needs.{needed-apart, needed-parts}
 use Rattle.gv_table.proofs.PagesOf.{pages_of-some, pages_of-below, rows-rise}
 use Rattle.gv_table.proofs.Spans.{meets-from, meets-after, meets-before, lies-not-low, lies-not-high}
@@ -39,22 +40,22 @@ module _ (range : PageRangeState) (level first index : ℕ) (some : 0 < range.co
 
   -- so it needs a table, whatever the pieces are, and else what the part needs
   pub needed-around :
-      (pieces : List Mapping) (slot : Slot) → needed pieces range level first slot ≡
-      one_if_not (is_table slot) + needed pieces range (level - 1) (first + index * pages_of (level - 1)) (child slot index)
-  needed-around pieces slot =
+      (kind : Kind) (pieces : List Mapping) (slot : Slot) → needed kind pieces range level first slot ≡
+      unless (is_table slot) (one_of kind (level - 1)) + needed kind pieces range (level - 1) (first + index * pages_of (level - 1)) (child slot index)
+  needed-around kind pieces slot =
       let p : ℕ = pages_of (level - 1) in
-      let f = λ (k : ℕ). needed pieces range (level - 1) (first + k * pages_of (level - 1)) (child slot k) in
+      let f = λ (k : ℕ). needed kind pieces range (level - 1) (first + k * pages_of (level - 1)) (child slot k) in
       let from = is.part.from in
       let upto = is.part.upto in
       let may : may_divide pieces range level first ≡ true = rw (around-met, larger) refl in
-      let whole = needed-parts pieces range level first slot (let h = is.some in omega (arith, h)) may in
+      let whole = needed-parts kind pieces range level first slot (let h = is.some in omega (arith, h)) may in
       let zeros = sum_below-zeros index f (λ k below.
       let up = rows-rise k index p below in
-      needed-apart pieces range (level - 1) (first + k * pages_of (level - 1)) (child slot k)
+      needed-apart kind pieces range (level - 1) (first + k * pages_of (level - 1)) (child slot k)
       (meets-before (slot_pages (level - 1) (first + k * pages_of (level - 1))) range (omega (arith, up, from)))) in
       let rest = sum_below-rest 512 f (index + 1) (let h = is.known in omega (arith, h)) (λ k up down.
       let rise = rows-rise index k p (omega (arith, up)) in
-      needed-apart pieces range (level - 1) (first + k * pages_of (level - 1)) (child slot k)
+      needed-apart kind pieces range (level - 1) (first + k * pages_of (level - 1)) (child slot k)
       (meets-after (slot_pages (level - 1) (first + k * pages_of (level - 1))) range (omega (arith, rise, upto)))) in
       let more = sum_below-more index f in
       omega (arith, whole, zeros, rest, more)

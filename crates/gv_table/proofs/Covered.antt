@@ -1,6 +1,8 @@
 -- What a list in order says of a range of pages.
 use Rattle.std.proofs.Common.{◌≡◌, ℕ, zero, suc, ◌+◌, ◌-◌, ◌<◌, ◌≤◌, ◌⊎◌, inl, inr, Bool, true, false, ◌||◌, List, [], ◌∷◌, length, get_or, Some, None, refl, arith, sym, ap, ◌∙◌, subst}
 use Rattle.gv_types.specs.PageRange.{PageRangeState, span, end_of, meets, lies_in}
+use Rattle.std.proofs.lemmas.List.Elements.{All-head, All-tail}
+use Rattle.gv_table.specs.Names.{IsTold, AreTold}
 use Rattle.gv_types.specs.Mapping.{part, advanced, HasSmallPages}
 use Rattle.gv_types.specs.declared.mapping.Backing.{Backing}
 use Rattle.gv_types.specs.declared.mapping.Backing.TheVariants.{Buffer, Zero}
@@ -93,6 +95,29 @@ covering-small (m ∷ ms) low s entry laid found =
           subst P same (small-advanced m.backing (s.first - m.range.first) s.count m.range.count laid.1.1 (omega (arith, h))))
       | inr other ↦ (let found' : covering ms s ≡ Some entry = rw other at found in
           covering-small ms (end_of m.range) s entry laid.2 found')
+    ]
+
+pub told-advanced : (b : Backing) (i n count : ℕ) → IsTold b count → i + n ≤ count → IsTold (advanced b i) n
+told-advanced (Buffer id page) i n count told within = (told.0, told.1, omega (arith, told.2))
+told-advanced Zero i n count told within = tt
+
+pub told-less : (b : Backing) (n count : ℕ) → IsTold b count → n ≤ count → IsTold b n
+told-less (Buffer id page) n count told within = (told.0, told.1, omega (arith, told.2))
+told-less Zero n count told within = tt
+
+-- what covers a range can be told where the list can
+pub covering-told : (ms : List Mapping) (low : ℕ) (s : PageRangeState) (entry : Entry) → IsLaidOutFrom low ms → AreTold ms → covering ms s ≡ Some entry →
+    IsTold entry.backing s.count
+covering-told [] low s entry laid told found = cc
+covering-told (m ∷ ms) low s entry laid told found =
+    elim (true-or-false (lies_in s m.range)) [
+      | inl whole ↦ (let found' : Some (part m s.first) ≡ Some entry = rw whole at found in
+          let h = lies-bounds s m.range whole in
+          let same : part m s.first ≡ entry = cc in
+          let P : Entry → Type 0 = λ e. IsTold e.backing s.count in
+          subst P same (told-advanced m.backing (s.first - m.range.first) s.count m.range.count (All-head (λ n. IsTold n.backing n.range.count) m ms told) (omega (arith, h))))
+      | inr other ↦ (let found' : covering ms s ≡ Some entry = rw other at found in
+          covering-told ms (end_of m.range) s entry laid.2 (All-tail (λ n. IsTold n.backing n.range.count) m ms told) found')
     ]
 
 pub at-covering : (ms : List Mapping) (page : ℕ) → at ms page ≡ covering ms (span page 1)

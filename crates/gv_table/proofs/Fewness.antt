@@ -1,44 +1,17 @@
 -- A slot has fewer tables than pages.
-use Rattle.std.proofs.Common.{◌≡◌, ℕ, zero, suc, ◌+◌, ◌*◌, ◌≤◌, Bool, true, false, nat_eq, List, slice_index_or, arith, if◌then◌else◌}
-use Rattle.gv_types.specs.declared.mapping.Mapping.{Mapping}
+use Rattle.std.proofs.Common.{◌≡◌, ℕ, zero, suc, ◌+◌, ◌*◌, ◌≤◌, Bool, true, false, nat_eq, arith, if◌then◌else◌}
 use Rattle.gv_table.specs.declared.slot.Slot.{Slot}
-use Rattle.gv_table.specs.declared.slot.Slot.TheVariants.{Empty}
 use Rattle.gv_table.specs.Levels.{pages_of}
 use Rattle.gv_table.specs.Sums.{sum_below}
-use Rattle.gv_table.specs.Wanted.{wanted, is_divided}
 use Rattle.gv_table.specs.Tree.{is_table, child}
-use Rattle.gv_table.specs.Counts.{tables_in, tables_at, lost, row_lost, one_if, one_if_not}
+use Rattle.gv_table.specs.Counts.{tables_at, one_if}
 use Rattle.gv_table.proofs.Sums.{sum_below-few}
 use Rattle.gv_table.proofs.Counts.{one_if-small}
-use Rattle.gv_table.proofs.Needs.{one_if_not-small}
 use Rattle.gv_table.proofs.PagesOf.{pages_of-more, pages_of-some}
 
 few-by : (b : Bool) (one s p n : ℕ) → one ≤ 1 → s + 512 ≤ 512 * p → n ≡ 512 * p → (if b then one + s else 0) + 1 ≤ n
 few-by true one s p n small bound e = omega (arith, e, small, bound)
 few-by false one s p n small bound e = omega (arith, e, bound)
-
-pub tables_in-few : (level : ℕ) (slot : Slot) → tables_in level slot + 1 ≤ pages_of level
-unfolding tables_in
-tables_in-few zero slot = pages_of-some 0
-tables_in-few (suc level) slot =
-    few-by (is_table slot) 1 (sum_below 512 (λ k. tables_in level (child slot k))) (pages_of level) (pages_of (suc level)) (omega arith)
-    (sum_below-few 512 (λ k. tables_in level (child slot k)) (pages_of level) (λ k below. tables_in-few level (child slot k)))
-    (pages_of-more level)
-
-pub lost-few : (ms : List Mapping) (level first : ℕ) (slot : Slot) → lost ms level first slot + 1 ≤ pages_of level
-unfolding lost
-lost-few ms zero first slot = pages_of-some 0
-lost-few ms (suc level) first slot =
-    few-by (is_table slot) (one_if_not (is_divided (wanted ms (suc level) first)))
-    (sum_below 512 (λ k. lost ms level (first + k * pages_of level) (child slot k))) (pages_of level) (pages_of (suc level))
-    (one_if_not-small (is_divided (wanted ms (suc level) first)))
-    (sum_below-few 512 (λ k. lost ms level (first + k * pages_of level) (child slot k)) (pages_of level) (λ k below. lost-few ms level (first + k * pages_of level) (child slot k)))
-    (pages_of-more level)
-
-pub row_lost-few : (ms : List Mapping) (level first : ℕ) (row : List Slot) → row_lost ms level first row + 512 ≤ 512 * pages_of level
-row_lost-few ms level first row =
-    sum_below-few 512 (λ k. lost ms level (first + k * pages_of level) (slice_index_or row k Empty)) (pages_of level)
-    (λ k below. lost-few ms level (first + k * pages_of level) (slice_index_or row k Empty))
 
 pub tables_at-few : (target level : ℕ) (slot : Slot) → tables_at target level slot + 1 ≤ pages_of level
 unfolding tables_at

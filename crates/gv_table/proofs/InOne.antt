@@ -4,10 +4,11 @@ use Rattle.gv_types.specs.Page.{PAGES}
 use Rattle.gv_types.specs.PageRange.{PageRangeState}
 use Rattle.gv_types.specs.declared.mapping.Mapping.{Mapping}
 use Rattle.gv_ranges.specs.List.{IsLaidOut}
+use Rattle.gv_table.specs.Kinds.{Kind}
 use Rattle.gv_table.specs.declared.slot.Slot.{Slot}
 use Rattle.gv_table.specs.declared.slot.Slot.TheVariants.{Empty}
 use Rattle.gv_table.specs.Levels.{pages_of, slot_pages, LiesInSlot, IsInPart}
-use Rattle.gv_table.specs.Tree.{IsTreeOf, IsTreeOutside}
+use Rattle.gv_table.specs.Tree.{IsTreeOf, IsToldOutside}
 use Rattle.gv_table.specs.Counts.{gained, lost, row_gained, row_lost}
 use Rattle.gv_table.proofs.Painted.{painted-gained, painted-lost, row_gained-zero, row_lost-zero}
 use Rattle.gv_table.proofs.PagesOf.{pages_of-below, part-within, rows-rise}
@@ -26,7 +27,7 @@ sides k i = grind arith
 
 module _ (ms : List Mapping) (range : PageRangeState) (level first i : ℕ) (row after : List Slot)
     (laid : IsLaidOut ms) (within : first + 512 * pages_of level ≤ PAGES) (below : i < 512) (lies : LiesInSlot range level (first + i * pages_of level))
-    (outside : (k : ℕ) → k < 512 → IsTreeOutside ms range level (first + k * pages_of level) (slice_index_or row k Empty))
+    (outside : (k : ℕ) → k < 512 → IsToldOutside ms range level (first + k * pages_of level) (slice_index_or row k Empty))
     (same : (k : ℕ) → k ≢ i → slice_index_or after k Empty ≡ slice_index_or row k Empty)
     (here : IsTreeOf ms level (first + i * pages_of level) (slice_index_or after i Empty)) where
   -- the other slots are apart from the range
@@ -49,14 +50,14 @@ module _ (ms : List Mapping) (range : PageRangeState) (level first i : ℕ) (row
       ]
 
   -- so the row gains and loses what that slot does
-  pub one-gained : row_gained ms level first row ≡ gained ms level (first + i * pages_of level) (slice_index_or row i Empty)
-  one-gained =
-      let whole = painted-gained ms level first i row row after same (λ k above. refl) laid here below in
-      let none = row_gained-zero ms level first after laid one-tree in
+  pub one-gained : (kind : Kind) → row_gained kind ms level first row ≡ gained kind ms level (first + i * pages_of level) (slice_index_or row i Empty)
+  one-gained kind =
+      let whole = painted-gained ms level first i row row after same (λ k above. refl) laid here kind below in
+      let none = row_gained-zero kind ms level first after laid one-tree in
       omega (arith, whole, none)
 
-  pub one-lost : row_lost ms level first row ≡ lost ms level (first + i * pages_of level) (slice_index_or row i Empty)
-  one-lost =
-      let whole = painted-lost ms level first i row row after same (λ k above. refl) laid here below in
-      let none = row_lost-zero ms level first after laid one-tree in
+  pub one-lost : (kind : Kind) → row_lost kind ms level first row ≡ lost kind ms level (first + i * pages_of level) (slice_index_or row i Empty)
+  one-lost kind =
+      let whole = painted-lost ms level first i row row after same (λ k above. refl) laid here kind below in
+      let none = row_lost-zero kind ms level first after laid one-tree in
       omega (arith, whole, none)

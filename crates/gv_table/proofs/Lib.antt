@@ -1,15 +1,21 @@
 pub mod Sums
+pub mod KindLemmas
 pub mod Spans
 pub mod PagesOf
 pub mod Slots
+mod PageChains
 pub mod Counts
+mod Unnamed
 pub mod Covered
 pub mod Clips
 pub mod Positions
 pub mod Wants
 pub mod Trees
-mod Ends
+mod Shapes
 pub mod Rows
+pub mod Named
+pub mod NamedTrees
+pub mod Words
 pub mod Written
 mod Runs
 pub mod Matches

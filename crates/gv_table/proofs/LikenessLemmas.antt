@@ -1,6 +1,7 @@
 -- Two trees of one list have their tables at the same positions.
 use Rattle.std.proofs.Common.{◌≡◌, ℕ, zero, suc, ◌+◌, ◌-◌, ◌*◌, ◌<◌, inl, inr, true, false, List, refl, arith, sym, ◌∙◌}
 use Rattle.gv_types.specs.declared.mapping.Mapping.{Mapping}
+use Rattle.gv_table.specs.Kinds.{Kind, pages, slots}
 use Rattle.gv_table.specs.declared.slot.Slot.{Slot}
 use Rattle.gv_table.specs.Levels.{pages_of}
 use Rattle.gv_table.specs.Wanted.{wanted, is_divided}
@@ -43,22 +44,25 @@ tables-wanted ms target (suc level) first slot tree =
     ]
 
 -- two trees of one list gain the same
-pub trees-gained : (ms list : List Mapping) (level first : ℕ) (one other : Slot) → IsTreeOf ms level first one → IsTreeOf ms level first other →
-    gained list level first one ≡ gained list level first other
+pub trees-gained : (kind : Kind) (ms list : List Mapping) (level first : ℕ) (one other : Slot) → IsTreeOf ms level first one → IsTreeOf ms level first other →
+    gained kind list level first one ≡ gained kind list level first other
 unfolding gained
-trees-gained ms list zero first one other tree tree' = refl
-trees-gained ms list (suc level) first one other tree tree' =
+trees-gained kind ms list zero first one other tree tree' = refl
+trees-gained kind ms list (suc level) first one other tree tree' =
     let same = tree-divided ms level first one tree ∙ sym (tree-divided ms level first other tree') in
     elim (true-or-false (is_table one)) [
       | inl table ↦ (
           let table' : is_table other ≡ true = sym same ∙ table in
-          let parts = sum_below-same 512 (λ k. gained list level (first + k * pages_of level) (child one k)) (λ k. gained list level (first + k * pages_of level) (child other k))
-          (λ k below. trees-gained ms list level (first + k * pages_of level) (child one k) (child other k)
+          let parts = sum_below-same 512 (λ k. gained kind list level (first + k * pages_of level) (child one k)) (λ k. gained kind list level (first + k * pages_of level) (child other k))
+          (λ k below. trees-gained kind ms list level (first + k * pages_of level) (child one k) (child other k)
           (parts-of ms level first one tree table k below) (parts-of ms level first other tree' table' k below)) in
           rw (table, table', parts) refl)
-      | inr none ↦ gained-other-by list (suc level) first one other none (sym same ∙ none)
+      | inr none ↦ gained-other-by kind list (suc level) first one other none (sym same ∙ none)
     ]
 
 -- the same of whole trees
 pub tables-gained : TreesGainAlike
-tables-gained ms list one other tree tree' = trees-gained ms list 5 0 one.root other.root tree tree'
+tables-gained ms list one other tree tree' =
+    let of_pages = trees-gained pages ms list 5 0 one.root other.root tree tree' in
+    let of_slots = trees-gained slots ms list 5 0 one.root other.root tree tree' in
+    cc

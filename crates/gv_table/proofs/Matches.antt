@@ -4,6 +4,7 @@ use Rattle.gv_types.specs.Page.{PAGES}
 use Rattle.gv_types.specs.PageRange.{PageRangeState, end_of, meets}
 use Rattle.gv_types.specs.declared.mapping.Mapping.{Mapping}
 use Rattle.gv_ranges.specs.List.{IsLaidOut}
+use Rattle.gv_table.specs.Kinds.{Kind, one_of, unless}
 use Rattle.gv_table.specs.declared.wanted.Wanted.{Wanted}
 use Rattle.gv_table.specs.declared.wanted.Wanted.TheVariants as variant
 use Rattle.gv_table.specs.declared.slot.Slot.{Slot}
@@ -12,7 +13,7 @@ use Rattle.gv_table.specs.Levels.{pages_of, slot_pages}
 use Rattle.gv_table.specs.Reads.{AreAlikeOutside}
 use Rattle.gv_table.specs.Wanted.{wanted, is_divided}
 use Rattle.gv_table.specs.Tree.{is_table, child, HoldsWanted, IsTreeOf}
-use Rattle.gv_table.specs.Counts.{tables_in, gained, lost, one_if_not}
+use Rattle.gv_table.specs.Counts.{tables_in, gained, lost}
 use Rattle.gv_table.proofs.Sums.{sum_below-same, sum_below-zeros}
 use Rattle.gv_table.proofs.PagesOf.{pages_of-more, pages_of-some, part-within}
 use Rattle.gv_table.proofs.Slots.{is_table-Empty, is_table-leaf, child-Empty, child-other}
@@ -79,51 +80,51 @@ match-alike range one other (suc level) first slot alike laid laid' within apart
           (apart-part range first (pages_of (suc level)) k (pages_of level) apart below (pages_of-more level)) (match.1 k below),
     )
 
-none-by : (b : Bool) (n : ℕ) → n ≡ 0 → (if b then one_if_not b + n else 0) ≡ 0
-none-by true n e = omega (arith, e)
-none-by false n e = refl
+none-by : (b : Bool) (one n : ℕ) → n ≡ 0 → (if b then unless b one + n else 0) ≡ 0
+none-by true one n e = omega (arith, e)
+none-by false one n e = refl
 
-pub gained-match : (ms : List Mapping) (level first : ℕ) (slot : Slot) → TablesMatch ms level first slot → gained ms level first slot ≡ 0
+pub gained-match : (kind : Kind) (ms : List Mapping) (level first : ℕ) (slot : Slot) → TablesMatch ms level first slot → gained kind ms level first slot ≡ 0
 unfolding gained TablesMatch
-gained-match ms zero first slot match = refl
-gained-match ms (suc level) first slot match =
-    let z = sum_below-zeros 512 (λ k. gained ms level (first + k * pages_of level) (child slot k))
-    (λ k below. gained-match ms level (first + k * pages_of level) (child slot k) (match.1 k below)) in
-    rw match.0 (none-by (is_divided (wanted ms (suc level) first)) _ z)
+gained-match kind ms zero first slot match = refl
+gained-match kind ms (suc level) first slot match =
+    let z = sum_below-zeros 512 (λ k. gained kind ms level (first + k * pages_of level) (child slot k))
+    (λ k below. gained-match kind ms level (first + k * pages_of level) (child slot k) (match.1 k below)) in
+    rw match.0 (none-by (is_divided (wanted ms (suc level) first)) (one_of kind level) _ z)
 
-pub lost-match : (ms : List Mapping) (level first : ℕ) (slot : Slot) → TablesMatch ms level first slot → lost ms level first slot ≡ 0
+pub lost-match : (kind : Kind) (ms : List Mapping) (level first : ℕ) (slot : Slot) → TablesMatch ms level first slot → lost kind ms level first slot ≡ 0
 unfolding lost TablesMatch
-lost-match ms zero first slot match = refl
-lost-match ms (suc level) first slot match =
-    let z = sum_below-zeros 512 (λ k. lost ms level (first + k * pages_of level) (child slot k))
-    (λ k below. lost-match ms level (first + k * pages_of level) (child slot k) (match.1 k below)) in
-    rw match.0 (none-by (is_divided (wanted ms (suc level) first)) _ z)
+lost-match kind ms zero first slot match = refl
+lost-match kind ms (suc level) first slot match =
+    let z = sum_below-zeros 512 (λ k. lost kind ms level (first + k * pages_of level) (child slot k))
+    (λ k below. lost-match kind ms level (first + k * pages_of level) (child slot k) (match.1 k below)) in
+    rw match.0 (none-by (is_divided (wanted ms (suc level) first)) (one_of kind level) _ z)
 
 -- what one tree has and another has not is lost on the way there, and gained on the way back
-pub gained-lost : (ms other : List Mapping) (level first : ℕ) (old new : Slot) → TablesMatch ms level first old → TablesMatch other level first new →
-    gained ms level first new ≡ lost other level first old
+pub gained-lost : (kind : Kind) (ms other : List Mapping) (level first : ℕ) (old new : Slot) → TablesMatch ms level first old → TablesMatch other level first new →
+    gained kind ms level first new ≡ lost kind other level first old
 unfolding gained lost TablesMatch
-gained-lost ms other zero first old new match match' = refl
-gained-lost ms other (suc level) first old new match match' =
-    let parts = sum_below-same 512 (λ k. gained ms level (first + k * pages_of level) (child new k)) (λ k. lost other level (first + k * pages_of level) (child old k))
-    (λ k below. gained-lost ms other level (first + k * pages_of level) (child old k) (child new k) (match.1 k below) (match'.1 k below)) in
+gained-lost kind ms other zero first old new match match' = refl
+gained-lost kind ms other (suc level) first old new match match' =
+    let parts = sum_below-same 512 (λ k. gained kind ms level (first + k * pages_of level) (child new k)) (λ k. lost kind other level (first + k * pages_of level) (child old k))
+    (λ k below. gained-lost kind ms other level (first + k * pages_of level) (child old k) (child new k) (match.1 k below) (match'.1 k below)) in
     rw (match.0, match'.0, parts) refl
 
-lost-by : (b : Bool) (n m : ℕ) → n ≡ m → (if b then 1 + n else 0) ≡ (if b then 1 + m else 0)
-lost-by true n m e = omega (arith, e)
-lost-by false n m e = refl
+lost-by : (b : Bool) (one n m : ℕ) → n ≡ m → (if b then one + n else 0) ≡ (if b then one + m else 0)
+lost-by true one n m e = omega (arith, e)
+lost-by false one n m e = refl
 
 -- all tables of a slot are lost where none is wanted
-pub lost-whole : (ms : List Mapping) (level first : ℕ) (slot : Slot) → IsLaidOut ms → is_divided (wanted ms level first) ≡ false →
-    lost ms level first slot ≡ tables_in level slot
+pub lost-whole : (kind : Kind) (ms : List Mapping) (level first : ℕ) (slot : Slot) → IsLaidOut ms → is_divided (wanted ms level first) ≡ false →
+    lost kind ms level first slot ≡ tables_in kind level slot
 unfolding lost tables_in
-lost-whole ms zero first slot laid whole = refl
-lost-whole ms (suc level) first slot laid whole =
-    let parts = sum_below-same 512 (λ k. lost ms level (first + k * pages_of level) (child slot k)) (λ k. tables_in level (child slot k))
-    (λ k below. lost-whole ms level (first + k * pages_of level) (child slot k) laid (undivided-part ms level first k laid below whole)) in
-    rw whole (lost-by (is_table slot) _ _ parts)
+lost-whole kind ms zero first slot laid whole = refl
+lost-whole kind ms (suc level) first slot laid whole =
+    let parts = sum_below-same 512 (λ k. lost kind ms level (first + k * pages_of level) (child slot k)) (λ k. tables_in kind level (child slot k))
+    (λ k below. lost-whole kind ms level (first + k * pages_of level) (child slot k) laid (undivided-part ms level first k laid below whole)) in
+    rw whole (lost-by (is_table slot) (one_of kind level) _ _ parts)
 
-pub gained-none : (ms : List Mapping) (level first : ℕ) (slot : Slot) → is_divided (wanted ms level first) ≡ false → gained ms level first slot ≡ 0
+pub gained-none : (kind : Kind) (ms : List Mapping) (level first : ℕ) (slot : Slot) → is_divided (wanted ms level first) ≡ false → gained kind ms level first slot ≡ 0
 unfolding gained
-gained-none ms zero first slot whole = refl
-gained-none ms (suc level) first slot whole = rw whole refl
+gained-none kind ms zero first slot whole = refl
+gained-none kind ms (suc level) first slot whole = rw whole refl

@@ -5,12 +5,13 @@ use Rattle.gv_types.specs.Page.{PAGES}
 use Rattle.gv_types.specs.PageRange.{PageRangeState, end_of}
 use Rattle.gv_types.specs.declared.mapping.Mapping.{Mapping}
 use Rattle.gv_ranges.specs.List.{IsLaidOut}
+use Rattle.gv_table.specs.Kinds.{Kind}
 use Rattle.gv_table.specs.declared.slot.Slot.{Slot}
 use Rattle.gv_table.specs.declared.slot.Slot.TheVariants.{Empty, Table}
 use Rattle.gv_table.specs.Levels.{pages_of, slot_pages}
 use Rattle.gv_table.specs.Sums.{sum_below}
-use Rattle.gv_table.specs.Tree.{IsTreeOf, IsTreeOutside, child}
-use Rattle.gv_table.specs.Counts.{gained, lost, row_gained, row_lost, tables_at, row_tables_at, HasSameTables}
+use Rattle.gv_table.specs.Tree.{IsTreeOf, IsToldOutside, child}
+use Rattle.gv_table.specs.Counts.{gained, lost, row_gained, row_lost, tables_at, HasSameTables}
 use Rattle.gv_table.proofs.Counts.{gained-same, lost-same}
 use Rattle.gv_table.proofs.Sums.{sum_below-change, sum_below-same, sum_below-zeros}
 use Rattle.gv_table.proofs.PagesOf.{part-within}
@@ -40,40 +41,40 @@ module _ (ms : List Mapping) (level first i : ℕ) (before row after : List Slot
   pub painted-above : (k : ℕ) → i + 1 ≤ k → slice_index_or after k Empty ≡ slice_index_or before k Empty
   painted-above k more = let differ : k ≢ i = omega arith in same k differ ∙ above k (omega arith)
 
-  pub painted-gained : i < 512 → row_gained ms level first after + gained ms level (first + i * pages_of level) (slice_index_or row i Empty) ≡ row_gained ms level first row
-  painted-gained within =
-      let f = λ (k : ℕ). gained ms level (first + k * pages_of level) (slice_index_or row k Empty) in
-      let g = λ (k : ℕ). gained ms level (first + k * pages_of level) (slice_index_or after k Empty) in
-      let e = sum_below-change 512 f g i within (λ k differ. ap (λ (s : Slot). gained ms level (first + k * pages_of level) s) (same k differ)) in
-      let z = gained-match ms level (first + i * pages_of level) (slice_index_or after i Empty) (tree-match ms level (first + i * pages_of level) (slice_index_or after i Empty) laid here) in
+  pub painted-gained : (kind : Kind) → i < 512 → row_gained kind ms level first after + gained kind ms level (first + i * pages_of level) (slice_index_or row i Empty) ≡ row_gained kind ms level first row
+  painted-gained kind within =
+      let f = λ (k : ℕ). gained kind ms level (first + k * pages_of level) (slice_index_or row k Empty) in
+      let g = λ (k : ℕ). gained kind ms level (first + k * pages_of level) (slice_index_or after k Empty) in
+      let e = sum_below-change 512 f g i within (λ k differ. ap (λ (s : Slot). gained kind ms level (first + k * pages_of level) s) (same k differ)) in
+      let z = gained-match kind ms level (first + i * pages_of level) (slice_index_or after i Empty) (tree-match ms level (first + i * pages_of level) (slice_index_or after i Empty) laid here) in
       omega (arith, e, z)
 
-  pub painted-lost : i < 512 → row_lost ms level first after + lost ms level (first + i * pages_of level) (slice_index_or row i Empty) ≡ row_lost ms level first row
-  painted-lost within =
-      let f = λ (k : ℕ). lost ms level (first + k * pages_of level) (slice_index_or row k Empty) in
-      let g = λ (k : ℕ). lost ms level (first + k * pages_of level) (slice_index_or after k Empty) in
-      let e = sum_below-change 512 f g i within (λ k differ. ap (λ (s : Slot). lost ms level (first + k * pages_of level) s) (same k differ)) in
-      let z = lost-match ms level (first + i * pages_of level) (slice_index_or after i Empty) (tree-match ms level (first + i * pages_of level) (slice_index_or after i Empty) laid here) in
+  pub painted-lost : (kind : Kind) → i < 512 → row_lost kind ms level first after + lost kind ms level (first + i * pages_of level) (slice_index_or row i Empty) ≡ row_lost kind ms level first row
+  painted-lost kind within =
+      let f = λ (k : ℕ). lost kind ms level (first + k * pages_of level) (slice_index_or row k Empty) in
+      let g = λ (k : ℕ). lost kind ms level (first + k * pages_of level) (slice_index_or after k Empty) in
+      let e = sum_below-change 512 f g i within (λ k differ. ap (λ (s : Slot). lost kind ms level (first + k * pages_of level) s) (same k differ)) in
+      let z = lost-match kind ms level (first + i * pages_of level) (slice_index_or after i Empty) (tree-match ms level (first + i * pages_of level) (slice_index_or after i Empty) laid here) in
       omega (arith, e, z)
 
 -- a row of the tree gains nothing and loses nothing
-pub row_gained-zero : (ms : List Mapping) (level first : ℕ) (row : List Slot) → IsLaidOut ms →
-    ((k : ℕ) → k < 512 → IsTreeOf ms level (first + k * pages_of level) (slice_index_or row k Empty)) → row_gained ms level first row ≡ 0
-row_gained-zero ms level first row laid tree =
-    sum_below-zeros 512 (λ k. gained ms level (first + k * pages_of level) (slice_index_or row k Empty))
-    (λ k below. gained-match ms level (first + k * pages_of level) (slice_index_or row k Empty) (tree-match ms level (first + k * pages_of level) (slice_index_or row k Empty) laid (tree k below)))
+pub row_gained-zero : (kind : Kind) (ms : List Mapping) (level first : ℕ) (row : List Slot) → IsLaidOut ms →
+    ((k : ℕ) → k < 512 → IsTreeOf ms level (first + k * pages_of level) (slice_index_or row k Empty)) → row_gained kind ms level first row ≡ 0
+row_gained-zero kind ms level first row laid tree =
+    sum_below-zeros 512 (λ k. gained kind ms level (first + k * pages_of level) (slice_index_or row k Empty))
+    (λ k below. gained-match kind ms level (first + k * pages_of level) (slice_index_or row k Empty) (tree-match ms level (first + k * pages_of level) (slice_index_or row k Empty) laid (tree k below)))
 
-pub row_lost-zero : (ms : List Mapping) (level first : ℕ) (row : List Slot) → IsLaidOut ms →
-    ((k : ℕ) → k < 512 → IsTreeOf ms level (first + k * pages_of level) (slice_index_or row k Empty)) → row_lost ms level first row ≡ 0
-row_lost-zero ms level first row laid tree =
-    sum_below-zeros 512 (λ k. lost ms level (first + k * pages_of level) (slice_index_or row k Empty))
-    (λ k below. lost-match ms level (first + k * pages_of level) (slice_index_or row k Empty) (tree-match ms level (first + k * pages_of level) (slice_index_or row k Empty) laid (tree k below)))
+pub row_lost-zero : (kind : Kind) (ms : List Mapping) (level first : ℕ) (row : List Slot) → IsLaidOut ms →
+    ((k : ℕ) → k < 512 → IsTreeOf ms level (first + k * pages_of level) (slice_index_or row k Empty)) → row_lost kind ms level first row ≡ 0
+row_lost-zero kind ms level first row laid tree =
+    sum_below-zeros 512 (λ k. lost kind ms level (first + k * pages_of level) (slice_index_or row k Empty))
+    (λ k below. lost-match kind ms level (first + k * pages_of level) (slice_index_or row k Empty) (tree-match ms level (first + k * pages_of level) (slice_index_or row k Empty) laid (tree k below)))
 
 -- the slots of a row are right where some are painted and the rest are apart from the range
 pub row-tree : (ms : List Mapping) (range : PageRangeState) (level first i : ℕ) (before row : List Slot) → IsLaidOut ms → first + 512 * pages_of level ≤ PAGES →
     ((k : ℕ) → k < i → IsTreeOf ms level (first + k * pages_of level) (slice_index_or row k Empty)) →
     ((k : ℕ) → i ≤ k → slice_index_or row k Empty ≡ slice_index_or before k Empty) →
-    ((k : ℕ) → k < 512 → IsTreeOutside ms range level (first + k * pages_of level) (slice_index_or before k Empty)) →
+    ((k : ℕ) → k < 512 → IsToldOutside ms range level (first + k * pages_of level) (slice_index_or before k Empty)) →
     ((k : ℕ) → i ≤ k → k < 512 → end_of range ≤ first + k * pages_of level) →
     (k : ℕ) → k < 512 → IsTreeOf ms level (first + k * pages_of level) (slice_index_or row k Empty)
 row-tree ms range level first i before row laid within painted untouched outside behind k below =
@@ -86,33 +87,33 @@ row-tree ms range level first i before row laid within painted untouched outside
           (outside-apart ms range level (first + k * pages_of level) (slice_index_or before k Empty) laid (outside k below) (omega (arith, fits)) apart))
     ]
 
--- a row of single pages gains and loses no table, and holds none
-lost-page : (ms : List Mapping) (first : ℕ) (slot : Slot) → lost ms 0 first slot ≡ 0
+-- the slots of a table of pages gain and lose no table, and hold none
+lost-page : (kind : Kind) (ms : List Mapping) (first : ℕ) (slot : Slot) → lost kind ms 0 first slot ≡ 0
 unfolding lost
-lost-page ms first slot = refl
+lost-page kind ms first slot = refl
 
-gained-page : (ms : List Mapping) (first : ℕ) (slot : Slot) → gained ms 0 first slot ≡ 0
+gained-page : (kind : Kind) (ms : List Mapping) (first : ℕ) (slot : Slot) → gained kind ms 0 first slot ≡ 0
 unfolding gained
-gained-page ms first slot = refl
+gained-page kind ms first slot = refl
+
+module _ (kind : Kind) (ms : List Mapping) (level first : ℕ) (slot : Slot) (low : level ≡ 0) where
+  pub pages-lost : sum_below 512 (λ k. lost kind ms level (first + k * pages_of level) (child slot k)) ≡ 0
+  pages-lost =
+      sum_below-zeros 512 (λ k. lost kind ms level (first + k * pages_of level) (child slot k))
+      (λ k below. ap (λ (n : ℕ). lost kind ms n (first + k * pages_of level) (child slot k)) low ∙ lost-page kind ms (first + k * pages_of level) (child slot k))
+
+  pub pages-gained : sum_below 512 (λ k. gained kind ms level (first + k * pages_of level) (child slot k)) ≡ 0
+  pages-gained =
+      sum_below-zeros 512 (λ k. gained kind ms level (first + k * pages_of level) (child slot k))
+      (λ k below. ap (λ (n : ℕ). gained kind ms n (first + k * pages_of level) (child slot k)) low ∙ gained-page kind ms (first + k * pages_of level) (child slot k))
 
 tables_at-page : (target : ℕ) (slot : Slot) → tables_at target 0 slot ≡ 0
 unfolding tables_at
 tables_at-page target slot = refl
 
-pub row_lost-pages : (ms : List Mapping) (level first : ℕ) (row : List Slot) → level ≡ 0 → row_lost ms level first row ≡ 0
-row_lost-pages ms level first row is =
-    sum_below-zeros 512 (λ k. lost ms level (first + k * pages_of level) (slice_index_or row k Empty))
-    (λ k below. ap (λ (n : ℕ). lost ms n (first + k * pages_of level) (slice_index_or row k Empty)) is ∙ lost-page ms (first + k * pages_of level) (slice_index_or row k Empty))
-
-pub row_gained-pages : (ms : List Mapping) (level first : ℕ) (row : List Slot) → level ≡ 0 → row_gained ms level first row ≡ 0
-row_gained-pages ms level first row is =
-    sum_below-zeros 512 (λ k. gained ms level (first + k * pages_of level) (slice_index_or row k Empty))
-    (λ k below. ap (λ (n : ℕ). gained ms n (first + k * pages_of level) (slice_index_or row k Empty)) is ∙ gained-page ms (first + k * pages_of level) (slice_index_or row k Empty))
-
-pub row_tables_at-pages : (target level : ℕ) (row : List Slot) → level ≡ 0 → row_tables_at target level row ≡ 0
-row_tables_at-pages target level row is =
-    sum_below-zeros 512 (λ k. tables_at target level (slice_index_or row k Empty))
-    (λ k below. ap (λ (n : ℕ). tables_at target n (slice_index_or row k Empty)) is ∙ tables_at-page target (slice_index_or row k Empty))
+pub pages-tables : (target level : ℕ) (slot : Slot) → level ≡ 0 → sum_below 512 (λ k. tables_at target level (child slot k)) ≡ 0
+pages-tables target level slot low =
+    sum_below-zeros 512 (λ k. tables_at target level (child slot k)) (λ k below. ap (λ (n : ℕ). tables_at target n (child slot k)) low ∙ tables_at-page target (child slot k))
 
 -- the row of a slot that is a table has the slot's parts
 pub table-row : (slot : Slot) (slots : Box (List Slot) Global) (row : List Slot) → slot ≡ Table slots → row ≡ slots.value →
@@ -128,12 +129,12 @@ row-tables old slot row same tables k below = subst (λ (s : Slot). HasSameTable
 -- the parts of a divided slot gain and lose what the slot's did
 module _ (ms : List Mapping) (level first : ℕ) (slot : Slot) (row : List Slot)
     (tables : (k : ℕ) → k < 512 → HasSameTables (child slot k) (slice_index_or row k Empty)) where
-  pub lost-divided : row_lost ms level first row ≡ sum_below 512 (λ k. lost ms level (first + k * pages_of level) (child slot k))
-  lost-divided =
-      sum_below-same 512 (λ k. lost ms level (first + k * pages_of level) (slice_index_or row k Empty)) (λ k. lost ms level (first + k * pages_of level) (child slot k))
-      (λ k below. sym (lost-same ms level (first + k * pages_of level) _ _ (tables k below)))
+  pub lost-divided : (kind : Kind) → row_lost kind ms level first row ≡ sum_below 512 (λ k. lost kind ms level (first + k * pages_of level) (child slot k))
+  lost-divided kind =
+      sum_below-same 512 (λ k. lost kind ms level (first + k * pages_of level) (slice_index_or row k Empty)) (λ k. lost kind ms level (first + k * pages_of level) (child slot k))
+      (λ k below. sym (lost-same kind ms level (first + k * pages_of level) _ _ (tables k below)))
 
-  pub gained-divided : row_gained ms level first row ≡ sum_below 512 (λ k. gained ms level (first + k * pages_of level) (child slot k))
-  gained-divided =
-      sum_below-same 512 (λ k. gained ms level (first + k * pages_of level) (slice_index_or row k Empty)) (λ k. gained ms level (first + k * pages_of level) (child slot k))
-      (λ k below. sym (gained-same ms level (first + k * pages_of level) _ _ (tables k below)))
+  pub gained-divided : (kind : Kind) → row_gained kind ms level first row ≡ sum_below 512 (λ k. gained kind ms level (first + k * pages_of level) (child slot k))
+  gained-divided kind =
+      sum_below-same 512 (λ k. gained kind ms level (first + k * pages_of level) (slice_index_or row k Empty)) (λ k. gained kind ms level (first + k * pages_of level) (child slot k))
+      (λ k below. sym (gained-same kind ms level (first + k * pages_of level) _ _ (tables k below)))

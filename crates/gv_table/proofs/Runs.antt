@@ -1,6 +1,7 @@
 -- What a list says of a page and of those behind it, up to the end of a mapping or of a gap.
 use Rattle.std.proofs.Common.{◌≡◌, ℕ, ◌+◌, ◌-◌, ◌<◌, ◌≤◌, List, Some, None, length, get_or, arith, ap}
 use Rattle.gv_types.specs.PageRange.{end_of}
+use Rattle.gv_table.specs.Names.{IsTold}
 use Rattle.gv_types.specs.Mapping.{part, entry_advanced, HasSmallPages, IsMapping}
 use Rattle.gv_types.specs.declared.mapping.Backing.{Backing}
 use Rattle.gv_types.specs.declared.mapping.Entry.{Entry}
@@ -9,7 +10,7 @@ use Rattle.gv_ranges.specs.List.{at, IsLaidOut, IsIndexOfPage}
 use Rattle.gv_ranges.proofs.ClipLemmas.{advanced-advanced}
 use Rattle.gv_ranges.proofs.LookupLemmas.{at_found, at_gap, at_none}
 use Rattle.gv_ranges.proofs.PartLemmas.{All-take_at}
-use Rattle.gv_table.proofs.Covered.{small-advanced}
+use Rattle.gv_table.proofs.Covered.{small-advanced, told-advanced}
 
 module _ (ms : List Mapping) (page later position : ℕ) (is : IsIndexOfPage ms page position) (up : page ≤ later) where
   ended : (k : ℕ) (d : Mapping) → k < position → end_of (get_or ms k d).range ≤ later
@@ -39,3 +40,7 @@ part-further m page more begun =
 -- the pages from there on are small numbers
 pub part-small : (m : Mapping) (page n : ℕ) → IsMapping m → m.range.first ≤ page → page + n ≤ end_of m.range → HasSmallPages (part m page).backing n
 part-small m page n is begun within = small-advanced m.backing (page - m.range.first) n m.range.count is.1 (omega arith)
+
+-- and they can be told where the mapping's can
+pub part-told : (m : Mapping) (page n : ℕ) → IsTold m.backing m.range.count → m.range.first ≤ page → page + n ≤ end_of m.range → IsTold (part m page).backing n
+part-told m page n told begun within = told-advanced m.backing (page - m.range.first) n m.range.count told (omega arith)

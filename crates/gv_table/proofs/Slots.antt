@@ -1,16 +1,18 @@
 -- What a slot made of a variant is, and the chain of empty tables.
-use Rattle.std.proofs.Common.{◌≡◌, ◌≢◌, ◌⊎◌, inl, inr, ℕ, zero, suc, map, ◌+◌, ◌-◌, ◌<◌, true, false, List, [], ◌∷◌, length, slice_index_or, slice_set, Box, Global, refl, arith, subst, sym, ap, ◌∙◌, add-one, rules}
+use Rattle.std.proofs.Common.{◌≡◌, ◌≢◌, ◌⊎◌, inl, inr, ℕ, zero, suc, map, ◌+◌, ◌-◌, ◌/◌, ◌%◌, ◌^◌, ◌<◌, ◌==◌, nat_lt, if◌then◌else◌, Bool, true, false, List, [], ◌∷◌, length, slice_index_or, slice_set, Box, Global, refl, arith, subst, sym, ap, ◌∙◌, add-one, rules}
+use Rattle.std.proofs.lemmas.Bool.Decides.{nat_tests}
 use Rattle.std.proofs.lemmas.List.{get_or-set_same, get_or-set_other, length-set}
 use Rattle.gv_types.specs.declared.mapping.Backing.{Backing}
 use Rattle.gv_types.specs.declared.mapping.Backing.TheVariants as backing
 use Rattle.gv_types.specs.declared.mapping.BufferId.{BufferId}
 use Rattle.gv_types.specs.declared.mapping.Entry.{Entry}
 use Rattle.gv_types.specs.declared.mapping.Flags.{Flags}
+use Rattle.gv_table.specs.Names.{PageSlot}
 use Rattle.gv_table.specs.declared.slot.Slot.{Slot, out-Slot, the_lemmas}
-use Rattle.gv_table.specs.declared.slot.Slot.TheVariants.{Empty, Zero, Buffer, Table}
+use Rattle.gv_table.specs.declared.slot.Slot.TheVariants.{Empty, Zero, Buffer, Pages, Table}
 use Rattle.gv_table.specs.declared.slot.Slot.TheOpen as layer
-use Rattle.gv_table.specs.Tree.{is_table, child, leaf, leaf_with, layer_is_table, layer_child}
-use Rattle.gv_table.specs.Chain.{IsChainOf, AreEmpty, chain_length}
+use Rattle.gv_table.specs.Tree.{is_table, child, leaf, leaf_with, no_page, slot_of, layer_is_table, layer_child}
+use Rattle.gv_table.specs.Chain.{IsChainOf, AreEmpty, chain_length, is_slots, layer_is_slots}
 
 pub out-Table : (slots : Box (List Slot) Global) → out-Slot (Table slots) ≡ layer.Table slots
 out-Table slots = search (rules, the_lemmas)
@@ -27,6 +29,17 @@ out-Buffer flags id page = search (rules, the_lemmas)
 pub is_table-Table : (slots : Box (List Slot) Global) → is_table (Table slots) ≡ true
 unfolding is_table
 is_table-Table slots = ap layer_is_table (out-Table slots)
+
+pub out-Pages : (pages : Box (List PageSlot × Slot) Global) → out-Slot (Pages pages) ≡ layer.Pages pages
+out-Pages pages = search (rules, the_lemmas)
+
+pub is_table-Pages : (pages : Box (List PageSlot × Slot) Global) → is_table (Pages pages) ≡ true
+unfolding is_table
+is_table-Pages pages = ap layer_is_table (out-Pages pages)
+
+pub child-Pages : (pages : Box (List PageSlot × Slot) Global) (index : ℕ) → child (Pages pages) index ≡ slot_of (slice_index_or pages.value.0 index no_page)
+unfolding child
+child-Pages pages index = ap (λ (l : layer.Slot-F Slot). layer_child l index) (out-Pages pages)
 
 pub is_table-Empty : is_table Empty ≡ false
 unfolding is_table
@@ -48,6 +61,40 @@ pub is_table-leaf : (entry : Entry) → is_table (leaf entry) ≡ false
 unfolding leaf
 is_table-leaf entry = with-no-table entry.flags entry.backing
 
+pub slot_of-none : slot_of no_page ≡ Empty
+unfolding slot_of
+slot_of-none = refl
+
+told-other : (b : Bool) (one other : Slot) → is_table one ≡ false → is_table other ≡ false → is_table (if b then one else other) ≡ false
+told-other true one other a b = a
+told-other false one other a b = b
+
+-- a page is no table
+pub page-other : (p : PageSlot) → is_table (slot_of p) ≡ false
+unfolding slot_of
+page-other p =
+    let head : ℕ = p / 2 ^ 40 in
+    told-other (p == 0) Empty _ is_table-Empty
+    (told-other (nat_lt head 3) _ _ (is_table-Zero (record { read_only = head == 2 })) (is_table-Buffer (record { read_only = (head - 3) % 2 == 1 }) _ _))
+
+told-some : (b : Bool) (flags flags' : Flags) (id : BufferId) (page : ℕ) → (if b then Zero flags else Buffer flags' id page) ≡ Empty → ⊥
+told-some true flags flags' id page e = cc
+told-some false flags flags' id page e = cc
+
+word-by : (b : Bool) (rest : Slot) → (rest ≡ Empty → ⊥) → (if b then Empty else rest) ≡ Empty → b ≡ true
+word-by true rest some e = refl
+word-by false rest some e = absurd (some e)
+
+-- a page that is an empty slot is empty
+is-zero : (n : ℕ) → (n == 0) ≡ true → n ≡ 0
+is-zero n e = grind (arith, nat_tests, e)
+
+pub empty-page : (p : PageSlot) → slot_of p ≡ Empty → p ≡ no_page
+unfolding slot_of
+empty-page p e =
+    let head : ℕ = p / 2 ^ 40 in
+    is-zero p (word-by (p == 0) _ (told-some (nat_lt head 3) (record { read_only = head == 2 }) (record { read_only = (head - 3) % 2 == 1 }) _ _) e)
+
 -- a slot of a variant that is no table
 pub no-table : (slot : Slot) →
     (slot ≡ Empty) ⊎ (((flags : Flags) × (slot ≡ Zero flags)) ⊎ ((flags : Flags) × (id : BufferId) × (page : ℕ) × (slot ≡ Buffer flags id page))) →
@@ -55,6 +102,12 @@ pub no-table : (slot : Slot) →
 no-table slot (inl e) = ap is_table e ∙ is_table-Empty
 no-table slot (inr (inl p)) = ap is_table p.1 ∙ is_table-Zero p.0
 no-table slot (inr (inr p)) = ap is_table p.3 ∙ is_table-Buffer p.0 p.1 p.2
+
+-- a slot of a variant that is a table
+pub some-table : (slot : Slot) → ((pages : Box (List PageSlot × Slot) Global) × (slot ≡ Pages pages)) ⊎ ((slots : Box (List Slot) Global) × (slot ≡ Table slots)) →
+    is_table slot ≡ true
+some-table slot (inl p) = ap is_table p.1 ∙ is_table-Pages p.0
+some-table slot (inr p) = ap is_table p.1 ∙ is_table-Table p.0
 
 with-some : (flags : Flags) (held : Backing) → leaf_with flags held ≡ Empty → ⊥
 with-some flags backing.Zero e = cc
@@ -96,6 +149,25 @@ pub child-Empty : (index : ℕ) → child Empty index ≡ Empty
 unfolding child
 child-Empty index = ap (λ (l : layer.Slot-F Slot). layer_child l index) out-Empty
 
+pub is_slots-Table : (slots : Box (List Slot) Global) → is_slots (Table slots) ≡ true
+unfolding is_slots
+is_slots-Table slots = ap layer_is_slots (out-Table slots)
+
+other-slots : (l : layer.Slot-F Slot) → layer_is_table l ≡ false → layer_is_slots l ≡ false
+other-slots layer.Empty other = refl
+other-slots (layer.Zero flags) other = refl
+other-slots (layer.Buffer flags id page) other = refl
+other-slots (layer.Pages pages) other = refl
+other-slots (layer.Table slots) other = cc
+
+pub no-slots : (slot : Slot) → is_table slot ≡ false → is_slots slot ≡ false
+unfolding is_table is_slots
+no-slots slot other = other-slots (out-Slot slot) other
+
+pub is_slots-Pages : (pages : Box (List PageSlot × Slot) Global) → is_slots (Pages pages) ≡ false
+unfolding is_slots
+is_slots-Pages pages = ap layer_is_slots (out-Pages pages)
+
 -- an empty table before a chain
 pub IsChainOf-more :
     (count : ℕ) (slots : Box (List Slot) Global) (rest : Slot) → length slots.value ≡ 512 → AreEmpty slots.value → IsChainOf count rest →
@@ -107,7 +179,7 @@ IsChainOf-more count slots rest long empty chain linked e =
     child-Table linked 0 ∙ ap (λ (l : List Slot). slice_index_or l 0 Empty) e ∙ get_or-set_same slots.value 0 rest Empty within in
     let P : Slot → Type 0 = λ s. IsChainOf count s in
     rw add-one (
-      is_table-Table linked,
+      is_slots-Table linked,
       subst P (sym head) chain,
       λ index some below.
           let differ : index ≢ 0 = omega arith in
@@ -142,6 +214,7 @@ layer-other : (l : layer.Slot-F Slot) (k : ℕ) → layer_is_table l ≡ false �
 layer-other layer.Empty k other = refl
 layer-other (layer.Zero flags) k other = refl
 layer-other (layer.Buffer flags id page) k other = refl
+layer-other (layer.Pages pages) k other = cc
 layer-other (layer.Table slots) k other = cc
 
 -- a slot that is no table has empty parts

@@ -1,5 +1,6 @@
 -- Slots that one mapping holds whole, or that no mapping meets.
-use Rattle.std.proofs.Common.{◌≡◌, ℕ, ◌+◌, ◌<◌, ◌≤◌, inl, inr, false, List, length, get_or, Option, Some, None, MatchOption, Bor, arith, ap, ◌∙◌}
+use Rattle.std.proofs.Common.{◌≡◌, ℕ, ◌+◌, ◌<◌, ◌≤◌, inl, inr, false, List, length, get_or, Option, Some, None, MatchOption, Bor, IfSome, arith, ap, sym, subst, ◌∙◌}
+use Rattle.std.specs.Option.{option_copied}
 use Rattle.std.proofs.lemmas.Bool.{cases_lt}
 use Rattle.gv_types.specs.PageRange.{end_of}
 use Rattle.gv_types.specs.Mapping.{part}
@@ -54,3 +55,16 @@ pub alike-no-table : (held : Option (Bor Mapping)) (first : ℕ) (slot : Slot) �
     MatchOption held (slot ≡ Empty) (λ m. slot ≡ leaf (part m.now first)) → is_table slot ≡ false
 alike-no-table None first slot made = ap is_table made ∙ is_table-Empty
 alike-no-table (Some m) first slot made = ap is_table made ∙ is_table-leaf (part m.now first)
+
+-- what is said of a mapping is said of a reference to it
+pub copied-match : (r : Option (Bor Mapping)) (o : Option Mapping) (A : Type 0) (B : Mapping → Type 0) → option_copied r ≡ o → MatchOption o A B → MatchOption r A (λ m. B m.now)
+copied-match None None A B e is = is
+copied-match None (Some x) A B e is = cc
+copied-match (Some m) None A B e is = cc
+copied-match (Some m) (Some x) A B e is = let same : m.now ≡ x = cc in subst B (sym same) is
+
+pub copied-some : (r : Option (Bor Mapping)) (o : Option Mapping) (B : Mapping → Type 0) → option_copied r ≡ o → IfSome o B → IfSome r (λ m. B m.now)
+copied-some None None B e is = tt
+copied-some None (Some x) B e is = cc
+copied-some (Some m) None B e is = cc
+copied-some (Some m) (Some x) B e is = let same : m.now ≡ x = cc in subst B (sym same) is

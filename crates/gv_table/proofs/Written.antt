@@ -2,6 +2,7 @@
 use Rattle.std.proofs.Common.{◌≡◌, ◌≢◌, ℕ, ◌+◌, ◌*◌, ◌<◌, List, length, slice_index_or, slice_set, arith, sym, ap, ◌∙◌, subst, refl}
 use Rattle.std.proofs.lemmas.List.{get_or_default}
 use Rattle.gv_types.specs.declared.mapping.Mapping.{Mapping}
+use Rattle.gv_table.specs.Kinds.{Kind}
 use Rattle.gv_table.specs.declared.slot.Slot.{Slot}
 use Rattle.gv_table.specs.declared.slot.Slot.TheVariants.{Empty}
 use Rattle.gv_table.specs.declared.table_counts.TableCounts.{TableCounts}
@@ -14,8 +15,8 @@ use Rattle.gv_table.proofs.Rows.{row-other, row-here}
 pub record IsRead (ms : List Mapping) (level first pages i : ℕ) (row : List Slot) (d : Slot) : Type 0 where
   pub start : first + i * pages ≡ first + i * pages_of level
   pub slot : slice_index_or row i d ≡ slice_index_or row i Empty
-  pub gains : gained ms level (first + i * pages) (slice_index_or row i d) ≡ gained ms level (first + i * pages_of level) (slice_index_or row i Empty)
-  pub loses : lost ms level (first + i * pages) (slice_index_or row i d) ≡ lost ms level (first + i * pages_of level) (slice_index_or row i Empty)
+  pub gains : (kind : Kind) → gained kind ms level (first + i * pages) (slice_index_or row i d) ≡ gained kind ms level (first + i * pages_of level) (slice_index_or row i Empty)
+  pub loses : (kind : Kind) → lost kind ms level (first + i * pages) (slice_index_or row i d) ≡ lost kind ms level (first + i * pages_of level) (slice_index_or row i Empty)
 
 pub is-read : (ms : List Mapping) (level first pages i : ℕ) (row : List Slot) (d : Slot) → i < length row → pages ≡ pages_of level →
     IsRead ms level first pages i row d
@@ -25,8 +26,8 @@ is-read ms level first pages i row d within same =
     record {
       start = at;
       slot = read;
-      gains = ap (λ (s : Slot). gained ms level (first + i * pages) s) read ∙ ap (λ (n : ℕ). gained ms level n (slice_index_or row i Empty)) at;
-      loses = ap (λ (s : Slot). lost ms level (first + i * pages) s) read ∙ ap (λ (n : ℕ). lost ms level n (slice_index_or row i Empty)) at;
+      gains = λ kind. ap (λ (s : Slot). gained kind ms level (first + i * pages) s) read ∙ ap (λ (n : ℕ). gained kind ms level n (slice_index_or row i Empty)) at;
+      loses = λ kind. ap (λ (s : Slot). lost kind ms level (first + i * pages) s) read ∙ ap (λ (n : ℕ). lost kind ms level n (slice_index_or row i Empty)) at;
     }
 
 -- the others stay, this one fits the list, and the counts go by what stood there and what stands there

@@ -7,6 +7,8 @@ use Rattle.gv_ranges.specs.List.{IsLaidOut}
 use Rattle.gv_table.specs.declared.table_counts.TableCounts.{TableCounts}
 use Rattle.gv_table.specs.declared.slot.Slot.{Slot}
 use Rattle.gv_table.specs.declared.slot.Slot.TheVariants.{Empty}
+use Rattle.gv_table.specs.Kinds.{Kind, one_of, unless}
+use Rattle.gv_table.specs.Names.{AreTold}
 use Rattle.gv_table.specs.Levels.{slots_per_table, pages_of, slot_pages}
 use Rattle.gv_table.specs.Sums.{sum_below}
 use Rattle.gv_table.specs.Tree.{is_table, child, IsTreeOf}
@@ -16,15 +18,11 @@ abbrev pub one_if : Bool → ℕ
 one_if true = 1
 one_if false = 0
 
-abbrev pub one_if_not : Bool → ℕ
-one_if_not true = 0
-one_if_not false = 1
-
--- how many tables a slot holds, itself included
-unfoldable pub tables_in : ℕ → Slot → ℕ
-tables_in zero slot = 0
-tables_in (suc level) slot =
-    if is_table slot then 1 + sum_below slots_per_table (λ k. tables_in level (child slot k)) else 0
+-- how many tables of a kind a slot holds, itself included
+unfoldable pub tables_in : Kind → ℕ → Slot → ℕ
+tables_in kind zero slot = 0
+tables_in kind (suc level) slot =
+    if is_table slot then one_of kind level + sum_below slots_per_table (λ k. tables_in kind level (child slot k)) else 0
 
 -- how many tables of a slot have slots at the target level
 unfoldable pub tables_at : ℕ → ℕ → Slot → ℕ
@@ -65,33 +63,33 @@ tables_wanted ms target (suc level) first =
     then one_if (nat_eq target level) + sum_below slots_per_table (λ k. tables_wanted ms target level (first + k * pages_of level))
     else 0
 
--- how many positions have a table in the tree of the mappings, and none in the slot
-unfoldable pub gained : List Mapping → ℕ → ℕ → Slot → ℕ
-gained ms zero first slot = 0
-gained ms (suc level) first slot =
+-- how many positions have a table of the kind in the tree of the mappings, and none in the slot
+unfoldable pub gained : Kind → List Mapping → ℕ → ℕ → Slot → ℕ
+gained kind ms zero first slot = 0
+gained kind ms (suc level) first slot =
     if is_divided (wanted ms (suc level) first)
-    then one_if_not (is_table slot) +
-    sum_below slots_per_table (λ k. gained ms level (first + k * pages_of level) (child slot k))
+    then unless (is_table slot) (one_of kind level) +
+    sum_below slots_per_table (λ k. gained kind ms level (first + k * pages_of level) (child slot k))
     else 0
 
--- how many positions have a table in the slot, and none in the tree of the mappings
-unfoldable pub lost : List Mapping → ℕ → ℕ → Slot → ℕ
-lost ms zero first slot = 0
-lost ms (suc level) first slot =
+-- how many positions have a table of the kind in the slot, and none in the tree of the mappings
+unfoldable pub lost : Kind → List Mapping → ℕ → ℕ → Slot → ℕ
+lost kind ms zero first slot = 0
+lost kind ms (suc level) first slot =
     if is_table slot
-    then one_if_not (is_divided (wanted ms (suc level) first)) +
-    sum_below slots_per_table (λ k. lost ms level (first + k * pages_of level) (child slot k))
+    then unless (is_divided (wanted ms (suc level) first)) (one_of kind level) +
+    sum_below slots_per_table (λ k. lost kind ms level (first + k * pages_of level) (child slot k))
     else 0
 
--- how many positions of a row of slots, which begins at a page, have a table in the tree of the mappings and none in the row
-abbrev pub row_gained : List Mapping → ℕ → ℕ → List Slot → ℕ
-row_gained ms level first row =
-    sum_below slots_per_table (λ k. gained ms level (first + k * pages_of level) (slice_index_or row k Empty))
+-- how many positions of a row of slots, which begins at a page, have a table of the kind in the tree of the mappings and none in the row
+abbrev pub row_gained : Kind → List Mapping → ℕ → ℕ → List Slot → ℕ
+row_gained kind ms level first row =
+    sum_below slots_per_table (λ k. gained kind ms level (first + k * pages_of level) (slice_index_or row k Empty))
 
--- how many have a table in the row and none in the tree
-abbrev pub row_lost : List Mapping → ℕ → ℕ → List Slot → ℕ
-row_lost ms level first row =
-    sum_below slots_per_table (λ k. lost ms level (first + k * pages_of level) (slice_index_or row k Empty))
+-- how many have a table of the kind in the row and none in the tree
+abbrev pub row_lost : Kind → List Mapping → ℕ → ℕ → List Slot → ℕ
+row_lost kind ms level first row =
+    sum_below slots_per_table (λ k. lost kind ms level (first + k * pages_of level) (slice_index_or row k Empty))
 
 -- whether a slot may have to be a table, where a list will have the pieces in the range: what it has outside is not
 -- known, so a slot that the range covers in part may be one
@@ -100,13 +98,13 @@ may_divide pieces range level first =
     meets (slot_pages level first) range &&
     (not (lies_in (slot_pages level first) range) || is_divided (wanted pieces level first))
 
--- how many positions may need a table where the slot has none
-unfoldable pub needed : List Mapping → PageRangeState → ℕ → ℕ → Slot → ℕ
-needed pieces range zero first slot = 0
-needed pieces range (suc level) first slot =
+-- how many positions may need a table of the kind where the slot has none
+unfoldable pub needed : Kind → List Mapping → PageRangeState → ℕ → ℕ → Slot → ℕ
+needed kind pieces range zero first slot = 0
+needed kind pieces range (suc level) first slot =
     if may_divide pieces range (suc level) first
-    then one_if_not (is_table slot) +
-    sum_below slots_per_table (λ k. needed pieces range level (first + k * pages_of level) (child slot k))
+    then unless (is_table slot) (one_of kind level) +
+    sum_below slots_per_table (λ k. needed kind pieces range level (first + k * pages_of level) (child slot k))
     else 0
 
 -- two slots are the same, or neither is a table
@@ -116,6 +114,6 @@ HasSameTables one other = (one ≡ other) ⊎ ((is_table one ≡ false) × (is_t
 -- a slot that was made a table: it holds what it held, part by part, and has its tables
 pub record IsDivided (level : ℕ) (old new : Slot) : Type 0 where
   pub table : is_table new ≡ true
-  pub parts : (ms : List Mapping) (first : ℕ) → IsLaidOut ms → IsTreeOf ms level first old →
+  pub parts : (ms : List Mapping) (first : ℕ) → IsLaidOut ms → AreTold ms → IsTreeOf ms level first old →
       (k : ℕ) → k < slots_per_table → IsTreeOf ms (level - 1) (first + k * pages_of (level - 1)) (child new k)
   pub tables : (k : ℕ) → k < slots_per_table → HasSameTables (child old k) (child new k)

@@ -1,11 +1,15 @@
 pub mod Levels
+pub mod Names
+pub mod Named
+pub mod Kinds
 pub mod Reads
 pub mod Wanted
 pub mod Sums
 pub mod Tree
 pub mod Counts
 pub mod Chain
-pub mod Ends
+pub mod PageChain
+pub mod Shape
 pub mod Pool
 pub mod Table
 pub mod Laws

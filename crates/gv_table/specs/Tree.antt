@@ -1,10 +1,11 @@
 -- The tree of a list of mappings.
-use Rattle.std.specs.Prelude.{◌≡◌, ◌⊎◌, ℕ, zero, suc, ◌+◌, ◌*◌, ◌<◌, Bool, true, false, List, slice_index_or, Option, Some, None}
+use Rattle.std.specs.Prelude.{◌≡◌, ◌⊎◌, ℕ, zero, suc, ◌+◌, ◌-◌, ◌*◌, ◌/◌, ◌%◌, ◌^◌, ◌<◌, ◌==◌, nat_lt, if◌then◌else◌, Bool, true, false, List, slice_index_or, Option, Some, None}
 use Rattle.gv_types.specs.PageRange.{PageRangeState}
 use Rattle.gv_types.specs.declared.mapping.Backing.{Backing}
 use Rattle.gv_types.specs.declared.mapping.Backing.TheVariants as backing
 use Rattle.gv_types.specs.declared.mapping.Entry.{Entry}
 use Rattle.gv_types.specs.declared.mapping.Flags.{Flags}
+use Rattle.gv_types.specs.Mapping.{buffer_id}
 use Rattle.gv_types.specs.declared.mapping.Mapping.{Mapping}
 use Rattle.gv_ranges.specs.List.{at, IsLaidOut}
 use Rattle.gv_table.specs.declared.wanted.Wanted.{Wanted}
@@ -12,6 +13,7 @@ use Rattle.gv_table.specs.declared.wanted.Wanted.TheVariants as variant
 use Rattle.gv_table.specs.declared.slot.Slot.{Slot, out-Slot}
 use Rattle.gv_table.specs.declared.slot.Slot.TheVariants.{Empty, Zero, Buffer}
 use Rattle.gv_table.specs.declared.slot.Slot.TheOpen as layer
+use Rattle.gv_table.specs.Names.{PageSlot, AreTold}
 use Rattle.gv_table.specs.Levels.{slots_per_table, pages_of}
 use Rattle.gv_table.specs.Reads.{AreAlikeOutside}
 use Rattle.gv_table.specs.Wanted.{wanted}
@@ -21,17 +23,33 @@ abbrev pub layer_is_table : layer.Slot-F Slot → Bool
 layer_is_table layer.Empty = false
 layer_is_table (layer.Zero flags) = false
 layer_is_table (layer.Buffer flags id page) = false
+layer_is_table (layer.Pages pages) = true
 layer_is_table (layer.Table slots) = true
 
 -- whether a slot is a table
 unfoldable pub is_table : Slot → Bool
 is_table slot = layer_is_table (out-Slot slot)
 
+-- the slot of a page of which nothing is told
+abbrev pub no_page : PageSlot
+no_page = 0
+
+-- The slot of a single page, as its number tells it: nothing by 0, else a page in units and a head in 2^40s, which is 1 and 2 for zeros, and
+-- from 3 on twice a buffer's index; one more where it is read-only.
+abbrev pub told_slot : ℕ → ℕ → Slot
+told_slot head page =
+    if nat_lt head 3 then Zero (record { read_only = head == 2 })
+    else Buffer (record { read_only = (head - 3) % 2 == 1 }) (buffer_id ((head - 3) / 2) 0) page
+
+unfoldable pub slot_of : PageSlot → Slot
+slot_of p = if p == 0 then Empty else told_slot (p / 2 ^ 40) (p % 2 ^ 40)
+
 -- a slot of one layer; a slot that is no table has empty ones
 abbrev pub layer_child : layer.Slot-F Slot → ℕ → Slot
 layer_child layer.Empty index = Empty
 layer_child (layer.Zero flags) index = Empty
 layer_child (layer.Buffer flags id page) index = Empty
+layer_child (layer.Pages pages) index = slot_of (slice_index_or pages.value.0 index no_page)
 layer_child (layer.Table slots) index = slice_index_or slots.value index Empty
 
 -- a slot of the slot's table
@@ -73,5 +91,13 @@ IsTreeOf ms (suc level) first slot =
 pub record IsTreeOutside (ms : List Mapping) (range : PageRangeState) (level first : ℕ) (slot : Slot) : Type 0 where
   pub earlier : List Mapping
   pub laid_out : IsLaidOut earlier
+  pub alike : AreAlikeOutside range earlier ms
+  pub tree : IsTreeOf earlier level first slot
+
+-- and that list's buffers can be told
+pub record IsToldOutside (ms : List Mapping) (range : PageRangeState) (level first : ℕ) (slot : Slot) : Type 0 where
+  pub earlier : List Mapping
+  pub laid_out : IsLaidOut earlier
+  pub told : AreTold earlier
   pub alike : AreAlikeOutside range earlier ms
   pub tree : IsTreeOf earlier level first slot

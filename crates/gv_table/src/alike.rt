@@ -14,15 +14,15 @@ use gv_types::Mapping;
 
 /// So many slots, each of which one mapping holds whole, or else no mapping meets.
 #[derive(Clone, Copy)]
-pub struct Alike<'l> {
+pub struct Alike {
     pub count: u64,
-    pub held: Option<&'l Mapping>,
+    pub held: Option<Mapping>,
 }
 
 /// The slots from a place on that lie whole in the range and are alike: none where the place is before the range. The position is
 /// that of the first mapping which ends past the place's first page in the range.
 #[inline(always)]
-pub fn alike_from<'l>(excerpt: &Excerpt<'_, 'l>, place: Place) -> Alike<'l>
+pub fn alike_from(excerpt: &Excerpt<'_, '_>, place: Place) -> Alike
     requires known { place.level ≤ top_level }
     requires laid_out { IsLaidOut excerpt.now.mappings.now }
     requires position { IsIndexOfPage excerpt.now.mappings.now (first_within excerpt.now.range place.first)
@@ -30,10 +30,10 @@ pub fn alike_from<'l>(excerpt: &Excerpt<'_, 'l>, place: Place) -> Alike<'l>
     ensures wanted { (k : ℕ) → k < result.count → MatchOption result.held
         (wanted excerpt.now.mappings.now place.level (place.first + k * pages_of place.level) ≡ Wanted.Nothing)
         (λ m. wanted excerpt.now.mappings.now place.level (place.first + k * pages_of place.level)
-        ≡ Wanted.Entry (part m.now (place.first + k * pages_of place.level))) }
-    ensures mapping { IfSome result.held (λ m. IsMapping m.now) }
+        ≡ Wanted.Entry (part m (place.first + k * pages_of place.level))) }
+    ensures mapping { IfSome result.held (λ m. IsMapping m) }
     ensures covered { (k : ℕ) → k < result.count
-        → IfSome result.held (λ m. IsTrue (covers m.now.range (place.first + k * pages_of place.level))) }
+        → IfSome result.held (λ m. IsTrue (covers m.range (place.first + k * pages_of place.level))) }
     ensures within { (k : ℕ) → k < result.count
         → IsTrue (lies_in (slot_pages place.level (place.first + k * pages_of place.level)) excerpt.now.range) }
     ensures few { result.count ≤ PAGES }

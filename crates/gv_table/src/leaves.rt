@@ -5,7 +5,9 @@ ghost use Rattle.gv_types.specs.PageRange.{covers};
 ghost use Rattle.gv_types.specs.Mapping.{part, IsMapping};
 ghost use Rattle.gv_ranges.specs.List.{IsLaidOut};
 ghost use Rattle.gv_table.specs.declared.slot.Slot.TheVariants.{Empty};
+ghost use Rattle.gv_table.specs.Kinds.{Kind, of};
 ghost use Rattle.gv_table.specs.Levels.{top_level, root_level, slots_per_table, pages_of};
+ghost use Rattle.gv_table.specs.Shape.{IsShaped};
 ghost use Rattle.gv_table.specs.Tree.{IsTreeOf, leaf};
 ghost use Rattle.gv_table.specs.Counts.{tables_in, tables_at, row_tables_at, count_at, row_gained, row_lost, IsRowOf};
 ghost use Rattle.gv_table.specs.Wanted.{wanted};
@@ -20,65 +22,68 @@ use crate::wanted::Wanted;
 use gv_types::{Entry, Mapping};
 use std::ops::Range;
 
-/// Makes a slot a leaf, takes its tables off the counts, and puts them to the spares: how many they were.
+/// Makes a slot a leaf, takes its tables off the counts, and puts them to those that left the tree.
 #[inline(always)]
 pub fn make_leaf(
     slot: &mut Slot,
     level: usize,
     entry: Entry,
-    spares: &mut Spares,
+    left: &mut Spares,
     counts: &mut TableCounts,
-) -> u64
+)
+    requires some { 0 < level }
     requires known { level ≤ top_level }
+    requires shaped { IsShaped level slot.old }
     requires counted { (target : ℕ) → tables_at target level slot.old ≤ count_at counts.old target }
-    ensures count { result ≡ tables_in level slot.old }
     ensures leaf { slot.new ≡ leaf entry }
-    ensures put { spares.new ≡ spares.old + tables_in level slot.old }
+    ensures put { (kind : Kind) → of kind left.new ≡ of kind left.old + tables_in kind level slot.old }
     ensures counted { (target : ℕ) → count_at counts.new target + tables_at target level slot.old
         ≡ count_at counts.old target }
 {
-    let lost = clear(slot, level, spares, counts);
+    clear(slot, level, left, counts);
     overwrite(slot, Slot::leaf(entry));
-    lost
 }
 
-/// Makes a slot what the mapping says that holds it whole, or empties it where there is none: how many tables it lost.
+/// Makes a slot what the mapping says that holds it whole, or empties it where there is none.
 #[inline(always)]
 fn paint_whole(
     slot: &mut Slot,
     place: Place,
     held: Option<&Mapping>,
-    spares: &mut Spares,
+    left: &mut Spares,
     counts: &mut TableCounts,
-) -> u64
+)
+    requires some { 0 < place.level }
     requires known { place.level ≤ top_level }
+    requires shaped { IsShaped place.level slot.old }
     requires mapping { IfSome held (λ m. IsMapping m.now) }
     requires covered { IfSome held (λ m. IsTrue (covers m.now.range place.first)) }
     requires counted { (target : ℕ) → tables_at target place.level slot.old ≤ count_at counts.old target }
-    ensures count { result ≡ tables_in place.level slot.old }
     ensures slot { MatchOption held.entry (slot.new ≡ Empty) (λ m. slot.new ≡ leaf (part m.now place.first)) }
-    ensures put { spares.new ≡ spares.old + tables_in place.level slot.old }
+    ensures put { (kind : Kind) → of kind left.new ≡ of kind left.old + tables_in kind place.level slot.old }
     ensures counted { (target : ℕ) → count_at counts.new target + tables_at target place.level slot.old
         ≡ count_at counts.old target }
 {
     match held {
-        Some(m) => make_leaf(slot, place.level, m.part(place.first), spares, counts),
-        None => clear(slot, place.level, spares, counts),
+        Some(m) => make_leaf(slot, place.level, m.part(place.first), left, counts),
+        None => clear(slot, place.level, left, counts),
     }
 }
 
-/// Makes the slots of a run what the mapping says that holds each of them whole, or empties them where no mapping meets them: how
-/// many tables they lost. The place is that of the row's first slot.
+/// Makes the slots of a run what the mapping says that holds each of them whole, or empties them where no mapping meets them. The
+/// place is that of the row's first slot.
 pub fn paint_alike(
     slots: &mut [Slot; SLOTS],
     place: Place,
     run: Range<usize>,
     held: Option<&Mapping>,
     excerpt: &Excerpt<'_, '_>,
-    spares: &mut Spares,
+    left: &mut Spares,
     counts: &mut TableCounts,
-) -> u64
+)
+    requires some { 0 < place.level }
     requires known { place.level ≤ root_level }
+    requires shaped { (k : ℕ) → k < slots_per_table → IsShaped place.level (slice_index_or slots.old k Empty) }
     requires in_space { place.first + slots_per_table * pages_of place.level ≤ PAGES }
     requires laid_out { IsLaidOut excerpt.now.mappings.now }
     requires ordered { run.start ≤ run.end }
@@ -93,15 +98,15 @@ pub fn paint_alike(
     requires part { IsRowOf counts.old place.level slots.old }
     ensures painted { (k : ℕ) → run.start ≤ k → k < run.end → IsTreeOf excerpt.now.mappings.now place.level
         (place.first + k * pages_of place.level) (slice_index_or slots.new k Empty) }
+    ensures shaped { (k : ℕ) → k < slots_per_table → IsShaped place.level (slice_index_or slots.new k Empty) }
     ensures before { (k : ℕ) → k < run.start
         → slice_index_or slots.new k Empty ≡ slice_index_or slots.old k Empty }
     ensures behind { (k : ℕ) → run.end ≤ k
         → slice_index_or slots.new k Empty ≡ slice_index_or slots.old k Empty }
-    ensures lost { result + row_lost excerpt.now.mappings.now place.level place.first slots.new
-        ≡ row_lost excerpt.now.mappings.now place.level place.first slots.old }
-    ensures gained { row_gained excerpt.now.mappings.now place.level place.first slots.new
-        ≡ row_gained excerpt.now.mappings.now place.level place.first slots.old }
-    ensures put { spares.new ≡ spares.old + result }
+    ensures gained { (kind : Kind) → row_gained kind excerpt.now.mappings.now place.level place.first slots.new
+        ≡ row_gained kind excerpt.now.mappings.now place.level place.first slots.old }
+    ensures put { (kind : Kind) → of kind left.new + row_lost kind excerpt.now.mappings.now place.level place.first slots.new
+        ≡ of kind left.old + row_lost kind excerpt.now.mappings.now place.level place.first slots.old }
     ensures counted { (target : ℕ) → count_at counts.new target + row_tables_at target place.level slots.old
         ≡ count_at counts.old target + row_tables_at target place.level slots.new }
 {
@@ -111,13 +116,11 @@ pub fn paint_alike(
         end: high,
     } = run;
     let pages = pages_of(level);
-    let mut lost = 0;
     for index in low..high {
         let part = Place {
             level,
             first: first + index as u64 * pages,
         };
-        lost += paint_whole(&mut slots[index], part, held, spares, counts);
+        paint_whole(&mut slots[index], part, held, left, counts);
     }
-    lost
 }

@@ -3,11 +3,16 @@
 #![tactic(auto)]
 
 mod alike;
+mod chain;
+mod divide;
 mod fill;
-mod give_back;
 pub mod laws;
 mod leaves;
 mod levels;
+mod names;
+mod outline;
+mod page_chain;
+mod page_slot;
 mod page_table;
 mod pages;
 mod paint;
@@ -20,9 +25,11 @@ mod slot;
 mod spare;
 mod spares;
 mod table_counts;
+mod tables;
 mod walk;
 mod wanted;
 
 pub use page_table::PageTable;
 pub use pool::Pool;
 pub use spares::Spares;
+pub use tables::Tables;

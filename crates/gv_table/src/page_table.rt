@@ -1,47 +1,53 @@
 //! The tree of tables.
-ghost use Rattle.std.specs.Prelude.{◌≡◌, ◌≤◌, ◌<◌, ◌+◌, ◌-◌, ℕ, List, [], IfOk, IfErr, OnOk, OnErr};
+ghost use Rattle.std.specs.Prelude.{◌≡◌, ◌≢◌, ◌⊎◌, ◌≤◌, ◌<◌, ◌+◌, ◌-◌, ℕ, List, [], Some, length, slice_get, IfOk, IfErr, OnOk, OnErr};
+ghost use Rattle.gv_types.specs.declared.mapping.BufferId.{BufferId};
 ghost use Rattle.gv_types.specs.declared.fault.Fault.TheVariants.{OutOfMemory};
 ghost use Rattle.gv_types.specs.declared.mapping.Mapping.{Mapping};
 ghost use Rattle.gv_types.specs.PageRange.{end_of};
 ghost use Rattle.gv_ranges.specs.List.{at, IsLaidOut, AreEnded};
 ghost use Rattle.gv_ranges.specs.Edit.{clipped};
-ghost use Rattle.gv_table.specs.Levels.{top_level};
-ghost use Rattle.gv_table.specs.Counts.{tables_at, count_at};
-ghost use Rattle.gv_table.specs.Ends.{EndsAtPages, EndsAtPages-prop};
+ghost use Rattle.gv_table.specs.Kinds.{Kind, of, none, AreEnough};
+ghost use Rattle.gv_table.specs.Names.{most_names, AreNamed};
 
-use crate::give_back::give_back_tree;
-use crate::levels::TOP_LEVEL;
-use crate::paint::paint_slot;
-use crate::place::{Excerpt, Place};
+use crate::names::reach;
+use crate::outline::Outline;
+use crate::paint::paint_tree;
+use crate::place::Excerpt;
 use crate::pool::Pool;
-use crate::position::advance;
-use crate::short::paint_in_slot;
 use crate::slot::Slot;
 use crate::spare::needed_in_tree;
 use crate::spares::Spares;
 use crate::table_counts::TableCounts;
+use crate::tables::Tables;
 use crate::walk::walk_tree;
 use gv_ranges::{RangeList, Reader};
-use gv_types::{Entry, Fault, Mapping, PageRange, SPACE_PAGES};
+use gv_types::{BufferId, Entry, Fault, Mapping, PageRange, SPACE_PAGES};
 use std::alloc::Global;
+use std::marker::Model;
 
 /// The tree of tables of a list of mappings: what a GPU's page table would be, with leaves of one
-/// page, 512 pages and 262,144 pages.
+/// page, 512 pages and 262,144 pages. Its slots tell a buffer by its index alone; the table keeps the id that stands for each.
+#[derive(Drop)]
 pub struct PageTable {
     root: Slot,
     counts: TableCounts,
-    ghost counted: { (target : ℕ) → count_at counts target ≡ tables_at target top_level root },
-    ghost ended: { EndsAtPages top_level root } by { EndsAtPages-prop top_level root },
+    names: Vec<BufferId>,
 }
 
-impl Drop for PageTable {
-    fn drop(self) {
-        let PageTable {
-            mut root,
-            counts: _,
-        } = self;
-        give_back_tree(&mut root, TOP_LEVEL);
-    }
+impl Model for PageTable {
+    ghost use Rattle.gv_table.specs.Named.{named, IsKept};
+    ghost use Rattle.gv_table.specs.Table.{PageTable};
+
+    ghost Value = { PageTable };
+
+    ghost use Rattle.gv_table.specs.contracts.slot.Slot as slot;
+    ghost use Rattle.std.specs.Coded.{codes};
+
+    ghost coded = { Prim.hlevel (codes, slot.the_row.coded) };
+
+    ghost view = { λ t. record { root = named t.names.items t.root; names = t.names.items } };
+
+    ghost invariant = { λ t. IsKept t.root t.counts t.names.items };
 }
 
 impl PageTable {
@@ -49,13 +55,39 @@ impl PageTable {
     ghost use Rattle.gv_table.specs.Table.{tables_by_level, tables_of, tables_standing};
 
     /// The tree of no mapping: it has no table, and takes no memory.
-    pub fn new() -> PageTable
+    pub fn new(alloc: Global) -> PageTable
         ensures { IsTree [] result }
     {
         PageTable {
             root: Slot::Empty,
             counts: TableCounts::new(),
+            names: Vec::new(alloc),
         }
+    }
+
+    /// Makes room for the name of a buffer's index. `OutOfMemory` where the system refuses it.
+    pub fn reserve_name(&mut self, index: u32) -> Result<(), Fault>
+        requires { index < most_names }
+        ensures ok { OnOk result (index < length self.new.names) }
+        ensures same { (k : ℕ) (id : BufferId) → slice_get self.old.names k ≡ Some id → slice_get self.new.names k ≡ Some id }
+        ensures tree { (ms : List Mapping) → IsTree ms self.old → AreNamed self.new.names ms → IsTree ms self.new }
+        ensures standing { tables_standing self.new ≡ tables_standing self.old }
+        ensures err { IfErr result (λ fault. fault ≡ OutOfMemory) }
+        ensures unchanged { OnErr result (self.new ≡ self.old) }
+    {
+        Ok(reach(&mut self.names, index)?)
+    }
+
+    /// Tells which buffer an index stands for from now on, where there is room for its name. It takes no memory.
+    pub fn name(&mut self, id: BufferId)
+        requires { id.index < length self.old.names }
+        ensures named { slice_get self.new.names id.index ≡ Some id }
+        ensures others { (other : BufferId) → other.index ≢ id.index → slice_get self.old.names other.index ≡ Some other
+            → slice_get self.new.names other.index ≡ Some other }
+        ensures tree { (ms : List Mapping) → IsTree ms self.old → AreNamed self.new.names ms → IsTree ms self.new }
+        ensures standing { tables_standing self.new ≡ tables_standing self.old }
+    {
+        self.names[id.index as usize] = id;
     }
 
     /// What a page holds: at most five steps from table to table. None past the end of the address
@@ -66,7 +98,7 @@ impl PageTable {
         if page >= SPACE_PAGES {
             return None;
         }
-        walk_tree(&self.root, page)
+        walk_tree(&self.root, &self.names, page)
     }
 
     /// How many tables stand at the levels 4, 3, 2, 1 and 0. The numbers are kept: nothing is walked.
@@ -77,12 +109,15 @@ impl PageTable {
         self.counts.descending()
     }
 
-    /// How many tables stand at all levels. The numbers are kept: nothing is walked.
-    pub fn standing(&self) -> u64
+    /// How many tables stand of each kind. The numbers are kept: nothing is walked.
+    pub fn standing(&self) -> Tables
         ensures { result ≡ tables_standing self.now }
     {
         let [four, three, two, one, zero] = self.tables();
-        four + three + two + one + zero
+        Tables {
+            pages: zero,
+            slots: four + three + two + one,
+        }
     }
 
     /// Empty tables for a paint after which the list holds these pieces in the range: enough for
@@ -98,15 +133,15 @@ impl PageTable {
         ensures number { IfOk result (λ spares. spares ≡ needed_for pieces.now range self.now) }
         ensures enough { IfOk result (λ spares. (ms : List Mapping) → IsLaidOut ms
             → FitsOutside ms range self.now
-            → clipped range.first (end_of range) ms ≡ pieces.now → gained_by ms self.now ≤ spares) }
+            → clipped range.first (end_of range) ms ≡ pieces.now → AreEnough spares (gained_by ms self.now)) }
         ensures err { IfErr result (λ fault. fault ≡ OutOfMemory) }
-        ensures some_needed { OnErr result (0 < needed_for pieces.now range self.now) }
+        ensures some_needed { OnErr result (needed_for pieces.now range self.now ≢ none) }
     {
         self.spare_from(alloc, range, pieces, &mut Pool::new())
     }
 
     /// The same, where tables of a pool serve before any is made: `OutOfMemory` comes only where more are needed than it has. Where
-    /// it comes, the pool is empty, and the tables that were taken so far are given back to the system.
+    /// it comes, the tables that were taken so far are given back to the system.
     pub fn spare_from(
         &self,
         alloc: Global,
@@ -118,58 +153,48 @@ impl PageTable {
         ensures number { IfOk result (λ spares. spares ≡ needed_for pieces.now range self.now) }
         ensures enough { IfOk result (λ spares. (ms : List Mapping) → IsLaidOut ms
             → FitsOutside ms range self.now
-            → clipped range.first (end_of range) ms ≡ pieces.now → gained_by ms self.now ≤ spares) }
+            → clipped range.first (end_of range) ms ≡ pieces.now → AreEnough spares (gained_by ms self.now)) }
         ensures err { IfErr result (λ fault. fault ≡ OutOfMemory) }
-        ensures some_needed { OnErr result (pool.old < needed_for pieces.now range self.now) }
-        ensures taken { OnOk result (pool.new ≡ pool.old - needed_for pieces.now range self.now) }
+        ensures some_needed { OnErr result ((pool.old < (needed_for pieces.now range self.now).pages)
+            ⊎ (0 < (needed_for pieces.now range self.now).slots)) }
+        ensures taken { OnOk result (pool.new ≡ pool.old - (needed_for pieces.now range self.now).pages) }
         ensures no_more { pool.new ≤ pool.old }
     {
-        let pieces = Reader::of_slice(pieces);
-        let mut spares = Spares::new();
-        for _ in 0..needed_in_tree(&self.root, &pieces, range) {
-            pool.grow(alloc, &mut spares)?;
-        }
-        Ok(spares)
+        let pieces = Outline::of(Reader::of_slice(pieces));
+        Ok(pool.take(alloc, needed_in_tree(&self.root, &pieces, range))?)
     }
 
     /// Makes the tree that of the list, where it fits the list outside the range. It takes from the
-    /// spares just the tables that the tree gains, puts in just those that it loses, and takes no
-    /// memory. The mappings before the position end before the range: it looks at those from there on
-    /// that meet the range, and at one neighbour. It answers how many tables the tree lost: so many are needed, and are in the spares,
-    /// to paint the list back that the tree was of.
+    /// spares just the tables that the tree gains, puts just those that it loses to the ones that left it, and takes no memory. So
+    /// many are needed to paint the list back that the tree was of. The mappings before the position end before the range: it looks
+    /// at those from there on that meet the range, and at one neighbour.
     pub fn paint(
         &mut self,
         list: &RangeList,
         range: PageRange,
         position: usize,
         spares: &mut Spares,
-    ) -> u64
+        left: &mut Spares,
+    )
         requires ended { AreEnded list.now.mappings range.first position }
         requires fitted { FitsOutside list.now.mappings range self.old }
-        requires enough { gained_by list.now.mappings self.old ≤ spares.old }
-        ensures lost { result ≡ lost_by list.now.mappings self.old }
+        requires named { AreNamed self.old.names list.now.mappings }
+        requires enough { AreEnough spares.old (gained_by list.now.mappings self.old) }
         ensures tree { IsTree list.now.mappings self.new }
-        ensures exchanged { spares.new + gained_by list.now.mappings self.old
-            ≡ spares.old + lost_by list.now.mappings self.old }
+        ensures names { self.new.names ≡ self.old.names }
+        ensures taken { (kind : Kind) → of kind spares.new + of kind (gained_by list.now.mappings self.old)
+            ≡ of kind spares.old }
+        ensures put { (kind : Kind) → of kind left.new
+            ≡ of kind left.old + of kind (lost_by list.now.mappings self.old) }
         ensures back { (ms : List Mapping) → IsLaidOut ms → IsTree ms self.old
-            → gained_by ms self.new ≤ spares.new }
-        ensures owed { (ms : List Mapping) → IsLaidOut ms → IsTree ms self.old
-            → gained_by ms self.new ≡ result }
+            → gained_by ms self.new ≡ lost_by list.now.mappings self.old }
     {
-        let mappings = Reader::of_list(list, position);
-        let position = advance(&mappings, position, range.first());
-        let place = Place {
-            level: TOP_LEVEL,
-            first: 0,
-        };
+        let mappings = Outline::of(Reader::of_list(list, position));
         let excerpt = Excerpt {
             mappings: &mappings,
             range,
             position,
         };
-        if paint_in_slot(&mut self.root, place, &excerpt) {
-            return 0;
-        }
-        paint_slot(&mut self.root, place, &excerpt, spares, &mut self.counts)
+        paint_tree(&mut self.root, &excerpt, spares, left, &mut self.counts);
     }
 }

@@ -3,40 +3,41 @@ ghost use Rattle.std.specs.Prelude.{◌≡◌, ◌+◌, ◌*◌, ◌<◌, ◌≤
 ghost use Rattle.gv_types.specs.Page.{PAGES};
 ghost use Rattle.gv_types.specs.PageRange.{span, meets, end_of};
 ghost use Rattle.gv_ranges.specs.List.{IsLaidOut, IsIndexOfPage, AreEnded};
-ghost use Rattle.gv_table.specs.declared.slot.Slot.TheVariants.{Empty};
+ghost use Rattle.gv_table.specs.Names.{AreTold};
 ghost use Rattle.gv_table.specs.Levels.{slots_per_table, pages_of, slot_pages, first_within};
-ghost use Rattle.gv_table.specs.Tree.{IsTreeOf, IsTreeOutside};
+ghost use Rattle.gv_table.specs.Tree.{IsTreeOf, IsToldOutside, slot_of, no_page};
 
 use crate::fill::{empty, fill};
 use crate::levels::{SLOTS, slots_met};
+use crate::outline::Outline;
+use crate::page_slot::PageSlot;
 use crate::place::Excerpt;
 use crate::position::advance;
-use crate::slot::Slot;
-use gv_ranges::Reader;
 use std::ops::Range;
 
 /// Makes the slots of a run those of the list's tree, as far as one mapping or one gap goes, and at most up to the run's
 /// end: where it ends. The position is that of the first mapping which ends past the page of the run's first slot.
 fn paint_run(
-    slots: &mut [Slot; SLOTS],
+    slots: &mut [PageSlot; SLOTS],
     first: u64,
     run: Range<usize>,
-    mappings: &Reader<'_>,
+    mappings: &Outline<'_>,
     position: usize,
 ) -> usize
     requires in_space { first + slots_per_table ≤ PAGES }
     requires some { run.start < run.end }
     requires within { run.end ≤ slots_per_table }
     requires laid_out { IsLaidOut mappings.now }
+    requires told { AreTold mappings.now }
     requires position { IsIndexOfPage mappings.now (first + run.start) position }
     ensures further { run.start < result }
     ensures within { result ≤ run.end }
     ensures painted { (k : ℕ) → run.start ≤ k → k < result
-        → IsTreeOf mappings.now 0 (first + k) (slice_index_or slots.new k Empty) }
+        → IsTreeOf mappings.now 0 (first + k) (slot_of (slice_index_or slots.new k no_page)) }
     ensures before { (k : ℕ) → k < run.start
-        → slice_index_or slots.new k Empty ≡ slice_index_or slots.old k Empty }
+        → slice_index_or slots.new k no_page ≡ slice_index_or slots.old k no_page }
     ensures behind { (k : ℕ) → result ≤ k
-        → slice_index_or slots.new k Empty ≡ slice_index_or slots.old k Empty }
+        → slice_index_or slots.new k no_page ≡ slice_index_or slots.old k no_page }
 {
     let Range {
         start: low,
@@ -60,16 +61,17 @@ fn paint_run(
 
 /// Makes the slots of a table of pages those of the list's tree, given that they fit outside the range. Those are visited
 /// that meet it; none is or becomes a table, so nothing is counted.
-pub fn paint_pages(slots: &mut [Slot; SLOTS], first: u64, excerpt: &Excerpt<'_, '_>)
+pub fn paint_pages(slots: &mut [PageSlot; SLOTS], first: u64, excerpt: &Excerpt<'_, '_>)
     requires in_space { first + slots_per_table * pages_of 0 ≤ PAGES }
     requires laid_out { IsLaidOut excerpt.now.mappings.now }
+    requires told { AreTold excerpt.now.mappings.now }
     requires position { AreEnded excerpt.now.mappings.now (first_within excerpt.now.range first) excerpt.now.position }
     requires met { IsTrue (meets (span first (slots_per_table * pages_of 0)) excerpt.now.range) }
     requires outside { (k : ℕ) → k < slots_per_table
-        → IsTreeOutside excerpt.now.mappings.now excerpt.now.range 0 (first + k * pages_of 0)
-        (slice_index_or slots.old k Empty) }
+        → IsToldOutside excerpt.now.mappings.now excerpt.now.range 0 (first + k * pages_of 0)
+        (slot_of (slice_index_or slots.old k no_page)) }
     ensures { (k : ℕ) → k < slots_per_table → IsTreeOf excerpt.now.mappings.now 0
-        (first + k * pages_of 0) (slice_index_or slots.new k Empty) }
+        (first + k * pages_of 0) (slot_of (slice_index_or slots.new k no_page)) }
 {
     let Excerpt {
         mappings,
@@ -82,4 +84,26 @@ pub fn paint_pages(slots: &mut [Slot; SLOTS], first: u64, excerpt: &Excerpt<'_, 
         position = advance(mappings, position, first + index as u64);
         index = paint_run(slots, first, index..high, mappings, position);
     }
+}
+
+/// The same, with the mappings looked up anew where they are not at hand.
+pub fn paint_near(slots: &mut [PageSlot; SLOTS], first: u64, excerpt: &Excerpt<'_, '_>)
+    requires in_space { first + slots_per_table * pages_of 0 ≤ PAGES }
+    requires laid_out { IsLaidOut excerpt.now.mappings.now }
+    requires told { AreTold excerpt.now.mappings.now }
+    requires position { AreEnded excerpt.now.mappings.now (first_within excerpt.now.range first) excerpt.now.position }
+    requires met { IsTrue (meets (span first (slots_per_table * pages_of 0)) excerpt.now.range) }
+    requires outside { (k : ℕ) → k < slots_per_table
+        → IsToldOutside excerpt.now.mappings.now excerpt.now.range 0 (first + k * pages_of 0)
+        (slot_of (slice_index_or slots.old k no_page)) }
+    ensures { (k : ℕ) → k < slots_per_table → IsTreeOf excerpt.now.mappings.now 0
+        (first + k * pages_of 0) (slot_of (slice_index_or slots.new k no_page)) }
+{
+    let mappings = excerpt.mappings.near(excerpt.position);
+    let excerpt = Excerpt {
+        mappings: &mappings,
+        range: excerpt.range,
+        position: excerpt.position,
+    };
+    paint_pages(slots, first, &excerpt);
 }

@@ -1,5 +1,5 @@
 //! Where a slot of the tree stands, and what is read for it.
-use gv_ranges::Reader;
+use crate::outline::Outline;
 use gv_types::PageRange;
 
 /// A slot's level and its first page. For the slots of a table, those of the first one.
@@ -12,7 +12,7 @@ pub struct Place {
 /// The mappings that a list has in a range, read from a position on.
 #[derive(Clone, Copy)]
 pub struct Excerpt<'a, 'l> {
-    pub mappings: &'a Reader<'l>,
+    pub mappings: &'a Outline<'l>,
     pub range: PageRange,
     pub position: usize,
 }

@@ -7,13 +7,13 @@ ghost use Rattle.gv_table.specs.Levels.{top_level, slot_pages, first_within};
 ghost use Rattle.gv_table.specs.Reads.{IsReadBy, EndsBefore, IsNeighbour};
 
 use crate::levels::pages_of;
+use crate::outline::Outline;
 use crate::place::{Excerpt, Place};
-use gv_ranges::Reader;
 use gv_types::Mapping;
 
 /// The position of the first mapping that ends past the page, given a position that is not behind it. It looks at the mappings
 /// from there on, one after another.
-pub fn advance(mappings: &Reader<'_>, position: usize, page: u64) -> usize
+pub fn advance(mappings: &Outline<'_>, position: usize, page: u64) -> usize
     requires laid_out { IsLaidOut mappings.now }
     requires ended { AreEnded mappings.now page position }
     ensures { IsIndexOfPage mappings.now page result }
@@ -27,10 +27,10 @@ pub fn advance(mappings: &Reader<'_>, position: usize, page: u64) -> usize
 
 /// The mapping before the position, where it reaches into a slot that begins before the range.
 #[inline(always)]
-fn neighbour<'l>(excerpt: &Excerpt<'_, 'l>, first: u64) -> Option<&'l Mapping>
+fn neighbour(excerpt: &Excerpt<'_, '_>, first: u64) -> Option<Mapping>
     requires { excerpt.now.position ≤ length excerpt.now.mappings.now }
     ensures { MatchOption result (EndsBefore excerpt.now.mappings.now excerpt.now.range excerpt.now.position first)
-        (λ m. IsNeighbour excerpt.now.mappings.now excerpt.now.range excerpt.now.position first m.now) }
+        (λ m. IsNeighbour excerpt.now.mappings.now excerpt.now.range excerpt.now.position first m) }
 {
     if excerpt.position == 0 || excerpt.range.first() <= first {
         return None;
@@ -45,7 +45,7 @@ fn neighbour<'l>(excerpt: &Excerpt<'_, 'l>, first: u64) -> Option<&'l Mapping>
 /// A mapping that meets the pages of a slot which meets the range, if one does: it decides what the list says of them.
 /// The position is that of the first mapping which ends past the slot's first page in the range.
 #[inline(always)]
-pub fn met_by<'l>(excerpt: &Excerpt<'_, 'l>, place: Place) -> Option<&'l Mapping>
+pub fn met_by(excerpt: &Excerpt<'_, '_>, place: Place) -> Option<Mapping>
     requires known { place.level ≤ top_level }
     requires in_space { end_of (slot_pages place.level place.first) ≤ PAGES }
     requires laid_out { IsLaidOut excerpt.now.mappings.now }
@@ -53,7 +53,7 @@ pub fn met_by<'l>(excerpt: &Excerpt<'_, 'l>, place: Place) -> Option<&'l Mapping
         excerpt.now.position }
     requires met { IsTrue (meets (slot_pages place.level place.first) excerpt.now.range) }
     ensures { MatchOption result (IsReadBy excerpt.now.mappings.now (slot_pages place.level place.first) None)
-        (λ m. IsReadBy excerpt.now.mappings.now (slot_pages place.level place.first) (Some m.now)) }
+        (λ m. IsReadBy excerpt.now.mappings.now (slot_pages place.level place.first) (Some m)) }
 {
     if let Some(m) = neighbour(excerpt, place.first) {
         return Some(m);

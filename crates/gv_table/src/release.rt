@@ -3,7 +3,9 @@ ghost use Rattle.std.specs.Prelude.{◌≡◌, ◌⊎◌, ◌≤◌, ◌<◌, �
 ghost use Rattle.gv_types.specs.Page.{PAGES};
 ghost use Rattle.gv_types.specs.PageRange.{meets, end_of};
 ghost use Rattle.gv_table.specs.declared.slot.Slot.TheVariants.{Empty};
+ghost use Rattle.gv_table.specs.Kinds.{Kind, of};
 ghost use Rattle.gv_table.specs.Levels.{top_level, slots_per_table, pages_of, slot_pages};
+ghost use Rattle.gv_table.specs.Shape.{IsShaped};
 ghost use Rattle.gv_table.specs.Tree.{child};
 ghost use Rattle.gv_table.specs.Counts.{tables_in, tables_at, count_at};
 
@@ -16,53 +18,51 @@ use crate::table_counts::TableCounts;
 use gv_types::PageRange;
 use std::mem;
 
-/// Empties a slot, takes its tables off the counts, and puts them to the spares: how many they were.
+/// Empties a slot, takes its tables off the counts, and puts them to those that left the tree.
 #[inline(always)]
-pub fn clear(slot: &mut Slot, level: usize, spares: &mut Spares, counts: &mut TableCounts) -> u64
+pub fn clear(slot: &mut Slot, level: usize, left: &mut Spares, counts: &mut TableCounts)
+    requires some { 0 < level }
     requires known { level ≤ top_level }
+    requires shaped { IsShaped level slot.old }
     requires counted { (target : ℕ) → tables_at target level slot.old ≤ count_at counts.old target }
-    ensures count { result ≡ tables_in level slot.old }
     ensures emptied { slot.new ≡ Empty }
-    ensures put { spares.new ≡ spares.old + tables_in level slot.old }
+    ensures put { (kind : Kind) → of kind left.new ≡ of kind left.old + tables_in kind level slot.old }
     ensures counted { (target : ℕ) → count_at counts.new target + tables_at target level slot.old
         ≡ count_at counts.old target }
 {
     if slot.is_table() {
-        return release(slot, level, spares, counts);
+        release(slot, level, left, counts);
+        return;
     }
     overwrite(slot, Slot::Empty);
-    0
 }
 
 /// The same, with the slots of its table.
 #[inline(never)]
-fn release(slot: &mut Slot, level: usize, spares: &mut Spares, counts: &mut TableCounts) -> u64
+fn release(slot: &mut Slot, level: usize, left: &mut Spares, counts: &mut TableCounts)
+    requires some { 0 < level }
     requires known { level ≤ top_level }
+    requires shaped { IsShaped level slot.old }
     requires counted { (target : ℕ) → tables_at target level slot.old ≤ count_at counts.old target }
-    ensures count { result ≡ tables_in level slot.old }
     ensures emptied { slot.new ≡ Empty }
-    ensures put { spares.new ≡ spares.old + tables_in level slot.old }
+    ensures put { (kind : Kind) → of kind left.new ≡ of kind left.old + tables_in kind level slot.old }
     ensures counted { (target : ℕ) → count_at counts.new target + tables_at target level slot.old
         ≡ count_at counts.old target }
 {
-    if level == 0 {
-        *slot = Slot::Empty;
-        return 0;
-    }
     if level == 1 {
-        return release_part(slot, 0, SLOTS, spares, counts);
+        release_part(slot, 0, SLOTS, left, counts);
+        return;
     }
     match mem::replace(slot, Slot::Empty) {
         Slot::Table(mut slots) => {
-            let mut count = 1;
             for index in 0..SLOTS {
-                count += release(&mut slots[index], level - 1, spares, counts);
+                release(&mut slots[index], level - 1, left, counts);
             }
-            spares.put(slots);
+            left.put_slots(slots);
             counts.lower(level - 1);
-            count
         }
-        Slot::Empty | Slot::Zero { .. } | Slot::Buffer { .. } => 0,
+        Slot::Pages(_) => unreachable!(),
+        Slot::Empty | Slot::Zero { .. } | Slot::Buffer { .. } => {}
     }
 }
 
@@ -74,27 +74,27 @@ fn release_part(
     slot: &mut Slot,
     low: usize,
     high: usize,
-    spares: &mut Spares,
+    left: &mut Spares,
     counts: &mut TableCounts,
-) -> u64
+)
     requires ordered { low ≤ high }
     requires within { high ≤ slots_per_table }
+    requires shaped { IsShaped 1 slot.old }
     requires rest { (k : ℕ) → k < slots_per_table → (k < low) ⊎ (high ≤ k) → child slot.old k ≡ Empty }
     requires counted { (target : ℕ) → tables_at target 1 slot.old ≤ count_at counts.old target }
-    ensures count { result ≡ tables_in 1 slot.old }
     ensures emptied { slot.new ≡ Empty }
-    ensures put { spares.new ≡ spares.old + tables_in 1 slot.old }
+    ensures put { (kind : Kind) → of kind left.new ≡ of kind left.old + tables_in kind 1 slot.old }
     ensures counted { (target : ℕ) → count_at counts.new target + tables_at target 1 slot.old
         ≡ count_at counts.old target }
 {
     match mem::replace(slot, Slot::Empty) {
-        Slot::Table(mut pages) => {
-            empty(&mut pages, low, high);
-            spares.put(pages);
+        Slot::Pages(mut table) => {
+            empty(&mut table.0, low, high);
+            left.put_pages(table);
             counts.lower(0);
-            1
         }
-        Slot::Empty | Slot::Zero { .. } | Slot::Buffer { .. } => 0,
+        Slot::Table(_) => unreachable!(),
+        Slot::Empty | Slot::Zero { .. } | Slot::Buffer { .. } => {}
     }
 }
 
@@ -105,24 +105,26 @@ pub fn clear_unwanted(
     slot: &mut Slot,
     place: Place,
     range: PageRange,
-    spares: &mut Spares,
+    left: &mut Spares,
     counts: &mut TableCounts,
-) -> u64
+)
+    requires some { 0 < place.level }
     requires known { place.level ≤ top_level }
+    requires shaped { IsShaped place.level slot.old }
     requires in_space { end_of (slot_pages place.level place.first) ≤ PAGES }
     requires met { IsTrue (meets (slot_pages place.level place.first) range) }
     requires counted { (target : ℕ) → tables_at target place.level slot.old ≤ count_at counts.old target }
     requires rest { place.level ≡ 1 → (k : ℕ) → k < slots_per_table
         → meets (slot_pages 0 (place.first + k * pages_of 0)) range ≡ false → child slot.old k ≡ Empty }
-    ensures count { result ≡ tables_in place.level slot.old }
     ensures emptied { slot.new ≡ Empty }
-    ensures put { spares.new ≡ spares.old + tables_in place.level slot.old }
+    ensures put { (kind : Kind) → of kind left.new ≡ of kind left.old + tables_in kind place.level slot.old }
     ensures counted { (target : ℕ) → count_at counts.new target + tables_at target place.level slot.old
         ≡ count_at counts.old target }
 {
     if place.level == 1 && slot.is_table() {
         let (low, high) = slots_met(0, place.first, range);
-        return release_part(slot, low, high, spares, counts);
+        release_part(slot, low, high, left, counts);
+        return;
     }
-    clear(slot, place.level, spares, counts)
+    clear(slot, place.level, left, counts);
 }

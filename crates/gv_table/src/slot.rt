@@ -2,11 +2,12 @@
 ghost use Rattle.std.specs.Prelude.{◌≡◌};
 
 use crate::levels::SLOTS;
+use crate::page_slot::Pages;
 use gv_types::{Backing, BufferId, Entry, Flags};
 use std::mem;
 
-/// Empty where no mapping meets the slot's pages; a leaf where one mapping holds them all, with the entry of its first
-/// page (pages of zeros, or a buffer's from `page` on); or the table of its parts.
+/// A slot of more than one page: empty where no mapping meets its pages; a leaf where one mapping holds them all, with the entry of
+/// its first page (pages of zeros, or a buffer's from `page` on); or the table of its parts, at level 1 a table of single pages.
 #[derive(Drop)]
 pub enum Slot {
     Empty,
@@ -18,6 +19,7 @@ pub enum Slot {
         id: BufferId,
         page: u64,
     },
+    Pages(Box<Pages>),
     Table(Box<[Slot; SLOTS]>),
 }
 
@@ -45,7 +47,7 @@ impl Slot {
         ensures { result ≡ is_table self.now }
     {
         match self {
-            Slot::Table(_) => true,
+            Slot::Pages(_) | Slot::Table(_) => true,
             Slot::Empty | Slot::Zero { .. } | Slot::Buffer { .. } => false,
         }
     }
@@ -55,7 +57,7 @@ impl Slot {
         ensures { MatchOption result (HasNoEntry self.now) (λ entry. self.now ≡ leaf entry) }
     {
         match *self {
-            Slot::Empty | Slot::Table(_) => None,
+            Slot::Empty | Slot::Pages(_) | Slot::Table(_) => None,
             Slot::Zero { flags } => Some(Entry {
                 backing: Backing::Zero,
                 flags,
@@ -73,6 +75,7 @@ pub fn overwrite(slot: &mut Slot, new: Slot)
     ensures { slot.new ≡ new }
 {
     match mem::replace(slot, new) {
+        Slot::Pages(pages) => drop(pages),
         Slot::Table(slots) => give_back(slots),
         Slot::Empty | Slot::Zero { .. } | Slot::Buffer { .. } => {}
     }

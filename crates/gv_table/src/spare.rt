@@ -1,53 +1,65 @@
 //! How many tables a paint may need.
-ghost use Rattle.std.specs.Prelude.{◌≡◌, ◌+◌, ◌*◌, ◌≤◌, ◌<◌, ℕ, false, IsTrue, List};
+ghost use Rattle.std.specs.Prelude.{◌≡◌, ◌+◌, ◌-◌, ◌*◌, ◌≤◌, ◌<◌, ℕ, false, IsTrue, List};
 ghost use Rattle.gv_types.specs.Page.{PAGES};
 ghost use Rattle.gv_types.specs.PageRange.{span, meets, end_of, PageRangeState};
 ghost use Rattle.gv_types.specs.declared.mapping.Mapping.{Mapping};
 ghost use Rattle.gv_ranges.specs.List.{IsLaidOut, IsIndexOfPage, AreEnded};
 ghost use Rattle.gv_table.specs.declared.slot.Slot.TheVariants.{Empty};
+ghost use Rattle.gv_table.specs.Kinds.{Kind, of, one_of, unless};
 ghost use Rattle.gv_table.specs.Levels.{top_level, root_level, slots_per_table, pages_of, slot_pages, first_within};
 ghost use Rattle.gv_table.specs.Sums.{sum_below};
 ghost use Rattle.gv_table.specs.Tree.{is_table, child};
-ghost use Rattle.gv_table.specs.Counts.{needed, may_divide, one_if_not};
+ghost use Rattle.gv_table.specs.Counts.{needed, may_divide, HasSameTables};
 
 use crate::alike::alike_from;
 use crate::levels::{TOP_LEVEL, pages_of, part_around, slots_met};
+use crate::outline::Outline;
 use crate::place::{Excerpt, Place};
 use crate::position::advance;
 use crate::slot::Slot;
+use crate::tables::Tables;
 use crate::wanted::{Wanted, slot_wanted};
-use gv_ranges::Reader;
 use gv_types::PageRange;
 
-/// A slot of the slot's table, or an empty one.
+/// A slot of the slot's table, or an empty one: no page is a table.
 fn child_of<'a>(slot: &'a Slot, index: usize, empty: &'a Slot) -> &'a Slot
     requires within { index < slots_per_table }
     requires empty { empty.now ≡ Empty }
-    ensures { result.now ≡ child slot.now index }
+    ensures { HasSameTables (child slot.now index) result.now }
 {
     match slot {
         Slot::Table(slots) => &slots[index],
+        Slot::Pages(_) => empty,
         Slot::Empty | Slot::Zero { .. } | Slot::Buffer { .. } => empty,
     }
 }
 
-/// One for a slot that is no table.
-fn one_if_not_table(slot: &Slot) -> u64
-    ensures { result ≡ one_if_not (is_table slot.now) }
+/// The table that a slot at a level has to be made, unless it is one.
+fn missing(slot: &Slot, level: usize) -> Tables
+    requires { 0 < level }
+    ensures { (kind : Kind) → of kind result ≡ unless (is_table slot.now) (one_of kind (level - 1)) }
 {
-    match slot {
-        Slot::Table(_) => 0,
-        Slot::Empty | Slot::Zero { .. } | Slot::Buffer { .. } => 1,
+    let one = u64::from(!slot.is_table());
+    if level == 1 {
+        Tables {
+            pages: one,
+            slots: 0,
+        }
+    } else {
+        Tables {
+            pages: 0,
+            slots: one,
+        }
     }
 }
 
 /// Whether a slot needs no table, whatever the pieces are: it is a page, or its one table stands.
 fn needs_none(slot: &Slot, level: usize) -> bool
-    ensures none { IsTrue result → (pieces : List Mapping) (range : PageRangeState) (first : ℕ) → needed pieces range level first slot.now ≡ 0 }
+    ensures none { IsTrue result → (kind : Kind) (pieces : List Mapping) (range : PageRangeState) (first : ℕ) → needed kind pieces range level first slot.now ≡ 0 }
     ensures some { result ≡ false → 0 < level }
 {
     match slot {
-        Slot::Table(_) => level <= 1,
+        Slot::Pages(_) | Slot::Table(_) => level <= 1,
         Slot::Empty | Slot::Zero { .. } | Slot::Buffer { .. } => level == 0,
     }
 }
@@ -92,20 +104,21 @@ fn undivided_from(excerpt: &Excerpt<'_, '_>, place: Place) -> u64
 /// How many positions of a slot may need a table where it has none.
 #[cycle(spare)]
 #[inline(always)]
-fn needed_in(slot: &Slot, place: Place, excerpt: &Excerpt<'_, '_>) -> u64
+fn needed_in(slot: &Slot, place: Place, excerpt: &Excerpt<'_, '_>) -> Tables
     requires known { place.level ≤ top_level }
     requires in_space { end_of (slot_pages place.level place.first) ≤ PAGES }
     requires laid_out { IsLaidOut excerpt.now.mappings.now }
     requires position { IsIndexOfPage excerpt.now.mappings.now (first_within excerpt.now.range place.first)
         excerpt.now.position }
-    ensures count { result ≡ needed excerpt.now.mappings.now excerpt.now.range place.level place.first slot.now }
-    ensures bound { result + 1 ≤ pages_of place.level }
+    ensures count { (kind : Kind) → of kind result
+        ≡ needed kind excerpt.now.mappings.now excerpt.now.range place.level place.first slot.now }
+    ensures bound { (kind : Kind) → of kind result + 1 ≤ pages_of place.level }
 {
     let Place { level, first } = place;
     if needs_none(slot, level) || !may_be_table(excerpt, place) {
-        return 0;
+        return Tables::NONE;
     }
-    let one = one_if_not_table(slot);
+    let one = missing(slot, level);
     if level == 1 {
         return one;
     }
@@ -113,22 +126,22 @@ fn needed_in(slot: &Slot, place: Place, excerpt: &Excerpt<'_, '_>) -> u64
         level: level - 1,
         first,
     };
-    one + needed_below(slot, place, excerpt)
+    one.with(needed_below(slot, place, excerpt))
 }
 
 /// The same for the slots of its table, which are at the level.
 #[cycle(spare)]
-fn needed_below(slot: &Slot, place: Place, excerpt: &Excerpt<'_, '_>) -> u64
+fn needed_below(slot: &Slot, place: Place, excerpt: &Excerpt<'_, '_>) -> Tables
     requires known { place.level ≤ root_level }
     requires in_space { place.first + slots_per_table * pages_of place.level ≤ PAGES }
     requires laid_out { IsLaidOut excerpt.now.mappings.now }
     requires position { AreEnded excerpt.now.mappings.now (first_within excerpt.now.range place.first)
         excerpt.now.position }
     requires met { IsTrue (meets (span place.first (slots_per_table * pages_of place.level)) excerpt.now.range) }
-    ensures count { result ≡ sum_below slots_per_table
-        (λ k. needed excerpt.now.mappings.now excerpt.now.range place.level
+    ensures count { (kind : Kind) → of kind result ≡ sum_below slots_per_table
+        (λ k. needed kind excerpt.now.mappings.now excerpt.now.range place.level
         (place.first + k * pages_of place.level) (child slot.now k)) }
-    ensures bound { result + slots_per_table ≤ slots_per_table * pages_of place.level }
+    ensures bound { (kind : Kind) → of kind result + slots_per_table ≤ slots_per_table * pages_of place.level }
 {
     let Place { level, first } = place;
     let Excerpt {
@@ -138,7 +151,7 @@ fn needed_below(slot: &Slot, place: Place, excerpt: &Excerpt<'_, '_>) -> u64
     } = *excerpt;
     let pages = pages_of(level);
     let empty = Slot::Empty;
-    let mut total = 0;
+    let mut total = Tables::NONE;
     let (low, high) = slots_met(level, first, range);
     let mut index = low;
     while index < high {
@@ -156,7 +169,7 @@ fn needed_below(slot: &Slot, place: Place, excerpt: &Excerpt<'_, '_>) -> u64
         let undivided = undivided_from(&excerpt, place).min((high - index) as u64);
         if undivided == 0 {
             let part = child_of(slot, index, &empty);
-            total += needed_in(part, place, &excerpt);
+            total = total.with(needed_in(part, place, &excerpt));
             index += 1;
         } else {
             index += undivided as usize;
@@ -167,18 +180,18 @@ fn needed_below(slot: &Slot, place: Place, excerpt: &Excerpt<'_, '_>) -> u64
 
 /// How many positions of the tree may need a table where it has none. As long as the range lies in one part of a slot, only that
 /// part is looked at: the slot has to be a table whatever the pieces are.
-pub fn needed_in_tree(root: &Slot, pieces: &Reader<'_>, range: PageRange) -> u64
+pub fn needed_in_tree(root: &Slot, pieces: &Outline<'_>, range: PageRange) -> Tables
     requires { IsLaidOut pieces.now }
-    ensures { result ≡ needed pieces.now range top_level 0 root.now }
+    ensures { (kind : Kind) → of kind result ≡ needed kind pieces.now range top_level 0 root.now }
 {
     let empty = Slot::Empty;
     let position = advance(pieces, 0, range.first());
     let mut slot = root;
     let mut level = TOP_LEVEL;
     let mut first = 0;
-    let mut count = 0;
+    let mut count = Tables::NONE;
     while let Some(index) = part_around(level, first, range) {
-        count += one_if_not_table(slot);
+        count = count.with(missing(slot, level));
         slot = child_of(slot, index, &empty);
         level -= 1;
         first += index as u64 * pages_of(level);
@@ -188,5 +201,5 @@ pub fn needed_in_tree(root: &Slot, pieces: &Reader<'_>, range: PageRange) -> u64
         range,
         position,
     };
-    count + needed_in(slot, Place { level, first }, &excerpt)
+    count.with(needed_in(slot, Place { level, first }, &excerpt))
 }

@@ -1,122 +1,96 @@
 //! Tables that are in no tree.
-ghost use Rattle.std.specs.Prelude.{◌≡◌, ℕ, ◌+◌, ◌<◌, ◌≤◌, ◌↔◌, IsTrue, OnOk, OnErr};
-ghost use Rattle.gv_table.specs.Chain.{AreEmpty, IsChainOf, link_to};
+ghost use Rattle.std.specs.Prelude.{◌≡◌, ◌≤◌, ◌+◌, ◌↔◌, IsTrue};
+ghost use Rattle.gv_table.specs.Chain.{AreEmpty};
+ghost use Rattle.gv_table.specs.PageChain.{ArePagesEmpty};
+ghost use Rattle.gv_table.specs.Kinds.{Kind, of, one_of, none};
 
-use crate::give_back::give_back_unread;
+use crate::chain::Chain;
 use crate::levels::SLOTS;
-use crate::slot::{Slot, overwrite};
-use std::alloc::{AllocError, Global};
+use crate::page_chain::PageChain;
+use crate::page_slot::Pages;
+use crate::slot::Slot;
 use std::marker::Model;
-use std::mem;
 
-/// Empty tables, linked through their first slots: a paint takes from them and puts back to them.
-/// Contracts see how many they are.
+/// Empty tables of both kinds: a paint takes from some and puts to others. Contracts see how many they are of each kind.
+#[derive(Drop)]
 pub struct Spares {
-    first: Option<Box<[Slot; SLOTS]>>,
+    pages: PageChain,
+    slots: Chain,
 }
 
 impl Model for Spares {
-    ghost use Rattle.std.specs.Prelude.{ℕ};
-    ghost use Rattle.gv_table.specs.Chain.{IsChainOf, chain_length, link_to};
+    ghost use Rattle.gv_table.specs.declared.tables.Tables.{Tables};
 
-    ghost Value = { ℕ };
+    ghost Value = { Tables };
 
-    ghost view = { λ s. chain_length (link_to s.first) };
-
-    ghost invariant = { λ s. IsChainOf (chain_length (link_to s.first)) (link_to s.first) };
-}
-
-impl Drop for Spares {
-    fn drop(mut self) {
-        while !self.is_empty() {
-            give_back_unread(self.take());
-        }
-        let Spares { first: _ } = self;
-    }
-}
-
-/// The slot that links to a table, if there is one.
-fn link_to(first: Option<Box<[Slot; SLOTS]>>) -> Slot
-    ensures { result ≡ link_to first }
-{
-    match first {
-        Some(slots) => Slot::Table(slots),
-        None => Slot::Empty,
-    }
-}
-
-/// The table to which a slot links, if it does.
-fn linked(slot: Slot) -> Option<Box<[Slot; SLOTS]>>
-    ensures { (count : ℕ) → IsChainOf count slot → link_to result ≡ slot }
-{
-    match slot {
-        Slot::Table(slots) => Some(slots),
-        Slot::Empty | Slot::Zero { .. } | Slot::Buffer { .. } => None,
-    }
+    ghost view = { λ s. record { pages = s.pages; slots = s.slots } };
 }
 
 impl Spares {
     /// No table. It takes no memory.
     pub fn new() -> Spares
-        ensures { result ≡ 0 }
+        ensures { result ≡ none }
     {
-        Spares { first: None }
+        Spares {
+            pages: PageChain::new(),
+            slots: Chain::new(),
+        }
     }
 
     /// Whether there is no table.
     pub(crate) fn is_empty(&self) -> bool
-        ensures { IsTrue result ↔ (self.now ≡ 0) }
+        ensures { IsTrue result ↔ (self.now ≡ none) }
     {
-        self.first.is_none()
+        self.pages.is_empty() && self.slots.is_empty()
     }
 
-    /// Takes `count` tables off, as spares of their own. It takes no memory. Inlined, since mostly they are none.
-    #[inline(always)]
-    pub fn split(&mut self, count: u64) -> Spares
-        requires { count ≤ self.old }
-        ensures count { result ≡ count }
-        ensures rest { self.new + count ≡ self.old }
+    /// Those of these chains, and no other.
+    pub(crate) fn of_chains(pages: PageChain, slots: Chain) -> Spares
+        ensures pages { result.pages ≡ pages }
+        ensures slots { result.slots ≡ slots }
     {
-        let mut split = Spares::new();
-        for _ in 0..count {
-            split.put(self.take());
-        }
-        split
+        Spares { pages, slots }
     }
 
-    /// Adds an empty table.
-    pub(crate) fn put(&mut self, mut slots: Box<[Slot; SLOTS]>)
-        requires { AreEmpty slots.value }
-        ensures { self.new ≡ self.old + 1 }
+    /// The chain of tables of pages. The others are given back to the system.
+    pub(crate) fn into_pages(self) -> PageChain
+        ensures { result ≡ self.pages }
     {
-        overwrite(&mut slots[0], link_to(self.first.take()));
-        self.first = Some(slots);
+        let Spares { pages, slots: _ } = self;
+        pages
     }
 
-    /// Takes an empty table off.
-    pub(crate) fn take(&mut self) -> Box<[Slot; SLOTS]>
-        requires { 0 < self.old }
+    /// Adds an empty table of pages.
+    pub(crate) fn put_pages(&mut self, table: Box<Pages>)
+        requires { ArePagesEmpty table.value.0 }
+        ensures { (kind : Kind) → of kind self.new ≡ of kind self.old + one_of kind 0 }
+    {
+        self.pages.put(table);
+    }
+
+    /// Adds an empty table of other slots.
+    pub(crate) fn put_slots(&mut self, table: Box<[Slot; SLOTS]>)
+        requires { AreEmpty table.value }
+        ensures { (kind : Kind) → of kind self.new ≡ of kind self.old + one_of kind 1 }
+    {
+        self.slots.put(table);
+    }
+
+    /// Takes an empty table of pages off.
+    pub(crate) fn take_pages(&mut self) -> Box<Pages>
+        requires { (kind : Kind) → one_of kind 0 ≤ of kind self.old }
+        ensures empty { ArePagesEmpty result.value.0 }
+        ensures taken { (kind : Kind) → of kind self.new + one_of kind 0 ≡ of kind self.old }
+    {
+        self.pages.take()
+    }
+
+    /// Takes an empty table of other slots off.
+    pub(crate) fn take_slots(&mut self) -> Box<[Slot; SLOTS]>
+        requires { (kind : Kind) → one_of kind 1 ≤ of kind self.old }
         ensures empty { AreEmpty result.value }
-        ensures fewer { self.new + 1 ≡ self.old }
+        ensures taken { (kind : Kind) → of kind self.new + one_of kind 1 ≡ of kind self.old }
     {
-        match self.first.take() {
-            Some(mut slots) => {
-                self.first = linked(mem::replace(&mut slots[0], Slot::Empty));
-                slots
-            }
-            None => unreachable!(),
-        }
-    }
-
-    /// Makes one more empty table. The table is made in a frame of its own, which is as large as it.
-    #[cold]
-    #[inline(never)]
-    pub(crate) fn grow(&mut self, alloc: Global) -> Result<(), AllocError>
-        ensures grown { OnOk result (self.new ≡ self.old + 1) }
-        ensures unchanged { OnErr result (self.new ≡ self.old) }
-    {
-        let slots = Box::new(alloc, [const { Slot::Empty }; SLOTS])?;
-        self.put(slots);
-        Ok(())
+        self.slots.take()
     }
 }

@@ -1,12 +1,12 @@
 -- A world that holds nothing: what always holds of queues holds of its.
-use Rattle.std.proofs.Common.{◌≡◌, ℕ, ◌+◌, ◌<◌, ◌≤◌, [], List, length, replicate, Vec, get_or, None, refl, ap, sym, ◌∙◌, subst, arith, rules}
+use Rattle.std.proofs.Common.{◌≡◌, ℕ, ◌<◌, ◌≤◌, [], List, length, replicate, get_or, refl, sym, subst, arith, rules}
 use Rattle.std.proofs.lemmas.List.{get_or-replicate, length-replicate}
 use Rattle.gv_types.specs.Bounds.{BoundsState}
 use Rattle.gv_types.specs.Limits.{LimitsState}
 use Rattle.gv_vm.specs.Outcomes.{queues, told_to}
 use Rattle.gv_vm.specs.State.{new_vm}
 use Rattle.gv_vm.specs.Queues.{IsQueueOf, AreQueues}
-use Rattle.gv_vm.specs.World.{WorldState, QueueState, new_queue, new_world}
+use Rattle.gv_vm.specs.World.{QueueState, new_queue, new_world}
 use Rattle.gv_vm.specs.declared.outcome.Outcome.{Outcome}
 
 -- a queue to which nothing was put

@@ -4,11 +4,19 @@ use denote.Param.SendFields.{VariantsHave, variants_send, declared_send, as_row_
 use denote.Hole.Fix.{holes}
 use denote.Hole.FixSend.{fix_send, Sends}
 use Rattle.std.proofs.Crossing.{crosses, Box-send, Vec-send}
+use mathlib.Core.List.{[], ◌∷◌}
+use denote.RattleType.{RattleType}
+use denote.Builtin.{Array, u64}
+use denote.Struct.Tuple.{Tuple, tuple_type}
 use denote.Struct.Field.{row_field, u64-field, usize-field}
 use denote.Hole.{as_row}
 use denote.Enum.Declared.{Declared}
 use denote.Hole.Layer.{enum_layer}
 use Rattle.gv_table.specs.contracts.slot.Slot.{the_row as slot, enum as slot_enum, the_layer}
+use Rattle.gv_table.specs.contracts.chain.Chain.TheInside.{the_row as chain_inside, the_type as chain_type}
+use Rattle.gv_table.specs.contracts.chain.Chain.{the_row as chain}
+use Rattle.gv_table.specs.contracts.page_chain.PageChain.TheInside.{the_row as page_chain_inside, the_type as page_chain_type}
+use Rattle.gv_table.specs.contracts.page_chain.PageChain.{the_row as page_chain}
 use Rattle.gv_table.specs.contracts.spares.Spares.TheInside.{the_row as spares_inside, the_type as spares_type}
 use Rattle.gv_table.specs.contracts.spares.Spares.{the_row as spares}
 use Rattle.gv_space.specs.contracts.undo.OpUndo.TheInside.{the_row as undo_inside, the_type as undo_type}
@@ -41,16 +49,22 @@ use Rattle.gv_vm.specs.contracts.world.World.TheInside.{the_row as world_inside,
 use Rattle.gv_vm.specs.contracts.world.World.{the_row as world}
 use Rattle.gv_table.specs.contracts.slot.Slot.TheKnot.{ring}
 use Rattle.gv_table.specs.declared.slot.Slot.TheBlock.{the_members, member-Slot}
-use Rattle.gv_table.specs.contracts.page_table.PageTable.{the_row as page_table, the_type as page_table_type}
+use Rattle.gv_table.specs.contracts.page_table.PageTable.TheInside.{the_row as page_table_inside, the_type as page_table_type}
+use Rattle.gv_table.specs.contracts.page_table.PageTable.{the_row as page_table}
+use Rattle.gv_types.proofs.mapping.BufferId.TheSendSync.{the_send as id_send}
 use Rattle.gv_table.specs.contracts.pool.Pool.TheInside.{the_row as pool_inside, the_type as pool_type}
 use Rattle.gv_table.specs.contracts.pool.Pool.{the_row as pool}
+
+-- a table of single pages, with its link
+pages_send : (S : RattleType) → IsSend S → IsSend (Tuple (Array u64 tt 512 ∷ S ∷ []))
+pages_send S at = declared_send (tuple_type (Array u64 tt 512 ∷ S ∷ [])) ((search (sendable, crosses) depth 12), (as_row_send (row_field S) at, tt))
 
 slot_steps : (i : the_members) → Sends ring i
 slot_steps member-Slot = record {
   send = λ h s.
       let at : IsSend (h member-Slot) = s member-Slot in let L : Declared = the_layer h in
       let parts : VariantsHave IsSend L.parts =
-      (tt, ((search (sendable, crosses) depth 12), ((search (sendable, crosses) depth 12), ((as_row_send (row_field _) (Box-send _ (array_send _ _ at)), tt), tt)))) in
+      (tt, ((search (sendable, crosses) depth 12), ((search (sendable, crosses) depth 12), ((as_row_send (row_field _) (Box-send _ (pages_send _ at)), tt), ((as_row_send (row_field _) (Box-send _ (array_send _ _ at)), tt), tt))))) in
       variants_send (enum_layer L.name L.args L.types L.parts) parts;
 }
 
@@ -60,10 +74,11 @@ slot_hole_send i = fix_send ring slot_steps i
 slot_send : IsSend slot
 slot_send =
     let at : IsSend (holes ring member-Slot) = slot_hole_send member-Slot in
-    variants_send slot_enum (tt, ((search (sendable, crosses) depth 12), ((search (sendable, crosses) depth 12), ((as_row_send (row_field _) (Box-send _ (array_send _ _ at)), tt), tt))))
+    variants_send slot_enum
+    (tt, ((search (sendable, crosses) depth 12), ((search (sendable, crosses) depth 12), ((as_row_send (row_field _) (Box-send _ (pages_send _ at)), tt), ((as_row_send (row_field _) (Box-send _ (array_send _ _ at)), tt), tt)))))
 
 page_table_send : IsSend page_table
-page_table_send = declared_send page_table_type (slot_send, ((search (sendable, crosses) depth 12), tt))
+page_table_send = view_send page_table_inside _ _ _ _ (declared_send page_table_type (slot_send, ((search (sendable, crosses) depth 12), (Vec-send _ id_send, tt))))
 
 number : IsSend (as_row usize-field)
 number = search (sendable, crosses) depth 5
@@ -71,11 +86,17 @@ number = search (sendable, crosses) depth 5
 wide : IsSend (as_row u64-field)
 wide = search (sendable, crosses) depth 5
 
+chain_send : IsSend chain
+chain_send = view_send chain_inside _ _ _ _ (declared_send chain_type (search (sendable, crosses, slot_send) depth 12, tt))
+
+page_chain_send : IsSend page_chain
+page_chain_send = view_send page_chain_inside _ _ _ _ (declared_send page_chain_type (search (sendable, crosses, pages_send, slot_send) depth 12, tt))
+
 spares_send : IsSend spares
-spares_send = view_send spares_inside _ _ _ _ (declared_send spares_type (search (sendable, crosses, slot_send) depth 12, tt))
+spares_send = view_send spares_inside _ _ _ _ (declared_send spares_type (as_row_send (row_field _) page_chain_send, (as_row_send (row_field _) chain_send, tt)))
 
 pool_send : IsSend pool
-pool_send = view_send pool_inside _ _ _ _ (declared_send pool_type (spares_send, (wide, tt)))
+pool_send = view_send pool_inside _ _ _ _ (declared_send pool_type (as_row_send (row_field _) page_chain_send, (wide, tt)))
 
 list_with_table_send : IsSend list_with_table
 list_with_table_send = view_send list_with_table_inside _ _ _ _ (declared_send list_with_table_type (range_list_send, (page_table_send, (pool_send, tt))))

@@ -72,7 +72,21 @@ impl Space {
         ensures err { OnErr result (self.new ≡ self.old) }
         ensures kept { (ms : List Mapping) → AreKept self.old ms → AreKept self.new ms }
     {
-        self.buffers.create(alloc, pages)
+        if let Some(fault) = self.create_fault(pages) {
+            return Err(fault);
+        }
+        let index = self.buffers.next_index();
+        self.mapped.reserve_name(index)?;
+        match self.buffers.create(alloc, pages) {
+            Ok(id) => {
+                self.mapped.name(BufferId {
+                    index: id.index,
+                    generation: id.generation,
+                });
+                Ok(id)
+            }
+            Err(fault) => Err(fault),
+        }
     }
 
     /// Destroys a buffer that nothing names. `NoBuffer` where the id is dead, then `Mapped` where mappings of it are in the

@@ -1,4 +1,4 @@
-use Rattle.std.proofs.Common.{arith, ◌≡◌, ◌+◌, ◌*◌, ◌<◌, ℕ, get_or, slice_index_or, Option, Bor, MatchOption, IfSome, sym, ap, ◌∙◌, subst}
+use Rattle.std.proofs.Common.{arith, ◌≡◌, ◌+◌, ◌*◌, ◌<◌, ℕ, get_or, slice_index_or, Option, MatchOption, IfSome, sym, ap, ◌∙◌, subst}
 use Rattle.gv_types.specs.PageRange.{end_of}
 use Rattle.gv_types.specs.Mapping.{part, IsMapping}
 use Rattle.gv_types.specs.declared.mapping.Mapping.{Mapping}
@@ -18,8 +18,8 @@ returns-clause-wanted c = λ k below.
     let ms = c.args.excerpt.now.mappings.now in
     let level : ℕ = c.args.place.level in
     let slot : ℕ = c.args.place.first + k * pages_of c.args.place.level in
-    let Says : Option (Bor Mapping) → Type 0 = λ held.
-    MatchOption held (wanted ms level slot ≡ variant.Nothing) (λ m. wanted ms level slot ≡ variant.Entry (part m.now slot)) in
+    let Says : Option Mapping → Type 0 = λ held.
+    MatchOption held (wanted ms level slot ≡ variant.Nothing) (λ m. wanted ms level slot ≡ variant.Entry (part m slot)) in
     let some = pages_of-some c.args.place.level in
     let fits = whole-part c.saturating_sub.result k (pages_of c.args.place.level) some (subst (λ (n : ℕ). k < n) c.slots_in-count.ensures below) in
     let gap = gap-wanted ms level slot (first_within c.args.excerpt.now.range c.args.place.first) c.args.excerpt.now.position c.requires.laid_out c.requires.position in
@@ -31,7 +31,7 @@ returns-clause-wanted c = λ k below.
           w.first-then-first-2.ensures.value ∙ ap (λ (m : Mapping). m.range.first) (w.get-m.ensures d) in
           omega (arith, begins, fits, w.end-is, w.min-end.ensures, c.saturating_sub.ensures)))
       | else-first+then-excerpt-len+else-first-2+then-level-le-GREATEST_LEAF_LEVEL w ↦ (
-          let m = w.get-m.result.now in
+          let m = w.get-m.result in
           let is = w.get-m.ensures m in
           let low : w.first-then-excerpt-len.result ≡ (slice_index_or c.args.excerpt.now.mappings.now c.args.excerpt.now.position m).range.first =
           w.first-then-excerpt-len.ensures.value ∙ ap (λ (m : Mapping). m.range.first) is in
@@ -49,12 +49,12 @@ returns-clause-wanted c = λ k below.
 
 pub returns-clause-mapping : goal.returns-clause-mapping
 returns-clause-mapping c =
-    let Is : Option (Bor Mapping) → Type 0 = λ held. IfSome held (λ m. IsMapping m.now) in
+    let Is : Option Mapping → Type 0 = λ held. IfSome held (λ m. IsMapping m) in
     elim c.if-first.branch [
       | then-first w ↦ subst Is (sym w.held-is) tt
       | else-first+then-excerpt-len+then-first-2 w ↦ subst Is (sym w.held-is) tt
       | else-first+then-excerpt-len+else-first-2+then-level-le-GREATEST_LEAF_LEVEL w ↦ (
-          let m = w.get-m.result.now in
+          let m = w.get-m.result in
           subst Is (sym w.held-is) (subst IsMapping (sym (w.get-m.ensures m))
           (is_mapping c.args.excerpt.now.mappings.now 0 c.args.excerpt.now.position m c.requires.laid_out (omega (arith, w.if-excerpt-len.true, w.len.ensures.len)))))
       | else-first+then-excerpt-len+else-first-2+else-level-le-GREATEST_LEAF_LEVEL w ↦ subst Is (sym w.held-is) tt

@@ -1,18 +1,20 @@
 use Rattle.std.proofs.Common.{rules, arith, refl, ◌≡◌, ◌≢◌, ◌≤◌, ◌<◌, ◌+◌, ◌*◌, ℕ, ◌⊎◌, inl, inr, List, length, slice_index_or, slice_set, MatchOption, sym, ap, ◌∙◌, subst}
 use Rattle.std.proofs.lemmas.List.{get_or_default}
 use Rattle.gv_types.specs.Mapping.{part}
+use Rattle.gv_table.specs.Kinds.{Kind}
 use Rattle.gv_table.specs.declared.slot.Slot.{Slot}
 use Rattle.gv_table.specs.declared.slot.Slot.TheVariants.{Empty}
 use Rattle.gv_table.specs.Levels.{pages_of}
+use Rattle.gv_table.specs.Shape.{IsShaped}
 use Rattle.gv_table.specs.Tree.{IsTreeOf, leaf}
-use Rattle.gv_table.specs.Counts.{tables_in, tables_at, lost}
+use Rattle.gv_table.specs.Counts.{tables_in, tables_at}
 use Rattle.gv_table.proofs.Counting.{row-part, row-counted}
 use Rattle.gv_table.proofs.Counts.{tables_at-other}
-use Rattle.gv_table.proofs.Fewness.{row_lost-few}
 use Rattle.gv_table.proofs.Matches.{lost-whole, gained-none}
 use Rattle.gv_table.proofs.Painted.{painted-gained, painted-lost, painted-above}
+use Rattle.gv_table.proofs.InOne.{sides}
+use Rattle.gv_table.proofs.Shapes.{shaped-other}
 use Rattle.gv_table.proofs.Rows.{row-other, row-here}
-use Rattle.gv_table.proofs.Sums.{sum_below-at}
 use Rattle.gv_table.proofs.Whole.{alike-undivided, alike-tree, alike-no-table}
 use Rattle.gv_table.proofs.leaves.paint_alike.Goals as goal
 
@@ -21,14 +23,14 @@ loop-index-init c = record {
   painted = λ k from below. absurd (omega (arith, from, below));
   before = λ k below. refl;
   untouched = λ k from. refl;
-  lost = omega arith;
-  gained = refl;
-  put = omega arith;
+  shaped = c.requires.shaped;
+  gained = λ kind. refl;
+  put = λ kind. refl;
   standing = λ target. refl;
 }
 
-pub paint_whole-lost-requires-clause-counted : goal.paint_whole-lost-requires-clause-counted
-paint_whole-lost-requires-clause-counted c = λ target.
+pub paint_whole-requires-clause-counted : goal.paint_whole-requires-clause-counted
+paint_whole-requires-clause-counted c = λ target.
     let ms = c.args.excerpt.now.mappings.now in
     let i : ℕ = c.loop-index.index in
     let row = c.loop-index.slots in
@@ -42,25 +44,6 @@ paint_whole-lost-requires-clause-counted c = λ target.
     let counted = here.counted target in
     let same = ap (λ (s : Slot). tables_at target c.args.place.level s) read in
     omega (arith, counted, same)
-
-pub overflow_add-lost : goal.overflow_add-lost
-overflow_add-lost c =
-    let ms = c.args.excerpt.now.mappings.now in
-    let i : ℕ = c.loop-index.index in
-    let row = c.loop-index.slots in
-    let page : ℕ = c.args.place.first + c.loop-index.index * pages_of c.args.place.level in
-    let within : c.loop-index.index < length c.loop-index.slots = search rules in
-    let below : c.loop-index.index < 512 = omega (arith, c.loop-index-test.true, c.requires.within) in
-    let start : c.args.place.first + c.loop-index.index * c.pages_of-pages.result ≡ c.args.place.first + c.loop-index.index * pages_of c.args.place.level =
-    ap (λ (n : ℕ). c.args.place.first + c.loop-index.index * n) c.pages_of-pages.ensures.pages in
-    let read : slice_index_or row i c.index-slots-index.result ≡ slice_index_or row i Empty = get_or_default row i c.index-slots-index.result Empty within in
-    let want = c.requires.wanted c.loop-index.index c.loop-index.auto.index c.loop-index-test.true in
-    let none = alike-undivided ms c.args.place.level page c.args.held want in
-    let whole = lost-whole ms c.args.place.level page (slice_index_or row i Empty) c.requires.laid_out none in
-    let count = ap (λ (s : Slot). tables_in c.args.place.level s) read in
-    let part = sum_below-at 512 (λ (k : ℕ). lost ms c.args.place.level (c.args.place.first + k * pages_of c.args.place.level) (slice_index_or row k Empty)) i below in
-    let few = row_lost-few ms c.args.place.level c.args.place.first c.args.slots.now in
-    omega (arith, whole, count, part, few, c.requires.in_space, c.loop-index.invariant.lost, c.paint_whole-lost.ensures.count)
 
 split : (k i : ℕ) → k < i + 1 → (k < i) ⊎ (k ≡ i)
 split k i below = grind arith
@@ -79,17 +62,17 @@ loop-index-preserved c =
     let read : slice_index_or row i c.index-slots-index.result ≡ slice_index_or row i Empty = get_or_default row i c.index-slots-index.result Empty within in
     let want = c.requires.wanted c.loop-index.index c.loop-index.auto.index c.loop-index-test.true in
     let none = alike-undivided ms c.args.place.level page c.args.held want in
-    let whole = lost-whole ms c.args.place.level page (slice_index_or row i Empty) c.requires.laid_out none in
-    let count = ap (λ (s : Slot). tables_in c.args.place.level s) read in
-    let after : List Slot = slice_set row i c.paint_whole-lost.new.slot in
+    let whole = λ (kind : Kind). lost-whole kind ms c.args.place.level page (slice_index_or row i Empty) c.requires.laid_out none in
+    let count = λ (kind : Kind). ap (λ (s : Slot). tables_in kind c.args.place.level s) read in
+    let after : List Slot = slice_set row i c.paint_whole.new.slot in
     let same : (k : ℕ) → k ≢ i → slice_index_or after k Empty ≡ slice_index_or row k Empty = row-other after row i _ refl in
-    let new : slice_index_or after i Empty ≡ c.paint_whole-lost.new.slot = row-here after row i _ refl within in
+    let new : slice_index_or after i Empty ≡ c.paint_whole.new.slot = row-here after row i _ refl within in
     let P : ℕ → Slot → Type 0 = λ n s. MatchOption c.args.held (s ≡ Empty) (λ m. s ≡ leaf (part m.now n)) in
-    let made : P page (slice_index_or after i Empty) = subst (P page) (sym new) (subst (λ (n : ℕ). P n c.paint_whole-lost.new.slot) start c.paint_whole-lost.ensures.slot) in
+    let made : P page (slice_index_or after i Empty) = subst (P page) (sym new) (subst (λ (n : ℕ). P n c.paint_whole.new.slot) start c.paint_whole.ensures.slot) in
     let here : IsTreeOf ms c.args.place.level page (slice_index_or after i Empty) = alike-tree ms c.args.place.level page c.args.held _ want made in
-    let g = painted-gained ms c.args.place.level c.args.place.first i c.args.slots.now row after same inv.untouched c.requires.laid_out here below in
-    let l = painted-lost ms c.args.place.level c.args.place.first i c.args.slots.now row after same inv.untouched c.requires.laid_out here below in
-    let nothing = gained-none ms c.args.place.level page (slice_index_or row i Empty) none in
+    let g = λ (kind : Kind). painted-gained ms c.args.place.level c.args.place.first i c.args.slots.now row after same inv.untouched c.requires.laid_out here kind below in
+    let l = λ (kind : Kind). painted-lost ms c.args.place.level c.args.place.first i c.args.slots.now row after same inv.untouched c.requires.laid_out here kind below in
+    let nothing = λ (kind : Kind). gained-none kind ms c.args.place.level page (slice_index_or row i Empty) none in
     record {
       painted = λ k from less. elim (split k i less) [
         | inl smaller ↦ (let differ : k ≢ i = omega arith in
@@ -97,15 +80,20 @@ loop-index-preserved c =
         | inr e ↦ (let P : ℕ → Type 0 = λ j. IsTreeOf ms c.args.place.level (c.args.place.first + j * pages_of c.args.place.level) (slice_index_or after j Empty) in subst P (sym e) here)
       ];
       before = λ k less. let differ : k ≢ i = omega (arith, less, c.loop-index.auto.index) in same k differ ∙ inv.before k less;
+      shaped = λ k inside. elim (sides k i) [
+        | inl e ↦ (let P : ℕ → Type 0 = λ j. IsShaped c.args.place.level (slice_index_or after j Empty) in
+            subst P (sym e) (shaped-other c.args.place.level (slice_index_or after i Empty) (alike-no-table c.args.held page _ made)))
+        | inr (inl less) ↦ (let differ : k ≢ i = omega (arith, less) in subst (λ (s : Slot). IsShaped c.args.place.level s) (sym (same k differ)) (inv.shaped k inside))
+        | inr (inr more) ↦ (let differ : k ≢ i = omega (arith, more) in subst (λ (s : Slot). IsShaped c.args.place.level s) (sym (same k differ)) (inv.shaped k inside))
+      ];
       untouched = painted-above ms c.args.place.level c.args.place.first i c.args.slots.now row after same inv.untouched c.requires.laid_out here;
-      lost = omega (arith, l, whole, count, inv.lost, c.paint_whole-lost.ensures.count);
-      gained = omega (arith, g, nothing, inv.gained);
-      put = omega (arith, count, inv.put, c.paint_whole-lost.ensures.put, c.paint_whole-lost.ensures.count);
-      standing = row-counted c.args.counts.now c.loop-index.counts c.paint_whole-lost.new.counts c.args.place.level i c.args.slots.now row after below same inv.standing
+      gained = λ kind. omega (arith, g kind, nothing kind, inv.gained kind);
+      put = λ kind. omega (arith, l kind, whole kind, count kind, inv.put kind, c.paint_whole.ensures.put kind);
+      standing = row-counted c.args.counts.now c.loop-index.counts c.paint_whole.new.counts c.args.place.level i c.args.slots.now row after below same inv.standing
           (λ target.
           let old = ap (λ (s : Slot). tables_at target c.args.place.level s) read in
           let end = tables_at-other target c.args.place.level (slice_index_or after i Empty) (alike-no-table c.args.held page _ made) in
-          let counted = c.paint_whole-lost.ensures.counted target in
+          let counted = c.paint_whole.ensures.counted target in
           omega (arith, old, end, counted));
     }
 
@@ -120,9 +108,6 @@ returns-clause-behind c = λ k from.
     let last : c.loop-index.index ≤ c.args.run.end = c.loop-index.auto.index-end c.requires.ordered in
     c.loop-index.invariant.untouched k (omega (arith, from, last))
 
-pub returns-clause-lost : goal.returns-clause-lost
-returns-clause-lost c = c.loop-index.invariant.lost
-
 pub returns-clause-gained : goal.returns-clause-gained
 returns-clause-gained c = c.loop-index.invariant.gained
 
@@ -131,3 +116,13 @@ returns-clause-put c = c.loop-index.invariant.put
 
 pub returns-clause-counted : goal.returns-clause-counted
 returns-clause-counted c = c.loop-index.invariant.standing
+
+pub paint_whole-requires-clause-shaped : goal.paint_whole-requires-clause-shaped
+paint_whole-requires-clause-shaped c =
+    let within : c.loop-index.index < length c.loop-index.slots = search rules in
+    let below : c.loop-index.index < 512 = omega (arith, c.loop-index-test.true, c.requires.within) in
+    subst (λ (s : Slot). IsShaped c.args.place.level s) (sym (get_or_default c.loop-index.slots c.loop-index.index c.index-slots-index.result Empty within))
+    (c.loop-index.invariant.shaped c.loop-index.index below)
+
+pub returns-clause-shaped : goal.returns-clause-shaped
+returns-clause-shaped c = c.loop-index.invariant.shaped

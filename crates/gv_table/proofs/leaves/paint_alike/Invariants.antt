@@ -1,6 +1,8 @@
 use Rattle.std.proofs.Common.{◌≡◌, ◌≤◌, ◌<◌, ◌+◌, ◌*◌, ℕ, slice_index_or}
 use Rattle.gv_table.specs.declared.slot.Slot.TheVariants.{Empty}
+use Rattle.gv_table.specs.Kinds.{Kind, of}
 use Rattle.gv_table.specs.Levels.{pages_of}
+use Rattle.gv_table.specs.Shape.{IsShaped}
 use Rattle.gv_table.specs.Tree.{IsTreeOf}
 use Rattle.gv_table.specs.Counts.{row_tables_at, count_at, row_gained, row_lost}
 use Rattle.gv_table.proofs.leaves.paint_alike.Given as goal
@@ -10,9 +12,9 @@ invariant-loop-index l = record {
   painted : (k : ℕ) → l.low ≤ k → k < l.index → IsTreeOf l.excerpt.mappings.now l.level (l.first + k * pages_of l.level) (slice_index_or l.slots k Empty);
   before : (k : ℕ) → k < l.low → slice_index_or l.slots k Empty ≡ slice_index_or l.initial.slots k Empty;
   untouched : (k : ℕ) → l.index ≤ k → slice_index_or l.slots k Empty ≡ slice_index_or l.initial.slots k Empty;
-  lost : l.lost + row_lost l.excerpt.mappings.now l.level l.first l.slots ≡ row_lost l.excerpt.mappings.now l.level l.first l.initial.slots;
-  gained : row_gained l.excerpt.mappings.now l.level l.first l.slots ≡ row_gained l.excerpt.mappings.now l.level l.first l.initial.slots;
-  put : l.spares ≡ l.initial.spares + l.lost;
+  shaped : (k : ℕ) → k < 512 → IsShaped l.level (slice_index_or l.slots k Empty);
+  gained : (kind : Kind) → row_gained kind l.excerpt.mappings.now l.level l.first l.slots ≡ row_gained kind l.excerpt.mappings.now l.level l.first l.initial.slots;
+  put : (kind : Kind) → of kind l.left + row_lost kind l.excerpt.mappings.now l.level l.first l.slots ≡ of kind l.initial.left + row_lost kind l.excerpt.mappings.now l.level l.first l.initial.slots;
   standing : (target : ℕ) →
       count_at l.counts target + row_tables_at target l.level l.initial.slots ≡ count_at l.initial.counts target + row_tables_at target l.level l.slots;
 }

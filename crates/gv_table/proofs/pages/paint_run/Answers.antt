@@ -5,8 +5,11 @@ use Rattle.gv_types.specs.declared.mapping.Entry.{Entry}
 use Rattle.gv_types.specs.declared.mapping.Mapping.{Mapping}
 use Rattle.gv_ranges.proofs.LookupLemmas.{is_mapping}
 use Rattle.gv_ranges.proofs.PartLemmas.{All-drop_at}
-use Rattle.gv_table.specs.Tree.{leaf}
-use Rattle.gv_table.proofs.Runs.{run-past, run-gap, run-mapping, part-further, part-small}
+use Rattle.gv_table.specs.Names.{IsTold}
+use Rattle.gv_table.specs.Tree.{leaf, slot_of}
+use Rattle.std.proofs.lemmas.List.Elements.{All-get_or}
+use Rattle.gv_table.proofs.Runs.{run-past, run-gap, run-mapping, part-further, part-small, part-told}
+use Rattle.gv_table.proofs.Slots.{slot_of-none}
 use Rattle.gv_table.proofs.Spans.{covers-from}
 use Rattle.gv_table.proofs.Trees.{IsTreeOf-page}
 use Rattle.gv_table.proofs.pages.paint_run.Goals as goal
@@ -15,23 +18,23 @@ pub returns-then-position-len-clause-painted : goal.returns-then-position-len-cl
 returns-then-position-len-clause-painted c = λ k up less.
     IsTreeOf-page c.args.mappings.now (c.args.first + k) None _
     (run-past c.args.mappings.now (c.args.first + c.args.run.start) (c.args.first + k) c.args.position c.requires.position (omega arith) (omega arith))
-    (c.empty.ensures.emptied k up less)
+    (ap slot_of (c.empty.ensures.emptied k up less) ∙ slot_of-none)
 
 pub returns-then-page-first-clause-painted : goal.returns-then-page-first-clause-painted
 returns-then-page-first-clause-painted c = λ k up less.
     let ms = c.args.mappings.now in
-    let m = c.get-m.result.now in
+    let m = c.get-m.result in
     let inside : c.args.position < length ms = (let within = c.requires.position.within in omega (arith, within)) in
     let before : c.args.first + k < m.range.first = omega arith in
     IsTreeOf-page ms (c.args.first + k) None _
     (run-gap ms (c.args.first + c.args.run.start) (c.args.first + k) c.args.position c.requires.position (omega arith) m c.requires.laid_out inside
     (rw (← c.get-m.ensures m) before))
-    (c.empty-then-page-first.ensures.emptied k up less)
+    (ap slot_of (c.empty-then-page-first.ensures.emptied k up less) ∙ slot_of-none)
 
 pub overflow_sub-end : goal.overflow_sub-end
 overflow_sub-end c =
     let ms = c.args.mappings.now in
-    let m = c.get-m.result.now in
+    let m = c.get-m.result in
     let inside : c.args.position < length ms = (let within = c.requires.position.within in omega (arith, within)) in
     let past = All-drop_at (λ (n : Mapping). c.args.first + c.args.run.start < end_of n.range) ms c.args.position m inside c.requires.position.not_ended in
     let past' : c.args.first + c.args.run.start < end_of m.range = rw (← c.get-m.ensures m) at past in
@@ -40,14 +43,14 @@ overflow_sub-end c =
 pub part-requires-clause-mapping : goal.part-requires-clause-mapping
 part-requires-clause-mapping c =
     let ms = c.args.mappings.now in
-    let m = c.get-m.result.now in
+    let m = c.get-m.result in
     let inside : c.args.position < length ms = (let within = c.requires.position.within in omega (arith, within)) in
     rw (c.get-m.ensures m) (is_mapping ms 0 c.args.position m c.requires.laid_out inside)
 
 pub part-requires-clause-covered : goal.part-requires-clause-covered
 part-requires-clause-covered c =
     let ms = c.args.mappings.now in
-    let m = c.get-m.result.now in
+    let m = c.get-m.result in
     let inside : c.args.position < length ms = (let within = c.requires.position.within in omega (arith, within)) in
     let past = All-drop_at (λ (n : Mapping). c.args.first + c.args.run.start < end_of n.range) ms c.args.position m inside c.requires.position.not_ended in
     covers-from m.range (c.args.first + c.args.run.start) (omega arith) (rw (← c.get-m.ensures m) at past)
@@ -55,29 +58,16 @@ part-requires-clause-covered c =
 pub fill-requires-clause-ordered : goal.fill-requires-clause-ordered
 fill-requires-clause-ordered c =
     let ms = c.args.mappings.now in
-    let m = c.get-m.result.now in
+    let m = c.get-m.result in
     let inside : c.args.position < length ms = (let within = c.requires.position.within in omega (arith, within)) in
     let past = All-drop_at (λ (n : Mapping). c.args.first + c.args.run.start < end_of n.range) ms c.args.position m inside c.requires.position.not_ended in
     let past' : c.args.first + c.args.run.start < end_of m.range = rw (← c.get-m.ensures m) at past in
     omega (arith, past')
 
-pub fill-requires-clause-small : goal.fill-requires-clause-small
-fill-requires-clause-small c =
-    let ms = c.args.mappings.now in
-    let m = c.get-m.result.now in
-    let inside : c.args.position < length ms = (let within = c.requires.position.within in omega (arith, within)) in
-    let is : IsMapping m = rw (c.get-m.ensures m) (is_mapping ms 0 c.args.position m c.requires.laid_out inside) in
-    let past = All-drop_at (λ (n : Mapping). c.args.first + c.args.run.start < end_of n.range) ms c.args.position m inside c.requires.position.not_ended in
-    let past' : c.args.first + c.args.run.start < end_of m.range = rw (← c.get-m.ensures m) at past in
-    let n : ℕ = c.min-end-2.result - c.args.run.start in
-    let within : c.args.first + c.args.run.start + n ≤ end_of m.range = omega (arith, past') in
-    let small = part-small m (c.args.first + c.args.run.start) n is (omega arith) within in
-    rw c.part.ensures small
-
 pub returns-clause-further : goal.returns-clause-further
 returns-clause-further c =
     let ms = c.args.mappings.now in
-    let m = c.get-m.result.now in
+    let m = c.get-m.result in
     let inside : c.args.position < length ms = (let within = c.requires.position.within in omega (arith, within)) in
     let past = All-drop_at (λ (n : Mapping). c.args.first + c.args.run.start < end_of n.range) ms c.args.position m inside c.requires.position.not_ended in
     let past' : c.args.first + c.args.run.start < end_of m.range = rw (← c.get-m.ensures m) at past in
@@ -86,7 +76,7 @@ returns-clause-further c =
 pub returns-clause-painted : goal.returns-clause-painted
 returns-clause-painted c = λ k up less.
     let ms = c.args.mappings.now in
-    let m = c.get-m.result.now in
+    let m = c.get-m.result in
     let page : ℕ = c.args.first + c.args.run.start in
     let later : ℕ = c.args.first + k in
     let inside : c.args.position < length ms = (let within = c.requires.position.within in omega (arith, within)) in
@@ -97,4 +87,12 @@ returns-clause-painted c = λ k up less.
     let more : page + (k - c.args.run.start) ≡ later = omega arith in
     let entry : entry_advanced c.part.result (k - c.args.run.start) ≡ part m later =
     ap (λ (e : Entry). entry_advanced e (k - c.args.run.start)) c.part.ensures ∙ part-further m page (k - c.args.run.start) begun ∙ ap (λ (n : ℕ). part m n) more in
-    IsTreeOf-page ms later (Some (part m later)) _ (rw (← c.get-m.ensures m) at found) (c.fill.ensures.filled k up less ∙ ap leaf entry)
+    let is : IsMapping m = rw (c.get-m.ensures m) (is_mapping ms 0 c.args.position m c.requires.laid_out inside) in
+    let past = All-drop_at (λ (n : Mapping). page < end_of n.range) ms c.args.position m inside c.requires.position.not_ended in
+    let past' : c.args.first + c.args.run.start < end_of m.range = rw (← c.get-m.ensures m) at past in
+    let n : ℕ = c.min-end-2.result - c.args.run.start in
+    let within : c.args.first + c.args.run.start + n ≤ end_of m.range = omega (arith, past') in
+    let small = part-small m page n is begun within in
+    let one : IsTold m.backing m.range.count = rw (c.get-m.ensures m) (All-get_or (λ (x : Mapping). IsTold x.backing x.range.count) ms c.args.position m inside c.requires.told) in
+    let said = part-told m page n one begun within in
+    IsTreeOf-page ms later (Some (part m later)) _ (rw (← c.get-m.ensures m) at found) (c.fill.ensures.filled (rw c.part.ensures small) (rw c.part.ensures said) k up less ∙ ap leaf entry)

@@ -1,32 +1,36 @@
-use Rattle.std.proofs.Common.{rules, arith, inl, inr, IfSome, MatchOption, ◌≡◌, ◌+◌, ◌*◌, ◌<◌, ◌≤◌, ◌-◌, ℕ, true, false, length, slice_index_or, slice_set, List, Box, Global, refl, sym, ap, ◌∙◌, subst}
+use Rattle.std.proofs.Common.{rules, arith, inl, inr, IfSome, MatchOption, ◌≡◌, ◌+◌, ◌*◌, ◌<◌, ◌≤◌, ◌-◌, ℕ, nat_eq, true, false, length, slice_index_or, slice_set, List, Box, Global, refl, sym, ap, ◌∙◌, subst}
 use Rattle.std.proofs.lemmas.Bool.{cases_lt}
 use Rattle.std.proofs.Math.Nat.{add-mul}
 use borrow.Enum.Total.{values_o_at}
+use Rattle.gv_table.specs.Kinds.{Kind}
 use Rattle.gv_table.specs.contracts.slot.Slot.{enum}
 use Rattle.gv_types.specs.Page.{PAGES}
 use Rattle.gv_types.specs.PageRange.{span, meets, end_of, covers}
-use Rattle.gv_types.specs.Mapping.{part}
+use Rattle.gv_types.specs.Mapping.{part, IsMapping}
+use Rattle.gv_table.proofs.Whole.{copied-match, copied-some}
+use Rattle.gv_table.specs.Names.{PageSlot}
 use Rattle.gv_table.specs.declared.slot.Slot.{Slot}
-use Rattle.gv_table.specs.declared.slot.Slot.TheVariants.{Empty}
+use Rattle.gv_table.specs.declared.slot.Slot.TheVariants.{Empty, Pages}
 use Rattle.gv_ranges.specs.List.{IsIndexOfPage}
 use Rattle.gv_table.specs.Levels.{pages_of, slot_pages, first_within}
 use Rattle.gv_table.specs.declared.wanted.Wanted.TheVariants as variant
 use Rattle.gv_table.specs.Wanted.{wanted, is_divided}
-use Rattle.gv_table.specs.Tree.{IsTreeOf, IsTreeOutside, is_table}
-use Rattle.gv_table.specs.Counts.{gained, lost, IsPartOf}
-use Rattle.gv_table.proofs.Counts.{gained-parts, lost-parts, tables_at-other, tables_at-same}
-use Rattle.gv_table.proofs.Fewness.{row_lost-few}
+use Rattle.gv_table.specs.Shape.{IsShaped}
+use Rattle.gv_table.specs.Tree.{IsTreeOf, IsToldOutside, is_table, child, slot_of, no_page}
+use Rattle.gv_table.specs.Counts.{gained, tables_at, one_if, IsPartOf}
+use Rattle.gv_table.proofs.Counts.{gained-parts, lost-parts, tables_at-other, tables_at-same, tables_at-parts, tables_at-pages}
 use Rattle.gv_table.proofs.Matches.{lost-whole, gained-none}
 use Rattle.gv_table.proofs.PagesOf.{pages_of-below, part-within, one-more-part}
-use Rattle.gv_table.proofs.Painted.{table-row, row-tables, painted-below, painted-above, painted-gained, painted-lost, row-tree, row_gained-zero, row_lost-zero, gained-divided, lost-divided, row_gained-pages, row_lost-pages, row_tables_at-pages}
+use Rattle.gv_table.proofs.Painted.{table-row, row-tables, painted-below, painted-above, painted-gained, painted-lost, row-tree, row_gained-zero, row_lost-zero, gained-divided, lost-divided, pages-lost, pages-gained, pages-tables}
 use Rattle.gv_table.proofs.InOne.{row-pages, in-row, one-tree, one-gained, one-lost}
 use Rattle.gv_table.proofs.Positions.{ended-later, position-ended}
 use Rattle.gv_table.proofs.Written.{is-read, is-written}
-use Rattle.gv_table.proofs.Slots.{is_table-Empty, is_table-leaf, no-table}
+use Rattle.gv_table.proofs.Shapes.{pages-level, shaped-Pages, shaped-other, shaped-Table, shaped-written, table-level, table-parts}
+use Rattle.gv_table.proofs.Slots.{is_table-Empty, is_table-leaf, no-table, child-Pages}
 use Rattle.gv_table.proofs.Counting.{divided-row, divided-counted, row-part, row-counted, row-still}
 use Rattle.gv_table.proofs.Spans.{meets-before}
 use Rattle.gv_table.proofs.Sums.{sum_below-at}
-use Rattle.gv_table.proofs.Trees.{IsTreeOf-nothing, IsTreeOf-leaf, IsTreeOf-table, outside-apart, empty-apart}
+use Rattle.gv_table.proofs.Trees.{IsTreeOf-pages, IsTreeOf-nothing, IsTreeOf-leaf, IsTreeOf-table, outside-apart, empty-apart}
 use Rattle.gv_table.proofs.Wants.{table-above}
 use Rattle.gv_table.proofs.paint.+paint.Goals as goal
 
@@ -42,14 +46,15 @@ paint_slots-loop-index-init t c = record {
       c.requires.laid_out (c.requires.outside k (omega (arith, c.slots_met-low.ensures.ordered, c.slots_met-low.ensures.within)))
       (omega (arith, fits, c.requires.in_space)) apart;
   untouched = λ k above. refl;
+  shaped = c.requires.shaped;
   enough = c.requires.enough;
-  counted = omega arith;
+  put = λ kind. refl;
   standing = λ target. refl;
-  exchanged = omega arith;
+  taken = λ kind. refl;
 }
 
-pub paint_slots-paint_slot-lost-requires : goal.paint_slots-paint_slot-lost-requires
-paint_slots-paint_slot-lost-requires t c =
+pub paint_slots-paint_slot-requires : goal.paint_slots-paint_slot-requires
+paint_slots-paint_slot-requires t c =
     let ms = c.args.excerpt.now.mappings.now in
     let i : ℕ = c.loop-index.index in
     let within : c.loop-index.index < length c.loop-index.slots = search rules in
@@ -62,26 +67,35 @@ paint_slots-paint_slot-lost-requires t c =
     let old = read.slot ∙ c.loop-index.invariant.untouched c.loop-index.index (omega arith) in
     let page : c.max.result ≡ first_within c.args.excerpt.now.range (c.args.place.first + c.loop-index.index * c.pages_of-pages.result) = omega arith in
     let position-at = subst (λ (n : ℕ). IsIndexOfPage ms n c.advance-position.result) page c.advance-position.ensures in
-    let part = sum_below-at 512 (λ (k : ℕ). gained ms c.args.place.level (c.args.place.first + k * pages_of c.args.place.level) (slice_index_or c.loop-index.slots k Empty)) i below in (
+    let part = λ (kind : Kind). sum_below-at 512 (λ (k : ℕ). gained kind ms c.args.place.level (c.args.place.first + k * pages_of c.args.place.level) (slice_index_or c.loop-index.slots k Empty)) i below in (
       omega arith,
       (
-        omega (arith, c.requires.known),
+        c.requires.some,
         (
-          omega (arith, start, fits, c.requires.in_space),
+          omega (arith, c.requires.known),
           (
-            c.requires.laid_out,
+            omega (arith, start, fits, c.requires.in_space),
             (
-              position-at,
+              c.requires.laid_out,
               (
-                subst (λ (n : ℕ). meets (slot_pages c.args.place.level n) c.args.excerpt.now.range ≡ true) (sym start) (c.slots_met-low.ensures.met c.loop-index.index from c.loop-index-test.true),
+                c.requires.told,
                 (
-                  subst (λ (n : ℕ). IsTreeOutside ms c.args.excerpt.now.range c.args.place.level n (slice_index_or c.loop-index.slots c.loop-index.index c.index-slots-index.result)) (sym start)
-                      (subst (λ (s : Slot). IsTreeOutside ms c.args.excerpt.now.range c.args.place.level (c.args.place.first + c.loop-index.index * pages_of c.args.place.level) s) (sym old)
-                      (c.requires.outside c.loop-index.index below)),
+                  position-at,
                   (
-                    omega (arith, gains, part, c.loop-index.invariant.enough),
-                    subst (λ (s : Slot). IsPartOf c.loop-index.counts c.args.place.level s) (sym read.slot)
-                        (row-part c.args.counts.now c.loop-index.counts c.args.place.level c.loop-index.index c.args.slots.now c.loop-index.slots below c.requires.part c.loop-index.invariant.standing),
+                    subst (λ (n : ℕ). meets (slot_pages c.args.place.level n) c.args.excerpt.now.range ≡ true) (sym start) (c.slots_met-low.ensures.met c.loop-index.index from c.loop-index-test.true),
+                    (
+                      subst (λ (n : ℕ). IsToldOutside ms c.args.excerpt.now.range c.args.place.level n (slice_index_or c.loop-index.slots c.loop-index.index c.index-slots-index.result)) (sym start)
+                          (subst (λ (s : Slot). IsToldOutside ms c.args.excerpt.now.range c.args.place.level (c.args.place.first + c.loop-index.index * pages_of c.args.place.level) s) (sym old)
+                          (c.requires.outside c.loop-index.index below)),
+                      (
+                        λ kind. omega (arith, gains kind, part kind, c.loop-index.invariant.enough kind),
+                        (
+                          subst (λ (s : Slot). IsPartOf c.loop-index.counts c.args.place.level s) (sym read.slot)
+                              (row-part c.args.counts.now c.loop-index.counts c.args.place.level c.loop-index.index c.args.slots.now c.loop-index.slots below c.requires.part c.loop-index.invariant.standing),
+                          subst (λ (s : Slot). IsShaped c.args.place.level s) (sym read.slot) (c.loop-index.invariant.shaped c.loop-index.index below),
+                        ),
+                      ),
+                    ),
                   ),
                 ),
               ),
@@ -99,14 +113,14 @@ paint_slots-loop-index-preserved-then-alike-eq0 t c =
     let first : ℕ = c.args.place.first in
     let i : ℕ = c.loop-index.index in
     let row = c.loop-index.slots in
-    let after : List Slot = slice_set row i c.paint_slot-lost.new.slot in
-    let painted = c.paint_slot-lost.ensures in
+    let after : List Slot = slice_set row i c.paint_slot.new.slot in
+    let painted = c.paint_slot.ensures in
     let within : c.loop-index.index < length c.loop-index.slots = search rules in
     let below : c.loop-index.index < 512 = omega (arith, c.loop-index-test.true, c.slots_met-low.ensures.within) in
     let read = is-read ms level first c.pages_of-pages.result i row c.index-slots-index.result within c.pages_of-pages.ensures.pages in
-    let w = is-written ms level first c.pages_of-pages.result i row c.index-slots-index.result c.paint_slot-lost.new.slot within c.pages_of-pages.ensures.pages painted.tree in
-    let g = painted-gained ms level first i c.args.slots.now row after w.same inv.untouched c.requires.laid_out w.here below in
-    let l = painted-lost ms level first i c.args.slots.now row after w.same inv.untouched c.requires.laid_out w.here below in
+    let w = is-written ms level first c.pages_of-pages.result i row c.index-slots-index.result c.paint_slot.new.slot within c.pages_of-pages.ensures.pages painted.tree in
+    let g = λ (kind : Kind). painted-gained ms level first i c.args.slots.now row after w.same inv.untouched c.requires.laid_out w.here kind below in
+    let l = λ (kind : Kind). painted-lost ms level first i c.args.slots.now row after w.same inv.untouched c.requires.laid_out w.here kind below in
     let next = one-more-part c.loop-index.index (pages_of c.args.place.level) in
     record {
       from = omega (arith, inv.from);
@@ -114,16 +128,17 @@ paint_slots-loop-index-preserved-then-alike-eq0 t c =
       position = position-ended ms c.max.result _ c.advance-position.result (omega (arith, read.start, next)) c.advance-position.ensures;
       painted = painted-below ms level first i c.args.slots.now row after w.same inv.untouched c.requires.laid_out w.here inv.painted;
       untouched = painted-above ms level first i c.args.slots.now row after w.same inv.untouched c.requires.laid_out w.here;
-      enough = omega (arith, read.gains, read.loses, g, l, inv.enough, painted.exchanged);
-      counted = omega (arith, read.loses, l, inv.counted, painted.lost);
-      standing = row-counted c.args.counts.now c.loop-index.counts c.paint_slot-lost.new.counts level i c.args.slots.now row after below w.same inv.standing
-          (w.counted c.loop-index.counts c.paint_slot-lost.new.counts painted.counted);
-      exchanged = omega (arith, read.gains, read.loses, g, l, inv.exchanged, painted.exchanged);
+      shaped = shaped-written level row i c.paint_slot.new.slot within painted.shaped inv.shaped;
+      enough = λ kind. omega (arith, read.gains kind, g kind, inv.enough kind, painted.taken kind);
+      put = λ kind. omega (arith, read.loses kind, l kind, inv.put kind, painted.put kind);
+      standing = row-counted c.args.counts.now c.loop-index.counts c.paint_slot.new.counts level i c.args.slots.now row after below w.same inv.standing
+          (w.counted c.loop-index.counts c.paint_slot.new.counts painted.counted);
+      taken = λ kind. omega (arith, read.gains kind, g kind, inv.taken kind, painted.taken kind);
     }
 
 -- a run of slots that are alike is painted
-pub paint_slots-paint_alike-lost-requires : goal.paint_slots-paint_alike-lost-requires
-paint_slots-paint_alike-lost-requires t c =
+pub paint_slots-paint_alike-requires : goal.paint_slots-paint_alike-requires
+paint_slots-paint_alike-requires t c =
     let ms = c.args.excerpt.now.mappings.now in
     let p : ℕ = pages_of c.args.place.level in
     let i : ℕ = c.loop-index.index in
@@ -135,18 +150,22 @@ paint_slots-paint_alike-lost-requires t c =
     let all : (i + (k - i)) * p ≡ k * p = ap (λ (m : ℕ). m * p) (omega (arith, from)) in
     omega (arith, start, product, all) in
     record {
+      some = c.requires.some;
       known = c.requires.known;
       in_space = c.requires.in_space;
+      shaped = c.loop-index.invariant.shaped;
       laid_out = c.requires.laid_out;
       ordered = omega arith;
       within = omega (arith, c.min-alike.ensures, c.loop-index-test.true, c.slots_met-low.ensures.within);
       wanted = λ k from below.
-          subst (λ (n : ℕ). MatchOption held (wanted ms c.args.place.level n ≡ variant.Nothing) (λ m. wanted ms c.args.place.level n ≡ variant.Entry (part m.now n)))
-          (there k from) (c.alike_from-count.ensures.wanted (k - i) (omega (arith, from, below, c.min-alike.ensures)));
-      mapping = c.alike_from-count.ensures.mapping;
+          copied-match c.as_ref.result held _ (λ m. wanted ms c.args.place.level (c.args.place.first + k * p) ≡ variant.Entry (part m (c.args.place.first + k * p))) c.as_ref.ensures.value
+          (subst (λ (n : ℕ). MatchOption held (wanted ms c.args.place.level n ≡ variant.Nothing) (λ m. wanted ms c.args.place.level n ≡ variant.Entry (part m n)))
+          (there k from) (c.alike_from-count.ensures.wanted (k - i) (omega (arith, from, below, c.min-alike.ensures))));
+      mapping = copied-some c.as_ref.result held IsMapping c.as_ref.ensures.value c.alike_from-count.ensures.mapping;
       covered = λ k from below.
-          subst (λ (n : ℕ). IfSome held (λ m. covers m.now.range n ≡ true)) (there k from)
-          (c.alike_from-count.ensures.covered (k - i) (omega (arith, from, below, c.min-alike.ensures)));
+          copied-some c.as_ref.result held (λ m. covers m.range (c.args.place.first + k * p) ≡ true) c.as_ref.ensures.value
+          (subst (λ (n : ℕ). IfSome held (λ m. covers m.range n ≡ true)) (there k from)
+          (c.alike_from-count.ensures.covered (k - i) (omega (arith, from, below, c.min-alike.ensures))));
       part = row-still c.args.counts.now c.loop-index.counts c.args.place.level c.args.slots.now c.loop-index.slots c.requires.part c.loop-index.invariant.standing;
     }
 
@@ -158,8 +177,8 @@ paint_slots-loop-index-preserved t c =
     let i : ℕ = c.loop-index.index in
     let n : ℕ = c.min-alike.result in
     let row = c.loop-index.slots in
-    let after = c.paint_alike-lost.new.slots in
-    let painted = c.paint_alike-lost.ensures in
+    let after = c.paint_alike.new.slots in
+    let painted = c.paint_alike.ensures in
     let start : c.args.place.first + c.loop-index.index * c.pages_of-pages.result ≡ c.args.place.first + c.loop-index.index * pages_of c.args.place.level =
     ap (λ (n : ℕ). c.args.place.first + c.loop-index.index * n) c.pages_of-pages.ensures.pages in
     let product = add-mul c.loop-index.index c.min-alike.result p in
@@ -172,43 +191,12 @@ paint_slots-loop-index-preserved t c =
         | inr from ↦ painted.painted k from below
       ];
       untouched = λ k from. painted.behind k from ∙ inv.untouched k (omega (arith, from));
-      enough = omega (arith, painted.gained, painted.put, inv.enough);
-      counted = omega (arith, painted.lost, inv.counted);
+      shaped = painted.shaped;
+      enough = λ kind. omega (arith, painted.gained kind, inv.enough kind);
+      put = λ kind. omega (arith, painted.put kind, inv.put kind);
       standing = λ target. let counts = inv.standing target in let end = painted.counted target in omega (arith, counts, end);
-      exchanged = omega (arith, painted.gained, painted.lost, painted.put, inv.exchanged);
+      taken = λ kind. omega (arith, painted.gained kind, inv.taken kind);
     }
-
-pub paint_slots-overflow_add-lost-else-alike-eq0 : goal.paint_slots-overflow_add-lost-else-alike-eq0
-paint_slots-overflow_add-lost-else-alike-eq0 t c =
-    let few = row_lost-few c.args.excerpt.now.mappings.now c.args.place.level c.args.place.first c.args.slots.now in
-    omega (arith, few, c.requires.in_space, c.loop-index.invariant.counted, c.paint_alike-lost.ensures.lost)
-
-pub paint_slots-overflow_add-lost : goal.paint_slots-overflow_add-lost
-paint_slots-overflow_add-lost t c =
-    let ms = c.args.excerpt.now.mappings.now in
-    let i : ℕ = c.loop-index.index in
-    let row = c.loop-index.slots in
-    let below : c.loop-index.index < 512 = omega (arith, c.loop-index-test.true, c.slots_met-low.ensures.within) in
-    let read = is-read ms c.args.place.level c.args.place.first c.pages_of-pages.result i row c.index-slots-index.result (search rules) c.pages_of-pages.ensures.pages in
-    let part = sum_below-at 512 (λ (k : ℕ). lost ms c.args.place.level (c.args.place.first + k * pages_of c.args.place.level) (slice_index_or row k Empty)) i below in
-    let few = row_lost-few ms c.args.place.level c.args.place.first c.args.slots.now in
-    omega (arith, read.loses, part, few, c.requires.in_space, c.loop-index.invariant.counted, c.paint_slot-lost.ensures.lost)
-
-pub paint_slots-returns-then-level-eq0-clause-lost : goal.paint_slots-returns-then-level-eq0-clause-lost
-paint_slots-returns-then-level-eq0-clause-lost t c = sym (row_lost-pages c.args.excerpt.now.mappings.now c.args.place.level c.args.place.first c.args.slots.now c.if-level-eq0.true)
-
-pub paint_slots-returns-then-level-eq0-clause-exchanged : goal.paint_slots-returns-then-level-eq0-clause-exchanged
-paint_slots-returns-then-level-eq0-clause-exchanged t c =
-    let g = row_gained-pages c.args.excerpt.now.mappings.now c.args.place.level c.args.place.first c.args.slots.now c.if-level-eq0.true in
-    let l = row_lost-pages c.args.excerpt.now.mappings.now c.args.place.level c.args.place.first c.args.slots.now c.if-level-eq0.true in
-    omega (arith, g, l)
-
-pub paint_slots-returns-then-level-eq0-clause-counted : goal.paint_slots-returns-then-level-eq0-clause-counted
-paint_slots-returns-then-level-eq0-clause-counted t c =
-    λ target.
-    let old = row_tables_at-pages target c.args.place.level c.args.slots.now c.if-level-eq0.true in
-    let new = row_tables_at-pages target c.args.place.level c.paint_pages.new.slots c.if-level-eq0.true in
-    omega (arith, old, new)
 
 pub paint_slots-returns : goal.paint_slots-returns
 paint_slots-returns t c =
@@ -217,12 +205,13 @@ paint_slots-returns t c =
     let tree = row-tree ms c.args.excerpt.now.range c.args.place.level c.args.place.first c.loop-index.index c.args.slots.now c.loop-index.slots c.requires.laid_out c.requires.in_space
     inv.painted inv.untouched c.requires.outside
     (λ k from below. c.slots_met-low.ensures.beyond k (omega (arith, c.loop-index-test.false)) below) in
-    let g = row_gained-zero ms c.args.place.level c.args.place.first c.loop-index.slots c.requires.laid_out tree in
-    let l = row_lost-zero ms c.args.place.level c.args.place.first c.loop-index.slots c.requires.laid_out tree in
+    let g = λ (kind : Kind). row_gained-zero kind ms c.args.place.level c.args.place.first c.loop-index.slots c.requires.laid_out tree in
+    let l = λ (kind : Kind). row_lost-zero kind ms c.args.place.level c.args.place.first c.loop-index.slots c.requires.laid_out tree in
     record {
-      lost = omega (arith, l, inv.counted);
       tree = tree;
-      exchanged = omega (arith, g, l, inv.exchanged);
+      shaped = inv.shaped;
+      taken = λ kind. omega (arith, g kind, inv.taken kind);
+      put = λ kind. omega (arith, l kind, inv.put kind);
       counted = inv.standing;
     }
 
@@ -235,12 +224,13 @@ paint_slot-returns-in-Nothing t c =
     let ms = c.args.excerpt.now.mappings.now in
     let want = sym c.slot_wanted.ensures ∙ c.in-Nothing.is in
     let none : is_divided _ ≡ false = ap is_divided want in
-    let g = gained-none ms c.args.place.level c.args.place.first c.args.slot.now none in
-    let l = lost-whole ms c.args.place.level c.args.place.first c.args.slot.now c.requires.laid_out none in
+    let g = λ (kind : Kind). gained-none kind ms c.args.place.level c.args.place.first c.args.slot.now none in
+    let l = λ (kind : Kind). lost-whole kind ms c.args.place.level c.args.place.first c.args.slot.now c.requires.laid_out none in
     record {
-      lost = c.clear_unwanted.ensures.count ∙ sym l;
       tree = IsTreeOf-nothing _ c.args.place.level c.args.place.first _ want c.clear_unwanted.ensures.emptied;
-      exchanged = omega (arith, g, l, c.clear_unwanted.ensures.put);
+      shaped = shaped-other c.args.place.level c.clear_unwanted.new.slot (ap is_table c.clear_unwanted.ensures.emptied ∙ is_table-Empty);
+      taken = λ kind. omega (arith, g kind);
+      put = λ kind. omega (arith, l kind, c.clear_unwanted.ensures.put kind);
       counted = λ target.
           let leaf = tables_at-other target c.args.place.level c.clear_unwanted.new.slot (ap is_table c.clear_unwanted.ensures.emptied ∙ is_table-Empty) in
           let given = c.clear_unwanted.ensures.counted target in
@@ -252,12 +242,13 @@ paint_slot-returns-in-Entry t c =
     let ms = c.args.excerpt.now.mappings.now in
     let want = sym c.slot_wanted.ensures ∙ c.in-Entry.is in
     let none : is_divided _ ≡ false = ap is_divided want in
-    let g = gained-none ms c.args.place.level c.args.place.first c.args.slot.now none in
-    let l = lost-whole ms c.args.place.level c.args.place.first c.args.slot.now c.requires.laid_out none in
+    let g = λ (kind : Kind). gained-none kind ms c.args.place.level c.args.place.first c.args.slot.now none in
+    let l = λ (kind : Kind). lost-whole kind ms c.args.place.level c.args.place.first c.args.slot.now c.requires.laid_out none in
     record {
-      lost = c.make_leaf.ensures.count ∙ sym l;
       tree = IsTreeOf-leaf _ c.args.place.level c.args.place.first c.in-Entry.entry _ want c.make_leaf.ensures.leaf;
-      exchanged = omega (arith, g, l, c.make_leaf.ensures.put);
+      shaped = shaped-other c.args.place.level c.make_leaf.new.slot (ap is_table c.make_leaf.ensures.leaf ∙ is_table-leaf c.in-Entry.entry);
+      taken = λ kind. omega (arith, g kind);
+      put = λ kind. omega (arith, l kind, c.make_leaf.ensures.put kind);
       counted = λ target.
           let leaf = tables_at-other target c.args.place.level c.make_leaf.new.slot (ap is_table c.make_leaf.ensures.leaf ∙ is_table-leaf c.in-Entry.entry) in
           let given = c.make_leaf.ensures.counted target in
@@ -275,44 +266,56 @@ paint_slot-make_table-requires-clause-some t c = table-above _ c.args.place.leve
 pub paint_slot-make_table-requires-clause-enough : goal.paint_slot-make_table-requires-clause-enough
 paint_slot-make_table-requires-clause-enough t c =
     let want = sym c.slot_wanted.ensures ∙ c.in-Table.is in
-    let e = gained-parts c.args.excerpt.now.mappings.now c.args.place.level c.args.place.first c.args.slot.now (table-above _ c.args.place.level c.args.place.first want) want in
-    omega (arith, e, c.requires.enough)
+    let e = λ (kind : Kind). gained-parts kind c.args.excerpt.now.mappings.now c.args.place.level c.args.place.first c.args.slot.now (table-above _ c.args.place.level c.args.place.first want) want in
+    λ kind. omega (arith, e kind, c.requires.enough kind)
 
 pub paint_slot-paint_row-requires : goal.paint_slot-paint_row-requires
 paint_slot-paint_row-requires t c =
     let ms = c.args.excerpt.now.mappings.now in
     let want = sym c.slot_wanted.ensures ∙ c.in-Table.is in
     let some = table-above ms c.args.place.level c.args.place.first want in
-    let row-is : c.deref_mut.result.now ≡ c.in-Table-slot.slots.value = c.deref_mut.ensures.value ∙ ap (λ (b : Box (List Slot) Global). b.value) c.in-Table-slot.slots-is in
-    let parts = table-row c.make_table.new.slot c.in-Table-slot.slots c.deref_mut.result.now c.in-Table-slot.is row-is in
-    let tables = row-tables c.args.slot.now c.make_table.new.slot c.deref_mut.result.now parts c.make_table.ensures.divided.tables in
+    let row-is : c.deref_mut-in-Table-slot.result.now ≡ c.in-Table-slot.slots.value = c.deref_mut-in-Table-slot.ensures.value ∙ ap (λ (b : Box (List Slot) Global). b.value) c.in-Table-slot.slots-is in
+    let shaped = subst (λ (s : Slot). IsShaped c.args.place.level s) c.in-Table-slot.is c.make_table.ensures.shaped in
+    let high = table-level c.args.place.level c.in-Table-slot.slots some shaped in
+    let parts = table-row c.make_table.new.slot c.in-Table-slot.slots c.deref_mut-in-Table-slot.result.now c.in-Table-slot.is row-is in
+    let tables = row-tables c.args.slot.now c.make_table.new.slot c.deref_mut-in-Table-slot.result.now parts c.make_table.ensures.divided.tables in
     let below-of = pages_of-below c.args.place.level some in
-    let gains = gained-divided ms (c.args.place.level - 1) c.args.place.first c.args.slot.now c.deref_mut.result.now tables in
-    let gain = gained-parts ms c.args.place.level c.args.place.first c.args.slot.now some want in (
+    let gains = λ (kind : Kind). gained-divided ms (c.args.place.level - 1) c.args.place.first c.args.slot.now c.deref_mut-in-Table-slot.result.now tables kind in
+    let gain = λ (kind : Kind). gained-parts kind ms c.args.place.level c.args.place.first c.args.slot.now some want in (
       omega (arith, some),
       (
-        omega (arith, c.requires.known),
+        omega (arith, high),
         (
-          omega (arith, below-of, c.requires.in_space),
+          omega (arith, c.requires.known),
           (
-            c.requires.laid_out,
+            omega (arith, below-of, c.requires.in_space),
             (
-              c.requires.position,
+              c.requires.laid_out,
               (
-                subst (λ (n : ℕ). meets (span c.args.place.first n) c.args.excerpt.now.range ≡ true) below-of c.requires.met,
+                c.requires.told,
                 (
-                  λ k below. record {
-                    earlier = c.requires.outside.earlier;
-                    laid_out = c.requires.outside.laid_out;
-                    alike = c.requires.outside.alike;
-                    tree = subst (λ (s : Slot). IsTreeOf c.requires.outside.earlier (c.args.place.level - 1) (c.args.place.first + k * pages_of (c.args.place.level - 1)) s) (sym (parts k))
-                        (c.make_table.ensures.divided.parts c.requires.outside.earlier c.args.place.first c.requires.outside.laid_out c.requires.outside.tree k below);
-                  },
+                  c.requires.position,
                   (
-                    omega (arith, gains, gain, c.make_table.ensures.taken, c.requires.enough),
-                    divided-row c.args.counts.now c.make_table.new.counts c.args.place.level c.args.slot.now c.deref_mut.result.now some c.requires.part
-                        c.make_table.ensures.counted
-                        (λ target k below. sym (tables_at-same target (c.args.place.level - 1) _ _ (tables k below))),
+                    subst (λ (n : ℕ). meets (span c.args.place.first n) c.args.excerpt.now.range ≡ true) below-of c.requires.met,
+                    (
+                      λ k below. record {
+                        earlier = c.requires.outside.earlier;
+                        laid_out = c.requires.outside.laid_out;
+                        told = c.requires.outside.told;
+                        alike = c.requires.outside.alike;
+                        tree = subst (λ (s : Slot). IsTreeOf c.requires.outside.earlier (c.args.place.level - 1) (c.args.place.first + k * pages_of (c.args.place.level - 1)) s) (sym (parts k))
+                            (c.make_table.ensures.divided.parts c.requires.outside.earlier c.args.place.first c.requires.outside.laid_out c.requires.outside.told c.requires.outside.tree k below);
+                      },
+                      (
+                        λ kind. omega (arith, gains kind, gain kind, c.make_table.ensures.taken kind, c.requires.enough kind),
+                        (
+                          divided-row c.args.counts.now c.make_table.new.counts c.args.place.level c.args.slot.now c.deref_mut-in-Table-slot.result.now some c.requires.part
+                              c.make_table.ensures.counted
+                              (λ target k below. sym (tables_at-same target (c.args.place.level - 1) _ _ (tables k below))),
+                          λ k below. subst (λ (l : List Slot). IsShaped (c.args.place.level - 1) (slice_index_or l k Empty)) (sym row-is) (table-parts c.args.place.level c.in-Table-slot.slots some shaped k below),
+                        ),
+                      ),
+                    ),
                   ),
                 ),
               ),
@@ -331,21 +334,88 @@ paint_slot-returns-in-Table-slot t c =
     let ms = c.args.excerpt.now.mappings.now in
     let want = sym c.slot_wanted.ensures ∙ c.in-Table.is in
     let some = table-above ms c.args.place.level c.args.place.first want in
-    let row-is : c.deref_mut.result.now ≡ c.in-Table-slot.slots.value = c.deref_mut.ensures.value ∙ ap (λ (b : Box (List Slot) Global). b.value) c.in-Table-slot.slots-is in
-    let parts = table-row c.make_table.new.slot c.in-Table-slot.slots c.deref_mut.result.now c.in-Table-slot.is row-is in
-    let tables = row-tables c.args.slot.now c.make_table.new.slot c.deref_mut.result.now parts c.make_table.ensures.divided.tables in
-    let held = values_o_at enum 3 (c.in-Table-slot.slots, tt) in
-    let gains = gained-divided ms (c.args.place.level - 1) c.args.place.first c.args.slot.now c.deref_mut.result.now tables in
-    let gain = gained-parts ms c.args.place.level c.args.place.first c.args.slot.now some want in
-    let losses = lost-divided ms (c.args.place.level - 1) c.args.place.first c.args.slot.now c.deref_mut.result.now tables in
-    let loss = lost-parts ms c.args.place.level c.args.place.first c.args.slot.now some want in
+    let row-is : c.deref_mut-in-Table-slot.result.now ≡ c.in-Table-slot.slots.value = c.deref_mut-in-Table-slot.ensures.value ∙ ap (λ (b : Box (List Slot) Global). b.value) c.in-Table-slot.slots-is in
+    let shaped = subst (λ (s : Slot). IsShaped c.args.place.level s) c.in-Table-slot.is c.make_table.ensures.shaped in
+    let high = table-level c.args.place.level c.in-Table-slot.slots some shaped in
+    let parts = table-row c.make_table.new.slot c.in-Table-slot.slots c.deref_mut-in-Table-slot.result.now c.in-Table-slot.is row-is in
+    let tables = row-tables c.args.slot.now c.make_table.new.slot c.deref_mut-in-Table-slot.result.now parts c.make_table.ensures.divided.tables in
+    let held = values_o_at enum 4 (c.in-Table-slot.slots, tt) in
+    let gains = λ (kind : Kind). gained-divided ms (c.args.place.level - 1) c.args.place.first c.args.slot.now c.deref_mut-in-Table-slot.result.now tables kind in
+    let gain = λ (kind : Kind). gained-parts kind ms c.args.place.level c.args.place.first c.args.slot.now some want in
+    let losses = λ (kind : Kind). lost-divided ms (c.args.place.level - 1) c.args.place.first c.args.slot.now c.deref_mut-in-Table-slot.result.now tables kind in
+    let loss = λ (kind : Kind). lost-parts kind ms c.args.place.level c.args.place.first c.args.slot.now some want in
     let down = c.paint_row.ensures in
     record {
-      lost = omega (arith, losses, loss, down.lost);
       tree = rw (c.in-Table-slot.is, held) (IsTreeOf-table _ c.args.place.level c.args.place.first _ some want down.tree);
-      exchanged = omega (arith, gains, losses, gain, loss, c.make_table.ensures.taken, down.exchanged);
-      counted = rw (c.in-Table-slot.is, held) (divided-counted c.args.counts.now c.make_table.new.counts c.paint_row.new.counts c.args.place.level c.args.slot.now c.deref_mut.result.now _ some
+      shaped = rw (c.in-Table-slot.is, held) (shaped-Table c.args.place.level _ high down.shaped);
+      taken = λ kind. omega (arith, gains kind, gain kind, c.make_table.ensures.taken kind, down.taken kind);
+      put = λ kind. omega (arith, losses kind, loss kind, down.put kind);
+      counted = rw (c.in-Table-slot.is, held) (divided-counted c.args.counts.now c.make_table.new.counts c.paint_row.new.counts c.args.place.level c.args.slot.now c.deref_mut-in-Table-slot.result.now _ some
           c.make_table.ensures.counted (λ target k below. sym (tables_at-same target (c.args.place.level - 1) _ _ (tables k below))) down.counted);
+    }
+
+-- the table of pages of a slot at level 1
+pub paint_slot-paint_near-requires : goal.paint_slot-paint_near-requires
+paint_slot-paint_near-requires t c =
+    let ms = c.args.excerpt.now.mappings.now in
+    let want = sym c.slot_wanted.ensures ∙ c.in-Table.is in
+    let some = table-above ms c.args.place.level c.args.place.first want in
+    let one = pages-level c.args.place.level c.in-Pages.table some (subst (λ (s : Slot). IsShaped c.args.place.level s) c.in-Pages.is c.make_table.ensures.shaped) in
+    let low : c.args.place.level - 1 ≡ 0 = omega (arith, one) in
+    let below-of = pages_of-below c.args.place.level some in
+    let whole : pages_of c.args.place.level ≡ 512 * pages_of 0 = rw low at below-of in
+    let row-is : c.deref_mut.result.now.0 ≡ c.in-Pages.table.value.0 =
+    ap (λ (v : List PageSlot × Slot). v.0) c.deref_mut.ensures.value ∙ ap (λ (b : Box (List PageSlot × Slot) Global). b.value.0) c.in-Pages.table-is in
+    record {
+      in_space = omega (arith, whole, c.requires.in_space);
+      laid_out = c.requires.laid_out;
+      told = c.requires.told;
+      position = position-ended ms _ _ c.args.excerpt.now.position (omega arith) c.requires.position;
+      met = subst (λ (n : ℕ). meets (span c.args.place.first n) c.args.excerpt.now.range ≡ true) whole c.requires.met;
+      outside = λ k below.
+          let held : child c.make_table.new.slot k ≡ slot_of (slice_index_or c.deref_mut.result.now.0 k no_page) =
+          ap (λ (s : Slot). child s k) c.in-Pages.is ∙ child-Pages c.in-Pages.table k ∙ ap (λ (l : List PageSlot). slot_of (slice_index_or l k no_page)) (sym row-is) in
+          let part = c.make_table.ensures.divided.parts c.requires.outside.earlier c.args.place.first c.requires.outside.laid_out c.requires.outside.told c.requires.outside.tree k below in
+          record {
+            earlier = c.requires.outside.earlier;
+            laid_out = c.requires.outside.laid_out;
+            told = c.requires.outside.told;
+            alike = c.requires.outside.alike;
+            tree = subst (λ (s : Slot). IsTreeOf c.requires.outside.earlier 0 (c.args.place.first + k * pages_of 0) s) held (rw low at part);
+          };
+    }
+
+-- where a table of pages is counted, that one is
+counted-pages : (target level after before old : ℕ) (pages : Box (List PageSlot × Slot) Global) → level ≡ 1 → after + old ≡ before + one_if (nat_eq target (level - 1)) →
+    after + old ≡ before + tables_at target level (Pages pages)
+counted-pages target level after before old pages one counted =
+    let now = ap (λ (n : ℕ). tables_at target n (Pages pages)) one ∙ tables_at-pages target pages in
+    let low : level - 1 ≡ 0 = omega (arith, one) in
+    let same = ap (λ (n : ℕ). one_if (nat_eq target n)) low in
+    omega (arith, now, same, counted)
+
+pub paint_slot-returns-in-Pages : goal.paint_slot-returns-in-Pages
+paint_slot-returns-in-Pages t c =
+    let ms = c.args.excerpt.now.mappings.now in
+    let want = sym c.slot_wanted.ensures ∙ c.in-Table.is in
+    let some = table-above ms c.args.place.level c.args.place.first want in
+    let one = pages-level c.args.place.level c.in-Pages.table some (subst (λ (s : Slot). IsShaped c.args.place.level s) c.in-Pages.is c.make_table.ensures.shaped) in
+    let low : c.args.place.level - 1 ≡ 0 = omega (arith, one) in
+    let held = values_o_at enum 3 (c.in-Pages.table, tt) in
+    let gain = λ (kind : Kind). gained-parts kind ms c.args.place.level c.args.place.first c.args.slot.now some want in
+    let loss = λ (kind : Kind). lost-parts kind ms c.args.place.level c.args.place.first c.args.slot.now some want in
+    let gains = λ (kind : Kind). pages-gained kind ms (c.args.place.level - 1) c.args.place.first c.args.slot.now low in
+    let losses = λ (kind : Kind). pages-lost kind ms (c.args.place.level - 1) c.args.place.first c.args.slot.now low in
+    record {
+      tree = rw (c.in-Pages.is, held) (IsTreeOf-pages ms c.args.place.level c.args.place.first _ one want c.paint_near.ensures);
+      shaped = rw (c.in-Pages.is, held) (shaped-Pages c.args.place.level _ one);
+      taken = λ kind. omega (arith, gains kind, gain kind, c.make_table.ensures.taken kind);
+      put = λ kind. omega (arith, losses kind, loss kind);
+      counted = rw (c.in-Pages.is, held) (λ target.
+          let whole = tables_at-parts target c.args.place.level c.args.slot.now some in
+          let none = pages-tables target (c.args.place.level - 1) c.args.slot.now low in
+          let made = c.make_table.ensures.counted target in
+          counted-pages target c.args.place.level _ _ _ _ one (omega (arith, whole, none, made)));
     }
 
 pub paint_slot-clear_unwanted-requires-clause-rest : goal.paint_slot-clear_unwanted-requires-clause-rest
@@ -354,7 +424,7 @@ paint_slot-clear_unwanted-requires-clause-rest t c = λ one k below apart.
     let range = c.args.excerpt.now.range in
     let want : wanted ms c.args.place.level c.args.place.first ≡ variant.Nothing = sym c.slot_wanted.ensures ∙ c.in-Nothing.is in
     empty-apart ms range c.args.place.first c.args.slot.now c.requires.laid_out
-    (subst (λ (n : ℕ). IsTreeOutside ms range n c.args.place.first c.args.slot.now) one c.requires.outside)
+    (subst (λ (n : ℕ). IsToldOutside ms range n c.args.place.first c.args.slot.now) one c.requires.outside)
     (subst (λ (n : ℕ). end_of (slot_pages n c.args.place.first) ≤ PAGES) one c.requires.in_space)
     (subst (λ (n : ℕ). wanted ms n c.args.place.first ≡ variant.Nothing) one want) k below apart
 
@@ -384,26 +454,35 @@ paint_row-paint_slot-requires t c =
     let page : first_within range c.args.place.first ≡ first_within range (c.args.place.first + i * c.pages_of.result) = omega (arith, start, from) in
     let lower : c.args.place.level + 1 - 1 ≡ c.args.place.level = omega arith in
     let met : meets (slot_pages c.args.place.level (c.args.place.first + i * pages_of c.args.place.level)) range ≡ true = rw lower at c.in-Some.ensures.met in
-    let part = sum_below-at 512 (λ (k : ℕ). gained ms c.args.place.level (c.args.place.first + k * pages_of c.args.place.level) (slice_index_or row k Empty)) i below in (
+    let part = λ (kind : Kind). sum_below-at 512 (λ (k : ℕ). gained kind ms c.args.place.level (c.args.place.first + k * pages_of c.args.place.level) (slice_index_or row k Empty)) i below in (
       omega arith,
       (
-        omega (arith, c.requires.known),
+        c.requires.some,
         (
-          omega (arith, start, fits, c.requires.in_space),
+          omega (arith, c.requires.known),
           (
-            c.requires.laid_out,
+            omega (arith, start, fits, c.requires.in_space),
             (
-              subst (λ (n : ℕ). IsIndexOfPage ms n c.args.excerpt.now.position) page c.requires.position,
+              c.requires.laid_out,
               (
-                subst (λ (n : ℕ). meets (slot_pages c.args.place.level n) range ≡ true) (sym start) met,
+                c.requires.told,
                 (
-                  subst (λ (n : ℕ). IsTreeOutside ms range c.args.place.level n (slice_index_or row i c.index-slots-index.result)) (sym start)
-                      (subst (λ (s : Slot). IsTreeOutside ms range c.args.place.level (c.args.place.first + i * pages_of c.args.place.level) s) (sym slot)
-                      (c.requires.outside i below)),
+                  subst (λ (n : ℕ). IsIndexOfPage ms n c.args.excerpt.now.position) page c.requires.position,
                   (
-                    omega (arith, gains, part, c.requires.enough),
-                    subst (λ (s : Slot). IsPartOf c.args.counts.now c.args.place.level s) (sym slot)
-                        (row-part c.args.counts.now c.args.counts.now c.args.place.level i row row below c.requires.part (λ target. refl)),
+                    subst (λ (n : ℕ). meets (slot_pages c.args.place.level n) range ≡ true) (sym start) met,
+                    (
+                      subst (λ (n : ℕ). IsToldOutside ms range c.args.place.level n (slice_index_or row i c.index-slots-index.result)) (sym start)
+                          (subst (λ (s : Slot). IsToldOutside ms range c.args.place.level (c.args.place.first + i * pages_of c.args.place.level) s) (sym slot)
+                          (c.requires.outside i below)),
+                      (
+                        λ kind. omega (arith, gains kind, part kind, c.requires.enough kind),
+                        (
+                          subst (λ (s : Slot). IsPartOf c.args.counts.now c.args.place.level s) (sym slot)
+                              (row-part c.args.counts.now c.args.counts.now c.args.place.level i row row below c.requires.part (λ target. refl)),
+                          subst (λ (s : Slot). IsShaped c.args.place.level s) (sym slot) (c.requires.shaped i below),
+                        ),
+                      ),
+                    ),
                   ),
                 ),
               ),
@@ -428,12 +507,13 @@ paint_row-returns-in-Some t c =
     let lies = in-row range level first i is in
     let read = is-read ms level first c.pages_of.result i row c.index-slots-index.result within c.pages_of.ensures.pages in
     let w = is-written ms level first c.pages_of.result i row c.index-slots-index.result c.paint_slot.new.slot within c.pages_of.ensures.pages painted.tree in
-    let g = one-gained ms range level first i row after c.requires.laid_out c.requires.in_space is.known lies c.requires.outside w.same w.here in
-    let l = one-lost ms range level first i row after c.requires.laid_out c.requires.in_space is.known lies c.requires.outside w.same w.here in
+    let g = λ (kind : Kind). one-gained ms range level first i row after c.requires.laid_out c.requires.in_space is.known lies c.requires.outside w.same w.here kind in
+    let l = λ (kind : Kind). one-lost ms range level first i row after c.requires.laid_out c.requires.in_space is.known lies c.requires.outside w.same w.here kind in
     record {
-      lost = omega (arith, read.loses, l, painted.lost);
       tree = one-tree ms range level first i row after c.requires.laid_out c.requires.in_space is.known lies c.requires.outside w.same w.here;
-      exchanged = omega (arith, read.gains, g, read.loses, l, painted.exchanged);
+      shaped = shaped-written level row i c.paint_slot.new.slot within painted.shaped c.requires.shaped;
+      taken = λ kind. omega (arith, read.gains kind, g kind, painted.taken kind);
+      put = λ kind. omega (arith, read.loses kind, l kind, painted.put kind);
       counted = row-counted c.args.counts.now c.args.counts.now c.paint_slot.new.counts level i row row after is.known w.same (λ target. refl)
           (w.counted c.args.counts.now c.paint_slot.new.counts painted.counted);
     }

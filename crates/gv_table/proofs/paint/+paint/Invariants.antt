@@ -1,8 +1,10 @@
 use Rattle.std.proofs.Common.{◌≡◌, ◌+◌, ◌-◌, ◌*◌, ◌<◌, ◌≤◌, ℕ, slice_index_or}
 use Rattle.gv_table.specs.declared.slot.Slot.TheVariants.{Empty}
 use Rattle.gv_ranges.specs.List.{AreEnded}
+use Rattle.gv_table.specs.Kinds.{Kind, of}
 use Rattle.gv_table.specs.Levels.{pages_of, first_within}
 use Rattle.gv_table.specs.Sums.{sum_below}
+use Rattle.gv_table.specs.Shape.{IsShaped}
 use Rattle.gv_table.specs.Tree.{IsTreeOf}
 use Rattle.gv_table.specs.Counts.{gained, lost, row_tables_at, count_at}
 use Rattle.gv_table.proofs.paint.+paint.Given as goal
@@ -26,15 +28,14 @@ invariant-paint_slots-loop-index l = record {
   position : AreEnded l.mappings (first_within l.range (l.first + l.index * pages_of l.level)) l.position;
   painted : (k : ℕ) → k < l.index → IsTreeOf l.mappings l.level (l.first + k * pages_of l.level) (slice_index_or l.slots k Empty);
   untouched : (k : ℕ) → l.index ≤ k → slice_index_or l.slots k Empty ≡ slice_index_or l.initial.slots k Empty;
-  enough : sum_below 512 (λ k. gained l.mappings l.level (l.first + k * pages_of l.level) (slice_index_or l.slots k Empty)) ≤ l.spares;
-  counted :
-      l.lost + sum_below 512 (λ k. lost l.mappings l.level (l.first + k * pages_of l.level) (slice_index_or l.slots k Empty)) ≡
-      l.initial.lost + sum_below 512 (λ k. lost l.mappings l.level (l.first + k * pages_of l.level) (slice_index_or l.initial.slots k Empty));
+  shaped : (k : ℕ) → k < 512 → IsShaped l.level (slice_index_or l.slots k Empty);
+  enough : (kind : Kind) → sum_below 512 (λ k. gained kind l.mappings l.level (l.first + k * pages_of l.level) (slice_index_or l.slots k Empty)) ≤ of kind l.spares;
+  put : (kind : Kind) →
+      of kind l.left + sum_below 512 (λ k. lost kind l.mappings l.level (l.first + k * pages_of l.level) (slice_index_or l.slots k Empty)) ≡
+      of kind l.initial.left + sum_below 512 (λ k. lost kind l.mappings l.level (l.first + k * pages_of l.level) (slice_index_or l.initial.slots k Empty));
   standing : (target : ℕ) →
       count_at l.counts target + row_tables_at target l.level l.initial.slots ≡ count_at l.initial.counts target + row_tables_at target l.level l.slots;
-  exchanged :
-      l.spares + sum_below 512 (λ k. gained l.mappings l.level (l.first + k * pages_of l.level) (slice_index_or l.initial.slots k Empty)) +
-      sum_below 512 (λ k. lost l.mappings l.level (l.first + k * pages_of l.level) (slice_index_or l.slots k Empty)) ≡
-      l.initial.spares + sum_below 512 (λ k. lost l.mappings l.level (l.first + k * pages_of l.level) (slice_index_or l.initial.slots k Empty)) +
-      sum_below 512 (λ k. gained l.mappings l.level (l.first + k * pages_of l.level) (slice_index_or l.slots k Empty));
+  taken : (kind : Kind) →
+      of kind l.spares + sum_below 512 (λ k. gained kind l.mappings l.level (l.first + k * pages_of l.level) (slice_index_or l.initial.slots k Empty)) ≡
+      of kind l.initial.spares + sum_below 512 (λ k. gained kind l.mappings l.level (l.first + k * pages_of l.level) (slice_index_or l.slots k Empty));
 }

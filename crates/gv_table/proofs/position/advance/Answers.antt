@@ -7,11 +7,11 @@ pub loop-position-preserved : goal.loop-position-preserved
 loop-position-preserved c =
     ended-more c.args.mappings.now c.args.page c.loop-position.position c.loop-position.invariant (omega arith)
     (λ d.
-    let ended : end_of c.get.result.now.range ≤ c.args.page = omega arith in
+    let ended : end_of c.get.result.range ≤ c.args.page = omega arith in
     rw (← c.get.ensures d) ended)
 
 pub returns-else-end-page : goal.returns-else-end-page
 returns-else-end-page c =
-    let past : c.args.page < end_of c.get.result.now.range = omega arith in
+    let past : c.args.page < end_of c.get.result.range = omega arith in
     position-found c.args.mappings.now c.args.page c.loop-position.position c.requires.laid_out c.loop-position.invariant
     (λ inside d. rw (← c.get.ensures d) past)

@@ -8,7 +8,7 @@ use Rattle.gv_table.proofs.position.met_by.Goals as goal
 pub returns-in-Some : goal.returns-in-Some
 returns-in-Some c =
     neighbour-read c.args.excerpt.now.mappings.now c.args.excerpt.now.range (slot_pages c.args.place.level c.args.place.first) c.args.excerpt.now.position c.requires.laid_out c.requires.position
-    c.in-Some.m.now (pages_of-some c.args.place.level) c.requires.met c.in-Some.ensures
+    c.in-Some.m (pages_of-some c.args.place.level) c.requires.met c.in-Some.ensures
 
 pub returns-then-excerpt-len : goal.returns-then-excerpt-len
 returns-then-excerpt-len c =
@@ -18,7 +18,7 @@ returns-then-excerpt-len c =
 pub returns-then-place-pages_of : goal.returns-then-place-pages_of
 returns-then-place-pages_of c =
     let ms = c.args.excerpt.now.mappings.now in
-    let m = c.get-m.result.now in
+    let m = c.get-m.result in
     let later : end_of (slot_pages c.args.place.level c.args.place.first) ≤ m.range.first = omega arith in
     none-met ms c.args.excerpt.now.range (slot_pages c.args.place.level c.args.place.first) c.args.excerpt.now.position c.requires.laid_out c.requires.position
     c.in_default.ensures
@@ -29,7 +29,7 @@ returns-then-place-pages_of c =
 pub returns : goal.returns
 returns c =
     let ms = c.args.excerpt.now.mappings.now in
-    let m = c.get-m.result.now in
+    let m = c.get-m.result in
     let inside : c.args.excerpt.now.position < length ms = (let within = c.requires.position.within in omega (arith, within)) in
     let begun : m.range.first < end_of (slot_pages c.args.place.level c.args.place.first) = omega arith in
     next-read ms c.args.excerpt.now.range (slot_pages c.args.place.level c.args.place.first) c.args.excerpt.now.position c.requires.laid_out c.requires.position

@@ -1,33 +1,29 @@
-use Rattle.std.proofs.Common.{rules, arith, inl, ◌≡◌, ◌+◌, ◌*◌, ◌<◌, ◌-◌, ℕ, true, length, slice_set, List, Box, Global, sym, ap, ◌∙◌, subst}
+use Rattle.std.proofs.Common.{Bool, rules, arith, inl, ◌≡◌, ◌+◌, ◌*◌, ◌<◌, ◌-◌, ℕ, true, length, slice_set, slice_index_or, List, Box, Global, sym, ap, ◌∙◌, subst}
+use Rattle.std.proofs.lemmas.List.{get_or_default}
 use borrow.Enum.Total.{values_o_at}
 use Rattle.gv_types.specs.PageRange.{span, meets}
+use Rattle.gv_table.specs.Kinds.{Kind, one_of, unless}
 use Rattle.gv_table.specs.contracts.slot.Slot.{enum}
+use Rattle.gv_table.specs.Names.{PageSlot}
 use Rattle.gv_table.specs.declared.slot.Slot.{Slot}
+use Rattle.gv_table.specs.declared.slot.Slot.TheVariants.{Empty, Table}
 use Rattle.gv_table.specs.declared.wanted.Wanted.TheVariants as variant
 use Rattle.gv_table.specs.Levels.{pages_of}
 use Rattle.gv_table.specs.Wanted.{wanted}
-use Rattle.gv_table.specs.Tree.{IsTreeOf, is_table}
-use Rattle.gv_table.specs.Counts.{one_if_not, row_tables_at}
-use Rattle.gv_table.proofs.Counts.{gained-parts, lost-parts}
+use Rattle.gv_table.specs.Shape.{IsShaped}
+use Rattle.gv_table.specs.Tree.{IsTreeOf, is_table, child, slot_of, no_page}
+use Rattle.gv_table.specs.Counts.{row_tables_at}
+use Rattle.gv_table.proofs.Counts.{gained-parts, lost-parts, tables_at-pages}
 use Rattle.gv_table.proofs.Kept.{kept-counted, kept-row}
 use Rattle.gv_table.proofs.InOne.{row-pages, in-row, one-tree, one-gained, one-lost}
 use Rattle.gv_table.proofs.PagesOf.{pages_of-below}
-use Rattle.gv_table.proofs.Painted.{table-row, gained-divided, lost-divided, row_gained-pages, row_lost-pages, row_tables_at-pages}
-use Rattle.gv_table.proofs.Slots.{is_table-Table}
-use Rattle.gv_table.proofs.Trees.{IsTreeOf-table, read-parts}
+use Rattle.gv_table.proofs.Painted.{table-row, gained-divided, lost-divided, pages-gained, pages-lost}
+use Rattle.gv_table.proofs.Shapes.{shaped-Pages, shaped-Table, shaped-written, table-parts}
+use Rattle.gv_table.proofs.Slots.{is_table-Pages, is_table-Table, child-Pages}
+use Rattle.gv_table.proofs.Trees.{IsTreeOf-pages, IsTreeOf-table, read-parts}
 use Rattle.gv_table.proofs.Wants.{table-around}
 use Rattle.gv_table.proofs.Written.{is-read, is-written}
 use Rattle.gv_table.proofs.short.+short.Goals as goal
-
-pub paint_in_row-returns-then-level-eq0-clause-gained : goal.paint_in_row-returns-then-level-eq0-clause-gained
-paint_in_row-returns-then-level-eq0-clause-gained t c = λ done. row_gained-pages c.args.excerpt.now.mappings.now c.args.place.level c.args.place.first c.args.slots.now c.if-level-eq0.true
-
-pub paint_in_row-returns-then-level-eq0-clause-lost : goal.paint_in_row-returns-then-level-eq0-clause-lost
-paint_in_row-returns-then-level-eq0-clause-lost t c = λ done. row_lost-pages c.args.excerpt.now.mappings.now c.args.place.level c.args.place.first c.args.slots.now c.if-level-eq0.true
-
-pub paint_in_row-returns-then-level-eq0-clause-counted : goal.paint_in_row-returns-then-level-eq0-clause-counted
-paint_in_row-returns-then-level-eq0-clause-counted t c =
-    λ target. row_tables_at-pages target c.args.place.level c.paint_last.new.slots c.if-level-eq0.true ∙ sym (row_tables_at-pages target c.args.place.level c.args.slots.now c.if-level-eq0.true)
 
 pub paint_in_row-part_around-requires-clause-in_space : goal.paint_in_row-part_around-requires-clause-in_space
 paint_in_row-part_around-requires-clause-in_space t c = let pages = row-pages c.args.place.level in omega (arith, pages, c.requires.in_space)
@@ -71,9 +67,9 @@ paint_in_row-returns-clause-gained t c = λ done.
     let is = c.in-Some.ensures.part in
     let read = is-read ms level first c.pages_of.result i row c.index-slots-index.result within c.pages_of.ensures.pages in
     let w = is-written ms level first c.pages_of.result i row c.index-slots-index.result c.paint_in_slot.new.slot within c.pages_of.ensures.pages (c.paint_in_slot.ensures.tree done) in
-    let g = one-gained ms range level first i row after c.requires.laid_out c.requires.in_space is.known (in-row range level first i is) c.requires.outside w.same w.here in
+    let g = λ (kind : Kind). one-gained ms range level first i row after c.requires.laid_out c.requires.in_space is.known (in-row range level first i is) c.requires.outside w.same w.here kind in
     let none = c.paint_in_slot.ensures.gained done in
-    omega (arith, read.gains, g, none)
+    λ kind. omega (arith, read.gains kind, g kind, none kind)
 
 pub paint_in_row-returns-clause-lost : goal.paint_in_row-returns-clause-lost
 paint_in_row-returns-clause-lost t c = λ done.
@@ -88,9 +84,9 @@ paint_in_row-returns-clause-lost t c = λ done.
     let is = c.in-Some.ensures.part in
     let read = is-read ms level first c.pages_of.result i row c.index-slots-index.result within c.pages_of.ensures.pages in
     let w = is-written ms level first c.pages_of.result i row c.index-slots-index.result c.paint_in_slot.new.slot within c.pages_of.ensures.pages (c.paint_in_slot.ensures.tree done) in
-    let l = one-lost ms range level first i row after c.requires.laid_out c.requires.in_space is.known (in-row range level first i is) c.requires.outside w.same w.here in
+    let l = λ (kind : Kind). one-lost ms range level first i row after c.requires.laid_out c.requires.in_space is.known (in-row range level first i is) c.requires.outside w.same w.here kind in
     let none = c.paint_in_slot.ensures.lost done in
-    omega (arith, read.loses, l, none)
+    λ kind. omega (arith, read.loses kind, l kind, none kind)
 
 pub paint_in_row-returns-clause-counted : goal.paint_in_row-returns-clause-counted
 paint_in_row-returns-clause-counted t c = λ target.
@@ -99,29 +95,36 @@ paint_in_row-returns-clause-counted t c = λ target.
 
 pub paint_in_slot-paint_in_row-requires : goal.paint_in_slot-paint_in_row-requires
 paint_in_slot-paint_in_row-requires t c =
-    let row-is : c.deref_mut.result.now ≡ c.in-Table.slots.value = c.deref_mut.ensures.value ∙ ap (λ (b : Box (List Slot) Global). b.value) c.in-Table.slots-is in
-    let parts = table-row c.args.slot.now c.in-Table.slots c.deref_mut.result.now c.in-Table.is row-is in
+    let row-is : c.deref_mut-then-place-gt1.result.now ≡ c.in-Table.slots.value = c.deref_mut-then-place-gt1.ensures.value ∙ ap (λ (b : Box (List Slot) Global). b.value) c.in-Table.slots-is in
+    let parts = table-row c.args.slot.now c.in-Table.slots c.deref_mut-then-place-gt1.result.now c.in-Table.is row-is in
     let table : is_table c.args.slot.now ≡ true = ap is_table c.in-Table.is ∙ is_table-Table c.in-Table.slots in
     let some = c.requires.some in
     let below-of = pages_of-below c.args.place.level some in (
       omega (arith, some),
       (
-        omega (arith, c.requires.known),
+        omega arith,
         (
-          omega (arith, below-of, c.requires.in_space),
+          omega (arith, c.requires.known),
           (
-            c.requires.laid_out,
+            omega (arith, below-of, c.requires.in_space),
             (
-              c.requires.position,
+              c.requires.laid_out,
               (
-                subst (λ (n : ℕ). meets (span c.args.place.first n) c.args.excerpt.now.range ≡ true) below-of c.requires.met,
-                λ k below. record {
-                  earlier = c.requires.outside.earlier;
-                  laid_out = c.requires.outside.laid_out;
-                  alike = c.requires.outside.alike;
-                  tree = subst (λ (s : Slot). IsTreeOf c.requires.outside.earlier (c.args.place.level - 1) (c.args.place.first + k * pages_of (c.args.place.level - 1)) s) (sym (parts k))
-                      (read-parts c.requires.outside.earlier c.args.place.level c.args.place.first c.args.slot.now some c.requires.outside.tree table k below);
-                },
+                c.requires.told,
+                (
+                  c.requires.position,
+                  (
+                    subst (λ (n : ℕ). meets (span c.args.place.first n) c.args.excerpt.now.range ≡ true) below-of c.requires.met,
+                    λ k below. record {
+                      earlier = c.requires.outside.earlier;
+                      laid_out = c.requires.outside.laid_out;
+                      told = c.requires.outside.told;
+                      alike = c.requires.outside.alike;
+                      tree = subst (λ (s : Slot). IsTreeOf c.requires.outside.earlier (c.args.place.level - 1) (c.args.place.first + k * pages_of (c.args.place.level - 1)) s) (sym (parts k))
+                          (read-parts c.requires.outside.earlier c.args.place.level c.args.place.first c.args.slot.now some c.requires.outside.tree table k below);
+                    },
+                  ),
+                ),
               ),
             ),
           ),
@@ -129,45 +132,125 @@ paint_in_slot-paint_in_row-requires t c =
       ),
     )
 
-pub paint_in_slot-returns-in-Table-clause-tree : goal.paint_in_slot-returns-in-Table-clause-tree
-paint_in_slot-returns-in-Table-clause-tree t c = λ done.
+pub paint_in_slot-returns-then-place-gt1-clause-tree : goal.paint_in_slot-returns-then-place-gt1-clause-tree
+paint_in_slot-returns-then-place-gt1-clause-tree t c = λ done.
     let ms = c.args.excerpt.now.mappings.now in
     let some = c.requires.some in
     let above : c.args.place.level - 1 + 1 ≡ c.args.place.level = omega (arith, some) in
     let want : wanted ms c.args.place.level c.args.place.first ≡ variant.Table = rw above at (c.paint_in_row.ensures.stays done) in
-    let held = values_o_at enum 3 (c.in-Table.slots, tt) in
+    let held = values_o_at enum 4 (c.in-Table.slots, tt) in
     rw (c.in-Table.is, held) (IsTreeOf-table ms c.args.place.level c.args.place.first _ some want (c.paint_in_row.ensures.tree done))
 
-pub paint_in_slot-returns-in-Table-clause-gained : goal.paint_in_slot-returns-in-Table-clause-gained
-paint_in_slot-returns-in-Table-clause-gained t c = λ done.
+pub paint_in_slot-returns-then-place-gt1-clause-gained : goal.paint_in_slot-returns-then-place-gt1-clause-gained
+paint_in_slot-returns-then-place-gt1-clause-gained t c = λ done.
     let ms = c.args.excerpt.now.mappings.now in
     let some = c.requires.some in
     let above : c.args.place.level - 1 + 1 ≡ c.args.place.level = omega (arith, some) in
     let want : wanted ms c.args.place.level c.args.place.first ≡ variant.Table = rw above at (c.paint_in_row.ensures.stays done) in
-    let row-is : c.deref_mut.result.now ≡ c.in-Table.slots.value = c.deref_mut.ensures.value ∙ ap (λ (b : Box (List Slot) Global). b.value) c.in-Table.slots-is in
-    let parts = table-row c.args.slot.now c.in-Table.slots c.deref_mut.result.now c.in-Table.is row-is in
-    let not : one_if_not (is_table c.args.slot.now) ≡ 0 = ap one_if_not (ap is_table c.in-Table.is ∙ is_table-Table c.in-Table.slots) in
-    let whole = gained-parts ms c.args.place.level c.args.place.first c.args.slot.now some want in
-    let row = gained-divided ms (c.args.place.level - 1) c.args.place.first c.args.slot.now c.deref_mut.result.now (λ k below. inl (sym (parts k))) in
+    let row-is : c.deref_mut-then-place-gt1.result.now ≡ c.in-Table.slots.value = c.deref_mut-then-place-gt1.ensures.value ∙ ap (λ (b : Box (List Slot) Global). b.value) c.in-Table.slots-is in
+    let parts = table-row c.args.slot.now c.in-Table.slots c.deref_mut-then-place-gt1.result.now c.in-Table.is row-is in
+    let not = λ (kind : Kind). ap (λ (b : Bool). unless b (one_of kind (c.args.place.level - 1))) (ap is_table c.in-Table.is ∙ is_table-Table c.in-Table.slots) in
+    let whole = λ (kind : Kind). gained-parts kind ms c.args.place.level c.args.place.first c.args.slot.now some want in
+    let row = λ (kind : Kind). gained-divided ms (c.args.place.level - 1) c.args.place.first c.args.slot.now c.deref_mut-then-place-gt1.result.now (λ k below. inl (sym (parts k))) kind in
     let none = c.paint_in_row.ensures.gained done in
-    omega (arith, not, whole, row, none)
+    λ kind. omega (arith, not kind, whole kind, row kind, none kind)
 
-pub paint_in_slot-returns-in-Table-clause-lost : goal.paint_in_slot-returns-in-Table-clause-lost
-paint_in_slot-returns-in-Table-clause-lost t c = λ done.
+pub paint_in_slot-returns-then-place-gt1-clause-lost : goal.paint_in_slot-returns-then-place-gt1-clause-lost
+paint_in_slot-returns-then-place-gt1-clause-lost t c = λ done.
     let ms = c.args.excerpt.now.mappings.now in
     let some = c.requires.some in
     let above : c.args.place.level - 1 + 1 ≡ c.args.place.level = omega (arith, some) in
     let want : wanted ms c.args.place.level c.args.place.first ≡ variant.Table = rw above at (c.paint_in_row.ensures.stays done) in
-    let row-is : c.deref_mut.result.now ≡ c.in-Table.slots.value = c.deref_mut.ensures.value ∙ ap (λ (b : Box (List Slot) Global). b.value) c.in-Table.slots-is in
-    let parts = table-row c.args.slot.now c.in-Table.slots c.deref_mut.result.now c.in-Table.is row-is in
-    let whole = lost-parts ms c.args.place.level c.args.place.first c.args.slot.now some want in
-    let row = lost-divided ms (c.args.place.level - 1) c.args.place.first c.args.slot.now c.deref_mut.result.now (λ k below. inl (sym (parts k))) in
+    let row-is : c.deref_mut-then-place-gt1.result.now ≡ c.in-Table.slots.value = c.deref_mut-then-place-gt1.ensures.value ∙ ap (λ (b : Box (List Slot) Global). b.value) c.in-Table.slots-is in
+    let parts = table-row c.args.slot.now c.in-Table.slots c.deref_mut-then-place-gt1.result.now c.in-Table.is row-is in
+    let whole = λ (kind : Kind). lost-parts kind ms c.args.place.level c.args.place.first c.args.slot.now some want in
+    let row = λ (kind : Kind). lost-divided ms (c.args.place.level - 1) c.args.place.first c.args.slot.now c.deref_mut-then-place-gt1.result.now (λ k below. inl (sym (parts k))) kind in
     let none = c.paint_in_row.ensures.lost done in
-    omega (arith, whole, row, none)
+    λ kind. omega (arith, whole kind, row kind, none kind)
 
-pub paint_in_slot-returns-in-Table-clause-counted : goal.paint_in_slot-returns-in-Table-clause-counted
-paint_in_slot-returns-in-Table-clause-counted t c = λ target.
-    let row-is : c.deref_mut.result.now ≡ c.in-Table.slots.value = c.deref_mut.ensures.value ∙ ap (λ (b : Box (List Slot) Global). b.value) c.in-Table.slots-is in
+pub paint_in_slot-returns-then-place-gt1-clause-counted : goal.paint_in_slot-returns-then-place-gt1-clause-counted
+paint_in_slot-returns-then-place-gt1-clause-counted t c = λ target.
+    let row-is : c.deref_mut-then-place-gt1.result.now ≡ c.in-Table.slots.value = c.deref_mut-then-place-gt1.ensures.value ∙ ap (λ (b : Box (List Slot) Global). b.value) c.in-Table.slots-is in
     let same = c.paint_in_row.ensures.counted target ∙ ap (λ (r : List Slot). row_tables_at target (c.args.place.level - 1) r) row-is in
-    let held = values_o_at enum 3 (c.in-Table.slots, tt) in
+    let held = values_o_at enum 4 (c.in-Table.slots, tt) in
     rw (c.in-Table.is, held) (kept-counted target c.args.place.level c.in-Table.slots _ c.requires.some same)
+
+pub paint_in_slot-returns-then-place-gt1-clause-shaped : goal.paint_in_slot-returns-then-place-gt1-clause-shaped
+paint_in_slot-returns-then-place-gt1-clause-shaped t c = λ shaped.
+    let row-is : c.deref_mut-then-place-gt1.result.now ≡ c.in-Table.slots.value = c.deref_mut-then-place-gt1.ensures.value ∙ ap (λ (b : Box (List Slot) Global). b.value) c.in-Table.slots-is in
+    let before : IsShaped c.args.place.level (Table c.in-Table.slots) = subst (λ (s : Slot). IsShaped c.args.place.level s) c.in-Table.is shaped in
+    let parts = table-parts c.args.place.level c.in-Table.slots c.requires.some before in
+    let held = values_o_at enum 4 (c.in-Table.slots, tt) in
+    rw (c.in-Table.is, held) (shaped-Table c.args.place.level _ (omega arith)
+    (c.paint_in_row.ensures.shaped (λ k below. subst (λ (l : List Slot). IsShaped (c.args.place.level - 1) (slice_index_or l k Empty)) (sym row-is) (parts k below))))
+
+-- the table of pages of a slot at level 1
+pub paint_in_slot-paint_last-requires-clause-in_space : goal.paint_in_slot-paint_last-requires-clause-in_space
+paint_in_slot-paint_last-requires-clause-in_space t c = let whole = row-pages 0 in let one = ap pages_of c.if-place-eq1.true in omega (arith, whole, one, c.requires.in_space)
+
+pub paint_in_slot-paint_last-requires-clause-met : goal.paint_in_slot-paint_last-requires-clause-met
+paint_in_slot-paint_last-requires-clause-met t c =
+    let whole : pages_of c.args.place.level ≡ 512 * pages_of 0 = ap pages_of c.if-place-eq1.true ∙ row-pages 0 in
+    subst (λ (n : ℕ). meets (span c.args.place.first n) c.args.excerpt.now.range ≡ true) whole c.requires.met
+
+pub paint_in_slot-paint_last-requires-clause-outside : goal.paint_in_slot-paint_last-requires-clause-outside
+paint_in_slot-paint_last-requires-clause-outside t c = λ k below.
+    let low : c.args.place.level - 1 ≡ 0 = omega (arith, c.if-place-eq1.true) in
+    let table : is_table c.args.slot.now ≡ true = ap is_table c.in-Pages.is ∙ is_table-Pages c.in-Pages.table in
+    let part = read-parts c.requires.outside.earlier c.args.place.level c.args.place.first c.args.slot.now c.requires.some c.requires.outside.tree table k below in
+    let held : child c.args.slot.now k ≡ slot_of (slice_index_or c.deref_mut.result.now.0 k no_page) =
+    ap (λ (s : Slot). child s k) c.in-Pages.is ∙ child-Pages c.in-Pages.table k ∙
+    sym (ap (λ (v : List PageSlot × Slot). slot_of (slice_index_or v.0 k no_page)) c.deref_mut.ensures.value ∙
+    ap (λ (b : Box (List PageSlot × Slot) Global). slot_of (slice_index_or b.value.0 k no_page)) c.in-Pages.table-is) in
+    record {
+      earlier = c.requires.outside.earlier;
+      laid_out = c.requires.outside.laid_out;
+      told = c.requires.outside.told;
+      alike = c.requires.outside.alike;
+      tree = subst (λ (s : Slot). IsTreeOf c.requires.outside.earlier 0 (c.args.place.first + k * pages_of 0) s) held (rw low at part);
+    }
+
+pub paint_in_slot-returns-then-place-eq1-clause-tree : goal.paint_in_slot-returns-then-place-eq1-clause-tree
+paint_in_slot-returns-then-place-eq1-clause-tree t c = λ done.
+    let ms = c.args.excerpt.now.mappings.now in
+    let one = c.if-place-eq1.true in
+    let want : wanted ms c.args.place.level c.args.place.first ≡ variant.Table = subst (λ (n : ℕ). wanted ms n c.args.place.first ≡ variant.Table) (sym one) (c.paint_last.ensures.stays done) in
+    let held = values_o_at enum 3 (c.in-Pages.table, tt) in
+    rw (c.in-Pages.is, held) (IsTreeOf-pages ms c.args.place.level c.args.place.first _ one want (c.paint_last.ensures.tree done))
+
+pub paint_in_slot-returns-then-place-eq1-clause-gained : goal.paint_in_slot-returns-then-place-eq1-clause-gained
+paint_in_slot-returns-then-place-eq1-clause-gained t c = λ done kind.
+    let ms = c.args.excerpt.now.mappings.now in
+    let one = c.if-place-eq1.true in
+    let want : wanted ms c.args.place.level c.args.place.first ≡ variant.Table = subst (λ (n : ℕ). wanted ms n c.args.place.first ≡ variant.Table) (sym one) (c.paint_last.ensures.stays done) in
+    let not = ap (λ (b : Bool). unless b (one_of kind (c.args.place.level - 1))) (ap is_table c.in-Pages.is ∙ is_table-Pages c.in-Pages.table) in
+    let whole = gained-parts kind ms c.args.place.level c.args.place.first c.args.slot.now c.requires.some want in
+    let none = pages-gained kind ms (c.args.place.level - 1) c.args.place.first c.args.slot.now (omega (arith, one)) in
+    omega (arith, not, whole, none)
+
+pub paint_in_slot-returns-then-place-eq1-clause-lost : goal.paint_in_slot-returns-then-place-eq1-clause-lost
+paint_in_slot-returns-then-place-eq1-clause-lost t c = λ done kind.
+    let ms = c.args.excerpt.now.mappings.now in
+    let one = c.if-place-eq1.true in
+    let want : wanted ms c.args.place.level c.args.place.first ≡ variant.Table = subst (λ (n : ℕ). wanted ms n c.args.place.first ≡ variant.Table) (sym one) (c.paint_last.ensures.stays done) in
+    let whole = lost-parts kind ms c.args.place.level c.args.place.first c.args.slot.now c.requires.some want in
+    let none = pages-lost kind ms (c.args.place.level - 1) c.args.place.first c.args.slot.now (omega (arith, one)) in
+    omega (arith, whole, none)
+
+pub paint_in_slot-returns-then-place-eq1-clause-counted : goal.paint_in_slot-returns-then-place-eq1-clause-counted
+paint_in_slot-returns-then-place-eq1-clause-counted t c = λ target.
+    let one = c.if-place-eq1.true in
+    let held = values_o_at enum 3 (c.in-Pages.table, tt) in
+    rw (c.in-Pages.is, held, one) (tables_at-pages target _ ∙ sym (tables_at-pages target c.in-Pages.table))
+
+pub paint_in_slot-returns-then-place-eq1-clause-shaped : goal.paint_in_slot-returns-then-place-eq1-clause-shaped
+paint_in_slot-returns-then-place-eq1-clause-shaped t c = λ shaped.
+    let held = values_o_at enum 3 (c.in-Pages.table, tt) in
+    rw (c.in-Pages.is, held) (shaped-Pages c.args.place.level _ c.if-place-eq1.true)
+
+pub paint_in_row-returns-clause-shaped : goal.paint_in_row-returns-clause-shaped
+paint_in_row-returns-clause-shaped t c = λ all k below.
+    let within : c.in-Some.index < length c.args.slots.now = search rules in
+    let read = get_or_default c.args.slots.now c.in-Some.index c.index-slots-index.result Empty within in
+    let here = c.paint_in_slot.ensures.shaped (subst (λ (s : Slot). IsShaped c.args.place.level s) (sym read) (all c.in-Some.index c.in-Some.ensures.part.known)) in
+    shaped-written c.args.place.level c.args.slots.now c.in-Some.index c.paint_in_slot.new.slot within here all k below

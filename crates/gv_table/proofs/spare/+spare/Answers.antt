@@ -1,11 +1,13 @@
 use Rattle.std.proofs.Common.{arith, ◌≡◌, ◌≤◌, ◌<◌, ◌+◌, ◌-◌, ◌*◌, ℕ, true, false, sym, ap, ◌∙◌, subst}
 use Rattle.std.proofs.Math.Nat.{add-mul}
 use Rattle.gv_types.specs.PageRange.{span, meets}
-use Rattle.gv_table.specs.declared.slot.Slot.{Slot}
+use Rattle.gv_table.specs.Kinds.{Kind, of}
 use Rattle.gv_table.specs.Levels.{pages_of, slot_pages}
 use Rattle.gv_table.specs.Tree.{child, is_table}
 use Rattle.gv_table.specs.Counts.{needed, may_divide}
-use Rattle.gv_table.proofs.Needs.{needed-zero, needed-none, needed-apart, may-met, needed-parts, one_if_not-small, product-up, rest-bound}
+use Rattle.gv_table.proofs.Counts.{needed-same}
+use Rattle.gv_table.proofs.KindLemmas.{of-each, none-is}
+use Rattle.gv_table.proofs.Needs.{needed-zero, needed-none, needed-apart, may-met, needed-parts, missing-small, product-up, rest-bound}
 use Rattle.gv_table.proofs.PagesOf.{pages_of-some, pages_of-below, pages_of-bound, one-more-part}
 use Rattle.gv_table.proofs.Positions.{ended-later, position-ended}
 use Rattle.gv_table.proofs.Spans.{meets-before, meets-after}
@@ -17,31 +19,31 @@ pub needed_in-returns-then-needs_none-clause-count : goal.needed_in-returns-then
 needed_in-returns-then-needs_none-clause-count t c =
     elim c.then-needs_none.branch [
       | needed_in-then-needs_none-via-then-needs_none w ↦
-          sym (c.needs_none.ensures.none w.if-needs_none.true c.args.excerpt.now.mappings.now c.args.excerpt.now.range c.args.place.first)
+          λ kind. none-is kind ∙ sym (c.needs_none.ensures.none w.if-needs_none.true kind c.args.excerpt.now.mappings.now c.args.excerpt.now.range c.args.place.first)
       | needed_in-then-needs_none-via-else-needs_none+then-not-may_be_table w ↦
-          sym (needed-none c.args.excerpt.now.mappings.now c.args.excerpt.now.range c.args.place.level c.args.place.first c.args.slot.now (sym w.may_be_table.ensures ∙ w.if-not-may_be_table.true))
+          λ kind. none-is kind ∙ sym (needed-none kind c.args.excerpt.now.mappings.now c.args.excerpt.now.range c.args.place.level c.args.place.first c.args.slot.now (sym w.may_be_table.ensures ∙ w.if-not-may_be_table.true))
     ]
 
 pub needed_in-returns-then-needs_none-clause-bound : goal.needed_in-returns-then-needs_none-clause-bound
-needed_in-returns-then-needs_none-clause-bound t c = pages_of-some c.args.place.level
+needed_in-returns-then-needs_none-clause-bound t c = of-each _ (pages_of-some c.args.place.level) (pages_of-some c.args.place.level)
 
 pub needed_in-returns-then-level-eq1-clause-count : goal.needed_in-returns-then-level-eq1-clause-count
-needed_in-returns-then-level-eq1-clause-count t c =
-    let f = λ (k : ℕ). needed c.args.excerpt.now.mappings.now c.args.excerpt.now.range (c.args.place.level - 1) (c.args.place.first + k * pages_of (c.args.place.level - 1)) (child c.args.slot.now k) in
+needed_in-returns-then-level-eq1-clause-count t c = λ kind.
+    let f = λ (k : ℕ). needed kind c.args.excerpt.now.mappings.now c.args.excerpt.now.range (c.args.place.level - 1) (c.args.place.first + k * pages_of (c.args.place.level - 1)) (child c.args.slot.now k) in
     let low : c.args.place.level - 1 ≡ 0 = omega arith in
     let may : may_divide c.args.excerpt.now.mappings.now c.args.excerpt.now.range c.args.place.level c.args.place.first ≡ true = sym c.may_be_table.ensures ∙ c.if-not-may_be_table.false in
-    let whole = needed-parts c.args.excerpt.now.mappings.now c.args.excerpt.now.range c.args.place.level c.args.place.first c.args.slot.now (omega arith) may in
+    let whole = needed-parts kind c.args.excerpt.now.mappings.now c.args.excerpt.now.range c.args.place.level c.args.place.first c.args.slot.now (omega arith) may in
     let none = sum_below-zeros 512 f (λ k below.
-    ap (λ (n : ℕ). needed c.args.excerpt.now.mappings.now c.args.excerpt.now.range n (c.args.place.first + k * pages_of (c.args.place.level - 1)) (child c.args.slot.now k)) low ∙
-    needed-zero c.args.excerpt.now.mappings.now c.args.excerpt.now.range (c.args.place.first + k * pages_of (c.args.place.level - 1)) (child c.args.slot.now k)) in
-    omega (arith, whole, none, c.one_if_not_table-one.ensures)
+    ap (λ (n : ℕ). needed kind c.args.excerpt.now.mappings.now c.args.excerpt.now.range n (c.args.place.first + k * pages_of (c.args.place.level - 1)) (child c.args.slot.now k)) low ∙
+    needed-zero kind c.args.excerpt.now.mappings.now c.args.excerpt.now.range (c.args.place.first + k * pages_of (c.args.place.level - 1)) (child c.args.slot.now k)) in
+    omega (arith, whole, none, c.missing-one.ensures kind)
 
 pub needed_in-returns-then-level-eq1-clause-bound : goal.needed_in-returns-then-level-eq1-clause-bound
-needed_in-returns-then-level-eq1-clause-bound t c =
-    let small = one_if_not-small (is_table c.args.slot.now) in
+needed_in-returns-then-level-eq1-clause-bound t c = λ kind.
+    let small = missing-small kind (c.args.place.level - 1) (is_table c.args.slot.now) in
     let below-of = pages_of-below c.args.place.level (omega arith) in
     let some = pages_of-some (c.args.place.level - 1) in
-    omega (arith, small, below-of, some, c.one_if_not_table-one.ensures)
+    omega (arith, small, below-of, some, c.missing-one.ensures kind)
 
 pub needed_in-needed_below-requires : goal.needed_in-needed_below-requires
 needed_in-needed_below-requires t c =
@@ -63,54 +65,54 @@ needed_in-needed_below-requires t c =
       ),
     )
 
-pub needed_in-overflow_add-result : goal.needed_in-overflow_add-result
-needed_in-overflow_add-result t c =
-    let small = one_if_not-small (is_table c.args.slot.now) in
+pub needed_in-with-requires : goal.needed_in-with-requires
+needed_in-with-requires t c = λ kind.
+    let small = missing-small kind (c.args.place.level - 1) (is_table c.args.slot.now) in
     let below-of = pages_of-below c.args.place.level (omega arith) in
     let all = pages_of-bound c.args.place.level c.requires.known in
-    omega (arith, small, below-of, all, c.one_if_not_table-one.ensures, c.needed_below.ensures.bound)
+    omega (arith, small, below-of, all, c.missing-one.ensures kind, c.needed_below.ensures.bound kind)
 
 pub needed_in-returns-clause-count : goal.needed_in-returns-clause-count
-needed_in-returns-clause-count t c =
+needed_in-returns-clause-count t c = λ kind.
     let may : may_divide c.args.excerpt.now.mappings.now c.args.excerpt.now.range c.args.place.level c.args.place.first ≡ true = sym c.may_be_table.ensures ∙ c.if-not-may_be_table.false in
-    let whole = needed-parts c.args.excerpt.now.mappings.now c.args.excerpt.now.range c.args.place.level c.args.place.first c.args.slot.now (omega arith) may in
-    omega (arith, whole, c.one_if_not_table-one.ensures, c.needed_below.ensures.count)
+    let whole = needed-parts kind c.args.excerpt.now.mappings.now c.args.excerpt.now.range c.args.place.level c.args.place.first c.args.slot.now (omega arith) may in
+    omega (arith, whole, c.missing-one.ensures kind, c.needed_below.ensures.count kind)
 
 pub needed_in-returns-clause-bound : goal.needed_in-returns-clause-bound
-needed_in-returns-clause-bound t c =
-    let small = one_if_not-small (is_table c.args.slot.now) in
+needed_in-returns-clause-bound t c = λ kind.
+    let small = missing-small kind (c.args.place.level - 1) (is_table c.args.slot.now) in
     let below-of = pages_of-below c.args.place.level (omega arith) in
-    omega (arith, small, below-of, c.one_if_not_table-one.ensures, c.needed_below.ensures.bound)
+    omega (arith, small, below-of, c.missing-one.ensures kind, c.needed_below.ensures.bound kind)
 
 pub needed_below-loop-index-init : goal.needed_below-loop-index-init
 needed_below-loop-index-init t c =
-    let f = λ (k : ℕ). needed c.args.excerpt.now.mappings.now c.args.excerpt.now.range c.args.place.level (c.args.place.first + k * pages_of c.args.place.level) (child c.args.slot.now k) in
-    let z = sum_below-zeros c.slots_met-low.result.0 f (λ k below.
-    needed-apart c.args.excerpt.now.mappings.now c.args.excerpt.now.range c.args.place.level (c.args.place.first + k * pages_of c.args.place.level) (child c.args.slot.now k)
+    let f = λ (kind : Kind) (k : ℕ). needed kind c.args.excerpt.now.mappings.now c.args.excerpt.now.range c.args.place.level (c.args.place.first + k * pages_of c.args.place.level) (child c.args.slot.now k) in
+    let z = λ (kind : Kind). sum_below-zeros c.slots_met-low.result.0 (f kind) (λ k below.
+    needed-apart kind c.args.excerpt.now.mappings.now c.args.excerpt.now.range c.args.place.level (c.args.place.first + k * pages_of c.args.place.level) (child c.args.slot.now k)
     (meets-before (slot_pages c.args.place.level (c.args.place.first + k * pages_of c.args.place.level)) c.args.excerpt.now.range (c.slots_met-low.ensures.before k below))) in
     let up = product-up c.slots_met-low.result.0 (pages_of c.args.place.level) (pages_of-some c.args.place.level) in
     record {
       position = ended-later c.args.excerpt.now.mappings.now _ _ c.args.excerpt.now.position (omega arith) c.requires.position;
-      counted = omega (arith, z);
-      bound = omega (arith, up);
+      counted = λ kind. let z = z kind in let none = none-is kind in omega (arith, z, none);
+      bound = λ kind. let none = none-is kind in omega (arith, up, none);
       last = c.slots_met-low.ensures.ordered;
     }
 
 pub needed_below-loop-index-preserved-then-undivided-eq0 : goal.needed_below-loop-index-preserved-then-undivided-eq0
 needed_below-loop-index-preserved-then-undivided-eq0 t c =
-    let f = λ (k : ℕ). needed c.args.excerpt.now.mappings.now c.args.excerpt.now.range c.args.place.level (c.args.place.first + k * pages_of c.args.place.level) (child c.args.slot.now k) in
-    let more = sum_below-more c.loop-index.index f in
+    let f = λ (kind : Kind) (k : ℕ). needed kind c.args.excerpt.now.mappings.now c.args.excerpt.now.range c.args.place.level (c.args.place.first + k * pages_of c.args.place.level) (child c.args.slot.now k) in
+    let more = λ (kind : Kind). sum_below-more c.loop-index.index (f kind) in
     let start : c.args.place.first + c.loop-index.index * c.pages_of-pages.result ≡ c.args.place.first + c.loop-index.index * pages_of c.args.place.level =
     ap (λ (n : ℕ). c.args.place.first + c.loop-index.index * n) c.pages_of-pages.ensures.pages in
-    let here : c.needed_in-total.result ≡ f c.loop-index.index =
-    c.needed_in-total.ensures.count ∙
-    ap (λ (n : ℕ). needed c.args.excerpt.now.mappings.now c.args.excerpt.now.range c.args.place.level n c.child_of-part.result.now) start ∙
-    ap (λ (s : Slot). needed c.args.excerpt.now.mappings.now c.args.excerpt.now.range c.args.place.level (c.args.place.first + c.loop-index.index * pages_of c.args.place.level) s) c.child_of-part.ensures in
+    let here : (kind : Kind) → of kind c.needed_in.result ≡ f kind c.loop-index.index = λ kind.
+    c.needed_in.ensures.count kind ∙
+    ap (λ (n : ℕ). needed kind c.args.excerpt.now.mappings.now c.args.excerpt.now.range c.args.place.level n c.child_of-part.result.now) start ∙
+    sym (needed-same kind c.args.excerpt.now.mappings.now c.args.excerpt.now.range c.args.place.level (c.args.place.first + c.loop-index.index * pages_of c.args.place.level) _ _ c.child_of-part.ensures) in
     let product = one-more-part c.loop-index.index (pages_of c.args.place.level) in
     record {
       position = position-ended c.args.excerpt.now.mappings.now c.max.result _ c.advance-position.result (omega (arith, start, product)) c.advance-position.ensures;
-      counted = omega (arith, more, here, c.loop-index.invariant.counted);
-      bound = omega (arith, product, c.loop-index.invariant.bound, c.needed_in-total.ensures.bound);
+      counted = λ kind. let more = more kind in let here = here kind in omega (arith, more, here, c.with-total.ensures kind, c.loop-index.invariant.counted kind);
+      bound = λ kind. omega (arith, product, c.with-total.ensures kind, c.loop-index.invariant.bound kind, c.needed_in.ensures.bound kind);
       last = omega (arith, c.loop-index-test.true);
     }
 
@@ -122,38 +124,38 @@ needed_below-loop-index-preserved t c =
     let p : ℕ = pages_of c.args.place.level in
     let i : ℕ = c.loop-index.index in
     let n : ℕ = c.min-undivided.result in
-    let f = λ (k : ℕ). needed ms range c.args.place.level (c.args.place.first + k * pages_of c.args.place.level) (child c.args.slot.now k) in
+    let f = λ (kind : Kind) (k : ℕ). needed kind ms range c.args.place.level (c.args.place.first + k * pages_of c.args.place.level) (child c.args.slot.now k) in
     let start : c.args.place.first + c.loop-index.index * c.pages_of-pages.result ≡ c.args.place.first + c.loop-index.index * pages_of c.args.place.level =
     ap (λ (n : ℕ). c.args.place.first + c.loop-index.index * n) c.pages_of-pages.ensures.pages in
-    let none : (k : ℕ) → i ≤ k → k < i + n → f k ≡ 0 = λ k from below.
+    let none : (kind : Kind) (k : ℕ) → i ≤ k → k < i + n → f kind k ≡ 0 = λ kind k from below.
     let far : ℕ = k - c.loop-index.index in
     let whole : c.loop-index.index + far ≡ k = omega (arith, from) in
     let product = add-mul c.loop-index.index far p in
     let all : (c.loop-index.index + far) * p ≡ k * p = ap (λ (m : ℕ). m * p) whole in
     let there : c.args.place.first + c.loop-index.index * c.pages_of-pages.result + far * p ≡ c.args.place.first + k * p = omega (arith, start, product, all) in
-    needed-none ms range c.args.place.level (c.args.place.first + k * pages_of c.args.place.level) (child c.args.slot.now k)
+    needed-none kind ms range c.args.place.level (c.args.place.first + k * pages_of c.args.place.level) (child c.args.slot.now k)
     (subst (λ (m : ℕ). may_divide ms range c.args.place.level m ≡ false) there (c.undivided_from.ensures far (omega (arith, from, below, c.min-undivided.ensures)))) in
-    let rest = sum_below-rest (i + n) f i (omega arith) none in
+    let rest = λ (kind : Kind). sum_below-rest (i + n) (f kind) i (omega arith) (none kind) in
     let product = add-mul c.loop-index.index c.min-undivided.result p in
     let up = product-up n p (pages_of-some c.args.place.level) in
     record {
       position = position-ended ms c.max.result _ c.advance-position.result (omega (arith, start, product)) c.advance-position.ensures;
-      counted = omega (arith, rest, c.loop-index.invariant.counted);
-      bound = omega (arith, product, up, c.loop-index.invariant.bound);
+      counted = λ kind. let rest = rest kind in omega (arith, rest, c.loop-index.invariant.counted kind);
+      bound = λ kind. omega (arith, product, up, c.loop-index.invariant.bound kind);
       last = omega (arith, c.loop-index-test.true, c.min-undivided.ensures);
     }
 
 pub needed_below-returns-clause-count : goal.needed_below-returns-clause-count
-needed_below-returns-clause-count t c =
-    let f = λ (k : ℕ). needed c.args.excerpt.now.mappings.now c.args.excerpt.now.range c.args.place.level (c.args.place.first + k * pages_of c.args.place.level) (child c.args.slot.now k) in
+needed_below-returns-clause-count t c = λ kind.
+    let f = λ (k : ℕ). needed kind c.args.excerpt.now.mappings.now c.args.excerpt.now.range c.args.place.level (c.args.place.first + k * pages_of c.args.place.level) (child c.args.slot.now k) in
     let last : c.loop-index.index ≤ c.slots_met-low.result.1 = c.loop-index.invariant.last in
     let rest = sum_below-rest 512 f c.loop-index.index (omega (arith, last, c.slots_met-low.ensures.within)) (λ k from below.
-    needed-apart c.args.excerpt.now.mappings.now c.args.excerpt.now.range c.args.place.level (c.args.place.first + k * pages_of c.args.place.level) (child c.args.slot.now k)
+    needed-apart kind c.args.excerpt.now.mappings.now c.args.excerpt.now.range c.args.place.level (c.args.place.first + k * pages_of c.args.place.level) (child c.args.slot.now k)
     (meets-after (slot_pages c.args.place.level (c.args.place.first + k * pages_of c.args.place.level)) c.args.excerpt.now.range
     (c.slots_met-low.ensures.beyond k (omega (arith, c.loop-index-test.false)) below))) in
-    omega (arith, rest, c.loop-index.invariant.counted)
+    omega (arith, rest, c.loop-index.invariant.counted kind)
 
 pub needed_below-returns-clause-bound : goal.needed_below-returns-clause-bound
-needed_below-returns-clause-bound t c =
+needed_below-returns-clause-bound t c = λ kind.
     let last : c.loop-index.index ≤ c.slots_met-low.result.1 = c.loop-index.invariant.last in
-    rest-bound c.loop-index.total c.loop-index.index (pages_of c.args.place.level) c.loop-index.invariant.bound (omega (arith, last, c.slots_met-low.ensures.within)) (pages_of-some c.args.place.level)
+    rest-bound (of kind c.loop-index.total) c.loop-index.index (pages_of c.args.place.level) (c.loop-index.invariant.bound kind) (omega (arith, last, c.slots_met-low.ensures.within)) (pages_of-some c.args.place.level)

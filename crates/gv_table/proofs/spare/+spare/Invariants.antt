@@ -1,5 +1,6 @@
 use Rattle.std.proofs.Common.{◌≡◌, ◌≤◌, ◌+◌, ◌-◌, ◌*◌}
 use Rattle.gv_ranges.specs.List.{AreEnded}
+use Rattle.gv_table.specs.Kinds.{Kind, of}
 use Rattle.gv_table.specs.Levels.{pages_of, first_within}
 use Rattle.gv_table.specs.Sums.{sum_below}
 use Rattle.gv_table.specs.Tree.{child}
@@ -18,7 +19,7 @@ decreases-needed_below-loop-index l = l.high - l.index
 abbrev pub invariant-needed_below-loop-index : goal.invariant-needed_below-loop-index
 invariant-needed_below-loop-index l = record {
   position : AreEnded l.pieces (first_within l.range (l.first + l.index * pages_of l.level)) l.position;
-  counted : l.total ≡ sum_below l.index (λ k. needed l.pieces l.range l.level (l.first + k * pages_of l.level) (child l.slot k));
-  bound : l.total + l.index ≤ l.index * pages_of l.level;
+  counted : (kind : Kind) → of kind l.total ≡ sum_below l.index (λ k. needed kind l.pieces l.range l.level (l.first + k * pages_of l.level) (child l.slot k));
+  bound : (kind : Kind) → of kind l.total + l.index ≤ l.index * pages_of l.level;
   last : l.index ≤ l.high;
 }

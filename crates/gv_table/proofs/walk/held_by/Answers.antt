@@ -1,7 +1,9 @@
 use Rattle.std.proofs.Common.{arith, ◌+◌, ◌-◌, ◌≡◌, Some, sym, ap, ◌∙◌, subst, inl, inr}
 use Rattle.gv_types.specs.declared.mapping.Entry.{Entry}
 use Rattle.gv_table.specs.declared.slot.Slot.{Slot}
-use Rattle.gv_table.specs.Tree.{IsTreeOf, HasNoEntry}
+use Rattle.gv_table.specs.Named.{named}
+use Rattle.gv_table.specs.Tree.{IsTreeOf, HasNoEntry, leaf}
+use Rattle.gv_table.proofs.Named.{named-Empty, named-leaf}
 use Rattle.gv_table.proofs.Covered.{small-less}
 use Rattle.gv_table.proofs.Trees.{read-empty, read-leaf}
 use Rattle.gv_table.proofs.walk.held_by.Goals as goal
@@ -11,15 +13,16 @@ returns-in_err-entry c = λ ms level first laid tree other below.
     let none : HasNoEntry c.args.slot.now = c.in_err-entry.ensures in
     elim none [
       | inl e ↦ c.from_residual.ensures ∙
-          sym (read-empty ms level first (first + c.args.distance) (subst (λ (s : Slot). IsTreeOf ms level first s) e tree) (omega arith) (omega (arith, below)))
+          sym (read-empty ms level first (first + c.args.distance) (subst (λ (s : Slot). IsTreeOf ms level first s) (ap (named c.args.names.now) e ∙ named-Empty c.args.names.now) tree) (omega arith) (omega (arith, below)))
       | inr table ↦ cc
     ]
 
 pub returns : goal.returns
 returns c = λ ms level first laid tree other below.
-    let is = c.in_ok-entry.ensures in
-    let e = read-leaf ms level first (first + c.args.distance) c.in_ok-entry.entry laid (subst (λ (s : Slot). IsTreeOf ms level first s) is tree)
+    let is : named c.args.names.now c.args.slot.now ≡ leaf c.named.result =
+    ap (named c.args.names.now) c.in_ok-entry.ensures ∙ named-leaf c.args.names.now c.in_ok-entry.entry ∙ ap leaf (sym c.named.ensures) in
+    let e = read-leaf ms level first (first + c.args.distance) c.named.result laid (subst (λ (s : Slot). IsTreeOf ms level first s) is tree)
     (omega arith) (omega (arith, below)) in
     let far : first + c.args.distance - first ≡ c.args.distance = omega arith in
-    ap (λ (x : Entry). Some x) (c.advanced.ensures (small-less c.in_ok-entry.entry.backing _ _ e.0 (omega (arith, below)))) ∙
+    ap (λ (x : Entry). Some x) (c.advanced.ensures (small-less c.named.result.backing _ _ e.0 (omega (arith, below)))) ∙
     sym (rw far at e.1)

@@ -1,11 +1,14 @@
 use Rattle.std.proofs.Common.{rules, arith, ◌≡◌, ◌+◌, ◌-◌, ◌*◌, ◌/◌, ◌<◌, ℕ, false, List, length, slice_index_or, sym, ap, ◌∙◌, subst}
 use Rattle.std.proofs.lemmas.List.{get_or_default}
+use Rattle.gv_table.specs.Names.{PageSlot}
 use Rattle.gv_table.specs.declared.slot.Slot.{Slot}
 use Rattle.gv_table.specs.declared.slot.Slot.TheVariants.{Empty}
 use Rattle.gv_table.specs.Levels.{pages_of}
-use Rattle.gv_table.specs.Tree.{IsTreeOf, is_table, child}
+use Rattle.gv_table.specs.Named.{named}
+use Rattle.gv_table.proofs.Named.{is_table-named, child-named}
+use Rattle.gv_table.specs.Tree.{IsTreeOf, is_table, child, slot_of, no_page}
 use Rattle.gv_table.proofs.PagesOf.{pages_of-top, pages_of-below, pages_of-some, index-below, index-within}
-use Rattle.gv_table.proofs.Slots.{is_table-Table, child-Table, no-table}
+use Rattle.gv_table.proofs.Slots.{is_table-Table, is_table-Pages, child-Table, child-Pages, no-table}
 use Rattle.gv_table.proofs.Trees.{read-parts, page-no-table-slot}
 use Rattle.gv_table.proofs.walk.walk_tree.Goals as goal
 use Rattle.gv_table.proofs.walk.walk_tree.Goals.{else-loop-level-test, then-loop-level-test+in-Empty, then-loop-level-test+in-Empty-2, then-loop-level-test+in-Empty-3}
@@ -63,11 +66,46 @@ loop-level-preserved c =
       near = omega (arith, inv.near);
       within = omega (arith, taken, i);
       tree = λ ms laid tree.
-          subst (λ (n : ℕ). IsTreeOf ms (c.loop-level.level - 1) n (slice_index_or c.deref.result.now k c.index-deref-index.result)) (sym start)
-          (subst (λ (s : Slot). IsTreeOf ms (c.loop-level.level - 1) (c.args.page - c.loop-level.distance + k * pages_of (c.loop-level.level - 1)) s) read
-          (read-parts ms c.loop-level.level (c.args.page - c.loop-level.distance) c.loop-level.slot.now c.loop-level-test.true (inv.tree ms laid tree)
-          (ap is_table c.in-Table.is ∙ is_table-Table c.in-Table.slots) k below'));
+          subst (λ (n : ℕ). IsTreeOf ms (c.loop-level.level - 1) n (named c.args.names.now (slice_index_or c.deref.result.now k c.index-deref-index.result))) (sym start)
+          (subst (λ (s : Slot). IsTreeOf ms (c.loop-level.level - 1) (c.args.page - c.loop-level.distance + k * pages_of (c.loop-level.level - 1)) s)
+          (child-named c.args.names.now c.loop-level.slot.now k ∙ ap (named c.args.names.now) read)
+          (read-parts ms c.loop-level.level (c.args.page - c.loop-level.distance) (named c.args.names.now c.loop-level.slot.now) c.loop-level-test.true (inv.tree ms laid tree)
+          (is_table-named c.args.names.now c.loop-level.slot.now ∙ ap is_table c.in-Table.is ∙ is_table-Table c.in-Table.slots) k below'));
     }
+
+pub held_at-requires : goal.held_at-requires
+held_at-requires c =
+    let below-of = pages_of-below c.loop-level.level c.loop-level-test.true in
+    let some = pages_of-some (c.loop-level.level - 1) in
+    let i = index-below c.loop-level.distance (pages_of (c.loop-level.level - 1)) some (omega (arith, below-of, c.loop-level.invariant.within)) in
+    omega (arith, i, c.slots_in-index-in-Pages.ensures)
+
+-- the slots of a table of pages are the last
+pub returns-in-Pages : goal.returns-in-Pages
+returns-in-Pages c = λ ms laid tree.
+    let inv = c.loop-level.invariant in
+    let pages = c.pages_of-in-Pages.ensures.pages in
+    let below-of = pages_of-below c.loop-level.level c.loop-level-test.true in
+    let some = pages_of-some (c.loop-level.level - 1) in
+    let k : ℕ = c.slots_in-index-in-Pages.result in
+    let is : c.slots_in-index-in-Pages.result ≡ c.loop-level.distance / pages_of (c.loop-level.level - 1) = c.slots_in-index-in-Pages.ensures in
+    let below = index-below c.loop-level.distance (pages_of (c.loop-level.level - 1)) some (omega (arith, below-of, inv.within)) in
+    let below' : c.slots_in-index-in-Pages.result < 512 = omega (arith, is, below) in
+    let i = index-within c.loop-level.distance (pages_of (c.loop-level.level - 1)) some in
+    let taken : c.slots_in-index-in-Pages.result * c.pages_of-in-Pages.result ≡ c.loop-level.distance / pages_of (c.loop-level.level - 1) * pages_of (c.loop-level.level - 1) =
+    ap (λ (n : ℕ). n * c.pages_of-in-Pages.result) is ∙ ap (λ (n : ℕ). c.loop-level.distance / pages_of (c.loop-level.level - 1) * n) pages in
+    let same = ap (λ (n : ℕ). c.slots_in-index-in-Pages.result * n) pages in
+    let read : child c.loop-level.slot.now k ≡ slot_of (slice_index_or c.deref-in-Pages.result.now.0 k no_page) =
+    ap (λ (s : Slot). child s k) c.in-Pages.is ∙ child-Pages c.in-Pages.table k ∙
+    ap (λ (v : List PageSlot × Slot). slot_of (slice_index_or v.0 k no_page)) (sym c.deref-in-Pages.ensures) in
+    let part = read-parts ms c.loop-level.level (c.args.page - c.loop-level.distance) (named c.args.names.now c.loop-level.slot.now) c.loop-level-test.true (inv.tree ms laid tree)
+    (is_table-named c.args.names.now c.loop-level.slot.now ∙ ap is_table c.in-Pages.is ∙ is_table-Pages c.in-Pages.table) k below' in
+    let found = c.held_at.ensures ms (c.loop-level.level - 1) (c.args.page - c.loop-level.distance + k * pages_of (c.loop-level.level - 1)) laid
+    (subst (λ (s : Slot). IsTreeOf ms (c.loop-level.level - 1) (c.args.page - c.loop-level.distance + k * pages_of (c.loop-level.level - 1)) s)
+    (child-named c.args.names.now c.loop-level.slot.now k ∙ ap (named c.args.names.now) read) part) (omega (arith, taken, i)) in
+    let back : c.args.page - c.loop-level.distance + c.slots_in-index-in-Pages.result * pages_of (c.loop-level.level - 1) +
+    (c.loop-level.distance - c.slots_in-index-in-Pages.result * c.pages_of-in-Pages.result) ≡ c.args.page = omega (arith, taken, same, i, inv.near) in
+    rw back at found
 
 pub returns : goal.returns
 returns c = λ ms laid tree.
@@ -75,8 +113,8 @@ returns c = λ ms laid tree.
     let other : is_table c.loop-level.slot.now ≡ false = elim c.loop-level-test.branch [
       | else-loop-level-test w ↦ (
           let zero : c.loop-level.level ≡ 0 = omega (arith, w.loop-level-test.false) in
-          page-no-table-slot ms (c.args.page - c.loop-level.distance) c.loop-level.slot.now
-          (subst (λ (n : ℕ). IsTreeOf ms n (c.args.page - c.loop-level.distance) c.loop-level.slot.now) zero here))
+          sym (is_table-named c.args.names.now c.loop-level.slot.now) ∙ page-no-table-slot ms (c.args.page - c.loop-level.distance) (named c.args.names.now c.loop-level.slot.now)
+          (subst (λ (n : ℕ). IsTreeOf ms n (c.args.page - c.loop-level.distance) (named c.args.names.now c.loop-level.slot.now)) zero here))
       | then-loop-level-test+in-Empty w ↦ no-table c.loop-level.slot.now w.in-Empty.is
       | then-loop-level-test+in-Empty-2 w ↦ no-table c.loop-level.slot.now w.in-Empty.is
       | then-loop-level-test+in-Empty-3 w ↦ no-table c.loop-level.slot.now w.in-Empty.is

@@ -2,6 +2,7 @@ use Rattle.std.proofs.Common.{◌-◌, ◌<◌, ◌≤◌, List}
 use Rattle.gv_types.specs.declared.mapping.Mapping.{Mapping}
 use Rattle.gv_ranges.specs.List.{IsLaidOut}
 use Rattle.gv_table.specs.Levels.{pages_of}
+use Rattle.gv_table.specs.Named.{named}
 use Rattle.gv_table.specs.Tree.{IsTreeOf}
 use Rattle.gv_table.proofs.walk.walk_tree.Given as goal
 
@@ -10,7 +11,7 @@ invariant-loop-level l = record {
   known : l.level ≤ 5;
   near : l.distance ≤ l.page;
   within : l.distance < pages_of l.level;
-  tree : (ms : List Mapping) → IsLaidOut ms → IsTreeOf ms 5 0 l.fn.root → IsTreeOf ms l.level (l.page - l.distance) l.slot;
+  tree : (ms : List Mapping) → IsLaidOut ms → IsTreeOf ms 5 0 (named l.fn.names l.fn.root) → IsTreeOf ms l.level (l.page - l.distance) (named l.fn.names l.slot);
 }
 
 abbrev pub decreases-loop-level : goal.decreases-loop-level

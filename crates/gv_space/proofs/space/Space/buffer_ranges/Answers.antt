@@ -12,7 +12,7 @@ use Rattle.gv_space.proofs.space.Space.buffer_ranges.Goals as goal
 pub ranges_of-requires : goal.ranges_of-requires
 ranges_of-requires c =
     let s : SpaceState = space_of c.self.inside in
-    uses_found s.buffers c.args.id s.mappings c.in-Some.count c.self.invariant.used (sym c.uses.ensures.value ∙ c.in-Some.is)
+    uses_found s.buffers c.args.id s.mappings c.in-Some.count c.self.invariant.space.used (sym c.uses.ensures.value ∙ c.in-Some.is)
     ∙ ap (λ (t : SpaceState). count_of c.args.id t.mappings) c.self.view_is
     ∙ ap (λ (ms : List Mapping). count_of c.args.id ms) (sym c.list.ensures.value)
 
@@ -20,7 +20,7 @@ pub returns-in_err-ranges_of-clause-some : goal.returns-in_err-ranges_of-clause-
 returns-in_err-ranges_of-clause-some c = λ _.
     let s : SpaceState = space_of c.self.inside in
     let counted : c.in-Some.count ≡ count_of c.args.id c.args.self.now.mappings =
-    uses_found s.buffers c.args.id s.mappings c.in-Some.count c.self.invariant.used (sym c.uses.ensures.value ∙ c.in-Some.is)
+    uses_found s.buffers c.args.id s.mappings c.in-Some.count c.self.invariant.space.used (sym c.uses.ensures.value ∙ c.in-Some.is)
     ∙ ap (λ (t : SpaceState). count_of c.args.id t.mappings) c.self.view_is in
     subst (λ (n : ℕ). 0 < n) counted c.in_err-ranges_of.ensures.some
 

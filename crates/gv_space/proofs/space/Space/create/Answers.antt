@@ -1,30 +1,48 @@
-use Rattle.std.proofs.Common.{◌≡◌, ℕ, Result, Ok, Err, sym, subst, List, OnOk, OnErr}
-use Rattle.std.specs.Prelude.{IfOk}
-use Rattle.gv_types.specs.declared.fault.Fault.{Fault}
-use Rattle.gv_types.specs.declared.mapping.BufferId.{BufferId}
-use Rattle.gv_buffers.specs.Buffers.{BuffersState, IsCreated, IsTable}
-use Rattle.gv_types.specs.declared.mapping.Mapping.{Mapping}
+use Rattle.std.proofs.Common.{◌≡◌, sym, subst, ap, ◌∙◌}
+use Rattle.gv_ranges.specs.List.{RangeListState}
+use Rattle.gv_space.specs.Mapped.{list_of}
 use Rattle.gv_space.specs.State.{SpaceState, AreKept, IsSpace}
 use Rattle.gv_space.specs.Inside.{space_of}
+use Rattle.gv_space.proofs.Names.{named-same}
 use Rattle.gv_space.proofs.LivesLemmas.{AreKept-made}
+use Rattle.gv_space.proofs.LiveNames.{named_placed, apart_placed, named_made}
 use Rattle.gv_space.proofs.Spaces.{IsSpace-made}
 use Rattle.gv_space.proofs.space.Space.create.Goals as goal
 
-after : (r : Result BufferId Fault) (s : SpaceState) (new : BuffersState) (pages : ℕ) → IsSpace s → IfOk r (λ id. IsCreated s.buffers new id pages) → OnOk r (IsTable new) → OnErr r (new ≡ s.buffers) →
-    IsSpace (record s { buffers = new })
-after (Ok id) s new pages space made table same = IsSpace-made s new id pages made table space
-after (Err fault) s new pages space made table same = subst (λ (t : BuffersState). IsSpace (record s { buffers = t })) (sym same) space
+pub reserve_name-requires-clause-named : goal.reserve_name-requires-clause-named
+reserve_name-requires-clause-named c =
+    let s : SpaceState = space_of c.self.inside in
+    named_placed s.area s.buffers c.self.inside.mapped.names s.mappings c.self.invariant.space.buffers c.self.invariant.named c.self.invariant.space.placed
 
-pub invariant_of-self : goal.invariant_of-self
-invariant_of-self c =
-    after c.create.result (space_of c.self.inside) c.create.new.self c.args.pages c.self.invariant c.create.ensures.ok c.create.ensures.table c.create.ensures.err
+pub name-requires-clause-named : goal.name-requires-clause-named
+name-requires-clause-named c =
+    let s : SpaceState = space_of c.self.inside in
+    let list_is : c.reserve_name.new.self.mappings ≡ s.mappings = ap (λ (l : RangeListState). l.mappings) c.reserve_name.ensures.list in
+    rw list_is
+    (named-same c.self.inside.mapped.names c.reserve_name.new.self.names s.mappings c.reserve_name.ensures.same
+    (named_placed s.area s.buffers c.self.inside.mapped.names s.mappings c.self.invariant.space.buffers c.self.invariant.named c.self.invariant.space.placed))
 
-saves : (r : Result BufferId Fault) (s : SpaceState) (new : BuffersState) (pages : ℕ) → IfOk r (λ id. IsCreated s.buffers new id pages) → OnErr r (new ≡ s.buffers) →
-    (kept : List Mapping) → AreKept s kept → AreKept (record s { buffers = new }) kept
-saves (Ok id) s new pages made same kept are_kept = AreKept-made s new id pages kept made are_kept
-saves (Err fault) s new pages made same kept are_kept = subst (λ (t : BuffersState). AreKept (record s { buffers = t }) kept) (sym same) are_kept
+pub name-requires-clause-apart : goal.name-requires-clause-apart
+name-requires-clause-apart c =
+    let s : SpaceState = space_of c.self.inside in
+    let list_is : c.reserve_name.new.self.mappings ≡ s.mappings = ap (λ (l : RangeListState). l.mappings) c.reserve_name.ensures.list in
+    rw list_is (apart_placed s.area s.buffers c.in-Ok.id.index s.mappings c.in-Ok.ensures.ok.free c.self.invariant.space.placed)
 
-pub returns-clause-kept : goal.returns-clause-kept
-returns-clause-kept c = λ kept are_kept.
-    saves c.create.result (space_of c.self.inside) c.create.new.self c.args.pages c.create.ensures.ok c.create.ensures.err kept
-    (subst (λ (t : SpaceState). AreKept t kept) (sym c.self.view_is) are_kept)
+pub invariant_of-self-in-Ok : goal.invariant_of-self-in-Ok
+invariant_of-self-in-Ok c =
+    let s : SpaceState = space_of c.self.inside in
+    let list_is : list_of c.name.new.self ≡ list_of c.self.inside.mapped = c.name.ensures.list ∙ c.reserve_name.ensures.list in
+    record {
+      space = subst (λ (l : RangeListState). IsSpace (record s { mappings = l.mappings; room = l.room; buffers = c.create.new.self })) (sym list_is)
+          (IsSpace-made s c.create.new.self c.in-Ok.id c.args.pages c.in-Ok.ensures.ok c.in-Ok.ensures.table c.self.invariant.space);
+      named = named_made s.buffers c.create.new.self c.in-Ok.id c.args.pages c.reserve_name.new.self.names c.name.new.self.names c.in-Ok.ensures.ok
+          (λ id lives. c.reserve_name.ensures.same id.index id (c.self.invariant.named id lives)) c.name.ensures.named c.name.ensures.others;
+    }
+
+pub returns-in-Ok-clause-kept : goal.returns-in-Ok-clause-kept
+returns-in-Ok-clause-kept c = λ kept are_kept.
+    let s : SpaceState = space_of c.self.inside in
+    let list_is : list_of c.name.new.self ≡ list_of c.self.inside.mapped = c.name.ensures.list ∙ c.reserve_name.ensures.list in
+    let was : AreKept s kept = subst (λ (t : SpaceState). AreKept t kept) (sym c.self.view_is) are_kept in
+    subst (λ (l : RangeListState). AreKept (record s { mappings = l.mappings; room = l.room; buffers = c.create.new.self }) kept) (sym list_is)
+    (AreKept-made s c.create.new.self c.in-Ok.id c.args.pages kept c.in-Ok.ensures.ok was)

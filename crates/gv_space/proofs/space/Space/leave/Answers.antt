@@ -1,16 +1,20 @@
-use Rattle.std.proofs.Common.{sym, subst}
-use Rattle.gv_buffers.specs.Buffers.{BuffersState, IsTable}
+use Rattle.std.proofs.Common.{refl, sym, subst}
+use Rattle.gv_buffers.specs.Buffers.{BuffersState, left_by, IsLive, IsTable}
 use Rattle.gv_space.specs.State.{SpaceState, AreKept, IsSpace}
 use Rattle.gv_space.specs.Inside.{space_of}
 use Rattle.gv_space.proofs.Jobs.{AreKept-left}
+use Rattle.gv_space.proofs.LiveNames.{lived-each}
 use Rattle.gv_space.proofs.Spaces.{IsSpace-left}
 use Rattle.gv_space.proofs.space.Space.leave.Goals as goal
 
 pub invariant_of-self : goal.invariant_of-self
 invariant_of-self c =
     let s : SpaceState = space_of c.self.inside in
-    subst (λ (t : BuffersState). IsSpace (record s { buffers = t })) (sym c.leave.ensures.value)
-    (IsSpace-left s c.args.job (subst IsTable c.leave.ensures.value c.leave.ensures.table) c.self.invariant)
+    record {
+      space = subst (λ (t : BuffersState). IsSpace (record s { buffers = t })) (sym c.leave.ensures.value)
+          (IsSpace-left s c.args.job (subst IsTable c.leave.ensures.value c.leave.ensures.table) c.self.invariant.space);
+      named = λ id lives. c.self.invariant.named id (lived-each (left_by c.args.job) s.buffers (λ b. refl) id (subst (λ (t : BuffersState). IsLive t id) c.leave.ensures.value lives));
+    }
 
 pub returns-clause-kept : goal.returns-clause-kept
 returns-clause-kept c = λ kept are_kept.

@@ -1,13 +1,25 @@
 use Rattle.std.proofs.Common.{◌≡◌, ◌-◌, refl, sym, subst, ap, ◌∙◌, List, ◌++◌}
 use Rattle.gv_types.specs.declared.mapping.Mapping.{Mapping}
-use Rattle.gv_ranges.specs.List.{RangeListState}
-use Rattle.gv_space.specs.State.{SpaceState, IsSpace, AreKept}
+use Rattle.gv_buffers.specs.Buffers.{BuffersState, IsLive}
+use Rattle.gv_space.specs.Counts.{by_count, less_kept}
+use Rattle.gv_space.specs.Mapped.{MappedState, AreLiveNamed}
+use Rattle.gv_space.specs.State.{SpaceState, IsSpace, IsPlaced, AreKept}
 use Rattle.gv_space.specs.Undo.{OpUndoState, released}
 use Rattle.gv_space.specs.Inside.{space_of}
 use Rattle.gv_space.proofs.Spaces.{IsSpace-released}
-use Rattle.gv_space.proofs.KeptLemmas.{AreKept-released}
+use Rattle.gv_space.proofs.ByCountLemmas.{live_from_placed, less_kept_of_counts}
+use Rattle.gv_space.proofs.LiveNames.{lived-by_count}
+use Rattle.gv_space.proofs.KeptLemmas.{All-front, AreKept-released}
 use Rattle.gv_space.proofs.Rooms.{saved_are_kept}
 use Rattle.gv_space.proofs.space.Space.release.Goals as goal
+
+pub unkeep-requires-clause-live : goal.unkeep-requires-clause-live
+unkeep-requires-clause-live c =
+    let s : SpaceState = space_of c.self.inside in
+    let taken : List Mapping = c.args.undo.change.taken in
+    let taken_is : c.undo.inside.taken.items ≡ taken = ap (λ (u : OpUndoState). u.change.taken) c.undo.view_is in
+    let saved : AreKept s (taken ++ c.requires.others) = subst (λ (t : SpaceState). AreKept t (taken ++ c.requires.others)) (sym c.self.view_is) c.requires.are_kept in
+    rw (c.as_slice.ensures, taken_is) (live_from_placed s.area s.buffers taken (All-front (IsPlaced s.area s.buffers) taken c.requires.others saved.placed))
 
 pub unkeep-requires-clause-counted : goal.unkeep-requires-clause-counted
 unkeep-requires-clause-counted c =
@@ -24,10 +36,16 @@ invariant_of-self c =
     let taken_is : c.undo.inside.taken.items ≡ taken = ap (λ (u : OpUndoState). u.change.taken) c.undo.view_is in
     let saved : AreKept s (taken ++ c.requires.others) = subst (λ (t : SpaceState). AreKept t (taken ++ c.requires.others)) (sym c.self.view_is) c.requires.are_kept in
     let new : SpaceState = record s { mappings = c.keep.new.self.mappings; room = c.keep.new.self.room; buffers = c.unkeep.new.buffers; kept_count = s.kept_count - c.len.result } in
-    let made : RangeListState → SpaceState =
+    let made : MappedState → SpaceState =
     λ l. record s { mappings = l.mappings; room = l.room; buffers = c.unkeep.new.buffers; kept_count = s.kept_count - c.len.result } in
     let state : new ≡ released s taken = ap made c.keep.ensures.same ∙ rw (c.unkeep.ensures, c.len.ensures.value, c.as_slice.ensures, taken_is) refl in
-    subst IsSpace (sym state) (IsSpace-released s taken c.requires.others c.self.invariant saved)
+    let buffers_is : c.unkeep.new.buffers ≡ by_count less_kept taken s.buffers = rw (c.unkeep.ensures, c.as_slice.ensures, taken_is) refl in
+    let names_are : c.keep.new.self.names ≡ c.self.inside.mapped.names = ap (λ (m : MappedState). m.names) c.keep.ensures.same in
+    record {
+      space = subst IsSpace (sym state) (IsSpace-released s taken c.requires.others c.self.invariant.space saved);
+      named = subst (AreLiveNamed c.unkeep.new.buffers) (sym names_are)
+          (λ id lives. c.self.invariant.named id (lived-by_count less_kept taken s.buffers less_kept_of_counts id (subst (λ (t : BuffersState). IsLive t id) buffers_is lives)));
+    }
 
 pub returns-clause-state : goal.returns-clause-state
 returns-clause-state c =
@@ -35,7 +53,7 @@ returns-clause-state c =
     let taken : List Mapping = c.args.undo.change.taken in
     let taken_is : c.undo.inside.taken.items ≡ taken = ap (λ (u : OpUndoState). u.change.taken) c.undo.view_is in
     let new : SpaceState = record s { mappings = c.keep.new.self.mappings; room = c.keep.new.self.room; buffers = c.unkeep.new.buffers; kept_count = s.kept_count - c.len.result } in
-    let made : RangeListState → SpaceState =
+    let made : MappedState → SpaceState =
     λ l. record s { mappings = l.mappings; room = l.room; buffers = c.unkeep.new.buffers; kept_count = s.kept_count - c.len.result } in
     let state : new ≡ released s taken = ap made c.keep.ensures.same ∙ rw (c.unkeep.ensures, c.len.ensures.value, c.as_slice.ensures, taken_is) refl in
     state ∙ ap (λ (t : SpaceState). released t taken) c.self.view_is
@@ -46,7 +64,7 @@ returns-clause-kept c =
     let taken : List Mapping = c.args.undo.change.taken in
     let taken_is : c.undo.inside.taken.items ≡ taken = ap (λ (u : OpUndoState). u.change.taken) c.undo.view_is in
     let new : SpaceState = record s { mappings = c.keep.new.self.mappings; room = c.keep.new.self.room; buffers = c.unkeep.new.buffers; kept_count = s.kept_count - c.len.result } in
-    let made : RangeListState → SpaceState =
+    let made : MappedState → SpaceState =
     λ l. record s { mappings = l.mappings; room = l.room; buffers = c.unkeep.new.buffers; kept_count = s.kept_count - c.len.result } in
     let state : new ≡ released s taken = ap made c.keep.ensures.same ∙ rw (c.unkeep.ensures, c.len.ensures.value, c.as_slice.ensures, taken_is) refl in
     λ others are_kept.

@@ -1,79 +1,106 @@
-use Rattle.std.proofs.Common.{◌≡◌, List, rules, arith, subst}
+use Rattle.std.proofs.Common.{◌≡◌, ◌∙◌, List, rules, arith, ap, sym, subst}
+use Rattle.gv_types.specs.declared.mapping.BufferId.{BufferId}
 use Rattle.gv_types.specs.declared.mapping.Mapping.{Mapping}
-use Rattle.gv_table.specs.Tree.{IsTreeOf}
-use Rattle.gv_table.specs.Levels.{slot_pages}
-use Rattle.gv_table.proofs.Ends.{ends-tree}
+use Rattle.gv_ranges.specs.List.{IsLaidOut, AreEnded}
+use Rattle.gv_table.specs.declared.slot.Slot.{Slot}
+use Rattle.gv_table.specs.Kinds.{Kind, pages, slots, of, each}
+use Rattle.gv_table.specs.Counts.{gained, lost}
+use Rattle.gv_table.specs.Named.{named}
+use Rattle.gv_table.specs.Names.{unnamed, AreNamed, AreTold}
+use Rattle.gv_table.specs.Table.{PageTable, gained_by, lost_by}
+use Rattle.gv_table.specs.Tree.{IsTreeOf, IsTreeOutside, IsToldOutside}
+use Rattle.gv_table.proofs.KindLemmas.{each-of}
 use Rattle.gv_table.proofs.Matches.{tree-match, gained-lost}
+use Rattle.gv_table.proofs.Named.{gained-named, lost-named}
+use Rattle.gv_table.proofs.NamedTrees.{named-tree, named-told, told-outside, tree-told}
 use Rattle.gv_table.proofs.PagesOf.{pages_of-top}
-use Rattle.gv_table.proofs.Spans.{meets-from}
+use Rattle.gv_table.proofs.Unnamed.{laid_out-unnamed, ended-unnamed, gained-unnamed, lost-unnamed}
 use Rattle.gv_table.proofs.page_table.PageTable.paint.Goals as goal
 
-pub paint_slot-requires-clause-in_space : goal.paint_slot-requires-clause-in_space
-paint_slot-requires-clause-in_space c = let all = pages_of-top in omega (arith, all)
+-- what a tree gains on the way back is what it lost
+both-ways : (ms other : List Mapping) (old new : Slot) → IsLaidOut ms → IsLaidOut other → IsTreeOf ms 5 0 old → IsTreeOf other 5 0 new →
+    each (λ kind. gained kind ms 5 0 new) ≡ each (λ kind. lost kind other 5 0 old)
+both-ways ms other old new laid laid' tree tree' =
+    let of_pages = gained-lost pages ms other 5 0 old new (tree-match ms 5 0 old laid tree) (tree-match other 5 0 new laid' tree') in
+    let of_slots = gained-lost slots ms other 5 0 old new (tree-match ms 5 0 old laid tree) (tree-match other 5 0 new laid' tree') in
+    cc
 
-pub paint_slot-requires-clause-met : goal.paint_slot-requires-clause-met
-paint_slot-requires-clause-met c =
-    let all = pages_of-top in
-    let some = c.first.ensures.in_space in
-    meets-from (slot_pages 5 0) c.args.range (omega (arith, some)) (omega (arith, all, some))
+-- what the tree that tells indexes gains by the list told so is what the tree gains by the list
+module _ (names : List BufferId) (root : Slot) (table : PageTable) (ms told : List Mapping) (is : told ≡ unnamed ms) (view : named names root ≡ table.root) where
+  gained-is : (kind : Kind) → gained kind told 5 0 root ≡ of kind (gained_by ms table)
+  gained-is kind =
+      ap (λ (xs : List Mapping). gained kind xs 5 0 root) is ∙ gained-unnamed kind ms 5 0 root ∙ sym (gained-named names kind ms 5 0 root) ∙
+      ap (gained kind ms 5 0) view ∙ sym (each-of (λ k. gained k ms 5 0 table.root) kind)
 
-pub paint_slot-requires-clause-part : goal.paint_slot-requires-clause-part
-paint_slot-requires-clause-part c =
+  lost-is : (kind : Kind) → lost kind told 5 0 root ≡ of kind (lost_by ms table)
+  lost-is kind =
+      ap (λ (xs : List Mapping). lost kind xs 5 0 root) is ∙ lost-unnamed kind ms 5 0 root ∙ sym (lost-named names kind ms 5 0 root) ∙
+      ap (lost kind ms 5 0) view ∙ sym (each-of (λ k. lost k ms 5 0 table.root) kind)
+
+pub paint_tree-requires-clause-laid_out : goal.paint_tree-requires-clause-laid_out
+paint_tree-requires-clause-laid_out c =
+    subst (λ (xs : List Mapping). IsLaidOut xs) (sym (c.of-mappings.ensures ∙ ap unnamed c.of_list.ensures)) (laid_out-unnamed c.args.list.now.mappings 0 (search rules))
+
+pub paint_tree-requires-clause-told : goal.paint_tree-requires-clause-told
+paint_tree-requires-clause-told c =
+    subst AreTold (sym (c.of-mappings.ensures ∙ ap unnamed c.of_list.ensures))
+    (named-told c.self.inside.names.items c.args.list.now.mappings c.self.invariant.named
+    (subst (λ (xs : List BufferId). AreNamed xs c.args.list.now.mappings) (sym (ap (λ (t : PageTable). t.names) c.self.view_is)) c.requires.named))
+
+pub paint_tree-requires-clause-ended : goal.paint_tree-requires-clause-ended
+paint_tree-requires-clause-ended c =
+    subst (λ (xs : List Mapping). AreEnded xs c.args.range.first c.args.position) (sym (c.of-mappings.ensures ∙ ap unnamed c.of_list.ensures))
+    (ended-unnamed c.args.list.now.mappings c.args.range.first c.args.position c.requires.ended)
+
+pub paint_tree-requires-clause-outside : goal.paint_tree-requires-clause-outside
+paint_tree-requires-clause-outside c =
     let all = pages_of-top in
+    subst (λ (xs : List Mapping). IsToldOutside xs c.args.range 5 0 c.self.inside.root) (sym (c.of-mappings.ensures ∙ ap unnamed c.of_list.ensures))
+    (told-outside c.self.inside.names.items c.self.invariant.named c.args.list.now.mappings c.args.range c.self.inside.root (omega (arith, all)) c.self.invariant.told
+    (subst (λ (s : Slot). IsTreeOutside c.args.list.now.mappings c.args.range 5 0 s) (sym (ap (λ (t : PageTable). t.root) c.self.view_is)) c.requires.fitted))
+
+pub paint_tree-requires-clause-enough : goal.paint_tree-requires-clause-enough
+paint_tree-requires-clause-enough c = λ kind.
+    let same = gained-is c.self.inside.names.items c.self.inside.root c.args.self.now c.args.list.now.mappings c.of-mappings.result
+    (c.of-mappings.ensures ∙ ap unnamed c.of_list.ensures) (ap (λ (t : PageTable). t.root) c.self.view_is) kind in
+    omega (arith, same, c.requires.enough kind)
+
+pub invariant_of-self : goal.invariant_of-self
+invariant_of-self c =
+    let is = c.of-mappings.ensures ∙ ap unnamed c.of_list.ensures in
     record {
-      counted = λ target. let e = c.args.self.now.counted target in omega (arith, e);
-      room = λ target. let e = c.args.self.now.counted target in omega (arith, all, e);
+      counted = c.paint_tree.ensures.counted;
+      shaped = c.paint_tree.ensures.shaped;
+      told = tree-told c.of-mappings.result 5 0 c.paint_tree.new.root
+          (subst (λ (xs : List Mapping). IsLaidOut xs) (sym is) (laid_out-unnamed c.args.list.now.mappings 0 (search rules)))
+          (subst AreTold (sym is)
+          (named-told c.self.inside.names.items c.args.list.now.mappings c.self.invariant.named
+          (subst (λ (xs : List BufferId). AreNamed xs c.args.list.now.mappings) (sym (ap (λ (t : PageTable). t.names) c.self.view_is)) c.requires.named)))
+          c.paint_tree.ensures.tree;
+      named = c.self.invariant.named;
     }
 
-pub paint_in_slot-requires-clause-in_space : goal.paint_in_slot-requires-clause-in_space
-paint_in_slot-requires-clause-in_space c = let all = pages_of-top in omega (arith, all)
+pub returns-clause-tree : goal.returns-clause-tree
+returns-clause-tree c =
+    named-tree c.self.inside.names.items c.args.list.now.mappings 5 0 c.paint_tree.new.root
+    (subst (λ (xs : List BufferId). AreNamed xs c.args.list.now.mappings) (sym (ap (λ (t : PageTable). t.names) c.self.view_is)) c.requires.named)
+    (subst (λ (xs : List Mapping). IsTreeOf xs 5 0 c.paint_tree.new.root) (c.of-mappings.ensures ∙ ap unnamed c.of_list.ensures) c.paint_tree.ensures.tree)
 
-pub paint_in_slot-requires-clause-met : goal.paint_in_slot-requires-clause-met
-paint_in_slot-requires-clause-met c =
-    let all = pages_of-top in
-    let some = c.first.ensures.in_space in
-    meets-from (slot_pages 5 0) c.args.range (omega (arith, some)) (omega (arith, all, some))
+pub returns-clause-taken : goal.returns-clause-taken
+returns-clause-taken c = λ kind.
+    let same = gained-is c.self.inside.names.items c.self.inside.root c.args.self.now c.args.list.now.mappings c.of-mappings.result
+    (c.of-mappings.ensures ∙ ap unnamed c.of_list.ensures) (ap (λ (t : PageTable). t.root) c.self.view_is) kind in
+    omega (arith, same, c.paint_tree.ensures.taken kind)
 
-pub returns-then-paint_in_slot-clause-back : goal.returns-then-paint_in_slot-clause-back
-returns-then-paint_in_slot-clause-back c = λ ms laid tree.
-    let same = gained-lost ms c.args.list.now.mappings 5 0 c.args.self.now.root c.paint_in_slot.new.slot
-    (tree-match ms 5 0 c.args.self.now.root laid tree) (tree-match c.args.list.now.mappings 5 0 c.paint_in_slot.new.slot (search rules)
-    (subst (λ (xs : List Mapping). IsTreeOf xs 5 0 c.paint_in_slot.new.slot) c.of_list-mappings.ensures (c.paint_in_slot.ensures.tree c.if-paint_in_slot.true))) in
-    let lost = rw c.of_list-mappings.ensures at (c.paint_in_slot.ensures.lost c.if-paint_in_slot.true) in
-    omega (arith, same, lost)
-
-pub returns-then-paint_in_slot-clause-owed : goal.returns-then-paint_in_slot-clause-owed
-returns-then-paint_in_slot-clause-owed c = λ ms laid tree.
-    let same = gained-lost ms c.args.list.now.mappings 5 0 c.args.self.now.root c.paint_in_slot.new.slot
-    (tree-match ms 5 0 c.args.self.now.root laid tree) (tree-match c.args.list.now.mappings 5 0 c.paint_in_slot.new.slot (search rules)
-    (subst (λ (xs : List Mapping). IsTreeOf xs 5 0 c.paint_in_slot.new.slot) c.of_list-mappings.ensures (c.paint_in_slot.ensures.tree c.if-paint_in_slot.true))) in
-    let lost = rw c.of_list-mappings.ensures at (c.paint_in_slot.ensures.lost c.if-paint_in_slot.true) in
-    omega (arith, same, lost)
-
-pub invariant_of-self-clause-ended : goal.invariant_of-self-clause-ended
-invariant_of-self-clause-ended c =
-    ends-tree c.args.list.now.mappings 5 0 c.paint_in_slot.new.slot
-    (subst (λ (xs : List Mapping). IsTreeOf xs 5 0 c.paint_in_slot.new.slot) c.of_list-mappings.ensures (c.paint_in_slot.ensures.tree c.if-paint_in_slot.true))
+pub returns-clause-put : goal.returns-clause-put
+returns-clause-put c = λ kind.
+    let same = lost-is c.self.inside.names.items c.self.inside.root c.args.self.now c.args.list.now.mappings c.of-mappings.result
+    (c.of-mappings.ensures ∙ ap unnamed c.of_list.ensures) (ap (λ (t : PageTable). t.root) c.self.view_is) kind in
+    omega (arith, same, c.paint_tree.ensures.put kind)
 
 pub returns-clause-back : goal.returns-clause-back
 returns-clause-back c = λ ms laid tree.
-    let root : c.paint_in_slot.new.slot ≡ c.args.self.now.root = c.paint_in_slot.ensures.not c.if-paint_in_slot.false in
-    let same = gained-lost ms c.args.list.now.mappings 5 0 c.args.self.now.root c.paint_slot.new.slot
-    (tree-match ms 5 0 c.args.self.now.root laid tree) (tree-match c.args.list.now.mappings 5 0 c.paint_slot.new.slot (search rules)
-    (subst (λ (xs : List Mapping). IsTreeOf xs 5 0 c.paint_slot.new.slot) c.of_list-mappings.ensures c.paint_slot.ensures.tree)) in
-    let exchanged = rw (c.of_list-mappings.ensures, root) at c.paint_slot.ensures.exchanged in
-    omega (arith, same, exchanged, c.requires.enough)
-
-pub returns-clause-owed : goal.returns-clause-owed
-returns-clause-owed c = λ ms laid tree.
-    let root : c.paint_in_slot.new.slot ≡ c.args.self.now.root = c.paint_in_slot.ensures.not c.if-paint_in_slot.false in
-    let same = gained-lost ms c.args.list.now.mappings 5 0 c.args.self.now.root c.paint_slot.new.slot
-    (tree-match ms 5 0 c.args.self.now.root laid tree) (tree-match c.args.list.now.mappings 5 0 c.paint_slot.new.slot (search rules)
-    (subst (λ (xs : List Mapping). IsTreeOf xs 5 0 c.paint_slot.new.slot) c.of_list-mappings.ensures c.paint_slot.ensures.tree)) in
-    let lost = rw (c.of_list-mappings.ensures, root) at c.paint_slot.ensures.lost in
-    omega (arith, same, lost)
-
-pub invariant_of-self-2-clause-ended : goal.invariant_of-self-2-clause-ended
-invariant_of-self-2-clause-ended c =
-    ends-tree c.args.list.now.mappings 5 0 c.paint_slot.new.slot
-    (subst (λ (xs : List Mapping). IsTreeOf xs 5 0 c.paint_slot.new.slot) c.of_list-mappings.ensures c.paint_slot.ensures.tree)
+    both-ways ms c.args.list.now.mappings c.args.self.now.root (named c.self.inside.names.items c.paint_tree.new.root) laid (search rules) tree
+    (named-tree c.self.inside.names.items c.args.list.now.mappings 5 0 c.paint_tree.new.root
+    (subst (λ (xs : List BufferId). AreNamed xs c.args.list.now.mappings) (sym (ap (λ (t : PageTable). t.names) c.self.view_is)) c.requires.named)
+    (subst (λ (xs : List Mapping). IsTreeOf xs 5 0 c.paint_tree.new.root) (c.of-mappings.ensures ∙ ap unnamed c.of_list.ensures) c.paint_tree.ensures.tree))

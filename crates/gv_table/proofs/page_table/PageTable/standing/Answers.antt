@@ -1,6 +1,6 @@
-use Rattle.std.proofs.Common.{arith, ◌≡◌, ◌<◌, ◌^◌, ℕ, List, ap, slice_index_or}
+use Rattle.std.proofs.Common.{arith, ◌+◌, ◌≡◌, ◌<◌, ◌^◌, ℕ, List, ap, slice_index_or}
 use Rattle.gv_table.specs.Counts.{tables_at}
-use Rattle.gv_table.specs.declared.page_table.PageTable.{PageTable}
+use Rattle.gv_table.specs.Table.{PageTable}
 use Rattle.gv_table.proofs.Fewness.{tables_at-few}
 use Rattle.gv_table.proofs.PagesOf.{pages_of-top}
 use Rattle.gv_table.proofs.page_table.PageTable.standing.Goals as goal
@@ -45,20 +45,11 @@ overflow_add-result-3 c =
       fewer table (slice_index_or c.tables.result 3 0) 1 (at _ _ is 3),
     )
 
-pub overflow_add-result-4 : goal.overflow_add-result-4
-overflow_add-result-4 c =
-    let is = c.tables.ensures.standing in
-    let table = c.args.self.now in
-    omega (
-      arith,
-      fewer table (slice_index_or c.tables.result 0 0) 4 (at _ _ is 0),
-      fewer table (slice_index_or c.tables.result 1 0) 3 (at _ _ is 1),
-      fewer table (slice_index_or c.tables.result 2 0) 2 (at _ _ is 2),
-      fewer table (slice_index_or c.tables.result 3 0) 1 (at _ _ is 3),
-      fewer table (slice_index_or c.tables.result 4 0) 0 (at _ _ is 4),
-    )
-
 pub returns : goal.returns
 returns c =
     let is = c.tables.ensures.standing in
-    omega (arith, at _ _ is 0, at _ _ is 1, at _ _ is 2, at _ _ is 3, at _ _ is 4)
+    let of_pages = at _ _ is 4 in
+    let of_slots : slice_index_or c.tables.result 0 0 + slice_index_or c.tables.result 1 0 + slice_index_or c.tables.result 2 0 + slice_index_or c.tables.result 3 0 ≡
+    tables_at 4 5 c.args.self.now.root + tables_at 3 5 c.args.self.now.root + tables_at 2 5 c.args.self.now.root + tables_at 1 5 c.args.self.now.root =
+    omega (arith, at _ _ is 0, at _ _ is 1, at _ _ is 2, at _ _ is 3) in
+    cc

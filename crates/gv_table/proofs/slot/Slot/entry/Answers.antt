@@ -1,12 +1,13 @@
 use Rattle.std.proofs.Common.{sym, ap, ◌∙◌, inl, inr}
 use Rattle.gv_table.specs.Tree.{is_table}
-use Rattle.gv_table.proofs.Slots.{is_table-Table, leaf-Zero, leaf-Buffer}
+use Rattle.gv_table.proofs.Slots.{is_table-Table, is_table-Pages, leaf-Zero, leaf-Buffer}
 use Rattle.gv_table.proofs.slot.Slot.entry.Goals as goal
 
 pub returns-in-Empty : goal.returns-in-Empty
 returns-in-Empty c = elim c.in-Empty.is [
   | inl e ↦ inl e
-  | inr p ↦ inr (ap is_table p.1 ∙ is_table-Table p.0)
+  | inr (inl p) ↦ inr (ap is_table p.1 ∙ is_table-Pages p.0)
+  | inr (inr p) ↦ inr (ap is_table p.1 ∙ is_table-Table p.0)
 ]
 
 pub returns-in-Zero : goal.returns-in-Zero

@@ -1,4 +1,4 @@
-use Rattle.std.proofs.Common.{◌-◌, ◌<◌, ◌≤◌, sym, ◌∙◌, arith}
+use Rattle.std.proofs.Common.{◌<◌, ◌≤◌, sym, ◌∙◌, arith}
 use Rattle.gv_journal.specs.Items.{next}
 use Rattle.gv_vm.proofs.AddressPasts.{past_all, one_listed, none_listed, one_to_list}
 use Rattle.gv_vm.proofs.vm.Vm.past.Goals as goal

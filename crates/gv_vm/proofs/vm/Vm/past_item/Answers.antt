@@ -1,7 +1,7 @@
 use Rattle.std.proofs.Common.{◌/◌, ◌<◌, ◌≤◌, Bool, Option, Some, ap, sym, ◌∙◌, subst}
 use Rattle.gv_types.specs.Page.{bytes_per_page}
 use Rattle.gv_types.specs.Operation.{own_part}
-use Rattle.gv_journal.specs.Items.{is_withdrawn, next}
+use Rattle.gv_journal.specs.Items.{next}
 use Rattle.gv_journal.specs.Withdrawing.{item_at}
 use Rattle.gv_vm.specs.Places.{place_by}
 use Rattle.gv_vm.specs.State.{VmState}

@@ -1,7 +1,7 @@
-use Rattle.std.proofs.Common.{◌≡◌, ℕ, List, replicate, sym, ◌∙◌, ap, subst}
+use Rattle.std.proofs.Common.{ℕ, List, replicate, sym, ◌∙◌, ap, subst}
 use Rattle.gv_vm.specs.Queues.{AreQueues}
 use Rattle.gv_vm.specs.State.{VmState, new_vm}
-use Rattle.gv_vm.specs.World.{WorldState, QueueState, new_queue, new_world}
+use Rattle.gv_vm.specs.World.{WorldState, QueueState, new_queue}
 use Rattle.gv_vm.proofs.Beginnings.{new_queues}
 use Rattle.gv_vm.proofs.world.World.new.Goals as goal
 

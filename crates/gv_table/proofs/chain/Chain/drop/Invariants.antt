@@ -1,0 +1,4 @@
+use Rattle.gv_table.proofs.chain.Chain.drop.Given as goal
+
+abbrev pub decreases-loop-self : goal.decreases-loop-self
+decreases-loop-self l = l.self

@@ -1,7 +1,0 @@
-use Rattle.std.proofs.Common.{ap, ◌∙◌}
-use Rattle.gv_table.specs.Tree.{is_table}
-use Rattle.gv_table.proofs.Slots.{is_table-Empty}
-use Rattle.gv_table.proofs.paint.filled.Goals as goal
-
-pub returns-in_default-clause-leaves : goal.returns-in_default-clause-leaves
-returns-in_default-clause-leaves c = λ k below. ap is_table (c.take-slots.ensures.empty k below) ∙ is_table-Empty

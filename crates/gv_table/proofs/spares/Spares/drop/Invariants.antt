@@ -1,4 +1,0 @@
-use Rattle.gv_table.proofs.spares.Spares.drop.Given as goal
-
-abbrev pub decreases-loop-self : goal.decreases-loop-self
-decreases-loop-self l = l.self
