@@ -1,5 +1,5 @@
 -- Where the chunks of a list begin: one more of them written down, and one of them changed.
-use Rattle.std.proofs.Common.{◌≡◌, ℕ, ◌+◌, ◌<◌, ◌≤◌, List, ◌++◌, length, take, drop, slice_index_or, slice_set, inl, inr, arith, ◌∙◌, ap, sym}
+use Rattle.std.proofs.Common.{◌≡◌, ◌≢◌, ℕ, ◌+◌, ◌<◌, ◌≤◌, List, ◌++◌, length, take, drop, slice_index_or, slice_set, inl, inr, arith, ◌∙◌, ap, sym}
 use Rattle.std.proofs.Math.ListN.{length-set}
 use Rattle.std.proofs.Math.Seq.{take-set-lt}
 use Rattle.std.proofs.lemmas.Bool.{cases_lt}
@@ -14,19 +14,19 @@ pub start_among : (xs : List (Vec Mapping)) (j k : ℕ) → j ≤ k → length (
 start_among xs j k up = ap (λ ys. length (chunks_joined ys)) (take-take j k xs up)
 
 -- one more start
-pub start_written : (starts : List ℕ) (xs : List (Vec Mapping)) (k start : ℕ) → k < length xs → k < length starts → start ≡ length (chunks_joined (take k xs)) →
-    AreStarts starts (take k xs) → AreStarts (slice_set starts k start) (take (k + 1) xs)
-start_written starts xs k start within room is were = λ j d inside.
+pub start_written : (starts now : List ℕ) (xs : List (Vec Mapping)) (k start : ℕ) → k < length xs → k < length starts → start ≡ length (chunks_joined (take k xs)) →
+    length now ≡ length starts → ((d : ℕ) → slice_index_or now k d ≡ start) → ((j d : ℕ) → j < length starts → j ≢ k → slice_index_or now j d ≡ slice_index_or starts j d) →
+    AreStarts starts (take k xs) → AreStarts now (take (k + 1) xs)
+start_written starts now xs k start within room is size here others were = λ j d inside.
     let below : j < k + 1 = omega (arith, inside, length-take-le (k + 1) xs (omega arith)) in
-    let size : length (slice_set starts k start) ≡ length starts = length-set starts k start in
     let among : length (chunks_joined (take j (take (k + 1) xs))) ≡ length (chunks_joined (take j xs)) = start_among xs j (k + 1) (omega arith) in
     elim (cases_lt j k) [
       | inl earlier ↦
           let was = were j d (omega (arith, length-take-le k xs (omega arith))) in
-          (omega (arith, size), rw (among, get_or-set_other starts k j start d (λ e. omega (arith, e))) (was.1 ∙ start_among xs j k (omega arith)))
+          (omega (arith, size), rw (among, others j d was.0 (λ e. omega (arith, e, earlier))) (was.1 ∙ start_among xs j k (omega arith)))
       | inr now ↦
           let at : j ≡ k = omega arith in
-          (omega (arith, size), rw (among, at, get_or-set_same starts k start d room) is)
+          (omega (arith, size), rw (among, at, here d) is)
     ]
 
 -- one more first page

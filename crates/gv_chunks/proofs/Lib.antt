@@ -6,6 +6,7 @@ pub mod PackedLemmas
 pub mod HeldLemmas
 pub mod PutLemmas
 pub mod RunLemmas
+pub mod SumLemmas
 pub mod IndexLemmas
 pub mod PartsLemmas
 pub mod GapLemmas

@@ -19,11 +19,10 @@ use Rattle.gv_chunks.proofs.PutLemmas.{nothing_from}
 use Rattle.gv_chunks.proofs.StartLemmas.{start_within, start_rises, end_of_chunk, take_start, drop_start}
 
 -- an index with more numbers behind it
-pub starts_kept : (xs : List (Vec Mapping)) (old new : List ℕ) → take (length old) new ≡ old → AreStarts old xs → AreStarts new xs
-starts_kept xs old new kept were = λ k d inside.
+pub starts_kept : (xs : List (Vec Mapping)) (old new : List ℕ) → length old ≤ length new → ((k d : ℕ) → k < length old → slice_index_or new k d ≡ slice_index_or old k d) → AreStarts old xs → AreStarts new xs
+starts_kept xs old new longer kept were = λ k d inside.
     let was = were k d inside in
-    let at : slice_index_or new k d ≡ slice_index_or old k d = sym (get_or-take (length old) new k d was.0) ∙ ap (λ ns. slice_index_or ns k d) kept in
-    (omega (arith, was.0, ap length kept, length-take (length old) new), at ∙ was.1)
+    (omega (arith, was.0, longer), kept k d was.0 ∙ was.1)
 
 pub firsts_kept : (xs : List (Vec Mapping)) (old new : List ℕ) → take (length old) new ≡ old → AreFirsts old xs → AreFirsts new xs
 firsts_kept xs old new kept were = λ k d v m inside.
@@ -33,12 +32,13 @@ firsts_kept xs old new kept were = λ k d v m inside.
 
 -- and with more chunks behind
 pub index_kept : (old new : List (Vec Mapping)) (standing : ℕ) (starts firsts more_starts more_firsts : List ℕ) → standing ≤ length old → take (length old) new ≡ old →
-    IsIndexOf old standing starts firsts → take (length starts) more_starts ≡ starts → take (length firsts) more_firsts ≡ firsts → length new ≤ length more_starts → length new ≤ length more_firsts →
+    IsIndexOf old standing starts firsts → length starts ≤ length more_starts → ((k d : ℕ) → k < length starts → slice_index_or more_starts k d ≡ slice_index_or starts k d) →
+    take (length firsts) more_firsts ≡ firsts → length new ≤ length more_starts → length new ≤ length more_firsts →
     IsIndexOf new standing more_starts more_firsts
-index_kept old new standing starts firsts more_starts more_firsts within kept was starts_same firsts_same starts_room firsts_room =
+index_kept old new standing starts firsts more_starts more_firsts within kept was starts_longer starts_same firsts_same starts_room firsts_room =
     let front : take standing new ≡ take standing old = sym (take-take standing (length old) new within) ∙ ap (take standing) kept in
     record {
-      are_starts = rw front (starts_kept (take standing old) starts more_starts starts_same was.are_starts);
+      are_starts = rw front (starts_kept (take standing old) starts more_starts starts_longer starts_same was.are_starts);
       are_firsts = rw front (firsts_kept (take standing old) firsts more_firsts firsts_same was.are_firsts);
       starts_within = starts_room;
       firsts_within = firsts_room;
@@ -181,10 +181,10 @@ module _ (xs : List (Vec Mapping)) (s chunk start index out : ℕ) (d w : Vec Ma
       }
 
 -- the chunk that begins at an index or before it, and before whose next one the index lies, is the chunk of the index
-module _ (p : Parts) (are : AreParts p) (index chunk start : ℕ) (below : chunk < p.standing) (told : (d : ℕ) → slice_index_or p.starts.items chunk d ≤ index)
-    (next : (d : ℕ) → chunk + 1 < p.standing → index < slice_index_or p.starts.items (chunk + 1) d) (is : start ≡ slice_index_or p.starts.items chunk start) (within : index ≤ length (items_of p)) where
+module _ (p : Parts) (are : AreParts p) (index chunk start : ℕ) (below : chunk < p.standing) (told : (d : ℕ) → slice_index_or p.starts chunk d ≤ index)
+    (next : (d : ℕ) → chunk + 1 < p.standing → index < slice_index_or p.starts (chunk + 1) d) (is : start ≡ slice_index_or p.starts chunk start) (within : index ≤ length (items_of p)) where
   spot_start : start ≡ length (chunks_joined (take chunk p.chunks.items))
-  spot_start = is ∙ start_told p.chunks.items p.standing chunk start p.starts.items are.list.within below are.index.are_starts
+  spot_start = is ∙ start_told p.chunks.items p.standing chunk start p.starts are.list.within below are.index.are_starts
 
   spot_end : (d : Vec Mapping) → (index < start + vec_len (slice_index_or p.chunks.items chunk d)) ⊎ (length (items_of p) ≡ start + vec_len (slice_index_or p.chunks.items chunk d))
   spot_end d =
@@ -194,7 +194,7 @@ module _ (p : Parts) (are : AreParts p) (index chunk start : ℕ) (below : chunk
             inl (omega (
               arith,
               next 0 more,
-              start_told p.chunks.items p.standing (chunk + 1) 0 p.starts.items are.list.within more are.index.are_starts,
+              start_told p.chunks.items p.standing (chunk + 1) 0 p.starts are.list.within more are.index.are_starts,
               chunk_end p.chunks.items chunk d inside,
               spot_start,
             ))

@@ -34,7 +34,7 @@ items_of p = chunks_joined p.chunks.items
 -- the parts are those of a list
 pub record AreParts (p : Parts) : Type 0 where
   pub list : IsChunkList p.chunks.items p.standing p.len p.room
-  pub index : IsIndexOf p.chunks.items p.standing p.starts.items p.firsts.items
+  pub index : IsIndexOf p.chunks.items p.standing p.starts p.firsts.items
 
 -- the index lies in the chunk or at its end, and only at its end where the list ends; where no chunk stands, it is the start of the first
 pub record IsSpot (p : Parts) (index chunk start : ℕ) : Type 0 where

@@ -1,3 +1,4 @@
 pub mod Chunks
 pub mod Inside
+pub mod Starts
 pub mod Examples

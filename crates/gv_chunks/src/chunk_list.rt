@@ -5,6 +5,7 @@ ghost use Rattle.gv_types.specs.declared.mapping.Mapping.{Mapping};
 use crate::CHUNK;
 use crate::parts::Parts;
 use crate::piece::piece_of;
+use crate::starts::Starts;
 use gv_types::{Mapping, OutOfMemory};
 use std::alloc::Global;
 use std::marker::Model;
@@ -14,7 +15,7 @@ use std::marker::Model;
 pub struct Standing<'a> {
     pub chunks: &'a [Vec<Mapping>],
     /// For each chunk, how many mappings stand before it.
-    pub starts: &'a [usize],
+    pub starts: &'a Starts,
     /// For each chunk, the page at which its first mapping begins.
     pub firsts: &'a [u64],
 }

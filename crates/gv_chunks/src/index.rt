@@ -1,13 +1,15 @@
 //! Where the chunks of a list begin.
-ghost use Rattle.std.specs.Prelude.{◌≡◌, ◌+◌, ◌<◌, ◌≤◌, ◌^◌, ℕ, length, take, slice_index_or, OnOk};
+ghost use Rattle.std.specs.Prelude.{◌≡◌, ◌+◌, ◌<◌, ◌≤◌, ◌^◌, ◌%◌, ℕ, length, max, take, slice_index_or, OnOk};
 ghost use Rattle.gv_chunks.specs.Chunks.{chunks_joined, AreFilled, AreStarts, AreFirsts};
 
+use crate::starts::Starts;
 use gv_types::{Mapping, OutOfMemory};
 
 /// Puts copies of a value behind the items until there are `count`. Where the system refuses the memory nothing changes.
 pub fn pad<T: Copy>(items: &mut Vec<T>, count: usize, value: T) -> Result<(), OutOfMemory>
     ensures kept { take (length items.old.items) items.new.items ≡ items.old.items }
     ensures ok { OnOk result (count ≤ length items.new.items) }
+    ensures at_most { length items.new.items ≤ max (length items.old.items) count }
 {
     let have = items.len();
     items.reserve(count.saturating_sub(have))?;
@@ -18,7 +20,7 @@ pub fn pad<T: Copy>(items: &mut Vec<T>, count: usize, value: T) -> Result<(), Ou
 }
 
 /// The last of the first `standing` numbers that is at most `index`. Each step halves what is left.
-pub fn last_at_most(starts: &[usize], standing: usize, index: usize) -> usize
+pub fn last_at_most(starts: &Starts, standing: usize, index: usize) -> usize
     requires some { 0 < standing }
     requires within { standing ≤ length starts.now }
     requires first { (d : ℕ) → slice_index_or starts.now 0 d ≤ index }
@@ -30,7 +32,7 @@ pub fn last_at_most(starts: &[usize], standing: usize, index: usize) -> usize
     let mut left = standing;
     while left > 1 {
         let half = left / 2;
-        if starts[low + half] <= index {
+        if starts.get(low + half) <= index {
             low += half;
             left -= half;
         } else {
@@ -41,7 +43,7 @@ pub fn last_at_most(starts: &[usize], standing: usize, index: usize) -> usize
 }
 
 /// The same, given a guess, which may be any number: the others are looked at only where it isn't that one.
-pub fn last_at_most_near(starts: &[usize], standing: usize, index: usize, guess: usize) -> usize
+pub fn last_at_most_near(starts: &Starts, standing: usize, index: usize, guess: usize) -> usize
     requires some { 0 < standing }
     requires within { standing ≤ length starts.now }
     requires first { (d : ℕ) → slice_index_or starts.now 0 d ≤ index }
@@ -49,36 +51,30 @@ pub fn last_at_most_near(starts: &[usize], standing: usize, index: usize, guess:
     ensures begun { (d : ℕ) → slice_index_or starts.now result d ≤ index }
     ensures next { (d : ℕ) → result + 1 < standing → index < slice_index_or starts.now (result + 1) d }
 {
-    if guess >= standing || index < starts[guess] {
+    if guess >= standing || index < starts.get(guess) {
         return last_at_most(starts, standing, index);
     }
-    if guess + 1 < standing && starts[guess + 1] <= index {
+    if guess + 1 < standing && starts.get(guess + 1) <= index {
         return last_at_most(starts, standing, index);
     }
     guess
 }
 
-/// Moves the numbers from `from` up to `to` by what went out and what came in.
-pub fn shift(starts: &mut [usize], from: usize, to: usize, out_count: usize, in_count: usize)
-    requires within { to ≤ length starts.old }
-    requires out { (k d : ℕ) → from ≤ k → k < to → out_count ≤ slice_index_or starts.old k d }
-    requires fits { (k d : ℕ) → from ≤ k → k < to → slice_index_or starts.old k d + in_count < out_count + 2 ^ 64 }
-    ensures len { length starts.new ≡ length starts.old }
-    ensures moved { (k d : ℕ) → from ≤ k → k < to
-        → slice_index_or starts.new k d + out_count ≡ slice_index_or starts.old k d + in_count }
-    ensures before { (k d : ℕ) → k < from → slice_index_or starts.new k d ≡ slice_index_or starts.old k d }
+/// Adds a number to those from `from` up to `to`. The sums wrap.
+pub fn add(numbers: &mut [usize], from: usize, to: usize, more: usize)
+    requires { to ≤ length numbers.old }
+    ensures len { length numbers.new ≡ length numbers.old }
+    ensures added { (k d : ℕ) → from ≤ k → k < to → slice_index_or numbers.new k d ≡ (slice_index_or numbers.old k d + more) % 2 ^ 64 }
+    ensures before { (k d : ℕ) → k < from → slice_index_or numbers.new k d ≡ slice_index_or numbers.old k d }
+    ensures behind { (k d : ℕ) → to ≤ k → slice_index_or numbers.new k d ≡ slice_index_or numbers.old k d }
 {
-    // Where as many came in as went out no start moves, and none is read.
-    if out_count == in_count {
-        return;
-    }
     for k in from..to {
-        starts[k] = starts[k] - out_count + in_count;
+        numbers[k] = numbers[k].wrapping_add(more);
     }
 }
 
 /// Writes where the chunks begin, from the chunk `from` on. Where those before it begin is written already.
-pub fn write_index(chunks: &[Vec<Mapping>], starts: &mut [usize], firsts: &mut [u64], from: usize)
+pub fn write_index(chunks: &[Vec<Mapping>], starts: &mut Starts, firsts: &mut [u64], from: usize)
     requires from { from ≤ length chunks.now }
     requires filled { AreFilled chunks.now }
     requires few { length (chunks_joined chunks.now) < 2 ^ 64 }
@@ -93,14 +89,14 @@ pub fn write_index(chunks: &[Vec<Mapping>], starts: &mut [usize], firsts: &mut [
 {
     let mut start = end_of(chunks, starts, from);
     for k in from..chunks.len() {
-        starts[k] = start;
+        starts.set(k, start);
         firsts[k] = chunks[k][0].range.first();
         start += chunks[k].len();
     }
 }
 
 /// How many mappings stand before a chunk, told by the one before it.
-fn end_of(chunks: &[Vec<Mapping>], starts: &[usize], chunk: usize) -> usize
+fn end_of(chunks: &[Vec<Mapping>], starts: &Starts, chunk: usize) -> usize
     requires within { chunk ≤ length chunks.now }
     requires few { length (chunks_joined chunks.now) < 2 ^ 64 }
     requires starts { AreStarts starts.now (take chunk chunks.now) }
@@ -109,5 +105,5 @@ fn end_of(chunks: &[Vec<Mapping>], starts: &[usize], chunk: usize) -> usize
     if chunk == 0 {
         return 0;
     }
-    starts[chunk - 1] + chunks[chunk - 1].len()
+    starts.get(chunk - 1) + chunks[chunk - 1].len()
 }

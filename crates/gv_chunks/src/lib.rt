@@ -16,9 +16,13 @@ pub mod replacing;
 pub mod row;
 pub mod run;
 pub mod settle;
+pub mod starts;
 pub mod walk;
 
 pub use chunk_list::{ChunkList, Standing};
 
 /// How many mappings a chunk has room for.
 pub const CHUNK: usize = 128;
+
+/// How many chunks a block has, which have a number in common.
+pub const BLOCK: usize = 64;

@@ -11,10 +11,11 @@ ghost use Rattle.gv_chunks.specs.declared.TheConstants.{CHUNK};
 use crate::CHUNK;
 use crate::gap::{close, open};
 use crate::grow::{add_chunks, chunks_for};
-use crate::index::{last_at_most_near, pad, shift, write_index};
+use crate::index::{last_at_most_near, pad, write_index};
 use crate::replace::replace_run;
 use crate::row::{put_entry, take_entry};
 use crate::run::replace_anywhere;
+use crate::starts::Starts;
 use gv_types::{Mapping, OutOfMemory};
 use std::alloc::Global;
 
@@ -39,7 +40,7 @@ pub(crate) fn are_few(standing: usize, count: usize) -> bool
 #[derive(Debug, Drop)]
 pub struct Parts {
     pub(crate) chunks: Vec<Vec<Mapping>>,
-    pub(crate) starts: Vec<usize>,
+    pub(crate) starts: Starts,
     pub(crate) firsts: Vec<u64>,
     pub(crate) standing: usize,
     pub(crate) len: usize,
@@ -56,7 +57,7 @@ impl Parts {
     {
         Parts {
             chunks: Vec::new(alloc),
-            starts: Vec::new(alloc),
+            starts: Starts::new(alloc),
             firsts: Vec::new(alloc),
             standing: 0,
             len: 0,
@@ -75,7 +76,7 @@ impl Parts {
         ensures parts { AreParts self.new }
     {
         let count = chunks_for(room);
-        pad(&mut self.starts, count, 0)?;
+        self.starts.pad(count)?;
         pad(&mut self.firsts, count, 0)?;
         add_chunks(&mut self.chunks, count)?;
         self.room = room;
@@ -92,7 +93,7 @@ impl Parts {
             return (0, 0);
         }
         let chunk = last_at_most_near(&self.starts, self.standing, index, self.near);
-        (chunk, self.starts[chunk])
+        (chunk, self.starts.get(chunk))
     }
 
     /// How the run of `out_count` mappings from an index on is replaced by `in_count`.
@@ -152,15 +153,10 @@ impl Parts {
         replace_run(&mut self.chunks[chunk], index - start, out_count, pieces);
         self.len = self.len - out_count + pieces.len();
         self.standing = self.standing.max(1);
-        self.starts[chunk] = start;
+        self.starts.set(chunk, start);
         self.firsts[chunk] = self.chunks[chunk][0].range.first();
-        shift(
-            &mut self.starts,
-            chunk + 1,
-            self.standing,
-            out_count,
-            pieces.len(),
-        );
+        self.starts
+            .shift(chunk + 1, self.standing, out_count, pieces.len());
     }
 
     /// Takes out all that a chunk holds, and with it the chunk.
@@ -175,11 +171,11 @@ impl Parts {
         let _len = self.len;
         close(&mut self.chunks, self.standing, chunk);
         // The later chunks hold what they held, so their entries move as a block, and no later chunk is read.
-        take_entry(&mut self.starts, chunk, self.standing);
+        self.starts.take(chunk, self.standing);
         take_entry(&mut self.firsts, chunk, self.standing);
         self.standing -= 1;
         self.len -= out_count;
-        shift(&mut self.starts, chunk, self.standing, out_count, 0);
+        self.starts.shift(chunk, self.standing, out_count, 0);
     }
 
     /// Replaces `out_count` mappings from `index` on by the pieces, wherever they lie. All chunks are gone through.
@@ -219,9 +215,9 @@ impl Parts {
         let left = self.chunks[chunk].len() / 2 + 1;
         open(&mut self.chunks, self.standing, chunk, left);
         // Of the later chunks only their places change, so their entries move as a block, and no later chunk is read.
-        let start = self.starts[chunk] + left;
+        let start = self.starts.get(chunk) + left;
         let first = self.chunks[chunk + 1][0].range.first();
-        put_entry(&mut self.starts, chunk + 1, self.standing, start);
+        self.starts.put(chunk + 1, self.standing, start);
         put_entry(&mut self.firsts, chunk + 1, self.standing, first);
         self.standing += 1;
     }

@@ -145,7 +145,7 @@ fn count_begun_in(standing: Standing<'_>, chunk: usize, from: usize, page: u64) 
     let last = last_begun_chunk(standing.chunks, standing.firsts, chunk, page);
     let known = if last == chunk { from } else { 0 };
     let count = count_begun(&standing.chunks[last], known, page);
-    standing.starts[last] + count
+    standing.starts.get(last) + count
 }
 
 /// The index of the first mapping that meets the range, in the list that the chunks are together, and how many do. The chunk of the
@@ -166,7 +166,7 @@ pub(crate) fn overlapping_in(
     }
     let chunk = chunk_near_page(standing.chunks, standing.firsts, guess, range.first());
     let ended = count_ended(&standing.chunks[chunk], range.first());
-    let index = standing.starts[chunk] + ended;
+    let index = standing.starts.get(chunk) + ended;
     let behind = count_begun_in(standing, chunk, ended, range.end());
     (index, behind - index)
 }

@@ -16,18 +16,18 @@ overflow_add-result c =
 
 pub returns-clause-within : goal.returns-clause-within
 returns-clause-within c =
-    rw ((c.requires.starts c.last_begun_chunk-last.result 0 c.last_begun_chunk-last.ensures.within).1)
+    rw (c.get.ensures 0, (c.requires.starts c.last_begun_chunk-last.result 0 c.last_begun_chunk-last.ensures.within).1)
     (index_within c.args.standing.chunks.now c.last_begun_chunk-last.result c.index-standing-last.result c.deref.result.now c.last_begun_chunk-last.ensures.within
     c.deref.ensures.value c.count_begun-count.result c.count_begun-count.ensures.within)
 
 pub returns-clause-begun : goal.returns-clause-begun
 returns-clause-begun c =
-    rw ((c.requires.starts c.last_begun_chunk-last.result 0 c.last_begun_chunk-last.ensures.within).1)
+    rw (c.get.ensures 0, (c.requires.starts c.last_begun_chunk-last.result 0 c.last_begun_chunk-last.ensures.within).1)
     (All-take_in_chunk (λ m. m.range.first < c.args.page) c.args.standing.chunks.now c.last_begun_chunk-last.result c.count_begun-count.result c.index-standing-last.result c.deref.result.now c.last_begun_chunk-last.ensures.within
     c.deref.ensures.value c.count_begun-count.ensures.within c.last_begun_chunk-last.ensures.begun c.count_begun-count.ensures.begun)
 
 pub returns-clause-not_begun : goal.returns-clause-not_begun
 returns-clause-not_begun c =
-    rw ((c.requires.starts c.last_begun_chunk-last.result 0 c.last_begun_chunk-last.ensures.within).1)
+    rw (c.get.ensures 0, (c.requires.starts c.last_begun_chunk-last.result 0 c.last_begun_chunk-last.ensures.within).1)
     (All-drop_in_chunk (λ m. c.args.page ≤ m.range.first) c.args.standing.chunks.now c.last_begun_chunk-last.result c.count_begun-count.result c.index-standing-last.result c.deref.result.now c.last_begun_chunk-last.ensures.within
     c.deref.ensures.value c.count_begun-count.ensures.within c.count_begun-count.ensures.not_begun c.last_begun_chunk-last.ensures.not_begun)

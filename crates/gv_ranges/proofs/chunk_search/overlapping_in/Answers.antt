@@ -1,4 +1,4 @@
-use Rattle.std.proofs.Common.{◌+◌, arith, slice_index_or}
+use Rattle.std.proofs.Common.{◌+◌, arith, ◌∙◌}
 use Rattle.gv_ranges.specs.List.{IsIndexOfPage}
 use Rattle.gv_chunks.specs.Chunks.{chunks_joined}
 use Rattle.gv_ranges.proofs.JoinedLemmas.{laid_out-chunk, few_before, placed-in_chunk}
@@ -17,12 +17,12 @@ overflow_add-index c =
     omega (arith, few)
 
 -- how many mappings end before the range
-placed : (c : goal.After-count_begun_in-behind) → IsIndexOfPage (chunks_joined c.args.standing.chunks.now) c.args.range.first (slice_index_or c.args.standing.starts.now c.chunk_near_page-chunk.result 0 + c.count_ended-ended.result)
+placed : (c : goal.After-count_begun_in-behind) → IsIndexOfPage (chunks_joined c.args.standing.chunks.now) c.args.range.first (c.get.result + c.count_ended-ended.result)
 placed c =
     placed-in_chunk c.args.standing.chunks.now c.args.range.first c.chunk_near_page-chunk.result c.count_ended-ended.result _ c.index-standing-chunk.result c.deref.result.now c.chunk_near_page-chunk.ensures.within
     c.deref.ensures.value (rw c.first-2.ensures.value at c.count_ended-ended.ensures)
     (rw c.first.ensures.value at c.chunk_near_page-chunk.ensures.ended) (rw c.first.ensures.value at c.chunk_near_page-chunk.ensures.later)
-    (c.requires.starts c.chunk_near_page-chunk.result 0 c.chunk_near_page-chunk.ensures.within).1
+    (c.get.ensures 0 ∙ (c.requires.starts c.chunk_near_page-chunk.result 0 c.chunk_near_page-chunk.ensures.within).1)
 
 pub overflow_sub-result : goal.overflow_sub-result
 overflow_sub-result c =

@@ -16,12 +16,12 @@ overflow_add-start c =
     let xs = p.chunks.items in
     let d : Vec Mapping = some_of xs (omega (arith, e.standing, list.within)) in
     let chunk : vec_len c.index.result.now ≡ vec_len (slice_index_or xs c.args.chunk d) = ap vec_len (c.index.ensures ∙ get_or_default xs c.args.chunk c.index.result.now d (omega (arith, e.standing, list.within))) in
-    let begins : c.index-2.result.now ≡ length (chunks_joined (take c.args.chunk xs)) =
-    c.index-2.ensures ∙ start_told xs p.standing c.args.chunk c.index-2.result.now p.starts.items list.within e.standing c.requires.parts.index.are_starts in
+    let begins : c.get.result ≡ length (chunks_joined (take c.args.chunk xs)) =
+    c.get.ensures c.get.result ∙ start_told xs p.standing c.args.chunk c.get.result p.starts list.within e.standing c.requires.parts.index.are_starts in
     omega (arith, begins, c.len.ensures, chunk, e.holds d, chunk_within xs c.args.chunk d (omega (arith, e.standing, list.within)), list.held)
 
-pub index-requires-4 : goal.index-requires-4
-index-requires-4 c =
+pub index-requires-3 : goal.index-requires-3
+index-requires-3 c =
     let p = c.args.self.now in
     let e = c.requires.divisible in
     let list = c.requires.parts.list in
@@ -31,8 +31,8 @@ index-requires-4 c =
     let more : p.standing < length xs = omega (arith, list.enough e.long, list.few, list.fits) in
     let back : take p.chunks.len (zs ++ drop (length zs) xs) ≡ zs = take_at zs (drop (length zs) xs) p.chunks.len (omega (arith, same, p.chunks.ok)) in
     let d : Vec Mapping = some_of xs (omega (arith, more)) in
-    let read : c.index-3.result.now ≡ slice_index_or zs (c.args.chunk + 1) d =
-    c.index-3.ensures ∙ (ap (λ ys. slice_index_or ys (c.args.chunk + 1) c.index-3.result.now) back ∙ get_or_default zs (c.args.chunk + 1) c.index-3.result.now d (omega (arith, same, more, e.standing))) in
+    let read : c.index-2.result.now ≡ slice_index_or zs (c.args.chunk + 1) d =
+    c.index-2.ensures ∙ (ap (λ ys. slice_index_or ys (c.args.chunk + 1) c.index-2.result.now) back ∙ get_or_default zs (c.args.chunk + 1) c.index-2.result.now d (omega (arith, same, more, e.standing))) in
     let second = rw c.deref_mut.ensures.value at c.open.ensures.second in
     let chunk : vec_len c.index.result.now ≡ vec_len (slice_index_or xs c.args.chunk d) = ap vec_len (c.index.ensures ∙ get_or_default xs c.args.chunk c.index.result.now d (omega (arith, e.standing, more))) in
     omega (
@@ -68,17 +68,16 @@ returns-clause-parts c =
     let now : IsChunkList zs (s + 1) p.len p.room =
     opened_list xs zs s c.args.chunk left p.len p.room list e.standing more same front (c.open.ensures.items ∙ ap chunks_joined c.deref_mut.ensures.value) first second later c.open.ensures.spare (omega arith) some_rest c.open.ensures.chunks
     e.few e.long in
-    let starts = c.put_entry.new.row in
-    let firsts = c.put_entry-2.new.row in
-    let starts_size : length starts ≡ length p.starts.items = c.put_entry.ensures.len ∙ ap length c.deref_mut-2.ensures.value in
-    let firsts_size : length firsts ≡ length p.firsts.items = c.put_entry-2.ensures.len ∙ ap length c.deref_mut-3.ensures.value in
+    let starts = c.put.new.self in
+    let firsts = c.put_entry.new.row in
+    let starts_size : length starts ≡ length p.starts = c.put.ensures.len in
+    let firsts_size : length firsts ≡ length p.firsts.items = c.put_entry.ensures.len ∙ ap length c.deref_mut-2.ensures.value in
     let back : take p.chunks.len (zs ++ drop (length zs) xs) ≡ zs = take_at zs (drop (length zs) xs) p.chunks.len (omega (arith, same, p.chunks.ok)) in
-    let starts_back : take p.starts.len (starts ++ drop (length starts) p.starts.items) ≡ starts = take_at starts (drop (length starts) p.starts.items) p.starts.len (omega (arith, starts_size, p.starts.ok)) in
     let firsts_back : take p.firsts.len (firsts ++ drop (length firsts) p.firsts.items) ≡ firsts = take_at firsts (drop (length firsts) p.firsts.items) p.firsts.len (omega (arith, firsts_size, p.firsts.ok)) in
-    let begins : c.index-2.result.now ≡ length (chunks_joined (take c.args.chunk xs)) = c.index-2.ensures ∙ start_told xs s c.args.chunk c.index-2.result.now p.starts.items list.within e.standing index.are_starts in
-    let begun : c.index-2.result.now + left ≡ length (chunks_joined (take c.args.chunk xs)) + left = ap (λ n. n + left) begins in
-    let read : c.index-3.result.now ≡ slice_index_or zs (c.args.chunk + 1) c.index-3.result.now = c.index-3.ensures ∙ ap (λ ys. slice_index_or ys (c.args.chunk + 1) c.index-3.result.now) back in
-    let seen : Vec Mapping = c.index-3.result.now in
+    let begins : c.get.result ≡ length (chunks_joined (take c.args.chunk xs)) = c.get.ensures c.get.result ∙ start_told xs s c.args.chunk c.get.result p.starts list.within e.standing index.are_starts in
+    let begun : c.get.result + left ≡ length (chunks_joined (take c.args.chunk xs)) + left = ap (λ n. n + left) begins in
+    let read : c.index-2.result.now ≡ slice_index_or zs (c.args.chunk + 1) c.index-2.result.now = c.index-2.ensures ∙ ap (λ ys. slice_index_or ys (c.args.chunk + 1) c.index-2.result.now) back in
+    let seen : Vec Mapping = c.index-2.result.now in
     let full : 0 < length seen.items =
     omega (
       arith,
@@ -89,16 +88,16 @@ returns-clause-parts c =
       (slice_index_or xs c.args.chunk seen).ok,
     ) in
     let reads : (v : Vec Mapping) (m : Mapping) → c.first-first.result ≡ (slice_index_or (slice_index_or zs (c.args.chunk + 1) v).items 0 m).range.first =
-    λ v m. first_of zs (c.args.chunk + 1) seen v c.index-4.result.now m c.first-first.result (omega (arith, same, more, e.standing)) full read c.index-4.ensures c.first-first.ensures.value in
+    λ v m. first_of zs (c.args.chunk + 1) seen v c.index-3.result.now m c.first-first.result (omega (arith, same, more, e.standing)) full read c.index-3.ensures c.first-first.ensures.value in
     record {
       list = rw back now;
-      index = rw (back, starts_back, firsts_back) (record {
+      index = rw (back, firsts_back) (record {
         are_starts =
-            divided_starts xs zs s c.args.chunk left e.standing more same front first second later (omega arith) some_rest p.starts.items starts (c.index-2.result.now + left) index.are_starts index.starts_within starts_size begun
-            (rw c.deref_mut-2.ensures.value at c.put_entry.ensures.before) c.put_entry.ensures.value (rw c.deref_mut-2.ensures.value at c.put_entry.ensures.behind);
+            divided_starts xs zs s c.args.chunk left e.standing more same front first second later (omega arith) some_rest p.starts starts (c.get.result + left) index.are_starts index.starts_within starts_size begun
+            c.put.ensures.before c.put.ensures.value c.put.ensures.behind;
         are_firsts =
             divided_firsts xs zs s c.args.chunk left e.standing more same front first second later (omega arith) some_rest p.firsts.items firsts c.first-first.result index.are_firsts index.firsts_within firsts_size reads
-            (rw c.deref_mut-3.ensures.value at c.put_entry-2.ensures.before) c.put_entry-2.ensures.value (rw c.deref_mut-3.ensures.value at c.put_entry-2.ensures.behind);
+            (rw c.deref_mut-2.ensures.value at c.put_entry.ensures.before) c.put_entry.ensures.value (rw c.deref_mut-2.ensures.value at c.put_entry.ensures.behind);
         starts_within = omega (arith, same, starts_size, index.starts_within);
         firsts_within = omega (arith, same, firsts_size, index.firsts_within);
       });

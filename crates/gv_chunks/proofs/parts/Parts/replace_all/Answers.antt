@@ -66,12 +66,11 @@ returns-clause-parts c =
     c.replace_anywhere-used.ensures.spare c.replace_anywhere-used.ensures.chunks c.replace_anywhere-used.ensures.packed c.replace_anywhere-used.ensures.few which in
     let starts = c.write_index.new.starts in
     let firsts = c.write_index.new.firsts in
-    let starts_size : length starts ≡ length p.starts.items = c.write_index.ensures.starts_len ∙ ap length c.deref_mut-2.ensures.value in
-    let firsts_size : length firsts ≡ length p.firsts.items = c.write_index.ensures.firsts_len ∙ ap length c.deref_mut-3.ensures.value in
-    let starts_back : take p.starts.len (starts ++ drop (length starts) p.starts.items) ≡ starts = take_at starts (drop (length starts) p.starts.items) p.starts.len (omega (arith, starts_size, p.starts.ok)) in
+    let starts_size : length starts ≡ length p.starts = c.write_index.ensures.starts_len in
+    let firsts_size : length firsts ≡ length p.firsts.items = c.write_index.ensures.firsts_len ∙ ap length c.deref_mut-2.ensures.value in
     let firsts_back : take p.firsts.len (firsts ++ drop (length firsts) p.firsts.items) ≡ firsts = take_at firsts (drop (length firsts) p.firsts.items) p.firsts.len (omega (arith, firsts_size, p.firsts.ok)) in
     record {
       list = rw back list;
-      index = rw (back, starts_back, firsts_back) (index_written zs (take c.if-self-eq0.self c.deref.result.now) c.if-self-eq0.self starts firsts (ap (take c.if-self-eq0.self) read) c.write_index.ensures.starts c.write_index.ensures.firsts
+      index = rw (back, firsts_back) (index_written zs (take c.if-self-eq0.self c.deref.result.now) c.if-self-eq0.self starts firsts (ap (take c.if-self-eq0.self) read) c.write_index.ensures.starts c.write_index.ensures.firsts
           (omega (arith, same, starts_size, c.requires.parts.index.starts_within)) (omega (arith, same, firsts_size, c.requires.parts.index.firsts_within)));
     }

@@ -1,0 +1,121 @@
+//! How many mappings stand before each chunk.
+ghost use Rattle.std.specs.Prelude.{◌≡◌, ◌≢◌, ◌+◌, ◌-◌, ◌<◌, ◌≤◌, ◌^◌, ℕ, [], length, slice_index_or, OnOk};
+
+use crate::BLOCK;
+use crate::index::{add, pad};
+use gv_types::OutOfMemory;
+use std::alloc::Global;
+use std::marker::Model;
+
+/// For each chunk, how many mappings stand before it. A number of its own and one that its block of 64 chunks has in common are that
+/// together, and wrap: so an edit moves the numbers behind it in the block, and those of the blocks behind that.
+#[derive(Debug, Drop)]
+pub struct Starts {
+    numbers: Vec<usize>,
+    bases: Vec<usize>,
+}
+
+impl Model for Starts {
+    ghost use Rattle.std.specs.Prelude.{ℕ, List, ◌*◌, ◌≤◌, length};
+    ghost use Rattle.gv_chunks.specs.declared.TheConstants.{BLOCK};
+    ghost use Rattle.gv_chunks.specs.Starts.{sums};
+
+    ghost Value = { List ℕ };
+
+    ghost view = { λ s. sums s.numbers.items s.bases.items };
+
+    ghost invariant = { λ s. length s.numbers.items ≤ BLOCK * length s.bases.items };
+}
+
+impl Starts {
+    /// None. It takes no memory.
+    pub fn new(alloc: Global) -> Starts
+        ensures { result ≡ [] }
+    {
+        Starts {
+            numbers: Vec::new(alloc),
+            bases: Vec::new(alloc),
+        }
+    }
+
+    /// Puts numbers behind those that there are, until there are `count`. Where the system refuses the memory nothing changes.
+    pub fn pad(&mut self, count: usize) -> Result<(), OutOfMemory>
+        ensures more { length self.old ≤ length self.new }
+        ensures kept { (k d : ℕ) → k < length self.old → slice_index_or self.new k d ≡ slice_index_or self.old k d }
+        ensures ok { OnOk result (count ≤ length self.new) }
+    {
+        pad(&mut self.bases, count.div_ceil(BLOCK), 0)?;
+        pad(&mut self.numbers, count, 0)
+    }
+
+    /// How many mappings stand before a chunk.
+    #[inline(always)]
+    pub fn get(&self, chunk: usize) -> usize
+        requires { chunk < length self.now }
+        ensures { (d : ℕ) → result ≡ slice_index_or self.now chunk d }
+    {
+        self.numbers[chunk].wrapping_add(self.bases[chunk / BLOCK])
+    }
+
+    /// Writes how many mappings stand before a chunk.
+    pub fn set(&mut self, chunk: usize, start: usize)
+        requires { chunk < length self.old }
+        ensures len { length self.new ≡ length self.old }
+        ensures here { (d : ℕ) → slice_index_or self.new chunk d ≡ start }
+        ensures others { (k d : ℕ) → k < length self.old → k ≢ chunk → slice_index_or self.new k d ≡ slice_index_or self.old k d }
+    {
+        self.numbers[chunk] = start.wrapping_sub(self.bases[chunk / BLOCK]);
+    }
+
+    /// Moves the numbers from `from` up to `to` by what went out and what came in. What those behind them are is left open.
+    pub fn shift(&mut self, from: usize, to: usize, out_count: usize, in_count: usize)
+        requires within { to ≤ length self.old }
+        requires out { (k d : ℕ) → from ≤ k → k < to → out_count ≤ slice_index_or self.old k d }
+        requires fits { (k d : ℕ) → from ≤ k → k < to → slice_index_or self.old k d + in_count < out_count + 2 ^ 64 }
+        ensures len { length self.new ≡ length self.old }
+        ensures moved { (k d : ℕ) → from ≤ k → k < to
+            → slice_index_or self.new k d + out_count ≡ slice_index_or self.old k d + in_count }
+        ensures before { (k d : ℕ) → k < from → k < length self.old → slice_index_or self.new k d ≡ slice_index_or self.old k d }
+    {
+        // Where as many came in as went out no number moves, and none is read.
+        if out_count == in_count || to <= from {
+            return;
+        }
+        let more = in_count.wrapping_sub(out_count);
+        let end = from + (BLOCK - from % BLOCK).min(to - from);
+        add(&mut self.numbers, from, end, more);
+        add(&mut self.bases, from / BLOCK + 1, to.div_ceil(BLOCK), more);
+    }
+
+    /// Puts a number in at `at`: what stands from there up to `count` moves up by one, and what stood at `count` is gone.
+    pub fn put(&mut self, at: usize, count: usize, start: usize)
+        requires at { at ≤ count }
+        requires within { count < length self.old }
+        ensures len { length self.new ≡ length self.old }
+        ensures before { (k d : ℕ) → k < at → slice_index_or self.new k d ≡ slice_index_or self.old k d }
+        ensures value { (d : ℕ) → slice_index_or self.new at d ≡ start }
+        ensures behind { (k d : ℕ) → at < k → k ≤ count → slice_index_or self.new k d ≡ slice_index_or self.old (k - 1) d }
+    {
+        let mut next = start;
+        for k in at..count {
+            let this = self.get(k);
+            self.set(k, next);
+            next = this;
+        }
+        self.set(count, next);
+    }
+
+    /// Takes the number at `at` out: what stands behind it up to `count` moves down by one.
+    pub fn take(&mut self, at: usize, count: usize)
+        requires at { at < count }
+        requires within { count ≤ length self.old }
+        ensures len { length self.new ≡ length self.old }
+        ensures before { (k d : ℕ) → k < at → slice_index_or self.new k d ≡ slice_index_or self.old k d }
+        ensures behind { (k d : ℕ) → at ≤ k → k + 1 < count → slice_index_or self.new k d ≡ slice_index_or self.old (k + 1) d }
+    {
+        for k in at..count - 1 {
+            let next = self.get(k + 1);
+            self.set(k, next);
+        }
+    }
+}
