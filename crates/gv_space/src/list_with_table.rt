@@ -136,12 +136,13 @@ impl ListWithTable {
         self.pool.put(tables, &self.table);
     }
 
-    /// Makes room for the name of a buffer's index. `OutOfMemory` where the system refuses it.
+    /// Makes room for the name of a buffer's index. `OutOfMemory` where the system refuses it, and only where that room was missing.
     pub fn reserve_name(&mut self, index: u32) -> Result<(), Fault>
         requires few { index < most_names }
         requires named { AreNamed self.old.names self.old.mappings }
         ensures list { list_of self.new ≡ list_of self.old }
         ensures ok { OnOk result (index < length self.new.names) }
+        ensures needed { OnErr result (length self.old.names ≤ index) }
         ensures same { (k : ℕ) (id : BufferId) → slice_get self.old.names k ≡ Some id → slice_get self.new.names k ≡ Some id }
         ensures err { IsOkUnless result Fault.OutOfMemory }
         ensures unchanged { OnErr result (self.new ≡ self.old) }

@@ -65,9 +65,10 @@ impl PageTable {
         }
     }
 
-    /// Makes room for the name of a buffer's index. `OutOfMemory` where the system refuses it.
+    /// Makes room for the name of a buffer's index. `OutOfMemory` where the system refuses it, and only where that room was missing.
     pub fn reserve_name(&mut self, index: u32) -> Result<(), Fault>
         requires { index < most_names }
+        ensures needed { OnErr result (length self.old.names ≤ index) }
         ensures ok { OnOk result (index < length self.new.names) }
         ensures same { (k : ℕ) (id : BufferId) → slice_get self.old.names k ≡ Some id → slice_get self.new.names k ≡ Some id }
         ensures tree { (ms : List Mapping) → IsTree ms self.old → AreNamed self.new.names ms → IsTree ms self.new }
