@@ -3,7 +3,6 @@ use Rattle.std.proofs.Common.{◌≡◌, ℕ, ◌+◌, ◌-◌, ◌<◌, ◌≤�
 use Rattle.std.proofs.lemmas.Bool.{lt-ltb, le-ltb, cases_lt, and_left, and_right, and_from}
 use Rattle.std.proofs.lemmas.List.{length-append, length-take-le, length-drop}
 use Rattle.std.specs.List.{splice}
-use Rattle.std.specs.Option.{option_to_list}
 use Rattle.gv_types.specs.Page.{PAGES}
 use Rattle.gv_types.specs.PageRange.{PageRangeState, end_of, meets, IsInSpace}
 use Rattle.gv_types.specs.Mapping.{IsMapping}
@@ -13,7 +12,7 @@ use Rattle.gv_ranges.specs.Edit.{clipped, restored}
 use Rattle.gv_ranges.proofs.ChangeLemmas.{restored_run_in_place}
 use Rattle.gv_ranges.proofs.OverlapLemmas.{filter_meets}
 use Rattle.gv_space.specs.Refusal.{count_met}
-use Rattle.gv_space.specs.Ready.{IsOverlap}
+use Rattle.gv_space.specs.Ready.{IsOverlap, one_if, rest_before, rest_behind}
 use Rattle.gv_space.specs.declared.overlap.Overlap.{Overlap}
 
 -- a mapping has a piece in a range exactly where it meets it
@@ -58,11 +57,11 @@ length-splice ms pieces index count within =
 pub length-restored : (ms saved : List Mapping) (range : PageRangeState) (overlap : Overlap) → IsLaidOut ms → IsLaidOut saved → IsInSpace range →
     IsOverlap ms range overlap →
     length (restored ms range saved) ≡
-    length ms - overlap.count + (length (option_to_list overlap.prev) + length (option_to_list overlap.next)) + count_met saved range
+    length ms - overlap.count + (one_if overlap.prev + one_if overlap.next) + count_met saved range
 length-restored ms saved range overlap laid saved_laid in_space is =
     let here : List Mapping = run ms overlap.index overlap.count in
     let inside : length (clipped range.first (end_of range) saved) ≡ count_met saved range = length-clipped range 0 saved in_space saved_laid in
-    let pieces : length (restored here range saved) ≡ length (option_to_list overlap.prev) + count_met saved range + length (option_to_list overlap.next) =
+    let pieces : length (restored here range saved) ≡ one_if overlap.prev + count_met saved range + one_if overlap.next =
     length-append (clipped 0 range.first here ++ clipped range.first (end_of range) saved) (clipped (end_of range) PAGES here) ∙
     rw (length-append (clipped 0 range.first here) (clipped range.first (end_of range) saved), inside, is.prev, is.next) refl in
     let spliced : length (restored ms range saved) + overlap.count ≡ length ms + length (restored here range saved) =
@@ -71,11 +70,11 @@ length-restored ms saved range overlap laid saved_laid in_space is =
 
 -- the same by the pieces that come in
 pub length-changed : (ms saved pieces : List Mapping) (range : PageRangeState) (overlap : Overlap) → IsLaidOut ms → IsOverlap ms range overlap →
-    pieces ≡ option_to_list overlap.prev ++ clipped range.first (end_of range) saved ++ option_to_list overlap.next →
+    pieces ≡ rest_before ms range overlap ++ clipped range.first (end_of range) saved ++ rest_behind ms range overlap →
     length (restored ms range saved) + overlap.count ≡ length ms + length pieces
 length-changed ms saved pieces range overlap laid is pieces_are =
     let here : List Mapping = run ms overlap.index overlap.count in
-    let same : pieces ≡ restored here range saved = pieces_are ∙ rw (is.prev, is.next) refl in
+    let same : pieces ≡ restored here range saved = pieces_are in
     let spliced : length (restored ms range saved) + overlap.count ≡ length ms + length (restored here range saved) =
     rw (restored_run_in_place ms saved range overlap.index overlap.count laid is.met) (length-splice ms (restored here range saved) overlap.index overlap.count is.met.within) in
     omega (arith, spliced, ap (λ (xs : List Mapping). length xs) same)

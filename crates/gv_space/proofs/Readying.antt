@@ -1,7 +1,6 @@
 -- All that a change needs is there once its room was made.
 use Rattle.std.proofs.Common.{◌≡◌, ℕ, ◌+◌, ◌-◌, ◌*◌, ◌<◌, ◌≤◌, ◌++◌, List, Some, None, length, max, arith, refl, sym, subst, ap, ⊎_elim, ◌∙◌}
 use Rattle.std.specs.List.{All, splice}
-use Rattle.std.specs.Option.{option_to_list}
 use Rattle.std.proofs.lemmas.Bool.{cases_lt}
 use Rattle.gv_types.specs.PageRange.{PageRangeState, end_of}
 use Rattle.gv_types.specs.Mapping.{IsMapping}
@@ -22,7 +21,7 @@ use Rattle.gv_space.specs.Mapped.{MappedState, list_of}
 use Rattle.gv_space.specs.State.{SpaceState, IsSpace, IsPlaced, most_kept}
 use Rattle.gv_space.specs.Undo.{OpUndoState, IsUndoOf}
 use Rattle.gv_space.specs.Change.{IsChanged, GrowsJustFor}
-use Rattle.gv_space.specs.Ready.{IsOverlap, IsReady}
+use Rattle.gv_space.specs.Ready.{IsOverlap, IsReady, one_if, rest_before, rest_behind}
 use Rattle.gv_space.specs.Refusal.{count_met, limit_fault}
 use Rattle.gv_space.specs.Inside.{space_of}
 use Rattle.gv_space.specs.declared.space.Space.TheInside.{Inside}
@@ -63,7 +62,7 @@ module _ (s : SpaceState) (range : PageRangeState) (saved : List Mapping) (space
 
   pub ready_from : (list : MappedState) (overlap : Overlap) (taken pieces : List Mapping) (spares : Tables) (more : ℕ) → All (IsPlaced s.area s.buffers) saved →
       IsOverlap s.mappings range overlap → taken ≡ run s.mappings overlap.index overlap.count →
-      pieces ≡ option_to_list overlap.prev ++ inside ++ option_to_list overlap.next →
+      pieces ≡ rest_before s.mappings range overlap ++ inside ++ rest_behind s.mappings range overlap →
       list.mappings ≡ s.mappings → length list.mappings + more ≤ list.room → length pieces ≤ length taken + more →
       limit_fault s range (restored s.mappings range saved) ≡ None →
       ((ms : List Mapping) (table : PageTable) → IsLaidOut ms → AreAlikeOutside range s.mappings ms → clipped range.first (end_of range) ms ≡ inside → IsTree s.mappings table → AreEnough spares (gained_by ms table)) →
@@ -79,7 +78,7 @@ module _ (s : SpaceState) (range : PageRangeState) (saved : List Mapping) (space
         placed = inside_placed placed;
         met = subst (λ (n : ℕ). IsOverlappingRun s.mappings range overlap.index n) (sym long) is.met;
         taken_is = subst (λ (n : ℕ). taken ≡ run s.mappings overlap.index n) (sym long) taken_is;
-        pieces_are = pieces_is ∙ rw (is.prev, is.next, taken_is) refl;
+        pieces_are = pieces_is ∙ rw taken_is refl;
         room = omega (arith, ap (λ (l : List Mapping). length l) same, room, fits);
         old_room = omega (arith, ap (λ (l : List Mapping). length l) same, room);
         few = limits.0;
@@ -114,8 +113,8 @@ changed_before s list new within range index taken pieces spares u space same ro
 pub made_ready : (i : Inside) (now : SpaceState) (range : PageRangeState) (saved : List Mapping) (space : IsSpace (space_of i)) (laid : IsLaidOut saved) (list : RangeListState) (reserved : MappedState) (overlap : Overlap)
     (shown taken pieces middle : List Mapping) (spares : Tables) (more : ℕ) → space_of i ≡ now → list ≡ list_of i.mapped → IsOverlap list.mappings range overlap →
     shown ≡ now.mappings → taken ≡ run shown overlap.index overlap.count →
-    pieces ≡ option_to_list overlap.prev ++ inside (space_of i) range saved space laid ++ option_to_list overlap.next →
-    ((within : List Mapping) → pieces ≡ option_to_list overlap.prev ++ within ++ option_to_list overlap.next → middle ≡ within) →
+    pieces ≡ rest_before list.mappings range overlap ++ inside (space_of i) range saved space laid ++ rest_behind list.mappings range overlap →
+    ((before within behind : List Mapping) → length before ≡ one_if overlap.prev → length behind ≡ one_if overlap.next → pieces ≡ before ++ within ++ behind → middle ≡ within) →
     All (IsPlaced now.area now.buffers) saved → limit_fault now range (restored now.mappings range saved) ≡ None →
     reserved.mappings ≡ i.mapped.mappings → length reserved.mappings + more ≤ reserved.room → length pieces ≤ length taken + more →
     ((ms : List Mapping) (table : PageTable) → IsLaidOut ms → AreAlikeOutside range i.mapped.mappings ms → clipped range.first (end_of range) ms ≡ middle → IsTree i.mapped.mappings table → AreEnough spares (gained_by ms table)) →
@@ -123,12 +122,13 @@ pub made_ready : (i : Inside) (now : SpaceState) (range : PageRangeState) (saved
 made_ready i now range saved space laid list reserved overlap shown taken pieces middle spares more space_is list_is is shown_is taken_is pieces_is middle_is placed none same room fits enough =
     let s : SpaceState = space_of i in
     let taken_now : taken ≡ run now.mappings overlap.index overlap.count = rw shown_is at taken_is in
-    let between : middle ≡ inside s range saved space laid = middle_is (inside s range saved space laid) pieces_is in
+    let between : middle ≡ inside s range saved space laid =
+    middle_is (rest_before list.mappings range overlap) (inside s range saved space laid) (rest_behind list.mappings range overlap) is.prev is.next pieces_is in
     ready_from s range saved space laid reserved overlap taken pieces spares more
     (subst (λ (t : SpaceState). All (IsPlaced t.area t.buffers) saved) (sym space_is) placed)
     (subst (λ (l : RangeListState). IsOverlap l.mappings range overlap) list_is is)
     (subst (λ (t : SpaceState). taken ≡ run t.mappings overlap.index overlap.count) (sym space_is) taken_now)
-    pieces_is same room fits
+    (subst (λ (l : RangeListState). pieces ≡ rest_before l.mappings range overlap ++ inside s range saved space laid ++ rest_behind l.mappings range overlap) list_is pieces_is) same room fits
     (subst (λ (t : SpaceState). limit_fault t range (restored t.mappings range saved) ≡ None) (sym space_is) none)
     (λ ms table laid_out alike has tree. enough ms table laid_out alike (has ∙ sym between) tree)
 
@@ -138,7 +138,7 @@ room_kept ms s = record { enough = λ _ _. refl; double_or_need = omega arith }
 
 -- what is reserved for a change is what its list needs
 grown_for : (s new : SpaceState) (range : PageRangeState) (saved taken pieces : List Mapping) (overlap : Overlap) (more room : ℕ) → IsSpace s → IsOverlap s.mappings range overlap →
-    taken ≡ run s.mappings overlap.index overlap.count → pieces ≡ option_to_list overlap.prev ++ clipped range.first (end_of range) saved ++ option_to_list overlap.next →
+    taken ≡ run s.mappings overlap.index overlap.count → pieces ≡ rest_before s.mappings range overlap ++ clipped range.first (end_of range) saved ++ rest_behind s.mappings range overlap →
     more ≡ length pieces - length taken → (length s.mappings + more ≤ s.room → room ≡ s.room) → room ≤ max (2 * s.room) (length s.mappings + more) → new.room ≡ room →
     GrowsJustFor (restored s.mappings range saved) s new
 grown_for s new range saved taken pieces overlap more room space is taken_is pieces_are more_is enough most room_is =
@@ -152,7 +152,7 @@ grown_for s new range saved taken pieces overlap more room space is taken_is pie
 -- the same from what each step of a change answers
 pub grown_just_for : (i : Inside) (now new : SpaceState) (range : PageRangeState) (saved taken pieces shown : List Mapping) (list : RangeListState) (reserved : MappedState) (overlap : Overlap) (more : ℕ) → IsSpace (space_of i) →
     space_of i ≡ now → list ≡ list_of i.mapped → IsOverlap list.mappings range overlap → shown ≡ now.mappings → taken ≡ run shown overlap.index overlap.count →
-    pieces ≡ option_to_list overlap.prev ++ clipped range.first (end_of range) saved ++ option_to_list overlap.next → more ≡ length pieces - length taken →
+    pieces ≡ rest_before list.mappings range overlap ++ clipped range.first (end_of range) saved ++ rest_behind list.mappings range overlap → more ≡ length pieces - length taken →
     (length i.mapped.mappings + more ≤ i.mapped.room → reserved.room ≡ i.mapped.room) → reserved.room ≤ max (2 * i.mapped.room) (length i.mapped.mappings + more) → new.room ≡ reserved.room →
     GrowsJustFor (restored now.mappings range saved) now new
 grown_just_for i now new range saved taken pieces shown list reserved overlap more space space_is list_is is shown_is taken_is pieces_are more_is enough most room_is =
@@ -162,4 +162,4 @@ grown_just_for i now new range saved taken pieces shown list reserved overlap mo
     (grown_for s new range saved taken pieces overlap more reserved.room space
     (subst (λ (l : RangeListState). IsOverlap l.mappings range overlap) list_is is)
     (subst (λ (t : SpaceState). taken ≡ run t.mappings overlap.index overlap.count) (sym space_is) taken_now)
-    pieces_are more_is enough most room_is)
+    (subst (λ (l : RangeListState). pieces ≡ rest_before l.mappings range overlap ++ clipped range.first (end_of range) saved ++ rest_behind l.mappings range overlap) list_is pieces_are) more_is enough most room_is)

@@ -1,7 +1,6 @@
 -- What a change of the list needs before it is made. No public clause cites this module.
-use Rattle.std.specs.Prelude.{◌≡◌, ℕ, ◌+◌, ◌≤◌, List, length}
+use Rattle.std.specs.Prelude.{◌≡◌, ℕ, ◌+◌, ◌≤◌, Bool, true, false, List, length}
 use Rattle.std.specs.List.{All}
-use Rattle.std.specs.Option.{option_to_list}
 use Rattle.gv_types.specs.Page.{PAGES}
 use Rattle.gv_types.specs.PageRange.{PageRangeState, end_of}
 use Rattle.gv_types.specs.declared.mapping.Mapping.{Mapping}
@@ -14,11 +13,23 @@ use Rattle.gv_table.specs.Table.{IsTree, gained_by}
 use Rattle.gv_space.specs.State.{SpaceState, IsPlaced, most_kept}
 use Rattle.gv_space.specs.declared.overlap.Overlap.{Overlap}
 
--- the run of a list that meets a range, and the rests of it on both sides
+-- what of a run lies before a range, and what lies behind it
+abbrev pub rest_before : List Mapping → PageRangeState → Overlap → List Mapping
+rest_before ms range overlap = clipped 0 range.first (run ms overlap.index overlap.count)
+
+abbrev pub rest_behind : List Mapping → PageRangeState → Overlap → List Mapping
+rest_behind ms range overlap = clipped (end_of range) PAGES (run ms overlap.index overlap.count)
+
+-- one, if that is true
+abbrev pub one_if : Bool → ℕ
+one_if true = 1
+one_if false = 0
+
+-- the run of a list that meets a range, and whether there is a rest of it on either side
 pub record IsOverlap (ms : List Mapping) (range : PageRangeState) (overlap : Overlap) : Type 0 where
   pub met : IsOverlappingRun ms range overlap.index overlap.count
-  pub prev : option_to_list overlap.prev ≡ clipped 0 range.first (run ms overlap.index overlap.count)
-  pub next : option_to_list overlap.next ≡ clipped (end_of range) PAGES (run ms overlap.index overlap.count)
+  pub prev : length (rest_before ms range overlap) ≡ one_if overlap.prev
+  pub next : length (rest_behind ms range overlap) ≡ one_if overlap.next
 
 -- The run that meets a range is to give way to the pieces inside it and the rests on both sides. There is room for them,
 -- no limit is passed, and the spare tables are enough.

@@ -1,18 +1,17 @@
 //! Where a range meets a list.
-ghost use Rattle.std.specs.Prelude.{◌≡◌, ◌+◌, length};
-ghost use Rattle.std.specs.Option.{option_to_list};
-ghost use Rattle.gv_space.specs.Ready.{IsOverlap};
+ghost use Rattle.std.specs.Prelude.{◌≡◌, ◌+◌};
+ghost use Rattle.gv_space.specs.Ready.{IsOverlap, one_if};
 
 use gv_ranges::{RangeList, next_rest, prev_rest};
-use gv_types::{Mapping, PageRange};
+use gv_types::PageRange;
 
-/// The run of mappings that meet a range, and what of it lies on both sides of the range.
+/// The run of mappings that meet a range, and whether something of it lies before the range, and behind it.
 #[derive(Clone, Copy)]
 pub struct Overlap {
     pub index: usize,
     pub count: usize,
-    pub prev: Option<Mapping>,
-    pub next: Option<Mapping>,
+    pub prev: bool,
+    pub next: bool,
 }
 
 impl Overlap {
@@ -24,15 +23,15 @@ impl Overlap {
         Overlap {
             index,
             count,
-            prev: prev_rest(list, index, count, range.first()),
-            next: next_rest(list, index, count, range.end()),
+            prev: prev_rest(list, index, count, range.first()).is_some(),
+            next: next_rest(list, index, count, range.end()).is_some(),
         }
     }
 
     /// How many rests there are.
     pub fn count_rests(&self) -> usize
-        ensures { result ≡ length (option_to_list self.now.prev) + length (option_to_list self.now.next) }
+        ensures { result ≡ one_if self.now.prev + one_if self.now.next }
     {
-        usize::from(self.prev.is_some()) + usize::from(self.next.is_some())
+        usize::from(self.prev) + usize::from(self.next)
     }
 }

@@ -1,14 +1,14 @@
 //! What comes to stand where a range meets a list.
-ghost use Rattle.std.specs.Prelude.{◌≡◌, ◌≤◌, ◌++◌, [], length, List, OnOk};
-ghost use Rattle.std.specs.Option.{option_to_list};
+ghost use Rattle.std.specs.Prelude.{◌≡◌, ◌+◌, ◌≤◌, ◌++◌, [], length, List, OnOk};
 ghost use Rattle.gv_types.specs.PageRange.{end_of, IsInSpace};
 ghost use Rattle.gv_types.specs.declared.mapping.Mapping.{Mapping};
 ghost use Rattle.gv_ranges.specs.List.{IsLaidOut};
 ghost use Rattle.gv_ranges.specs.Edit.{clipped};
+ghost use Rattle.gv_space.specs.Ready.{IsOverlap, one_if, rest_before, rest_behind};
 ghost use Rattle.gv_space.specs.Refusal.{count_met};
 
 use crate::overlap::Overlap;
-use gv_ranges::Run;
+use gv_ranges::{RangeList, Run, next_rest, prev_rest};
 use gv_types::{Mapping, OutOfMemory, PageRange};
 use smallvec::SmallVec;
 
@@ -68,20 +68,23 @@ fn push_clipped(
 /// where it stays, since a copy would wait for what was just written.
 pub fn with_rests(
     pieces: &mut Incoming,
+    list: &RangeList,
     overlap: &Overlap,
     saved: &[Mapping],
     range: PageRange,
 ) -> Result<(), OutOfMemory>
     requires none { pieces.old.items ≡ [] }
+    requires overlap { IsOverlap list.now.mappings range overlap.now }
     requires laid_out { IsLaidOut saved.now }
-    ensures { OnOk result (pieces.new.items ≡ option_to_list overlap.now.prev
-        ++ clipped range.first (end_of range) saved.now ++ option_to_list overlap.now.next) }
+    ensures { OnOk result (pieces.new.items ≡ rest_before list.now.mappings range overlap.now
+        ++ clipped range.first (end_of range) saved.now ++ rest_behind list.now.mappings range overlap.now) }
 {
-    if let Some(rest) = overlap.prev {
+    let Overlap { index, count, .. } = *overlap;
+    if let Some(rest) = prev_rest(list, index, count, range.first()) {
         pieces.push(rest)?;
     }
     push_clipped(pieces, saved, range)?;
-    if let Some(rest) = overlap.next {
+    if let Some(rest) = next_rest(list, index, count, range.end()) {
         pieces.push(rest)?;
     }
     Ok(())
@@ -89,13 +92,11 @@ pub fn with_rests(
 
 /// The pieces between the rests.
 pub fn between_rests<'a>(overlap: &Overlap, pieces: &'a [Mapping]) -> &'a [Mapping]
-    requires { (inside : List Mapping) × (pieces.now
-        ≡ option_to_list overlap.now.prev ++ inside ++ option_to_list overlap.now.next) }
-    ensures { (inside : List Mapping) → pieces.now
-        ≡ option_to_list overlap.now.prev ++ inside ++ option_to_list overlap.now.next
-        → result.now ≡ inside }
+    requires { one_if overlap.now.prev + one_if overlap.now.next ≤ length pieces.now }
+    ensures { (before inside behind : List Mapping) → length before ≡ one_if overlap.now.prev
+        → length behind ≡ one_if overlap.now.next → pieces.now ≡ before ++ inside ++ behind → result.now ≡ inside }
 {
-    let start = usize::from(overlap.prev.is_some());
-    let end = pieces.len() - usize::from(overlap.next.is_some());
+    let start = usize::from(overlap.prev);
+    let end = pieces.len() - usize::from(overlap.next);
     &pieces[start..end]
 }

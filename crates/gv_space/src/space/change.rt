@@ -59,13 +59,14 @@ impl Space {
         ensures unchanged { OnErr result (IsUnchanged self.old self.new) }
         ensures room { GrowsJustFor (restored self.old.mappings range saved.now) self.old self.new }
     {
-        let overlap = Overlap::of(self.mapped.list(), range);
+        let list = self.mapped.list();
+        let overlap = Overlap::of(list, range);
         self.check_limits(range, &overlap, saved)?;
         let index = overlap.index;
         let mut taken = SmallVec::new(alloc);
         copy_run(&mut taken, self.list().run(index, overlap.count))?;
         let mut pieces = SmallVec::new(alloc);
-        with_rests(&mut pieces, &overlap, saved, range)?;
+        with_rests(&mut pieces, list, &overlap, saved, range)?;
         let pieces = pieces.as_slice();
         let inside = between_rests(&overlap, pieces);
         let spares = self.mapped.spare(alloc, range, inside)?;
