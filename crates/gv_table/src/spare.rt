@@ -185,7 +185,7 @@ pub fn needed_in_tree(root: &Slot, pieces: &Outline<'_>, range: PageRange) -> Ta
     ensures { (kind : Kind) → of kind result ≡ needed kind pieces.now range top_level 0 root.now }
 {
     let empty = Slot::Empty;
-    let position = advance(pieces, 0, range.first());
+    let page = range.first();
     let mut slot = root;
     let mut level = TOP_LEVEL;
     let mut first = 0;
@@ -196,10 +196,14 @@ pub fn needed_in_tree(root: &Slot, pieces: &Outline<'_>, range: PageRange) -> Ta
         level -= 1;
         first += index as u64 * pages_of(level);
     }
+    // So it mostly ends: no piece is read.
+    if needs_none(slot, level) {
+        return count;
+    }
     let excerpt = Excerpt {
         mappings: pieces,
         range,
-        position,
+        position: advance(pieces, 0, page),
     };
     count.with(needed_in(slot, Place { level, first }, &excerpt))
 }

@@ -13,7 +13,7 @@ use Rattle.gv_table.proofs.spare.needed_in_tree.Goals as goal
 pub loop-index-init : goal.loop-index-init
 loop-index-init c =
     let all = pages_of-top in
-    let in_space = c.first.ensures.in_space in
+    let in_space = c.first-page.ensures.in_space in
     record {
       known = omega arith;
       in_space = omega (arith, all);
@@ -36,7 +36,7 @@ loop-index-preserved c =
     let start : first + index * pages_of (level - 1) ≡ first + index * c.pages_of.result = ap (λ (n : ℕ). first + index * n) (sym c.pages_of.ensures.pages) in
     let small = λ (kind : Kind). missing-small kind (level - 1) (is_table slot) in
     let some = is.some in
-    let parts = λ (kind : Kind). needed-around range level first index c.first.ensures.in_space.0 is kind c.args.pieces.now slot in
+    let parts = λ (kind : Kind). needed-around range level first index c.first-page.ensures.in_space.0 is kind c.args.pieces.now slot in
     let part = λ (kind : Kind). ap (λ (n : ℕ). needed kind c.args.pieces.now range (level - 1) n (child slot index)) start ∙
     needed-same kind c.args.pieces.now range (level - 1) (first + index * c.pages_of.result) _ _ c.child_of-slot.ensures in
     record {
