@@ -9,7 +9,7 @@ ghost use Rattle.gv_types.specs.declared.mapping.Backing.TheVariants.{Buffer};
 ghost use Rattle.gv_ranges.specs.List.{run, IsLaidOut};
 ghost use Rattle.gv_ranges.specs.Edit.{edited};
 
-use gv_ranges::{RangeList, next_rest, prev_rest};
+use gv_ranges::{RangeList, Run, next_rest, prev_rest};
 use gv_types::{Backing, BufferId, Entry, Flags, Mapping, OutOfMemory, PageOp, PageRange};
 use std::alloc::Global;
 use std::test::Fail;
@@ -76,6 +76,17 @@ fn add(pieces: &mut Vec<Mapping>, piece: Option<Mapping>) -> Result<(), OutOfMem
     Ok(())
 }
 
+/// A copy of a run.
+fn copied(alloc: Global, run: Run<'_>) -> Result<Vec<Mapping>, OutOfMemory>
+    ensures { IfOk result (λ copy. copy.items ≡ run.entry) }
+{
+    let mut copy = Vec::new(alloc);
+    for mapping in run {
+        copy.push(*mapping)?;
+    }
+    Ok(copy)
+}
+
 /// What stands in place of a run that meets the operation's range.
 fn replacement(
     alloc: Global,
@@ -89,11 +100,14 @@ fn replacement(
     requires meeting { All (λ m. IsTrue (meets m.range (range_of op.now))) (run list.now.mappings place count) }
     ensures { IfOk result (λ pieces. pieces.items ≡ edited (run list.now.mappings place count) op.now) }
 {
+    // Tells that the list is laid out.
+    let _len = list.len();
     let range = op.range();
+    let here = copied(alloc, list.run(place, count))?;
     let mut pieces = Vec::new(alloc);
-    add(&mut pieces, prev_rest(list, place, count, range.first()))?;
+    add(&mut pieces, prev_rest(&here, range.first()))?;
     add(&mut pieces, op.own_mapping())?;
-    add(&mut pieces, next_rest(list, place, count, range.end()))?;
+    add(&mut pieces, next_rest(&here, range.end()))?;
     Ok(pieces)
 }
 

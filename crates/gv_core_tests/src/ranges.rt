@@ -75,8 +75,8 @@ fn rests_of_one_mapping(rt: HostRuntime) -> Result<(), Fail> {
     let list = list_of_one(rt.alloc(), mapping(0, 4, 1, 7)?)?;
     let before = mapping(0, 1, 1, 7)?;
     let behind = mapping(3, 1, 1, 10)?;
-    assert_eq!(rt; prev_rest(&list, 0, 1, 1), Some(before));
-    assert_eq!(rt; next_rest(&list, 0, 1, 3), Some(behind));
+    assert_eq!(rt; prev_rest(list.piece(0), 1), Some(before));
+    assert_eq!(rt; next_rest(list.piece(0), 3), Some(behind));
     Ok(())
 }
 

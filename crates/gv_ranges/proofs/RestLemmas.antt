@@ -1,5 +1,5 @@
 -- What is left of a run that meets a range.
-use Rattle.std.proofs.Common.{◌≡◌, ℕ, zero, suc, ◌+◌, ◌-◌, ◌≤◌, ◌<◌, length, take, drop, List, [], ◌∷◌, arith, refl, ◌∙◌, ap, get_or, inl, inr, Option, Some, None}
+use Rattle.std.proofs.Common.{◌≡◌, ℕ, zero, suc, ◌+◌, ◌-◌, ◌≤◌, ◌<◌, length, take, drop, List, [], ◌∷◌, arith, refl, sym, ◌∙◌, ap, get_or, inl, inr, Option, Some, None}
 use Rattle.std.specs.List.{All, cons_option}
 use Rattle.std.specs.Prelude.{slice_get}
 use Rattle.std.specs.Option.{option_to_list}
@@ -70,32 +70,23 @@ some_of_last (n ∷ ms) m is = omega arith
 pub at_run : (ms : List Mapping) (index count k : ℕ) (d : Mapping) → k < count → get_or (run ms index count) k d ≡ get_or ms (index + k) d
 at_run ms index count k d less = get_or-take count (drop index ms) k d less ∙ get_or-drop index ms k d
 
-length_of_run : (ms : List Mapping) (index count : ℕ) → index + count ≤ length ms → length (run ms index count) ≡ count
+pub length_of_run : (ms : List Mapping) (index count : ℕ) → index + count ≤ length ms → length (run ms index count) ≡ count
 length_of_run ms index count within = rw (length-take count (drop index ms), length-drop index ms) (omega arith)
 
-run_is_laid_out : (ms : List Mapping) (index count : ℕ) → IsLaidOut ms → IsLaidOut (run ms index count)
+pub run_is_laid_out : (ms : List Mapping) (index count : ℕ) → IsLaidOut ms → IsLaidOut (run ms index count)
 run_is_laid_out ms index count laid = laid_out-take (drop index ms) 0 count (laid_out-drop ms 0 index laid)
 
--- of a run whose mappings end past a page, the first one's rest lies below it
-pub rest_of_first : (ms : List Mapping) (index count page : ℕ) (d : Mapping) → 0 < count → index + count ≤ length ms → IsLaidOut ms →
-    All (λ m. page < end_of m.range) (run ms index count) → clipped 0 page (run ms index count) ≡ option_to_list (clip 0 page (get_or ms index d))
-rest_of_first ms index count page d some within laid past =
-    let long : length (run ms index count) ≡ count = length_of_run ms index count within in
-    let index_is : index + 0 ≡ index = omega arith in
-    let first : get_or (run ms index count) 0 d ≡ get_or ms index d = rw index_is at (at_run ms index count 0 d some) in
-    let ends : page < end_of (get_or (run ms index count) 0 d).range = All-get_or (λ (m : Mapping). page < end_of m.range) (run ms index count) 0 d (omega arith) past in
-    clipped_at_first (run ms index count) page d (omega arith) (run_is_laid_out ms index count laid) (omega arith)
-    ∙ ap (λ (m : Mapping). option_to_list (clip 0 page m)) first
+-- of mappings that end past a page, the first one's rest lies below it
+pub rest_of_first : (ms : List Mapping) (page : ℕ) (m : Mapping) → 0 < length ms → IsLaidOut ms → All (λ n. page < end_of n.range) ms →
+    m ≡ get_or ms 0 m → clipped 0 page ms ≡ option_to_list (clip 0 page m)
+rest_of_first ms page m some laid past is =
+    let ends : page < end_of (get_or ms 0 m).range = All-get_or (λ (n : Mapping). page < end_of n.range) ms 0 m some past in
+    clipped_at_first ms page m some laid (omega arith) ∙ ap (λ (n : Mapping). option_to_list (clip 0 page n)) (sym is)
 
--- of a run whose mappings begin before a page, the last one's rest lies behind it
-pub rest_of_last : (ms : List Mapping) (index count page top : ℕ) (d : Mapping) → 0 < count → index + count ≤ length ms → IsLaidOut ms →
-    All (λ m. m.range.first < page) (run ms index count) → clipped page top (run ms index count) ≡ option_to_list (clip page top (get_or ms (index + count - 1) d))
-rest_of_last ms index count page top d some within laid before =
-    let long : length (run ms index count) ≡ count = length_of_run ms index count within in
-    let index_is : index + (count - 1) ≡ index + count - 1 = omega arith in
-    let last : get_or (run ms index count) (length (run ms index count) - 1) d ≡ get_or ms (index + count - 1) d =
-    rw (long, ← index_is) (at_run ms index count (count - 1) d (omega arith)) in
-    let begins : (get_or (run ms index count) (length (run ms index count) - 1) d).range.first < page =
-    All-get_or (λ (m : Mapping). m.range.first < page) (run ms index count) (length (run ms index count) - 1) d (omega arith) before in
-    clipped_last (run ms index count) 0 page top d (run_is_laid_out ms index count laid) (omega arith) (omega arith)
-    ∙ ap (λ (m : Mapping). option_to_list (clip page top m)) last
+-- of mappings that begin before a page, the last one's rest lies behind it
+pub rest_of_last : (ms : List Mapping) (page top : ℕ) (m : Mapping) → 0 < length ms → IsLaidOut ms → All (λ n. n.range.first < page) ms →
+    m ≡ get_or ms (length ms - 1) m → clipped page top ms ≡ option_to_list (clip page top m)
+rest_of_last ms page top m some laid before is =
+    let begins : (get_or ms (length ms - 1) m).range.first < page =
+    All-get_or (λ (n : Mapping). n.range.first < page) ms (length ms - 1) m (omega arith) before in
+    clipped_last ms 0 page top m laid some (omega arith) ∙ ap (λ (n : Mapping). option_to_list (clip page top n)) (sym is)

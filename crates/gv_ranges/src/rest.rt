@@ -1,41 +1,36 @@
-//! What is left of a run of mappings on both sides of a range.
-ghost use Rattle.std.specs.Prelude.{◌≡◌, ◌+◌, ◌<◌, ◌≤◌, length};
+//! What is left of mappings in order on both sides of a range that each of them meets.
+ghost use Rattle.std.specs.Prelude.{◌≡◌, ◌<◌, ◌≤◌};
 ghost use Rattle.std.specs.List.{All};
 ghost use Rattle.std.specs.Option.{option_to_list};
 ghost use Rattle.gv_types.specs.Page.{PAGES};
 ghost use Rattle.gv_types.specs.PageRange.{end_of};
-ghost use Rattle.gv_ranges.specs.List.{run};
+ghost use Rattle.gv_ranges.specs.List.{IsLaidOut};
 ghost use Rattle.gv_ranges.specs.Edit.{clipped};
 
-use crate::RangeList;
 use gv_types::{Mapping, SPACE_PAGES};
 
-/// What of a run lies below `page`, where each of its mappings ends past the page: at most the
-/// rest of the first.
-pub fn prev_rest(list: &RangeList, index: usize, count: usize, page: u64) -> Option<Mapping>
-    requires within { index + count ≤ length list.now.mappings }
-    requires past { All (λ m. page < end_of m.range) (run list.now.mappings index count) }
-    ensures { option_to_list result ≡ clipped 0 page (run list.now.mappings index count) }
+/// What of the mappings lies below `page`, where each of them ends past the page: at most the rest of the first.
+#[inline(always)]
+pub fn prev_rest(mappings: &[Mapping], page: u64) -> Option<Mapping>
+    requires laid_out { IsLaidOut mappings.now }
+    requires past { All (λ m. page < end_of m.range) mappings.now }
+    ensures { option_to_list result ≡ clipped 0 page mappings.now }
 {
-    if count == 0 {
+    if mappings.is_empty() {
         return None;
     }
-    // Tells that the list is laid out.
-    let _len = list.len();
-    list.get(index).clip(0, page)
+    mappings[0].clip(0, page)
 }
 
-/// What of a run lies at `page` or behind it, where each of its mappings begins before the page: at
-/// most the rest of the last.
-pub fn next_rest(list: &RangeList, index: usize, count: usize, page: u64) -> Option<Mapping>
-    requires within { index + count ≤ length list.now.mappings }
-    requires before { All (λ m. m.range.first < page) (run list.now.mappings index count) }
-    ensures { option_to_list result ≡ clipped page PAGES (run list.now.mappings index count) }
+/// What of the mappings lies at `page` or behind it, where each of them begins before the page: at most the rest of the last.
+#[inline(always)]
+pub fn next_rest(mappings: &[Mapping], page: u64) -> Option<Mapping>
+    requires laid_out { IsLaidOut mappings.now }
+    requires before { All (λ m. m.range.first < page) mappings.now }
+    ensures { option_to_list result ≡ clipped page PAGES mappings.now }
 {
-    if count == 0 {
+    if mappings.is_empty() {
         return None;
     }
-    // Tells that the list is laid out.
-    let _len = list.len();
-    list.get(index + count - 1).clip(page, SPACE_PAGES)
+    mappings[mappings.len() - 1].clip(page, SPACE_PAGES)
 }

@@ -1,22 +1,21 @@
 -- A change of the list, once all is there for it.
 use Rattle.std.proofs.Common.{◌≡◌, ℕ, ◌+◌, ◌≤◌, List, ◌++◌, length, arith, refl, sym, subst, ap, ◌∙◌, drop}
 use Rattle.std.specs.List.{All, splice}
-use Rattle.gv_types.specs.PageRange.{PageRangeState}
+use Rattle.gv_types.specs.PageRange.{PageRangeState, end_of}
 use Rattle.gv_types.specs.Mapping.{IsMapping}
 use Rattle.gv_types.specs.declared.mapping.Mapping.{Mapping}
 use Rattle.gv_ranges.specs.List.{AreEnded, IsLaidOut}
 use Rattle.gv_ranges.proofs.IndexLemmas.{met-ended}
-use Rattle.gv_ranges.specs.Edit.{Undo, replaced, undone}
+use Rattle.gv_ranges.specs.Edit.{Undo, clipped, replaced, undone}
 use Rattle.gv_ranges.proofs.KeptLemmas.{All-replaced}
 use Rattle.gv_ranges.proofs.OrderLemmas.{laid_out-replaced}
 use Rattle.gv_ranges.proofs.ReplacedLemmas.{all_mappings, replaced_run_in_place, undone-replaced}
 use Rattle.gv_ranges.proofs.RestLemmas.{laid_out-take, laid_out-drop}
 use Rattle.gv_table.specs.Reads.{AreAlikeOutside}
 use Rattle.gv_table.specs.declared.tables.Tables.{Tables}
-use Rattle.gv_table.specs.Kinds.{AreEnough}
 use Rattle.gv_table.specs.Table.{IsTree, gained_by}
 use Rattle.gv_table.specs.declared.page_table.PageTable.{PageTable}
-use Rattle.gv_table.proofs.EditLemmas.{replaced-alike}
+use Rattle.gv_table.proofs.EditLemmas.{replaced-alike, replaced-pieces}
 use Rattle.gv_buffers.specs.Buffers.{BuffersState}
 use Rattle.gv_space.specs.Mapped.{MappedState}
 use Rattle.gv_space.specs.Counts.{by_count, counted, more_used, less_used, more_kept}
@@ -39,7 +38,7 @@ lived_after taken pieces t id lives =
     (lived-by_count more_used pieces (by_count more_kept taken t) more_used_of_counts id
     (lived-by_count less_used taken (by_count more_used pieces (by_count more_kept taken t)) less_used_of_counts id lives))
 
-module _ (inside : List Mapping) (s : SpaceState) (range : PageRangeState) (index : ℕ) (taken pieces : List Mapping) (spares : Tables) (space : IsSpace s) (ready : IsReady inside s range index taken pieces spares) where
+module _ (inside : List Mapping) (s : SpaceState) (range : PageRangeState) (index : ℕ) (taken pieces : List Mapping) (space : IsSpace s) (ready : IsReady inside s range index taken pieces) where
   -- the list after the change
   abbrev pub after : List Mapping
   after = splice s.mappings index (index + length taken) pieces
@@ -58,8 +57,8 @@ module _ (inside : List Mapping) (s : SpaceState) (range : PageRangeState) (inde
   pub after_alike : AreAlikeOutside range s.mappings after
   after_alike = rw after_is (replaced-alike s.mappings inside range space.laid_out ready.lie)
 
-  pub spares_are_enough : (table : PageTable) → IsTree s.mappings table → AreEnough spares (gained_by after table)
-  spares_are_enough table tree = subst (λ (ms : List Mapping). AreEnough spares (gained_by ms table)) (sym after_is) (ready.enough table tree)
+  pub after_pieces : clipped range.first (end_of range) after ≡ inside
+  after_pieces = rw after_is (replaced-pieces s.mappings inside range space.laid_out ready.sorted ready.lie)
 
   pub taken_placed : All (IsPlaced s.area s.buffers) taken
   taken_placed = All-taken (IsPlaced s.area s.buffers) s.mappings taken index (length taken) ready.taken_is space.placed

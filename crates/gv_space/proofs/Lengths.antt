@@ -12,8 +12,6 @@ use Rattle.gv_ranges.specs.Edit.{clipped, restored}
 use Rattle.gv_ranges.proofs.ChangeLemmas.{restored_run_in_place}
 use Rattle.gv_ranges.proofs.OverlapLemmas.{filter_meets}
 use Rattle.gv_space.specs.Refusal.{count_met}
-use Rattle.gv_space.specs.Ready.{IsOverlap, one_if, rest_before, rest_behind}
-use Rattle.gv_space.specs.declared.overlap.Overlap.{Overlap}
 
 -- a mapping has a piece in a range exactly where it meets it
 pub length-clipped : (range : PageRangeState) (low : ℕ) (ms : List Mapping) → IsInSpace range → IsLaidOutFrom low ms →
@@ -53,28 +51,18 @@ length-splice ms pieces index count within =
     let back : length (drop (index + count) ms) ≡ length ms - (index + count) = length-drop (index + count) ms in
     rw (length-append (take index ms) (pieces ++ drop (index + count) ms), length-append pieces (drop (index + count) ms), front, back) (omega arith)
 
--- the run gives way to its rests and what is put in
-pub length-restored : (ms saved : List Mapping) (range : PageRangeState) (overlap : Overlap) → IsLaidOut ms → IsLaidOut saved → IsInSpace range →
-    IsOverlap ms range overlap →
-    length (restored ms range saved) ≡
-    length ms - overlap.count + (one_if overlap.prev + one_if overlap.next) + count_met saved range
-length-restored ms saved range overlap laid saved_laid in_space is =
-    let here : List Mapping = run ms overlap.index overlap.count in
+-- how long its rests are with what is put in between them
+pub length-between : (here saved : List Mapping) (range : PageRangeState) → IsLaidOut saved → IsInSpace range →
+    length (restored here range saved) ≡
+    length (clipped 0 range.first here) + length (clipped (end_of range) PAGES here) + count_met saved range
+length-between here saved range saved_laid in_space =
     let inside : length (clipped range.first (end_of range) saved) ≡ count_met saved range = length-clipped range 0 saved in_space saved_laid in
-    let pieces : length (restored here range saved) ≡ one_if overlap.prev + count_met saved range + one_if overlap.next =
     length-append (clipped 0 range.first here ++ clipped range.first (end_of range) saved) (clipped (end_of range) PAGES here) ∙
-    rw (length-append (clipped 0 range.first here) (clipped range.first (end_of range) saved), inside, is.prev, is.next) refl in
-    let spliced : length (restored ms range saved) + overlap.count ≡ length ms + length (restored here range saved) =
-    rw (restored_run_in_place ms saved range overlap.index overlap.count laid is.met) (length-splice ms (restored here range saved) overlap.index overlap.count is.met.within) in
-    omega (arith, spliced, pieces, is.met.within)
+    rw (length-append (clipped 0 range.first here) (clipped range.first (end_of range) saved), inside) (omega arith)
 
--- the same by the pieces that come in
-pub length-changed : (ms saved pieces : List Mapping) (range : PageRangeState) (overlap : Overlap) → IsLaidOut ms → IsOverlap ms range overlap →
-    pieces ≡ rest_before ms range overlap ++ clipped range.first (end_of range) saved ++ rest_behind ms range overlap →
-    length (restored ms range saved) + overlap.count ≡ length ms + length pieces
-length-changed ms saved pieces range overlap laid is pieces_are =
-    let here : List Mapping = run ms overlap.index overlap.count in
-    let same : pieces ≡ restored here range saved = pieces_are in
-    let spliced : length (restored ms range saved) + overlap.count ≡ length ms + length (restored here range saved) =
-    rw (restored_run_in_place ms saved range overlap.index overlap.count laid is.met) (length-splice ms (restored here range saved) overlap.index overlap.count is.met.within) in
-    omega (arith, spliced, ap (λ (xs : List Mapping). length xs) same)
+-- the run gives way to its rests and what is put in
+pub length-restored : (ms saved : List Mapping) (range : PageRangeState) (index count : ℕ) → IsLaidOut ms → IsOverlappingRun ms range index count →
+    length (restored ms range saved) + count ≡ length ms + length (restored (run ms index count) range saved)
+length-restored ms saved range index count laid met =
+    let here : List Mapping = run ms index count in
+    rw (restored_run_in_place ms saved range index count laid met) (length-splice ms (restored here range saved) index count met.within)

@@ -2,6 +2,7 @@ pub mod Clips
 pub mod FaultLemmas
 pub mod Names
 pub mod Lengths
+pub mod Rests
 pub mod Limits
 pub mod Placed
 pub mod Says

@@ -36,8 +36,21 @@ pub fn count_in(buffers: &mut Buffers, mappings: &[Mapping])
     }
 }
 
+/// Counts out mappings that left the list.
+pub fn count_out(buffers: &mut Buffers, mappings: &[Mapping])
+    requires live { All (λ m. IsLiveBacking buffers.old m.backing) mappings.now }
+    requires counted { All (λ b. count_of b.id mappings.now ≤ b.uses) buffers.old.live }
+    ensures { buffers.new ≡ by_count less_used mappings.now buffers.old }
+{
+    for mapping in mappings {
+        if let Backing::Buffer { id, .. } = mapping.backing {
+            buffers.count_out(id, mapping.range.first());
+        }
+    }
+}
+
 /// Counts out a run of the list, which leaves it.
-pub fn count_out(buffers: &mut Buffers, run: Run<'_>)
+pub fn count_out_run(buffers: &mut Buffers, run: Run<'_>)
     requires live { All (λ m. IsLiveBacking buffers.old m.backing) run }
     requires counted { All (λ b. count_of b.id run ≤ b.uses) buffers.old.live }
     ensures { buffers.new ≡ by_count less_used run.entry buffers.old }
@@ -75,9 +88,8 @@ pub fn unkeep(buffers: &mut Buffers, mappings: &[Mapping])
     }
 }
 
-/// Counts a run of the list that gives way to `pieces` and comes into an undo value.
-pub fn move_counts(buffers: &mut Buffers, run: Run<'_>, taken: &[Mapping], pieces: &[Mapping])
-    requires same { run ≡ taken.now }
+/// Counts what was taken out of the list, where it gave way to `pieces`, and came into an undo value.
+pub fn move_counts(buffers: &mut Buffers, taken: &[Mapping], pieces: &[Mapping])
     requires taken { All (λ m. IsLiveBacking buffers.old m.backing) taken.now }
     requires pieces { All (λ m. IsLiveBacking buffers.old m.backing) pieces.now }
     requires keeps { All (λ b. b.kept + count_of b.id taken.now ≤ most_counted) buffers.old.live }
@@ -88,7 +100,7 @@ pub fn move_counts(buffers: &mut Buffers, run: Run<'_>, taken: &[Mapping], piece
 {
     keep(buffers, taken);
     count_in(buffers, pieces);
-    count_out(buffers, run);
+    count_out(buffers, taken);
 }
 
 /// Counts a run that comes back out of an undo value into the list, where `pieces` give way to it.
@@ -103,5 +115,5 @@ pub fn move_counts_back(buffers: &mut Buffers, pieces: Run<'_>, taken: &[Mapping
 {
     unkeep(buffers, taken);
     count_in(buffers, taken);
-    count_out(buffers, pieces);
+    count_out_run(buffers, pieces);
 }

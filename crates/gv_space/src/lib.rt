@@ -19,7 +19,6 @@
 mod counts;
 pub mod laws;
 mod list_with_table;
-mod overlap;
 mod pieces;
 mod ranges;
 mod space;

@@ -11,7 +11,7 @@ ghost use Rattle.gv_ranges.specs.List.{at, AreEnded, IsLaidOut, IsUnchangedList}
 ghost use Rattle.gv_ranges.specs.Edit.{clipped};
 ghost use Rattle.gv_table.specs.Reads.{AreAlikeOutside};
 ghost use Rattle.gv_table.specs.Kinds.{AreEnough};
-ghost use Rattle.gv_table.specs.Table.{IsTree, IsHeldAt, gained_by, tables_of};
+ghost use Rattle.gv_table.specs.Table.{IsTree, IsHeldAt, FitsOutside, gained_by, tables_of, tables_standing};
 ghost use Rattle.gv_table.specs.declared.page_table.PageTable.{PageTable};
 
 use gv_ranges::RangeList;
@@ -108,27 +108,6 @@ impl ListWithTable {
         self.list.reserve(more)
     }
 
-    /// Empty tables, enough for any list that is like this one outside the range and has the pieces in it. Those that are kept
-    /// serve before any is made.
-    pub fn spare(
-        &mut self,
-        alloc: Global,
-        range: PageRange,
-        pieces: &[Mapping],
-    ) -> Result<Spares, Fault>
-        requires { IsLaidOut pieces.now }
-        ensures enough { IfOk result (λ spares. (ms : List Mapping) (table : PageTable) → IsLaidOut ms
-            → AreAlikeOutside range self.old.mappings ms
-            → clipped range.first (end_of range) ms ≡ pieces.now
-            → IsTree self.old.mappings table → AreEnough spares (gained_by ms table)) }
-        ensures err { IsOkUnless result Fault.OutOfMemory }
-        ensures same { self.new ≡ self.old }
-    {
-        // Tells that the list is laid out.
-        let _len = self.list.len();
-        self.table.spare_from(alloc, range, pieces, &mut self.pool)
-    }
-
     /// Keeps tables that are in no tree for later. It takes no memory.
     pub fn keep(&mut self, tables: Spares)
         ensures same { self.new ≡ self.old }
@@ -163,17 +142,20 @@ impl ListWithTable {
         self.table.name(id);
     }
 
-    /// Replaces `out_count` mappings from `index` on by `pieces`, and paints the range. The mappings before the index have
-    /// to end before the range, and the list to stay as it is outside the range: nothing is searched. It answers the tables
-    /// that left the tree: just those that the old list needs to be painted back. It takes no memory.
-    pub fn replace(
+    /// Replaces `out_count` mappings from `index` on by `pieces`, and paints the range. The mappings before the index have to
+    /// end before the range, and the list to stay as it is outside the range, and to have the pieces `inside` in it: nothing is searched.
+    /// It answers the tables that left the tree: just those that the old list needs to be painted back. It takes memory for the
+    /// tables that the tree may need, and before the first change. Those that are kept serve before any is made. `OutOfMemory`
+    /// where the system refuses it.
+    pub fn edit(
         &mut self,
+        alloc: Global,
         range: PageRange,
         index: usize,
         out_count: usize,
         pieces: &[Mapping],
-        spares: Spares,
-    ) -> Spares
+        inside: &[Mapping],
+    ) -> Result<Spares, Fault>
         requires within { index + out_count ≤ length self.old.mappings }
         requires ended { AreEnded self.old.mappings range.first index }
         requires room { length self.old.mappings + length pieces.now ≤ self.old.room + out_count }
@@ -181,28 +163,29 @@ impl ListWithTable {
             (splice self.old.mappings index (index + out_count) pieces.now) }
         requires alike { AreAlikeOutside range self.old.mappings
             (splice self.old.mappings index (index + out_count) pieces.now) }
+        requires inside { clipped range.first (end_of range)
+            (splice self.old.mappings index (index + out_count) pieces.now) ≡ inside.now }
+        requires sorted { IsLaidOut inside.now }
         requires named { AreNamed self.old.names (splice self.old.mappings index (index + out_count) pieces.now) }
-        requires enough { (table : PageTable) → IsTree self.old.mappings table
-            → AreEnough spares (gained_by (splice self.old.mappings index (index + out_count) pieces.now) table) }
-        ensures mappings { self.new.mappings
-            ≡ splice self.old.mappings index (index + out_count) pieces.now }
+        ensures mappings { OnOk result (self.new.mappings
+            ≡ splice self.old.mappings index (index + out_count) pieces.now) }
+        ensures tables { IfOk result (λ tables. (table : PageTable) → IsTree self.new.mappings table
+            → gained_by self.old.mappings table ≡ tables) }
+        ensures err { IsOkUnless result Fault.OutOfMemory }
+        ensures unchanged { OnErr result (self.new ≡ self.old) }
         ensures room { self.new.room ≡ self.old.room }
         ensures names { self.new.names ≡ self.old.names }
-        ensures tables { (table : PageTable) → IsTree self.new.mappings table
-            → gained_by self.old.mappings table ≡ result }
     {
-        let mut spares = spares;
         // Tells that the list is laid out.
         let _len = self.list.len();
+        let spares = self.table.spare_from(alloc, range, inside, &mut self.pool)?;
         self.list.splice(index, out_count, pieces);
-        let mut left = Spares::new();
-        self.table
-            .paint(&self.list, range, index, &mut spares, &mut left);
-        self.pool.put(spares, &self.table);
-        left
+        let (table, pool) = (&mut self.table, &mut self.pool);
+        Ok(paint(table, pool, &self.list, range, index, spares))
     }
 
-    /// The same, where the tables that leave the tree are of no further use: they are kept for later.
+    /// Replaces `out_count` mappings from `index` on by `pieces`, and paints the range, as `edit` does, with tables that are enough for
+    /// it. Those that leave the tree are kept for later. It takes no memory.
     pub fn put_back(
         &mut self,
         range: PageRange,
@@ -226,7 +209,37 @@ impl ListWithTable {
         ensures room { self.new.room ≡ self.old.room }
         ensures names { self.new.names ≡ self.old.names }
     {
-        let lost = self.replace(range, index, out_count, pieces, spares);
-        self.keep(lost);
+        // Tells that the list is laid out.
+        let _len = self.list.len();
+        self.list.splice(index, out_count, pieces);
+        let (table, pool) = (&mut self.table, &mut self.pool);
+        let left = paint(table, pool, &self.list, range, index, spares);
+        pool.put(left, table);
     }
+}
+
+/// Makes the table that of the list by these tables, those that are left over go to the pool. It answers the tables that left the tree.
+fn paint(
+    table: &mut PageTable,
+    pool: &mut Pool,
+    list: &RangeList,
+    range: PageRange,
+    position: usize,
+    spares: Spares,
+) -> Spares
+    requires ended { AreEnded list.now.mappings range.first position }
+    requires fitted { FitsOutside list.now.mappings range table.old }
+    requires named { AreNamed table.old.names list.now.mappings }
+    requires enough { AreEnough spares (gained_by list.now.mappings table.old) }
+    ensures tree { IsTree list.now.mappings table.new }
+    ensures names { table.new.names ≡ table.old.names }
+    ensures few { pool.new ≤ (tables_standing table.new).pages }
+    ensures back { (ms : List Mapping) → IsLaidOut ms → IsTree ms table.old
+        → gained_by ms table.new ≡ result }
+{
+    let mut spares = spares;
+    let mut left = Spares::new();
+    table.paint(list, range, position, &mut spares, &mut left);
+    pool.put(spares, table);
+    left
 }

@@ -1,14 +1,12 @@
 //! What comes to stand where a range meets a list.
-ghost use Rattle.std.specs.Prelude.{◌≡◌, ◌+◌, ◌≤◌, ◌++◌, [], length, List, OnOk};
+ghost use Rattle.std.specs.Prelude.{◌≡◌, ◌+◌, ◌-◌, ◌<◌, ◌≤◌, ◌++◌, [], length, take, drop, IfOk, OnOk};
+ghost use Rattle.std.specs.List.{All};
 ghost use Rattle.gv_types.specs.PageRange.{end_of, IsInSpace};
-ghost use Rattle.gv_types.specs.declared.mapping.Mapping.{Mapping};
-ghost use Rattle.gv_ranges.specs.List.{IsLaidOut};
-ghost use Rattle.gv_ranges.specs.Edit.{clipped};
-ghost use Rattle.gv_space.specs.Ready.{IsOverlap, one_if, rest_before, rest_behind};
+ghost use Rattle.gv_ranges.specs.List.{run, IsLaidOut};
+ghost use Rattle.gv_ranges.specs.Edit.{clipped, restored};
 ghost use Rattle.gv_space.specs.Refusal.{count_met};
 
-use crate::overlap::Overlap;
-use gv_ranges::{RangeList, Run, next_rest, prev_rest};
+use gv_ranges::{RangeList, next_rest, prev_rest};
 use gv_types::{Mapping, OutOfMemory, PageRange};
 use smallvec::SmallVec;
 
@@ -24,13 +22,24 @@ const INCOMING: usize = 3;
 /// The mappings that come in, in the value itself where they are at most three.
 pub type Incoming = SmallVec<Mapping, INCOMING>;
 
-/// Copies the mappings of a run to where they stay, which asks for just their room.
-pub fn copy_run(pieces: &mut Pieces, run: Run<'_>) -> Result<(), OutOfMemory>
-    requires { pieces.old.items ≡ [] }
-    ensures { OnOk result (pieces.new.items ≡ run.entry) }
+/// Copies the `count` mappings of a list from an index on to where they stay, which asks for just their room. Mostly they stand in one
+/// block of memory.
+pub fn copy_run(
+    pieces: &mut Pieces,
+    list: &RangeList,
+    index: usize,
+    count: usize,
+) -> Result<(), OutOfMemory>
+    requires none { pieces.old.items ≡ [] }
+    requires within { index + count ≤ length list.now.mappings }
+    ensures { OnOk result (pieces.new.items ≡ run list.now.mappings index count) }
 {
-    pieces.reserve_exact(run.len())?;
-    for mapping in run {
+    pieces.reserve_exact(count)?;
+    let block = list.piece(index);
+    if count <= block.len() {
+        return Ok(pieces.extend_from_slice(&block[..count])?);
+    }
+    for mapping in list.run(index, count) {
         pieces.push(*mapping)?;
     }
     Ok(())
@@ -64,39 +73,32 @@ fn push_clipped(
     Ok(())
 }
 
-/// What stands where the range met the list, with what of the saved mappings lies in it: the rests on both sides of that. It is put
-/// where it stays, since a copy would wait for what was just written.
+/// What comes to stand where a run was taken out that met the range: what of the saved mappings lies in it, between the rests of the
+/// run. It is put where it stays, since a copy would wait for what was just written. It answers from which index up to which one the
+/// mappings in the range stand.
 pub fn with_rests(
     pieces: &mut Incoming,
-    list: &RangeList,
-    overlap: &Overlap,
+    taken: &[Mapping],
     saved: &[Mapping],
     range: PageRange,
-) -> Result<(), OutOfMemory>
+) -> Result<(usize, usize), OutOfMemory>
     requires none { pieces.old.items ≡ [] }
-    requires overlap { IsOverlap list.now.mappings range overlap.now }
-    requires laid_out { IsLaidOut saved.now }
-    ensures { OnOk result (pieces.new.items ≡ rest_before list.now.mappings range overlap.now
-        ++ clipped range.first (end_of range) saved.now ++ rest_behind list.now.mappings range overlap.now) }
+    requires taken { IsLaidOut taken.now }
+    requires past { All (λ m. range.first < end_of m.range) taken.now }
+    requires before { All (λ m. m.range.first < end_of range) taken.now }
+    requires saved { IsLaidOut saved.now }
+    ensures pieces { OnOk result (pieces.new.items ≡ restored taken.now range saved.now) }
+    ensures start { IfOk result (λ at. at.0 ≡ length (clipped 0 range.first taken.now)) }
+    ensures end { IfOk result (λ at. at.1 ≡ at.0 + length (clipped range.first (end_of range) saved.now)) }
 {
-    let Overlap { index, count, .. } = *overlap;
-    if let Some(rest) = prev_rest(list, index, count, range.first()) {
+    if let Some(rest) = prev_rest(taken, range.first()) {
         pieces.push(rest)?;
     }
+    let start = pieces.len();
     push_clipped(pieces, saved, range)?;
-    if let Some(rest) = next_rest(list, index, count, range.end()) {
+    let end = pieces.len();
+    if let Some(rest) = next_rest(taken, range.end()) {
         pieces.push(rest)?;
     }
-    Ok(())
-}
-
-/// The pieces between the rests.
-pub fn between_rests<'a>(overlap: &Overlap, pieces: &'a [Mapping]) -> &'a [Mapping]
-    requires { one_if overlap.now.prev + one_if overlap.now.next ≤ length pieces.now }
-    ensures { (before inside behind : List Mapping) → length before ≡ one_if overlap.now.prev
-        → length behind ≡ one_if overlap.now.next → pieces.now ≡ before ++ inside ++ behind → result.now ≡ inside }
-{
-    let start = usize::from(overlap.prev);
-    let end = pieces.len() - usize::from(overlap.next);
-    &pieces[start..end]
+    Ok((start, end))
 }

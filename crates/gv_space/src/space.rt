@@ -60,7 +60,7 @@ impl Space {
     ghost use Rattle.gv_space.specs.Refusal.{operation_fault, dead_fault, limit_fault, apply_fault};
     ghost use Rattle.gv_space.specs.Undo.{AreAmongKept, TookWhatWas, CanRevert, IsUndoOf, released, reverted};
     ghost use Rattle.gv_space.specs.Change.{IsChanged, GrowsJustFor};
-    ghost use Rattle.gv_space.specs.Ready.{IsOverlap, IsReady};
+    ghost use Rattle.gv_space.specs.Ready.{IsReady};
 
     /// A space of no mapping and no buffer. It is small: room for mappings, tables and buffers comes with them.
     /// `OutOfMemory` where the system refuses the first room for buffers.

@@ -1,5 +1,5 @@
 //! How the list of an address space changes: the limits, the room, and then the change.
-ghost use Rattle.std.specs.Prelude.{◌≡◌, ◌+◌, List, length};
+ghost use Rattle.std.specs.Prelude.{◌≡◌, ◌+◌, length};
 ghost use Rattle.std.specs.Prelude.{IfOk, IsOkUnless, OnErr, MatchOption};
 ghost use Rattle.std.specs.List.{All, splice};
 ghost use Rattle.gv_types.specs.declared.mapping.Mapping.{Mapping};
@@ -12,10 +12,8 @@ ghost use Rattle.gv_space.specs.Ready.{IsReady};
 
 use super::Space;
 use crate::counts;
-use crate::overlap::Overlap;
-use crate::pieces::{Pieces, between_rests, copy_run, with_rests};
+use crate::pieces::{Pieces, copy_run, with_rests};
 use crate::undo::OpUndo;
-use gv_table::Spares;
 use gv_types::{Fault, Mapping, PageRange};
 use smallvec::SmallVec;
 use std::alloc::Global;
@@ -59,49 +57,50 @@ impl Space {
         ensures unchanged { OnErr result (IsUnchanged self.old self.new) }
         ensures room { GrowsJustFor (restored self.old.mappings range saved.now) self.old self.new }
     {
-        let list = self.mapped.list();
-        let overlap = Overlap::of(list, range);
-        self.check_limits(range, &overlap, saved)?;
-        let index = overlap.index;
+        let (index, count) = self.list().overlapping(range);
+        self.check_limits(range, index, count, saved)?;
         let mut taken = SmallVec::new(alloc);
-        copy_run(&mut taken, self.list().run(index, overlap.count))?;
+        copy_run(&mut taken, self.list(), index, count)?;
         let mut pieces = SmallVec::new(alloc);
-        with_rests(&mut pieces, list, &overlap, saved, range)?;
+        let (start, end) = with_rests(&mut pieces, taken.as_slice(), saved, range)?;
         let pieces = pieces.as_slice();
-        let inside = between_rests(&overlap, pieces);
-        let spares = self.mapped.spare(alloc, range, inside)?;
+        let inside = &pieces[start..end];
         self.mapped
             .reserve(pieces.len().saturating_sub(taken.len()))?;
         counts::make_places(&mut self.buffers, pieces)?;
-        Ok(self.commit(range, index, taken, pieces, spares))
+        self.commit(alloc, range, index, taken, pieces, inside)
     }
 
-    /// The change, for which all room is there.
+    /// The change, for which all room is there but that of the table.
     fn commit(
         &mut self,
+        alloc: Global,
         range: PageRange,
         index: usize,
         taken: Pieces,
         pieces: &[Mapping],
-        spares: Spares,
-    ) -> OpUndo
-        requires { (inside : List Mapping) × IsReady inside self.old range index taken.items pieces.now spares }
-        ensures changed { IsChanged self.old self.new
-            (splice self.old.mappings index (index + length taken.items) pieces.now) result }
-        ensures range { result.range ≡ range }
+        inside: &[Mapping],
+    ) -> Result<OpUndo, Fault>
+        requires { IsReady inside.now self.old range index taken.items pieces.now }
+        ensures changed { IfOk result (IsChanged self.old self.new
+            (splice self.old.mappings index (index + length taken.items) pieces.now)) }
+        ensures range { IfOk result (λ undo. undo.range ≡ range) }
+        ensures err { IsOkUnless result Fault.OutOfMemory }
+        ensures unchanged { OnErr result (self.new ≡ self.old) }
         ensures room { self.new.room ≡ self.old.room }
     {
         let count = taken.len();
-        let run = self.mapped.list().run(index, count);
-        counts::move_counts(&mut self.buffers, run, taken.as_slice(), pieces);
-        let tables = self.mapped.replace(range, index, count, pieces, spares);
+        let tables = self
+            .mapped
+            .edit(alloc, range, index, count, pieces, inside)?;
+        counts::move_counts(&mut self.buffers, taken.as_slice(), pieces);
         self.kept_count += count as u64;
-        OpUndo {
+        Ok(OpUndo {
             index,
             put_in: pieces.len(),
             range,
             taken,
             tables,
-        }
+        })
     }
 }

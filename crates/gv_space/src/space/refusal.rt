@@ -1,20 +1,21 @@
 //! Why an operation is refused: by its bounds, its buffer, or the limits.
-ghost use Rattle.std.specs.Prelude.{◌≡◌, IfOk, IsOk, MatchOption};
+ghost use Rattle.std.specs.Prelude.{◌≡◌, ◌+◌, ◌≤◌, length, IfOk, IsOk, MatchOption};
 ghost use Rattle.std.specs.List.{All};
+ghost use Rattle.gv_types.specs.Page.{PAGES};
+ghost use Rattle.gv_types.specs.PageRange.{end_of};
 ghost use Rattle.gv_types.specs.Bounds.{IsAllowed};
 ghost use Rattle.gv_types.specs.Operation.{in_pages, own_mapping, IsChecked};
-ghost use Rattle.gv_ranges.specs.List.{IsLaidOut};
-ghost use Rattle.gv_ranges.specs.Edit.{restored};
+ghost use Rattle.gv_ranges.specs.List.{run, IsLaidOut, IsOverlappingRun};
+ghost use Rattle.gv_ranges.specs.Edit.{clipped, restored};
 ghost use Rattle.gv_buffers.specs.Buffers.{pages as size_of};
 ghost use Rattle.gv_space.specs.State.{IsPlaced};
 ghost use Rattle.gv_space.specs.Refusal.{operation_fault, buffer_fault, dead_fault, past_end, limit_fault};
-ghost use Rattle.gv_space.specs.Ready.{IsOverlap};
 
 use super::Space;
-use crate::overlap::Overlap;
 use crate::pieces::count_in_range;
 use gv_buffers::Buffers;
-use gv_types::{Backing, BufferId, Fault, Mapping, Op, PageOp, PageRange};
+use gv_ranges::RangeList;
+use gv_types::{Backing, BufferId, Fault, Mapping, Op, PageOp, PageRange, SPACE_PAGES};
 
 /// Undo values of one space hold at most so many mappings.
 const MAX_KEPT: u64 = 1 << 62;
@@ -38,27 +39,50 @@ impl Space {
     }
 
     /// `TooManyMappings` where the list would pass its limit, or undo values would hold too much, once the saved mappings
-    /// stand in the range.
+    /// stand in the range, which `count` mappings from an index on meet.
     pub(super) fn check_limits(
         &self,
         range: PageRange,
-        overlap: &Overlap,
+        index: usize,
+        count: usize,
         saved: &[Mapping],
     ) -> Result<(), Fault>
         requires laid_out { IsLaidOut saved.now }
-        requires overlap { IsOverlap self.now.mappings range overlap.now }
+        requires met { IsOverlappingRun self.now.mappings range index count }
         ensures { MatchOption (limit_fault self.now range (restored self.now.mappings range saved.now))
             (IsOk result) (λ fault. result ≡ Err fault) }
     {
-        let inside = count_in_range(saved, range);
-        let after = self.list().len() - overlap.count + overlap.count_rests() + inside;
-        if after as u64 > self.limits.mappings()
-            || self.kept_count + overlap.count as u64 > MAX_KEPT
+        let list = self.list();
+        let limit = self.limits.mappings();
+        let without_rests = list.len() - count + count_in_range(saved, range);
+        // The rests are at most two, and counted near the limit alone.
+        if (without_rests + 2) as u64 > limit
+            && (without_rests + count_rests(list, range, index, count)) as u64 > limit
         {
+            return Err(Fault::TooManyMappings);
+        }
+        if self.kept_count + count as u64 > MAX_KEPT {
             return Err(Fault::TooManyMappings);
         }
         Ok(())
     }
+}
+
+/// How many rests the run that meets a range has outside it.
+fn count_rests(list: &RangeList, range: PageRange, index: usize, count: usize) -> usize
+    requires { IsOverlappingRun list.now.mappings range index count }
+    ensures value { result ≡ length (clipped 0 range.first (run list.now.mappings index count))
+        + length (clipped (end_of range) PAGES (run list.now.mappings index count)) }
+    ensures few { result ≤ 2 }
+{
+    if count == 0 {
+        return 0;
+    }
+    // Tells that the list is laid out.
+    let _len = list.len();
+    let prev = list.get(index).clip(0, range.first());
+    let next = list.get(index + count - 1).clip(range.end(), SPACE_PAGES);
+    usize::from(prev.is_some()) + usize::from(next.is_some())
 }
 
 /// `NoBuffer` where the operation names a buffer that is dead, `OutOfBuffer` where it maps pages past a buffer's end.

@@ -1,15 +1,18 @@
-use Rattle.std.proofs.Common.{◌+◌, ◌-◌, ◌∙◌, ap, sym, arith}
+use Rattle.std.proofs.Common.{◌-◌, ◌∙◌, ap, sym, subst, length, arith}
 use Rattle.std.specs.Option.{option_to_list}
 use Rattle.gv_types.specs.Page.{PAGES}
+use Rattle.gv_types.specs.Mapping.{IsMapping}
 use Rattle.gv_ranges.proofs.LookupLemmas.{is_mapping}
+use Rattle.std.proofs.lemmas.Bool.{eqb-false}
 use Rattle.gv_ranges.proofs.RestLemmas.{rest_of_last}
 use Rattle.gv_ranges.proofs.rest.next_rest.Goals as goal
 
 pub clip-requires : goal.clip-requires
 clip-requires c =
-    rw (c.get.ensures c.get.result.now) (is_mapping c.args.list.now.mappings 0 (c.args.index + c.args.count - 1) c.get.result.now c.len-len.ensures.laid_out (omega (arith, c.if-count-eq0.false)))
+    subst IsMapping (sym c.index-mappings-mappings.is)
+    (is_mapping c.args.mappings.now 0 (length c.args.mappings.now - 1) c.index-mappings-mappings.result c.requires.laid_out (omega (arith, eqb-false _ _ (sym c.if-is_empty.ensures))))
 
 pub returns : goal.returns
 returns c =
     ap option_to_list c.clip.ensures ∙
-    sym (rw (c.get.ensures c.get.result.now) (rest_of_last c.args.list.now.mappings c.args.index c.args.count c.args.page PAGES c.get.result.now (omega arith) c.requires.within c.len-len.ensures.laid_out c.requires.before))
+    sym (rest_of_last c.args.mappings.now c.args.page PAGES c.index-mappings-mappings.result (omega (arith, eqb-false _ _ (sym c.if-is_empty.ensures))) c.requires.laid_out c.requires.before c.index-mappings-mappings.is)

@@ -1,56 +1,26 @@
-use Rattle.std.proofs.Common.{◌≡◌, ◌+◌, ◌<◌, ◌≤◌, length, ◌++◌, ◌∷◌, [], arith, sym, refl}
-use Rattle.std.proofs.lemmas.List.{length-append}
+use Rattle.std.proofs.Common.{◌<◌, ◌≤◌, arith, sym, ◌∙◌}
 use Rattle.gv_types.specs.declared.mapping.Backing.TheVariants.{Zero}
 use Rattle.gv_space.specs.Counts.{less_used}
 use Rattle.gv_space.proofs.Counting.{less_used_counting, by_count_none, can_count, count_turn, count_end}
-use Rattle.gv_space.proofs.Walked.{next_is, none_is_left}
 use Rattle.gv_space.proofs.counts.count_out.Goals as goal
+use Rattle.gv_space.proofs.counts.count_out.Goals.{in-Buffer, in_default}
 
 pub loop-mapping-init : goal.loop-mapping-init
-loop-mapping-init c = record {
-  within = omega arith;
-  walked = c.into_iter-mapping-iterator.ensures.into_iter_gives;
-  counted = sym (by_count_none less_used c.args.buffers.now less_used_counting);
-  can = tt;
-  finite = tt;
-}
+loop-mapping-init c = sym (by_count_none less_used c.args.buffers.now less_used_counting)
 
 pub count_out-requires : goal.count_out-requires
 count_out-requires c =
-    let next = next_is c.args.run c.loop-mapping.mapping-iterator c.next.new.self (length c.loop-mapping.yielded) c.in-Some.mapping.now c.loop-mapping.invariant.walked c.in-Some.ensures.steps in
     can_count less_used (λ b. b.uses) (λ b n. n ≤ b.uses) (λ n. 0 < n) less_used_counting (λ b n k less fits. omega arith)
-    c.args.buffers.now c.loop-mapping.buffers c.args.run (length c.loop-mapping.yielded) c.in-Some.mapping.now c.in-Buffer.id c.in-Buffer.page
-    next.within next.is c.in-Buffer.is c.requires.live c.requires.counted c.loop-mapping.invariant.counted
-
-pub loop-mapping-preserved-in-Buffer : goal.loop-mapping-preserved-in-Buffer
-loop-mapping-preserved-in-Buffer c =
-    let i = length c.loop-mapping.yielded in
-    let next = next_is c.args.run c.loop-mapping.mapping-iterator c.next.new.self i c.in-Some.mapping.now c.loop-mapping.invariant.walked c.in-Some.ensures.steps in
-    let more : length (c.loop-mapping.yielded ++ c.in-Some.mapping ∷ []) ≡ i + 1 = length-append c.loop-mapping.yielded (c.in-Some.mapping ∷ []) in
-    rw more record {
-      within = (let less = next.within in omega (arith, less));
-      walked = next.behind;
-      counted = count_turn less_used c.args.buffers.now c.loop-mapping.buffers c.count_out.new.self c.args.run i c.in-Some.mapping.now
-          _ less_used_counting next.within next.is c.in-Buffer.is c.loop-mapping.invariant.counted c.count_out.ensures;
-      can = tt;
-      finite = tt;
-    }
+    c.args.buffers.now c.loop-mapping.buffers c.args.mappings.now c.loop-mapping.mapping-index c.mapping-item.result c.in-Buffer.id c.in-Buffer.page
+    c.loop-mapping-test.true c.mapping-item.is c.in-Buffer.is c.requires.live c.requires.counted c.loop-mapping.invariant
 
 pub loop-mapping-preserved : goal.loop-mapping-preserved
 loop-mapping-preserved c =
-    let i = length c.loop-mapping.yielded in
-    let next = next_is c.args.run c.loop-mapping.mapping-iterator c.next.new.self i c.in-Some.mapping.now c.loop-mapping.invariant.walked c.in-Some.ensures.steps in
-    let more : length (c.loop-mapping.yielded ++ c.in-Some.mapping ∷ []) ≡ i + 1 = length-append c.loop-mapping.yielded (c.in-Some.mapping ∷ []) in
-    rw more record {
-      within = (let less = next.within in omega (arith, less));
-      walked = next.behind;
-      counted = count_turn less_used c.args.buffers.now c.loop-mapping.buffers c.loop-mapping.buffers c.args.run i c.in-Some.mapping.now
-          Zero less_used_counting next.within next.is c.in_default.is c.loop-mapping.invariant.counted refl;
-      can = tt;
-      finite = tt;
-    }
+    let turn = count_turn less_used c.args.buffers.now c.loop-mapping.buffers c.match-mapping.buffers c.args.mappings.now c.loop-mapping.mapping-index c.mapping-item.result in
+    elim c.match-mapping.branch [
+      | in-Buffer w ↦ turn _ less_used_counting c.loop-mapping-test.true c.mapping-item.is w.in-Buffer.is c.loop-mapping.invariant (w.buffers-is ∙ w.count_out.ensures)
+      | in_default w ↦ turn Zero less_used_counting c.loop-mapping-test.true c.mapping-item.is w.in_default.is c.loop-mapping.invariant w.buffers-is
+    ]
 
 pub returns : goal.returns
-returns c =
-    count_end less_used c.args.buffers.now c.loop-mapping.buffers c.args.run (length c.loop-mapping.yielded)
-    (none_is_left c.args.run c.loop-mapping.mapping-iterator (length c.loop-mapping.yielded) c.loop-mapping.invariant.walked c.in-None.ensures.steps.0) c.loop-mapping.invariant.counted
+returns c = count_end less_used c.args.buffers.now c.loop-mapping.buffers c.args.mappings.now c.loop-mapping.mapping-index c.loop-mapping-test.false c.loop-mapping.invariant

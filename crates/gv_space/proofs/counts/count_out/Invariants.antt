@@ -1,12 +1,6 @@
-use Rattle.std.proofs.Common.{◌≡◌, ◌≤◌, length, take, drop}
+use Rattle.std.proofs.Common.{◌≡◌, take}
 use Rattle.gv_space.specs.Counts.{by_count, less_used}
 use Rattle.gv_space.proofs.counts.count_out.Given as goal
 
 abbrev pub invariant-loop-mapping : goal.invariant-loop-mapping
-invariant-loop-mapping l = record {
-  within : length l.yielded ≤ length l.fn.run;
-  walked : l.mapping-iterator ≡ drop (length l.yielded) l.fn.run;
-  counted : l.buffers ≡ by_count less_used (take (length l.yielded) l.fn.run) l.initial.buffers;
-  can : (goal.iterator-loop-mapping).can_next l.mapping-iterator;
-  finite : (goal.iterator-loop-mapping).is_finite l.mapping-iterator;
-}
+invariant-loop-mapping l = l.buffers ≡ by_count less_used (take l.mapping-index l.mappings) l.initial.buffers

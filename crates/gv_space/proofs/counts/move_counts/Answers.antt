@@ -20,14 +20,14 @@ count_in-requires-clause-room c =
 pub count_out-requires-clause-live : goal.count_out-requires-clause-live
 count_out-requires-clause-live c =
     let kept : BuffersState = by_count more_kept c.args.taken.now c.args.buffers.now in
-    rw c.requires.same (subst (λ (t : BuffersState). All (λ m. IsLiveBacking t m.backing) c.args.taken.now) (sym (c.count_in.ensures ∙ ap (by_count more_used c.args.pieces.now) c.keep.ensures))
+    (subst (λ (t : BuffersState). All (λ m. IsLiveBacking t m.backing) c.args.taken.now) (sym (c.count_in.ensures ∙ ap (by_count more_used c.args.pieces.now) c.keep.ensures))
     (live-by_count more_used c.args.pieces.now kept c.args.taken.now more_used_of_counts
     (live-by_count more_kept c.args.taken.now c.args.buffers.now c.args.taken.now more_kept_of_counts c.requires.taken)))
 
 pub count_out-requires-clause-counted : goal.count_out-requires-clause-counted
 count_out-requires-clause-counted c =
     let kept : BuffersState = by_count more_kept c.args.taken.now c.args.buffers.now in
-    rw c.requires.same (subst (λ (t : BuffersState). All (λ b. count_of b.id c.args.taken.now ≤ b.uses) t.live) (sym (c.count_in.ensures ∙ ap (by_count more_used c.args.pieces.now) c.keep.ensures))
+    (subst (λ (t : BuffersState). All (λ b. count_of b.id c.args.taken.now ≤ b.uses) t.live) (sym (c.count_in.ensures ∙ ap (by_count more_used c.args.pieces.now) c.keep.ensures))
     (All-by_count (λ b. count_of b.id c.args.taken.now ≤ b.uses) more_used c.args.pieces.now kept
     (All-by_count (λ b. count_of b.id c.args.taken.now ≤ b.uses + count_of b.id c.args.pieces.now) more_kept c.args.taken.now c.args.buffers.now
     (All-weaker (λ b. count_of b.id c.args.taken.now ≤ b.uses) (λ b. count_of b.id c.args.taken.now ≤ b.uses + count_of b.id c.args.pieces.now) (λ b few. omega arith)

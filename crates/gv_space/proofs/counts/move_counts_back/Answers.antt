@@ -17,15 +17,15 @@ count_in-requires-clause-room c =
     subst (λ (t : BuffersState). All (λ b. b.uses + count_of b.id c.args.taken.now ≤ most_counted) t.live) (sym c.unkeep.ensures)
     (All-by_count (λ b. b.uses + count_of b.id c.args.taken.now ≤ most_counted) less_kept c.args.taken.now c.args.buffers.now c.requires.room)
 
-pub count_out-requires-clause-live : goal.count_out-requires-clause-live
-count_out-requires-clause-live c =
+pub count_out_run-requires-clause-live : goal.count_out_run-requires-clause-live
+count_out_run-requires-clause-live c =
     let kept : BuffersState = by_count less_kept c.args.taken.now c.args.buffers.now in
     subst (λ (t : BuffersState). All (λ m. IsLiveBacking t m.backing) c.args.pieces) (sym (c.count_in.ensures ∙ ap (by_count more_used c.args.taken.now) c.unkeep.ensures))
     (live-by_count more_used c.args.taken.now kept c.args.pieces more_used_of_counts
     (live-by_count less_kept c.args.taken.now c.args.buffers.now c.args.pieces less_kept_of_counts c.requires.pieces))
 
-pub count_out-requires-clause-counted : goal.count_out-requires-clause-counted
-count_out-requires-clause-counted c =
+pub count_out_run-requires-clause-counted : goal.count_out_run-requires-clause-counted
+count_out_run-requires-clause-counted c =
     let kept : BuffersState = by_count less_kept c.args.taken.now c.args.buffers.now in
     subst (λ (t : BuffersState). All (λ b. count_of b.id c.args.pieces ≤ b.uses) t.live) (sym (c.count_in.ensures ∙ ap (by_count more_used c.args.taken.now) c.unkeep.ensures))
     (All-by_count (λ b. count_of b.id c.args.pieces ≤ b.uses) more_used c.args.taken.now kept
