@@ -6,6 +6,8 @@ mod fake;
 #[cfg(test)]
 mod forms;
 #[cfg(test)]
+mod helps;
+#[cfg(test)]
 mod whole;
 #[cfg(test)]
 mod wrong;

@@ -77,45 +77,6 @@ fn tells_of_broken_streams(rt: HostRuntime) {
     expect(&rt, &ended(&rt, broken), 3, b"", b"vmbind: write fault\n");
 }
 
-#[test]
-fn helps(rt: HostRuntime) {
-    let rows: [&[&[u8]]; 5] = [
-        &[b"vmbind", b"--help"],
-        &[b"vmbind", b"help"],
-        &[b"vmbind", b"run", b"--help"],
-        &[b"vmbind", b"help", b"run"],
-        &[b"vmbind", b"-h"],
-    ];
-    for (row, words) in rows.iter().enumerate() {
-        let got = ended(&rt, Fake::new(rt.alloc(), words, Stream::Broken));
-        assert_eq!(rt; got.status, 0, "at {row}");
-        assert!(rt; got.errors.is_empty(), "at {row}");
-        assert_eq!(rt;
-            holds(got.output.as_slice(), b"accepted 1\n"),
-            row < 4,
-            "at {row}"
-        );
-        assert!(rt; holds(got.output.as_slice(), b"Usage: vmbind"), "at {row}");
-    }
-}
-
-#[test]
-fn helps_with_threads(rt: HostRuntime) {
-    let rows: [&[&[u8]]; 2] = [
-        &[b"vmbind", b"threads", b"--help"],
-        &[b"vmbind", b"help", b"threads"],
-    ];
-    for words in &rows {
-        let got = ended(&rt, Fake::new(rt.alloc(), words, Stream::Broken));
-        assert_eq!(rt; got.status, 0);
-        assert!(rt; got.errors.is_empty());
-        let output = got.output.as_slice();
-        assert!(rt; holds(output, b"queue 0 put 1 told 1 left 0\n"));
-        assert!(rt; holds(output, b"--queues <N>"));
-        assert!(rt; holds(output, b"--turns <T>"));
-    }
-}
-
 const TWO_QUEUES: [&[u8]; 4] = [b"vmbind", b"threads", b"--queues", b"2"];
 
 #[test]

@@ -89,6 +89,7 @@ fn replay_asked<'a>(alloc: Global) -> Result<Command<'a>, AllocError>
 {
     Command::new(alloc, "replay")
         .about(help::REPLAY)
+        .after_long_help(help::REPLAY_STATUSES)
         .arg(format_arg(alloc))?
         .arg(addresses_arg(alloc))
 }
@@ -99,6 +100,7 @@ pub fn draw_command<'a>(alloc: Global) -> Result<Command<'a>, AllocError>
 {
     Command::new(alloc, "draw")
         .about(help::DRAW)
+        .after_long_help(help::DRAW_STATUSES)
         .arg(at_arg(alloc))?
         .arg(width_arg(alloc))?
         .arg(file_arg(alloc))
@@ -110,6 +112,7 @@ pub fn compare_command<'a>(alloc: Global) -> Result<Command<'a>, AllocError>
 {
     Command::new(alloc, "compare")
         .about(help::COMPARE)
+        .after_long_help(help::COMPARE_STATUSES)
         .arg(list_arg(alloc, "first", "A"))?
         .arg(list_arg(alloc, "second", "B"))
 }

@@ -8,7 +8,7 @@ pub const PROGRAM: &str = "Manages the address space of a GPU by the lines of a 
 
 /// What `run` does.
 pub const RUN: &str =
-    "Reads a script from standard input and writes its replies to standard output";
+    "Runs the script of FILE, or of standard input, and writes its replies to standard output";
 
 /// What `serve` does.
 pub const SERVE: &str = "Answers the lines of standard input one after another";
@@ -48,11 +48,26 @@ and the dialogue goes on. It has more lines than a script:
 A 'bind' on a queue where requests stand that were put is a bad line: 'turn' serves them.
 
 With --json each answer is one line of JSON, with the number of its line:
-  {\"line\":2,\"accepted\":0}";
+  {\"line\":2,\"accepted\":0}
+
+Exit statuses:
+  0  the input ended, whatever lines it had, or help was asked for
+  2  the words of the command line are refused
+  3  standard input or standard output failed, or FILE can't be opened or read
+  4  the system refused to give memory, but for a line";
 
 /// What `replay` does.
 pub const REPLAY: &str =
     "Replays what a driver logged: what an address reached, and what was freed under it";
+
+/// How `replay` ends.
+pub const REPLAY_STATUSES: &str = "\
+Exit statuses:
+  0  the log was replayed, whatever was found in it, or help was asked for
+  1  no line of the log is of the format
+  2  the words of the command line are refused
+  3  standard input or standard output failed, or FILE can't be opened or read
+  4  the system refused to give memory";
 
 /// What `--format` says.
 pub const FORMAT: &str = "Whose log it is: radv, amdgpu or gpuvas";
@@ -82,6 +97,15 @@ pub const AS_PICTURE: &str =
 /// What `draw` does.
 pub const DRAW: &str = "Runs a script and writes a picture of it, as SVG";
 
+/// How `draw` ends.
+pub const DRAW_STATUSES: &str = "\
+Exit statuses:
+  0  the picture was written, or help was asked for
+  1  the script has a bad line: nothing is written
+  2  the words of the command line are refused
+  3  standard input or standard output failed, or FILE can't be opened or read
+  4  the system refused to give memory";
+
 /// What `--at` of a picture says.
 pub const AT: &str = "The address around which is drawn, in bytes";
 
@@ -90,6 +114,15 @@ pub const WIDTH: &str = "How many pixels wide the picture is, 1 to 16384; less t
 
 /// What `compare` does.
 pub const COMPARE: &str = "Compares two lists of mappings, page by page";
+
+/// How `compare` ends.
+pub const COMPARE_STATUSES: &str = "\
+Exit statuses:
+  0  the lists are alike, or help was asked for
+  1  the lists differ
+  2  the words of the command line are refused, or a list is none
+  3  standard output failed, or a list can't be opened or read
+  4  the system refused to give memory";
 
 /// What a list is.
 pub const LIST: &str = "A file of mappings: the answer to 'map', or a kernel's gpuvas";
@@ -133,7 +166,12 @@ Its replies:
   0000000000000000 0000000000002000 a 0000000000000000 rw
   0000000000004000 0000000000006000 a 0000000000002000 rw
 
-Exit statuses are those of 'vmbind run', and
+Exit statuses:
+  0  the script was run to its end, or help was asked for
+  1  the script has a bad line, or is too long
+  2  the words of the command line are refused
+  3  standard input or standard output failed
+  4  the system refused to give memory
   5  a queue's thread was not started, or its ends disagree";
 
 /// The lines of a script, the exit statuses and an example.
