@@ -15,6 +15,11 @@ impl<'a> Cursor<'a> {
         Cursor { rest: line }
     }
 
+    /// What is left.
+    pub fn rest(&self) -> &'a [u8] {
+        self.rest
+    }
+
     /// Whether nothing is left.
     pub fn is_done(&self) -> bool {
         self.rest.is_empty()

@@ -107,6 +107,16 @@ impl JsonWriter {
                 self.json.number("mappings", mappings)
             }
             Place::Nothing { act } => self.act(&act),
+            Place::Elsewhere {
+                act,
+                addr,
+                len,
+                made_at,
+            } => {
+                self.act(&act)?;
+                self.range(addr, len)?;
+                self.json.number("made_at", made_at)
+            }
             Place::NotAlive { moment, addr, len } => {
                 self.moment(moment)?;
                 self.range(addr, len)

@@ -24,6 +24,9 @@ fn write_tally(writer: &mut JsonWriter, tally: &Tally) -> Result<(), AllocError>
     writer.json.number("binds", tally.binds)?;
     writer.json.number("buffers", tally.buffers)?;
     writer.json.number("passed_over", tally.passed_over)?;
+    if tally.touched > 0 {
+        writer.json.number("touched", tally.touched)?;
+    }
     write_finding(writer, "over_live", &tally.over_live)?;
     write_finding(writer, "of_nothing", &tally.of_nothing)?;
     write_finding(writer, "still_reached", &tally.still_reached)?;

@@ -8,9 +8,13 @@
 
 mod alive;
 mod amdgpu_line;
+mod binder;
 mod cursor;
+mod event_head;
 mod fault;
+mod fields;
 mod gpuvas_line;
+mod i915_line;
 mod json_place;
 mod json_report;
 mod line_reader;
@@ -31,9 +35,11 @@ mod sizes;
 mod tally;
 mod terms;
 mod text;
+mod vma_line;
 mod waiting;
 mod watcher;
 mod whereabouts;
+mod xe_line;
 
 pub use fault::ReplayFault;
 pub use row::{Act, Cause, Moment};

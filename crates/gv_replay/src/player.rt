@@ -1,6 +1,7 @@
 //! The lines of a log, carried out one after another.
 
 use crate::amdgpu_line::AmdgpuLine;
+use crate::binder::Binder;
 use crate::fault::ReplayFault;
 use crate::gpuvas_line::GpuvasLine;
 use crate::line_reader::{Found, LineReader};
@@ -10,6 +11,7 @@ use crate::radv_line::RadvLine;
 use crate::replaying::{Left, Replay};
 use crate::row::Moment;
 use crate::terms::{Format, Terms};
+use crate::vma_line::{VmaDriver, VmaLine};
 use crate::watcher::Watcher;
 use gv_text::Source;
 use gv_types::Flags;
@@ -20,6 +22,7 @@ struct Player {
     replay: Replay,
     radv: Radv,
     mapper: Mapper,
+    binder: Binder,
     heads: u64,
 }
 
@@ -35,6 +38,7 @@ pub fn play<R: Source, V: Watcher>(
         replay: Replay::new(alloc, terms.all)?,
         radv: Radv::new(alloc),
         mapper: Mapper::new(alloc),
+        binder: Binder::new(alloc),
         heads: 0,
     };
     let played = player.take_all(alloc, reader, &mut lines, terms, watcher);
@@ -42,6 +46,7 @@ pub fn play<R: Source, V: Watcher>(
         replay,
         radv: _,
         mapper: _,
+        binder: _,
         heads: _,
     } = player;
     let left = replay.end();
@@ -100,6 +105,14 @@ impl Player {
                 let event = (number, AmdgpuLine::parse(text));
                 self.take_event(alloc, event, terms, watcher)
             }
+            Format::Xe => {
+                let event = (number, VmaLine::parse(text, VmaDriver::Xe));
+                self.take_vma(alloc, event, terms, watcher)
+            }
+            Format::I915 => {
+                let event = (number, VmaLine::parse(text, VmaDriver::I915));
+                self.take_vma(alloc, event, terms, watcher)
+            }
             Format::Gpuvas => {
                 let row = (number, GpuvasLine::parse(text));
                 self.take_row(alloc, row, terms, watcher)
@@ -134,7 +147,7 @@ impl Player {
             return Ok(false);
         };
         self.replay.tally.count_line();
-        if !line.is_of(terms.pid) {
+        if !line.head.is_of(terms.pid) {
             return Ok(false);
         }
         let moment = Moment {
@@ -143,6 +156,30 @@ impl Player {
         };
         self.mapper
             .take(alloc, &mut self.replay, (moment, &line), terms, watcher)?;
+        Ok(true)
+    }
+
+    /// An event of one address space; those of others are passed over.
+    fn take_vma<V: Watcher>(
+        &mut self,
+        alloc: Global,
+        line: (u64, Option<VmaLine>),
+        terms: &Terms<'_>,
+        watcher: &mut V,
+    ) -> Result<bool, ReplayFault> {
+        let (number, Some(line)) = line else {
+            return Ok(false);
+        };
+        self.replay.tally.count_line();
+        if !self.binder.takes(&line, terms.pid) {
+            return Ok(false);
+        }
+        let moment = Moment {
+            line: number,
+            time: line.head.time,
+        };
+        self.binder
+            .take(alloc, &mut self.replay, (moment, &line.event), watcher)?;
         Ok(true)
     }
 

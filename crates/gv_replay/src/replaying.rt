@@ -79,6 +79,21 @@ impl Replay {
         }
     }
 
+    /// Whether a range of bytes is one mapping of this buffer.
+    pub fn is_whole(&self, buffer: &BufferId, addr: u64, len: u64) -> bool {
+        let Some(range) = pages_of(addr, len) else {
+            return false;
+        };
+        let list = self.machine.space().list();
+        let (index, count) = list.overlapping(range);
+        for mapping in list.run(index, count) {
+            if mapping.range == range && mapping.backing.is_of(*buffer) {
+                return true;
+            }
+        }
+        false
+    }
+
     /// Counts a map that meets live mappings.
     pub fn note_over(&mut self, act: &Act) -> Result<(), ReplayFault> {
         let mappings = self.met_by(act.op.addr(), act.op.len());

@@ -32,6 +32,10 @@ fn write_tally(out: &mut String, tally: &Tally) -> Result<(), AllocError> {
         out,
         "{binds:>6} binds of {buffers} buffers, {over} lines passed over"
     )?;
+    if tally.touched > 0 {
+        let touched = tally.touched;
+        writeln!(out, "{touched:>6} events that only touch what stands")?;
+    }
     write_finding(out, "maps over live mappings", &tally.over_live)?;
     write_finding(out, "unmaps of nothing", &tally.of_nothing)?;
     write_finding(

@@ -22,6 +22,14 @@ pub enum Cause {
     Cleared,
     /// The object's pointer is a new object's from here on.
     MadeAnew,
+    /// The memory that is bound is the process' own.
+    OfProcess,
+    /// Of a VMA that isn't known.
+    OfUnknown,
+    /// Of a VMA that was bound at another range.
+    Elsewhere,
+    SpaceMade,
+    SpaceGone,
     Plain,
 }
 
@@ -37,6 +45,11 @@ impl Cause {
             Cause::SparseUnbound => Some("sparse unbound"),
             Cause::Cleared => Some("cleared by range"),
             Cause::MadeAnew => Some("pointer made anew"),
+            Cause::OfProcess => Some("memory of the process"),
+            Cause::OfUnknown => Some("VMA not known"),
+            Cause::Elsewhere => Some("VMA bound elsewhere"),
+            Cause::SpaceMade => Some("address space made"),
+            Cause::SpaceGone => Some("address space gone"),
             Cause::Plain => None,
         }
     }

@@ -67,9 +67,9 @@ pub fn measure<R: Source>(
 impl Measured {
     fn take(&mut self, line: &[u8], terms: &Terms<'_>) -> Result<(), AllocError> {
         match terms.format {
-            Format::Radv => Ok(()),
+            Format::Radv | Format::Xe | Format::I915 => Ok(()),
             Format::Amdgpu => match AmdgpuLine::parse(line) {
-                Some(line) if line.is_of(terms.pid) => self.take_event(&line),
+                Some(line) if line.head.is_of(terms.pid) => self.take_event(&line),
                 _ => Ok(()),
             },
             Format::Gpuvas => self.take_row(GpuvasLine::parse(line)),

@@ -20,6 +20,13 @@ pub enum Place {
     Nothing {
         act: Act,
     },
+    /// The unbind of a VMA that this line bound at other bytes.
+    Elsewhere {
+        act: Act,
+        addr: u64,
+        len: u64,
+        made_at: u64,
+    },
     /// Memory, in bytes, that was freed and isn't known to live.
     NotAlive {
         moment: Moment,
@@ -102,8 +109,10 @@ impl Finding {
 pub struct Tally {
     /// Lines of the format, of whatever process.
     pub lines: u64,
-    /// Lines that did nothing: of no such format, too long, or of another process.
+    /// Lines that did nothing: of no such format, too long, or of another process or address space.
     pub passed_over: u64,
+    /// Events that only touch what stands.
+    pub touched: u64,
     pub binds: u64,
     pub buffers: u64,
     pub over_live: Finding,
@@ -118,6 +127,7 @@ impl Tally {
         Tally {
             lines: 0,
             passed_over: 0,
+            touched: 0,
             binds: 0,
             buffers: 0,
             over_live: Finding::new(alloc, all),
@@ -131,6 +141,11 @@ impl Tally {
     /// One line more of the format.
     pub fn count_line(&mut self) {
         self.lines = self.lines.saturating_add(1);
+    }
+
+    /// One event more that only touches what stands.
+    pub fn count_touch(&mut self) {
+        self.touched = self.touched.saturating_add(1);
     }
 
     /// One line more that did nothing.

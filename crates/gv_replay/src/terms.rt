@@ -10,6 +10,10 @@ pub enum Format {
     Radv,
     /// The kernel's trace events of amdgpu, as text of trace-cmd, of perf or of the kernel's own trace file.
     Amdgpu,
+    /// The kernel's trace events of xe, as the same texts.
+    Xe,
+    /// The kernel's trace events of i915, as the same texts.
+    I915,
     /// The kernel's list of mappings in debugfs. It is a state and no history.
     Gpuvas,
 }
@@ -18,7 +22,7 @@ impl Format {
     /// Whether no line tells how large an object is, so that `measure` has to read the log first.
     pub fn wants_sizes(self) -> bool {
         match self {
-            Format::Radv => false,
+            Format::Radv | Format::Xe | Format::I915 => false,
             Format::Amdgpu | Format::Gpuvas => true,
         }
     }
@@ -27,7 +31,7 @@ impl Format {
     pub fn address(self, addr: u64) -> u64 {
         match self {
             Format::Radv => cut(addr),
-            Format::Amdgpu | Format::Gpuvas => addr,
+            Format::Amdgpu | Format::Xe | Format::I915 | Format::Gpuvas => addr,
         }
     }
 }
@@ -70,7 +74,8 @@ pub enum Form {
 pub struct Terms<'a> {
     pub format: Format,
     pub flag_bits: FlagBits,
-    /// Of amdgpu's events those of this process or thread alone.
+    /// Of amdgpu's events those of this process or thread alone; of xe's and i915's those of the first address space in which it has
+    /// a VMA.
     pub pid: Option<u64>,
     /// The addresses, in bytes, whose past is asked.
     pub addresses: &'a [u64],

@@ -116,6 +116,15 @@ pub fn write_place(out: &mut String, place: &Place) -> Result<(), AllocError> {
             write!(out, ": {mappings} mapping{}", plural(*mappings))
         }
         Place::Nothing { act } => write_act(out, act),
+        Place::Elsewhere {
+            act,
+            addr,
+            len,
+            made_at,
+        } => {
+            write_act(out, act)?;
+            write!(out, ": at 0x{addr:x} 0x{len:x}, line {made_at}")
+        }
         Place::NotAlive { moment, addr, len } => {
             write_moment(out, *moment)?;
             write!(out, "free 0x{addr:x} 0x{len:x}, where no memory is known")
