@@ -1,6 +1,6 @@
 //! Logs that are no logs, or that end anywhere.
 
-use crate::play::{AMDGPU, GPUVAS, RADV, has_line, play};
+use crate::play::{AMDGPU, GPUVAS, I915, RADV, XE, has_line, play};
 use gv_replay::{ReplayFault, Terms};
 use gv_text::MemorySink;
 use std::alloc::Global;
@@ -9,7 +9,7 @@ use std::test::Fail;
 const MADE: &[u8] =
     b"timestamp=1, VA=0000000000010000-0000000000030000, destroyed=0, is_virtual=0\n";
 
-const EACH: [Terms<'static>; 3] = [RADV, AMDGPU, GPUVAS];
+const EACH: [Terms<'static>; 5] = [RADV, AMDGPU, XE, I915, GPUVAS];
 
 /// What a log comes to, whatever it reports.
 fn outcome(alloc: Global, log: &[u8], terms: &Terms<'_>) -> Result<(), ReplayFault> {
@@ -27,9 +27,9 @@ fn logs_without_a_line_of_the_format_are_a_fault(rt: HostRuntime) -> Result<(), 
         assert!(rt; outcome(rt.alloc(), b"\n\n", terms) == Err(ReplayFault::NoLine));
         assert!(rt; outcome(rt.alloc(), &noise, terms) == Err(ReplayFault::NoLine));
     }
-    let alloc = rt.alloc();
-    assert!(rt; outcome(alloc, MADE, &AMDGPU) == Err(ReplayFault::NoLine));
-    assert!(rt; outcome(alloc, MADE, &GPUVAS) == Err(ReplayFault::NoLine));
+    for terms in &EACH[1..] {
+        assert!(rt; outcome(rt.alloc(), MADE, terms) == Err(ReplayFault::NoLine));
+    }
     Ok(())
 }
 

@@ -9,6 +9,8 @@ mod going;
 #[cfg(test)]
 mod hostile;
 #[cfg(test)]
+mod i915_rows;
+#[cfg(test)]
 mod json;
 #[cfg(test)]
 mod json_rows;
@@ -29,4 +31,8 @@ mod rows;
 #[cfg(test)]
 mod scripts;
 #[cfg(test)]
+mod vmas;
+#[cfg(test)]
 mod watching;
+#[cfg(test)]
+mod xe_rows;

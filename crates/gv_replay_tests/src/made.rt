@@ -130,6 +130,35 @@ fn write_event(log: &mut String, random: &mut Random, object: u64) -> Result<(),
     writeln!(log, "offset={offset:010x}, flags={flags:x}")
 }
 
+/// Writes a log of so many events of xe's, on a few VMAs.
+pub fn write_xe(log: &mut String, random: &mut Random, lines: u64) -> Result<(), AllocError> {
+    for line in 0..lines {
+        write!(log, "game-1 [000] {line}.5: ")?;
+        if random.is_one_in(16) {
+            writeln!(log, "xe_vm_free: vm=00000000aa, asid=0x00021")?;
+        } else {
+            write_vma(log, random)?;
+        }
+    }
+    Ok(())
+}
+
+/// Writes that a VMA was bound or unbound. Ranges begin at few places and overlap.
+fn write_vma(log: &mut String, random: &mut Random) -> Result<(), AllocError> {
+    let word = if random.is_one_in(3) {
+        "unbind"
+    } else {
+        "bind"
+    };
+    let pointer = random.below(6);
+    let start = at(MEMORY, random.below(12).wrapping_mul(4)).wrapping_add(shift(random));
+    let end = at(start, random.below(8).wrapping_add(1)).wrapping_sub(1);
+    writeln!(
+        log,
+        "xe_vma_{word}: vma=f{pointer}, asid=0x00021, start=0x{start:012x}, end=0x{end:012x}, userptr=0x0,"
+    )
+}
+
 /// Writes a log of so many lines of RADV's, each of which is accepted.
 pub fn write_accepted(log: &mut String, lines: u64) -> Result<(), AllocError> {
     for line in 0..lines {

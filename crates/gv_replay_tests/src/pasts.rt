@@ -1,8 +1,8 @@
 //! What a replay tells of addresses, against what comes of taking its entries back one by one.
 
-use crate::made::{addresses_of, write_accepted, write_amdgpu, write_radv};
+use crate::made::{addresses_of, write_accepted, write_amdgpu, write_radv, write_xe};
 use crate::mirror::Mirror;
-use crate::play::{AMDGPU, RADV};
+use crate::play::{AMDGPU, RADV, XE};
 use crate::rewound::{Past, pasts_of};
 use gv_plain::Random;
 use gv_replay::{FlagBits, ReplayFault, Terms, number_of, replay, watch, write_act};
@@ -144,6 +144,23 @@ fn agrees_on_amdgpu(alloc: Global, seed: u64, lines: u64) -> Result<bool, Replay
     agrees(alloc, log.as_bytes(), &terms)
 }
 
+/// Whether it does for a log of xe's by chance, whose first line tells the address space.
+fn agrees_on_xe(alloc: Global, seed: u64, lines: u64) -> Result<bool, ReplayFault> {
+    let mut random = Random::new(seed);
+    let mut log = String::new(alloc);
+    writeln!(
+        log,
+        "xe_vma_flush: vma=f0, asid=0x00021, start=0x0, end=0xfff, userptr=0x0,"
+    )?;
+    write_xe(&mut log, &mut random, lines)?;
+    let addresses = addresses_of(alloc, &mut random)?;
+    let terms = Terms {
+        addresses: &addresses,
+        ..XE
+    };
+    agrees(alloc, log.as_bytes(), &terms)
+}
+
 /// Whether it does for a log of RADV's with as many accepted lines as entries may be held, and others by chance on both sides: those
 /// before are settled by those behind.
 fn agrees_on_long(alloc: Global) -> Result<bool, ReplayFault> {
@@ -176,6 +193,16 @@ fn pasts_are_those_of_entries_taken_back(rt: HostRuntime) -> Result<(), Fail> {
         assert!(rt; of_radv, "RADV, seed {seed}");
         let of_amdgpu = agrees_on_amdgpu(rt.alloc(), seed, seed + 1)?;
         assert!(rt; of_amdgpu, "amdgpu, seed {seed}");
+    }
+    Ok(())
+}
+
+/// The same of VMAs.
+#[test]
+fn pasts_of_vmas_are_those_of_entries_taken_back(rt: HostRuntime) -> Result<(), Fail> {
+    for seed in 0..LOGS {
+        let of_xe = agrees_on_xe(rt.alloc(), seed, seed + 1)?;
+        assert!(rt; of_xe, "seed {seed}");
     }
     Ok(())
 }

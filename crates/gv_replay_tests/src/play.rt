@@ -55,6 +55,18 @@ pub const OF_AMDGPU: Asked = Asked {
     ..OF_RADV
 };
 
+/// The same of one of xe's.
+pub const OF_XE: Asked = Asked {
+    format: Format::Xe,
+    ..OF_RADV
+};
+
+/// The same of one of i915's.
+pub const OF_I915: Asked = Asked {
+    format: Format::I915,
+    ..OF_RADV
+};
+
 /// The same of a kernel's list.
 pub const OF_GPUVAS: Asked = Asked {
     format: Format::Gpuvas,
@@ -73,6 +85,26 @@ pub const RADV: Terms<'static> = Terms {
 
 pub const AMDGPU: Terms<'static> = Terms {
     format: Format::Amdgpu,
+    flag_bits: FlagBits::Unsaid,
+    pid: None,
+    addresses: &[],
+    all: false,
+    form: Form::Report,
+    sizes: None,
+};
+
+pub const XE: Terms<'static> = Terms {
+    format: Format::Xe,
+    flag_bits: FlagBits::Unsaid,
+    pid: None,
+    addresses: &[],
+    all: false,
+    form: Form::Report,
+    sizes: None,
+};
+
+pub const I915: Terms<'static> = Terms {
+    format: Format::I915,
     flag_bits: FlagBits::Unsaid,
     pid: None,
     addresses: &[],
@@ -129,6 +161,20 @@ pub fn has_line(text: &[u8], line: &str) -> bool {
 #[test]
 fn rows_have_their_lines(rt: HostRuntime) {
     for row in &crate::rows::ROWS {
+        expect(&rt, row);
+    }
+}
+
+#[test]
+fn rows_of_xe_have_their_lines(rt: HostRuntime) {
+    for row in &crate::xe_rows::ROWS {
+        expect(&rt, row);
+    }
+}
+
+#[test]
+fn rows_of_i915_have_their_lines(rt: HostRuntime) {
+    for row in &crate::i915_rows::ROWS {
         expect(&rt, row);
     }
 }

@@ -1,6 +1,6 @@
 //! Logs written as scripts.
 
-use crate::play::{RADV, play};
+use crate::play::{RADV, XE, play};
 use gv_replay::{Form, Terms};
 use gv_text::{MemorySink, MemorySource, run_script};
 use std::test::Fail;
@@ -29,6 +29,24 @@ const WANTED: &[u8] = b"buffer b1 32\n\
 const REPLIES: &[u8] =
     b"ok\naccepted 0\naccepted 1\naccepted 2\naccepted 3\naccepted 4\naccepted 5\n";
 
+const SCRIPT_OF_XE: Terms<'static> = Terms {
+    form: Form::Script,
+    ..XE
+};
+
+const OF_XE: &[u8] =
+    b"xe_vma_bind: vma=f0, asid=0x00021, start=0x200000, end=0x201fff, userptr=0x0,\n\
+    xe_vma_evict: vma=f0, asid=0x00021, start=0x200000, end=0x201fff, userptr=0x0,\n\
+    xe_vma_unbind: vma=f1, asid=0x00021, start=0x201000, end=0x201fff, userptr=0x0,\n\
+    xe_vm_free: vm=00000000aa, asid=0x00021\n";
+
+const WANTED_OF_XE: &[u8] = b"buffer b1 2\n\
+    bind map 0x200000 0x2000 b1 0x0\n\
+    bind unmap 0x201000 0x1000\n\
+    bind unmap 0x0 0x200000000000000\n";
+
+const REPLIES_OF_XE: &[u8] = b"ok\naccepted 0\naccepted 1\naccepted 2\n";
+
 #[test]
 fn a_log_is_a_script_that_runs(rt: HostRuntime) -> Result<(), Fail> {
     let mut script = MemorySink::new(rt.alloc());
@@ -41,6 +59,22 @@ fn a_log_is_a_script_that_runs(rt: HostRuntime) -> Result<(), Fail> {
         &mut replies,
     )?;
     assert!(rt; replies.bytes() == REPLIES);
+    Ok(())
+}
+
+/// An address space that goes is an unmap of all of it.
+#[test]
+fn a_log_of_xe_is_a_script_that_runs(rt: HostRuntime) -> Result<(), Fail> {
+    let mut script = MemorySink::new(rt.alloc());
+    assert!(rt; play(rt.alloc(), OF_XE, &SCRIPT_OF_XE, &mut script) == Ok(()));
+    assert!(rt; script.bytes() == WANTED_OF_XE);
+    let mut replies = MemorySink::new(rt.alloc());
+    run_script(
+        rt.alloc(),
+        &mut MemorySource::new(script.bytes()),
+        &mut replies,
+    )?;
+    assert!(rt; replies.bytes() == REPLIES_OF_XE);
     Ok(())
 }
 
