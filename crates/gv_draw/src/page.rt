@@ -3,28 +3,29 @@
 use crate::axis::{Axis, Kind};
 use crate::boxes::Boxes;
 use crate::choice::choose;
-use crate::colours::{COLOURS, Colours};
+use crate::colours::Colours;
+use crate::head::Head;
 use crate::history::History;
-use crate::legend::{key_area, write_key};
+use crate::lines::Lines;
 use crate::notes::write_notes;
 use crate::options::Options;
 use crate::pixels::Tenths;
-use crate::rows::{Counts, Rows};
+use crate::rows::{Counts, Rows, counts_width};
 use crate::shapes::Shapes;
 use crate::style::{PATTERNS, STYLE};
-use crate::svg::{Area, Text, width_of, write_line, write_rect, write_text};
-use gv_types::{Backing, OutOfMemory, PAGE_BYTES};
+use crate::svg::{Area, Text, write_line, write_rect, write_text};
+use gv_types::{OutOfMemory, PAGE_BYTES};
 use std::alloc::{AllocError, Global};
 use std::fmt::Write;
 
 /// Where the axis begins, in pixels.
 const LEFT: u64 = 392;
 
-/// How much room there is right of it, in pixels.
+/// How much room there is right of it at least, in pixels.
 const RIGHT: u64 = 200;
 
-/// Where the rows begin, in pixels.
-const TOP: u64 = 162;
+/// How far the counts stand from it, in pixels.
+const COUNTS: u64 = 24;
 
 /// How far apart addresses stand at least, in tenths of a pixel.
 const APART: u64 = 130;
@@ -50,10 +51,17 @@ fn write_chosen(
 ) -> Result<(), OutOfMemory> {
     let boxes = Boxes::of(alloc, history)?;
     let width = options.pixels();
-    let right = Tenths::of(width.saturating_sub(RIGHT)).0;
+    let has_tables = history.at.is_none();
+    let counts = counts_width(alloc, &history.rows, has_tables)?;
+    let beside = COUNTS.saturating_add(counts).max(RIGHT);
+    let right = Tenths::of(width.saturating_sub(beside)).0;
     let axis = Axis::new(alloc, &boxes, history.at, Tenths::of(LEFT).0, right)?;
-    let rows = Rows::new(alloc, &history.rows, TOP)?;
     let colours = Colours::of(alloc, &boxes.items)?;
+    let head = Head::of(alloc, history, &axis, &boxes, &colours, width)?;
+    let rows = Rows::new(alloc, &history.rows, head.bottom())?;
+    let mut notes = String::new(alloc);
+    write_notes(&mut notes, history, &boxes, has_tables && rows.are_roomy())?;
+    let foot = Lines::of(alloc, notes.as_str(), width)?;
     let shapes = Shapes {
         alloc,
         history,
@@ -64,6 +72,9 @@ fn write_chosen(
     let page = Page {
         boxes: &boxes,
         width,
+        beside,
+        head,
+        foot,
         shapes,
     };
     Ok(page.write(out)?)
@@ -74,6 +85,9 @@ fn write_chosen(
 struct Page<'a> {
     boxes: &'a Boxes,
     width: u64,
+    beside: u64,
+    head: Head,
+    foot: Lines,
     shapes: Shapes<'a>,
 }
 
@@ -81,7 +95,8 @@ impl<'a> Page<'a> {
     /// Writes the picture.
     fn write(&self, out: &mut String) -> Result<(), AllocError> {
         let width = self.width;
-        let height = self.shapes.rows.bottom.saturating_add(62);
+        let foot = self.shapes.rows.bottom.saturating_add(46);
+        let height = foot.saturating_add(self.foot.more()).saturating_add(16);
         write!(
             out,
             "<svg xmlns=\"http://www.w3.org/2000/svg\" width=\"{width}\" height=\"{height}\" "
@@ -96,86 +111,10 @@ impl<'a> Page<'a> {
             height: Tenths::of(height),
         };
         write_rect(out, &all, "fill=\"#ffffff\"")?;
-        self.write_heading(out)?;
+        self.head.write(self.shapes.alloc, out)?;
         self.write_body(out)?;
-        self.write_foot(out)?;
+        self.foot.write(out, foot, "class=\"foot\"")?;
         out.push_str("</svg>\n")
-    }
-
-    /// Writes the heading, the legend beside it, and a line below.
-    fn write_heading(&self, out: &mut String) -> Result<(), AllocError> {
-        let mut heading = String::new(self.shapes.alloc);
-        let mut under = String::new(self.shapes.alloc);
-        match self.shapes.history.at {
-            Some(addr) => {
-                write!(heading, "Around {addr:#x}")?;
-                write!(
-                    under,
-                    "Down: each request that changed a page near {addr:#x}, and what is mapped near it afterwards. "
-                )?;
-            }
-            None => {
-                heading.push_str("One address space over time")?;
-                under.push_str("Down: each request, and what is mapped after it. ")?;
-            }
-        }
-        under.push_str(if self.shapes.axis.is_to_scale {
-            "Across: addresses, pages to scale, unused gaps cut out."
-        } else {
-            "Across: addresses, not to scale: widths grow with the logarithm of sizes; unused gaps cut out."
-        })?;
-        let text = Text {
-            x: Tenths::of(28),
-            y: Tenths::of(40),
-            attributes: "class=\"heading\"",
-            text: heading.as_str(),
-        };
-        write_text(out, &text)?;
-        let text = Text {
-            x: Tenths::of(28),
-            y: Tenths::of(62),
-            attributes: "class=\"under\"",
-            text: under.as_str(),
-        };
-        write_text(out, &text)?;
-        self.write_legend(out, Tenths::of(60).plus(width_of(heading.as_str(), 132)))
-    }
-
-    /// Writes the colours of the first buffers, and the signs of zeros and of read-only pages where there are any.
-    fn write_legend(&self, out: &mut String, x: Tenths) -> Result<(), AllocError> {
-        let mut x = x;
-        let colours = self.shapes.colours;
-        for buffer in colours.order.iter().take(COLOURS as usize) {
-            let mut name = String::new(self.shapes.alloc);
-            self.shapes.write_name(&mut name, *buffer)?;
-            x = write_key(
-                self.shapes.alloc,
-                out,
-                x,
-                colours.colour(*buffer).fill,
-                name.as_str(),
-            )?;
-        }
-        let more = (colours.order.len() as u64).saturating_sub(COLOURS);
-        if more > 0 {
-            let text = format!(in self.shapes.alloc; "and {more} more, in these colours again")?;
-            x = write_key(self.shapes.alloc, out, x, "none", text.as_str())?;
-        }
-        let mut has_zero = false;
-        let mut has_read_only = false;
-        for item in &self.boxes.items {
-            has_zero |= item.count == 1 && item.piece.backing == Backing::Zero;
-            has_read_only |= item.piece.read_only;
-        }
-        if has_zero {
-            x = write_key(self.shapes.alloc, out, x, "url(#zero)", "zero: no buffer")?;
-        }
-        if has_read_only {
-            let area = key_area(x);
-            write_rect(out, &area, "rx=\"3\" fill=\"#7c8898\"")?;
-            let _x = write_key(self.shapes.alloc, out, x, "url(#dots)", "read-only")?;
-        }
-        Ok(())
     }
 
     /// Writes rows and boxes.
@@ -190,7 +129,10 @@ impl<'a> Page<'a> {
         self.shapes.write_cuts(out)?;
         self.write_addresses(out)?;
         let counts = Counts {
-            x: self.width.saturating_sub(RIGHT).saturating_add(24),
+            x: self
+                .width
+                .saturating_sub(self.beside)
+                .saturating_add(COUNTS),
             has_tables: history.at.is_none(),
         };
         rows.write_texts(self.shapes.alloc, out, &history.rows, counts)?;
@@ -225,13 +167,13 @@ impl<'a> Page<'a> {
         }
         let tick = Area {
             x,
-            y: Tenths::of(TOP - 8),
+            y: Tenths::of(self.above(8)),
             width: Tenths(0),
             height: Tenths::of(8),
         };
         write_line(out, &tick, "class=\"tick\"")?;
         let place = x.plus(Tenths::of(4));
-        let y = TOP - 11;
+        let y = self.above(11);
         write!(
             out,
             "<text class=\"addr\" transform=\"translate({place} {y}) rotate(-50)\">{addr:#x}</text>\n"
@@ -248,12 +190,12 @@ impl<'a> Page<'a> {
         let bottom = self.shapes.rows.bottom.saturating_add(6);
         let area = Area {
             x,
-            y: Tenths::of(TOP - 8),
+            y: Tenths::of(self.above(8)),
             width: Tenths(0),
-            height: Tenths::of(bottom.saturating_sub(TOP - 8)),
+            height: Tenths::of(bottom.saturating_sub(self.above(8))),
         };
         write_line(out, &area, "stroke=\"#c8102e\" stroke-width=\"2\"")?;
-        let y = TOP - 10;
+        let y = self.above(10);
         write!(out, "<path d=\"M{x} {y}l-6 -9h12z\" fill=\"#c8102e\"/>\n")?;
         let mut words = String::new(self.shapes.alloc);
         write!(words, "{addr:#x}")?;
@@ -266,17 +208,8 @@ impl<'a> Page<'a> {
         write_text(out, &text)
     }
 
-    /// Writes what the signs mean, and what is left out.
-    fn write_foot(&self, out: &mut String) -> Result<(), AllocError> {
-        let mut words = String::new(self.shapes.alloc);
-        let has_tables = self.shapes.history.at.is_none() && self.shapes.rows.are_roomy();
-        write_notes(&mut words, self.shapes.history, self.boxes, has_tables)?;
-        let text = Text {
-            x: Tenths::of(28),
-            y: Tenths::of(self.shapes.rows.bottom.saturating_add(46)),
-            attributes: "class=\"foot\"",
-            text: words.as_str(),
-        };
-        write_text(out, &text)
+    /// So many pixels above the rows.
+    fn above(&self, pixels: u64) -> u64 {
+        self.shapes.rows.top.saturating_sub(pixels)
     }
 }

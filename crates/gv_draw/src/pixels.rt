@@ -17,6 +17,11 @@ impl Tenths {
         Tenths(self.0.saturating_add(other.0))
     }
 
+    /// The longer of both.
+    pub fn or(self, other: Tenths) -> Tenths {
+        Tenths(self.0.max(other.0))
+    }
+
     /// How much longer it is than the other.
     pub fn minus(self, other: Tenths) -> Tenths {
         Tenths(self.0.saturating_sub(other.0))

@@ -3,7 +3,7 @@
 use crate::pixels::Tenths;
 use crate::row::{Row, RowKind};
 use crate::sizes::{write_count, write_size};
-use crate::svg::{Area, Text, write_rect, write_text};
+use crate::svg::{Area, Text, width_of, write_rect, write_text};
 use crate::texts::{LABEL_X, write_answer, write_left_out, write_number, write_shortened};
 use gv_types::OutOfMemory;
 use std::alloc::{AllocError, Global};
@@ -169,10 +169,7 @@ impl Rows {
         right: Counts,
         y: u64,
     ) -> Result<(), AllocError> {
-        let mut text = String::new(alloc);
-        write_count(&mut text, row.mappings, "mapping")?;
-        text.push_str(" · ")?;
-        write_size(&mut text, row.pages)?;
+        let text = stood(alloc, row)?;
         let (upper, lower) = self.lines(y);
         let is_two = self.are_roomy() && right.has_tables;
         let above = Text {
@@ -185,8 +182,7 @@ impl Rows {
         if !is_two {
             return Ok(());
         }
-        let [four, three, two, one, zero] = row.tables;
-        let tables = format!(in alloc; "tables {four} {three} {two} {one} {zero}")?;
+        let tables = tables_told(alloc, row)?;
         let below = Text {
             x: Tenths::of(right.x),
             y: lower,
@@ -202,4 +198,38 @@ impl Rows {
 pub struct Counts {
     pub x: u64,
     pub has_tables: bool,
+}
+
+/// How wide a character of what stood after a row is, in tenths of a pixel.
+const COUNT_EACH: u64 = 75;
+
+/// How wide a character of its tables is, in tenths of a pixel.
+const TABLES_EACH: u64 = 66;
+
+/// What stood after a row.
+fn stood(alloc: Global, row: &Row) -> Result<String, AllocError> {
+    let mut text = String::new(alloc);
+    write_count(&mut text, row.mappings, "mapping")?;
+    text.push_str(" · ")?;
+    write_size(&mut text, row.pages)?;
+    Ok(text)
+}
+
+/// How many tables of each level stood after a row.
+fn tables_told(alloc: Global, row: &Row) -> Result<String, AllocError> {
+    let [four, three, two, one, zero] = row.tables;
+    format!(in alloc; "tables {four} {three} {two} {one} {zero}")
+}
+
+/// How much room what stood after the rows takes, in pixels, with some behind it: the counts of tables only where rows have room
+/// for them.
+pub fn counts_width(alloc: Global, rows: &[Row], has_tables: bool) -> Result<u64, AllocError> {
+    let mut most = Tenths(0);
+    for row in rows {
+        most = most.or(width_of(stood(alloc, row)?.as_str(), COUNT_EACH));
+        if has_tables && rows.len() <= ROOMY {
+            most = most.or(width_of(tables_told(alloc, row)?.as_str(), TABLES_EACH));
+        }
+    }
+    Ok((most.0 / 10).saturating_add(8))
 }

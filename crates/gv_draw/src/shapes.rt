@@ -4,6 +4,7 @@ use crate::axis::{Axis, Kind, Segment};
 use crate::boxes::Boxed;
 use crate::colours::{Colour, Colours};
 use crate::history::History;
+use crate::names::write_name;
 use crate::pixels::Tenths;
 use crate::rows::Rows;
 use crate::sizes::{write_count, write_size};
@@ -69,14 +70,6 @@ const MANY: Look = Look {
 };
 
 impl<'a> Shapes<'a> {
-    /// Writes a buffer's name.
-    pub fn write_name(&self, out: &mut String, buffer: u64) -> Result<(), AllocError> {
-        match self.history.names.get(&buffer) {
-            Some(name) => out.push_str(name.as_str()),
-            None => write!(out, "b{buffer}"),
-        }
-    }
-
     fn look(&self, item: &Boxed) -> Look {
         match item.piece.backing {
             _ if item.count > 1 => MANY,
@@ -131,7 +124,7 @@ impl<'a> Shapes<'a> {
             _ if item.count > 1 => return write_count(out, item.count, "mapping"),
             Backing::Buffer { id, page } => {
                 let mut name = String::new(self.alloc);
-                self.write_name(&mut name, id.generation.get())?;
+                write_name(&mut name, self.history, id.generation.get())?;
                 write_escaped(out, name.as_str())?;
                 let byte = page.saturating_mul(PAGE_BYTES);
                 write!(out, " {byte:#x}")?;
@@ -154,7 +147,7 @@ impl<'a> Shapes<'a> {
         match item.piece.backing {
             _ if item.count > 1 => write_count(&mut name, item.count, "mapping")?,
             Backing::Buffer { id, page } => {
-                self.write_name(&mut name, id.generation.get())?;
+                write_name(&mut name, self.history, id.generation.get())?;
                 let byte = page.saturating_mul(PAGE_BYTES);
                 write!(offset, "@{byte:#x}")?;
             }

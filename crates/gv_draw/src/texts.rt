@@ -62,6 +62,24 @@ pub fn write_number(
     write_text(out, &text)
 }
 
+/// A text of at most so many characters: of a longer one the first, and a sign that there are more.
+pub fn shortened(alloc: Global, text: &str, room: usize) -> Result<String, AllocError> {
+    let mut shown = String::new(alloc);
+    let is_long = text.chars().count() > room;
+    let kept = if is_long {
+        room.saturating_sub(1)
+    } else {
+        room
+    };
+    for c in text.chars().take(kept) {
+        shown.push(c)?;
+    }
+    if is_long {
+        shown.push_str("…")?;
+    }
+    Ok(shown)
+}
+
 /// Writes a label of at most so many characters, and answers where it ends.
 pub fn write_shortened(
     alloc: Global,
@@ -70,19 +88,7 @@ pub fn write_shortened(
     room: usize,
     y: Tenths,
 ) -> Result<Tenths, AllocError> {
-    let mut shown = String::new(alloc);
-    let is_long = label.chars().count() > room;
-    let kept = if is_long {
-        room.saturating_sub(1)
-    } else {
-        room
-    };
-    for c in label.chars().take(kept) {
-        shown.push(c)?;
-    }
-    if is_long {
-        shown.push_str("…")?;
-    }
+    let shown = shortened(alloc, label, room)?;
     let text = Text {
         x: Tenths::of(LABEL_X),
         y,
