@@ -14,6 +14,8 @@ mod drawn;
 #[cfg(test)]
 mod failing;
 #[cfg(test)]
+mod fits;
+#[cfg(test)]
 mod many;
 #[cfg(test)]
 mod reasons;
