@@ -12,7 +12,7 @@ struct Log {
     terms: Terms<'static>,
 }
 
-const LOGS: [Log; 3] = [
+const LOGS: [Log; 5] = [
     Log {
         name: "radv",
         terms: Terms {
@@ -32,6 +32,30 @@ const LOGS: [Log; 3] = [
             flag_bits: FlagBits::Entry,
             pid: Some(4242),
             addresses: &[0x8000_0010_5000],
+            all: false,
+            form: Form::Report,
+            sizes: None,
+        },
+    },
+    Log {
+        name: "xe",
+        terms: Terms {
+            format: Format::Xe,
+            flag_bits: FlagBits::Unsaid,
+            pid: Some(4242),
+            addresses: &[0x31_0000],
+            all: false,
+            form: Form::Report,
+            sizes: None,
+        },
+    },
+    Log {
+        name: "i915",
+        terms: Terms {
+            format: Format::I915,
+            flag_bits: FlagBits::Unsaid,
+            pid: Some(4242),
+            addresses: &[0x20_0000],
             all: false,
             form: Form::Report,
             sizes: None,

@@ -202,6 +202,8 @@ fn format_of(asked: &ReplayWords<'_>) -> Result<Format, ProgramFault> {
     match asked.format {
         "radv" => Ok(Format::Radv),
         "amdgpu" => Ok(Format::Amdgpu),
+        "xe" => Ok(Format::Xe),
+        "i915" => Ok(Format::I915),
         "gpuvas" => Ok(Format::Gpuvas),
         _ => Err(ProgramFault::NoFormat),
     }

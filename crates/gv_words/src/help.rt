@@ -70,7 +70,7 @@ Exit statuses:
   4  the system refused to give memory";
 
 /// What `--format` says.
-pub const FORMAT: &str = "Whose log it is: radv, amdgpu or gpuvas";
+pub const FORMAT: &str = "Whose log it is: radv, amdgpu, xe, i915 or gpuvas";
 
 /// What `--at` says, as often as it is given.
 pub const ADDRESSES: &str = "An address whose past is told, in bytes";
