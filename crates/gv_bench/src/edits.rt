@@ -1,8 +1,8 @@
 //! Runs of edits of an address space.
 ghost use Rattle.gv_space.specs.State.{IsUnchanged};
 
-use crate::edit::Edit;
 use crate::failure::Failure;
+use gv_plain::Edit;
 use gv_space::Space;
 use std::alloc::Global;
 use std::time::{CpuClock, Duration};

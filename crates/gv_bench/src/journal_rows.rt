@@ -1,7 +1,6 @@
 //! What a journal takes: a line of figures each for binding, for withdrawing, and for many items held.
 ghost use Rattle.gv_journal.specs.State.{FitsSpace};
 
-use crate::edit::Edit;
 use crate::failure::Failure;
 use crate::figures::{JournalTimes, Least};
 use crate::journals::{
@@ -10,6 +9,7 @@ use crate::journals::{
 };
 use crate::workload::{Plan, Workload};
 use gv_journal::Journal;
+use gv_plain::Edit;
 use gv_space::Space;
 use gv_types::{BUFFER_PAGES, Bounds, Limits, Request};
 use std::alloc::{AllocError, Global};

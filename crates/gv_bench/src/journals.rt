@@ -1,10 +1,10 @@
 //! Runs of requests on a journal and its space, and the processor time that they take.
 ghost use Rattle.gv_journal.specs.State.{FitsSpace};
 
-use crate::edit::Edit;
 use crate::edits::there_and_back;
 use crate::failure::Failure;
 use gv_journal::{Journal, ReadyRequest};
+use gv_plain::Edit;
 use gv_space::Space;
 use gv_types::Request;
 use std::alloc::{AllocError, Global};

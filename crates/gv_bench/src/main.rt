@@ -4,7 +4,6 @@
 #![tactic(auto)]
 
 mod checksum;
-mod edit;
 mod edits;
 mod failure;
 mod figures;
@@ -13,7 +12,6 @@ mod journals;
 mod machine_rows;
 mod machines;
 mod measure;
-mod plain_list;
 mod timing;
 mod workload;
 

@@ -1,10 +1,9 @@
 //! The processor time that runs of edits and of look-ups take. What other programs do meanwhile is not in it.
 use crate::checksum::Checksum;
-use crate::edit::Edit;
 use crate::edits::{keep_all, there_and_back};
 use crate::failure::Failure;
 use crate::figures::{Least, SpaceTimes};
-use crate::plain_list::PlainList;
+use gv_plain::{Edit, PlainList};
 use gv_space::Space;
 use gv_types::Entry;
 use std::time::CpuClock;

@@ -1,4 +1,4 @@
-//! The operations that are timed.
+//! Operations that name their pages.
 ghost use Rattle.std.specs.Prelude.{◌≡◌, IsTrue};
 ghost use Rattle.gv_types.specs.Operation.{has_range};
 
