@@ -36,7 +36,7 @@ pub use said::{write_number, write_outcome_line, write_refused, write_timeline};
 pub use script::{run_script, run_script_explained};
 pub use session::Session;
 pub use stage::Stage;
-pub use standard::{ReadCalls, ReadSource, WriteCalls, WriteSink};
+pub use standard::{Pipe, ReadCalls, ReadSource, WriteCalls, WriteSink, is_broken_pipe};
 pub use timeline_names::TimelineNames;
 pub use transfer::{SCRIPT_LIMIT, read_script, write_all};
 pub use why::{

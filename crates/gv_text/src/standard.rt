@@ -1,7 +1,9 @@
 //! Readers and writers of the standard library as devices.
-ghost use Rattle.std.specs.Prelude.{◌≡◌, ◌≤◌, ◌<◌, ◌⊎◌, ℕ, List, Bool, true, false, Option, Result, Ok, Err, IfOk, length};
+ghost use Rattle.std.specs.Prelude.{◌≡◌, ◌≢◌, ◌≤◌, ◌<◌, ◌⊎◌, ℕ, List, Bool, true, false, Option, Result, Ok, Err, IfOk, length};
 ghost use Rattle.std.specs.Io.KnownBytes.{ReadConsumes, WriteAppends};
+ghost use Rattle.std.specs.IoError.{error_kind};
 ghost use Rattle.std.specs.declared.io.Error.{Error};
+ghost use Rattle.std.specs.declared.io.ErrorKind.TheVariants as stream;
 
 use crate::device::{ReadFault, Sink, Source, WriteFault};
 use std::io;
@@ -95,21 +97,35 @@ impl<W: Write> WriteCalls for W {
     }
 }
 
-/// A writer, and whether it has failed: a write fails only where the writer's own call did, or took nothing.
+/// A writer that remembers whether its reader has gone.
+pub trait Pipe {
+    // Whether the last write that failed found its reader gone.
+    ghost closed: { Self → Bool };
+
+    /// Whether the last write that failed found its reader gone.
+    fn is_closed(&self) -> bool
+        ensures { result ≡ closed self.now };
+}
+
+/// A writer, and whether it has failed: a write fails only where the writer's own call did, or took nothing. It is closed where that
+/// call found the other end of a pipe closed.
 #[derive(Drop)]
 pub struct WriteSink<W: WriteCalls> {
     writer: W,
     failed: bool,
+    closed: bool,
 }
 
 impl<W: WriteCalls> WriteSink<W> {
     pub fn new(writer: W) -> Self
         ensures writer { result.writer ≡ writer }
         ensures whole { result.failed ≡ false }
+        ensures open { result.closed ≡ false }
     {
         WriteSink {
             writer,
             failed: false,
+            closed: false,
         }
     }
 }
@@ -119,17 +135,38 @@ impl<W: WriteCalls> Sink for WriteSink<W> {
 
     ghost failed = { λ sink. sink.failed };
 
-    // The writer's own call answered an error, or took nothing.
-    ghost fails = { λ old bytes new. ((error : Error) × W.answers old.writer bytes (Err error) new.writer)
+    // The writer's own call answered an error, which tells whether it is closed, or took nothing.
+    ghost fails = { λ old bytes new. ((error : Error) × W.answers old.writer bytes (Err error) new.writer
+        × (error_kind error ≡ stream.BrokenPipe → new.closed ≡ true)
+        × (error_kind error ≢ stream.BrokenPipe → new.closed ≡ false))
         ⊎ W.answers old.writer bytes (Ok 0) new.writer };
 
     fn write(&mut self, bytes: &[u8]) -> Result<usize, WriteFault> {
         match self.writer.call(bytes) {
-            Ok(count) if 0 < count => Ok(count),
-            _ => {
-                self.failed = true;
-                Err(WriteFault)
-            }
+            Ok(count) if 0 < count => return Ok(count),
+            Ok(_) => {}
+            Err(error) => self.closed = is_broken_pipe(&error),
         }
+        self.failed = true;
+        Err(WriteFault)
+    }
+}
+
+impl<W: WriteCalls> Pipe for WriteSink<W> {
+    ghost closed = { λ sink. sink.closed };
+
+    fn is_closed(&self) -> bool {
+        self.closed
+    }
+}
+
+/// Whether a write failed since the other end of a pipe is closed.
+pub fn is_broken_pipe(error: &io::Error) -> bool
+    ensures yes { error_kind error.now ≡ stream.BrokenPipe → result ≡ true }
+    ensures no { error_kind error.now ≢ stream.BrokenPipe → result ≡ false }
+{
+    match error.kind() {
+        io::ErrorKind::BrokenPipe => true,
+        _ => false,
     }
 }
