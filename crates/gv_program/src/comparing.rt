@@ -1,16 +1,16 @@
 //! Two lists of mappings compared.
 ghost use Rattle.gv_program.specs.Status.{IsStatus};
 
-use crate::fault::{ProgramFault, told};
+use crate::fault::{ProgramFault, told, told_of};
 use crate::files::{opened, read_all};
 use crate::status::{BAD_WORDS, DIFFERENT, DONE};
 use gv_compare::{CompareFault, compare as differences};
-use gv_text::{ScriptFault, Sink, write_all};
+use gv_text::{Pipe, ScriptFault, Sink, write_all};
 use std::alloc::Global;
 use std::rt::Files;
 
 /// Compares the lists of two files, and gives the exit status: `DIFFERENT` where some page differs.
-pub fn compare<R: AllocGlobal + Eprint, T: Files, K: Sink>(
+pub fn compare<R: AllocGlobal + Eprint, T: Files, K: Sink + Pipe>(
     rt: &R,
     files: &T,
     first: &str,
@@ -42,11 +42,11 @@ fn read_file<T: Files>(alloc: Global, files: &T, path: &str) -> Result<Vec<u8>, 
 }
 
 /// Writes where the lists differ, and gives the exit status.
-fn written<R: Eprint, K: Sink>(rt: &R, writer: &mut K, report: &str, pages: u64) -> u8
+fn written<R: Eprint, K: Sink + Pipe>(rt: &R, writer: &mut K, report: &str, pages: u64) -> u8
     ensures { IsStatus result }
 {
     if write_all(writer, report.as_bytes()).is_err() {
-        return told(rt, ProgramFault::Script(ScriptFault::WriteFault));
+        return told_of(rt, writer, ProgramFault::Script(ScriptFault::WriteFault));
     }
     if pages == 0 { DONE } else { DIFFERENT }
 }

@@ -1,11 +1,11 @@
 //! Pictures.
 ghost use Rattle.gv_program.specs.Status.{IsStatus};
 
-use crate::fault::{ProgramFault, told};
+use crate::fault::{ProgramFault, told, told_of};
 use crate::files::{address, opened, read_all};
 use crate::status::DONE;
 use gv_draw::{DrawFault, Options, draw_script};
-use gv_text::{ScriptFault, Sink, Source, write_all};
+use gv_text::{Pipe, ScriptFault, Sink, Source, write_all};
 use std::alloc::Global;
 use std::rt::Files;
 
@@ -18,7 +18,7 @@ pub struct Picture<'a> {
 }
 
 /// Draws a script, and gives the exit status.
-pub fn draw<R: AllocGlobal + Eprint, T: Files, S: Source, K: Sink>(
+pub fn draw<R: AllocGlobal + Eprint, T: Files, S: Source, K: Sink + Pipe>(
     rt: &R,
     files: &T,
     asked: Picture<'_>,
@@ -34,12 +34,12 @@ pub fn draw<R: AllocGlobal + Eprint, T: Files, S: Source, K: Sink>(
 }
 
 /// Writes a text, and gives the exit status.
-pub fn shown<R: Eprint, K: Sink>(rt: &R, writer: &mut K, text: &str) -> u8
+pub fn shown<R: Eprint, K: Sink + Pipe>(rt: &R, writer: &mut K, text: &str) -> u8
     ensures { IsStatus result }
 {
     match write_all(writer, text.as_bytes()) {
         Ok(()) => DONE,
-        Err(_) => told(rt, ProgramFault::Script(ScriptFault::WriteFault)),
+        Err(_) => told_of(rt, writer, ProgramFault::Script(ScriptFault::WriteFault)),
     }
 }
 

@@ -18,14 +18,16 @@ ghost use Rattle.gv_program.specs.Status.{IsStatus, bad_words, broken_stream, do
 
 use crate::comparing::compare;
 use crate::drawing::{Picture, draw};
-use crate::fault::{ProgramFault, explain, told};
+use crate::fault::{ProgramFault, explain, told, told_of};
 use crate::files::opened;
 use crate::replaying::replay;
 use crate::serving::{serve, serve_file};
 use crate::stack::is_stack_there;
-use crate::status::{BAD_WORDS, DONE};
+use crate::status::{BAD_WORDS, BROKEN_STREAM, DONE};
 use clap::Error;
-use gv_text::{ReadSource, ScriptFault, Sink, Source, WriteSink, run_script_explained};
+use gv_text::{
+    Pipe, ReadSource, ScriptFault, Sink, Source, WriteSink, is_broken_pipe, run_script_explained,
+};
 use gv_threads::{RunTerms, run_threads_explained};
 use gv_words::{Task, WordsFault, read_words};
 use std::rt::{Env, Files};
@@ -54,13 +56,12 @@ pub fn program<R: Env + AllocGlobal + Input + Print + Eprint, T: Threads + Wait 
 }
 
 /// Does what these words ask for, over these devices, with the host's threads and files, and gives the exit status.
-fn obey<R: AllocGlobal + Print + Eprint, T: Threads + Wait + Sync + Files, S: Source, K: Sink>(
-    rt: &R,
-    host: &T,
-    words: &[String],
-    reader: &mut S,
-    writer: &mut K,
-) -> u8
+fn obey<
+    R: AllocGlobal + Print + Eprint,
+    T: Threads + Wait + Sync + Files,
+    S: Source,
+    K: Sink + Pipe,
+>(rt: &R, host: &T, words: &[String], reader: &mut S, writer: &mut K) -> u8
     // The word `run` runs the script, unless memory for reading the words is refused.
     ensures run { (name : List ℕ) → words_of words.now ≡ name ∷ codes "run" ∷ []
         → ((result ≡ no_memory) × (reader.new ≡ reader.old) × (writer.new ≡ writer.old))
@@ -107,13 +108,12 @@ fn obey<R: AllocGlobal + Print + Eprint, T: Threads + Wait + Sync + Files, S: So
 }
 
 /// Does a task over these devices, and gives the exit status.
-fn carry_out<R: AllocGlobal + Print + Eprint, T: Threads + Wait + Sync + Files, S: Source, K: Sink>(
-    rt: &R,
-    host: &T,
-    task: Task<'_>,
-    reader: &mut S,
-    writer: &mut K,
-) -> u8
+fn carry_out<
+    R: AllocGlobal + Print + Eprint,
+    T: Threads + Wait + Sync + Files,
+    S: Source,
+    K: Sink + Pipe,
+>(rt: &R, host: &T, task: Task<'_>, reader: &mut S, writer: &mut K) -> u8
     requires { IsTask task }
     ensures done { IsDone S.remaining S.failed K.written K.failed reader.old reader.new writer.old writer.new task.entry result }
     ensures status { IsStatus result }
@@ -177,7 +177,7 @@ fn argument_fault(error: &io::Error) -> ProgramFault
 }
 
 /// Runs the script that the reader gives, and gives the exit status: that of the fault, if one is answered.
-fn run<R: AllocGlobal + Eprint, S: Source, K: Sink>(
+fn run<R: AllocGlobal + Eprint, S: Source, K: Sink + Pipe>(
     rt: &R,
     explains: bool,
     reader: &mut S,
@@ -190,7 +190,7 @@ fn run<R: AllocGlobal + Eprint, S: Source, K: Sink>(
     match run_script_explained(rt.alloc(), reader, writer, &mut why) {
         Ok(()) => DONE,
         Err(fault) => {
-            let status = told(rt, ProgramFault::from(fault));
+            let status = told_of(rt, writer, ProgramFault::from(fault));
             explain(rt, explains, why);
             status
         }
@@ -198,7 +198,7 @@ fn run<R: AllocGlobal + Eprint, S: Source, K: Sink>(
 }
 
 /// Runs the script of a file.
-fn run_file<R: AllocGlobal + Eprint, T: Files, K: Sink>(
+fn run_file<R: AllocGlobal + Eprint, T: Files, K: Sink + Pipe>(
     rt: &R,
     files: &T,
     explains: bool,
@@ -222,7 +222,7 @@ struct Asked {
 }
 
 /// Runs the threads script that the reader gives, and gives the exit status: that of the fault, if one is answered.
-fn run_with_threads<R: AllocGlobal + Eprint, T: Threads + Wait + Sync, S: Source, K: Sink>(
+fn run_with_threads<R: AllocGlobal + Eprint, T: Threads + Wait + Sync, S: Source, K: Sink + Pipe>(
     rt: &R,
     threads: &T,
     reader: &mut S,
@@ -242,7 +242,7 @@ fn run_with_threads<R: AllocGlobal + Eprint, T: Threads + Wait + Sync, S: Source
     match run_threads_explained(threads, reader, writer, terms, &mut why) {
         Ok(()) => DONE,
         Err(ended) => {
-            let status = told(rt, ProgramFault::from(ended));
+            let status = told_of(rt, writer, ProgramFault::from(ended));
             explain(rt, asked.explain, why);
             status
         }
@@ -263,6 +263,7 @@ fn printed<R: Print + Eprint>(rt: &R, error: &Error) -> u8
     }
     match outcome {
         Ok(()) => DONE,
+        Err(error) if is_broken_pipe(&error) => BROKEN_STREAM,
         Err(_) => told(rt, ProgramFault::Script(ScriptFault::WriteFault)),
     }
 }

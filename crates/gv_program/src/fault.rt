@@ -7,7 +7,7 @@ ghost use Rattle.gv_program.specs.declared.fault.ProgramFault.TheVariants as fau
 use crate::status::{BAD_QUEUES, BAD_SCRIPT, BAD_WORDS, BROKEN_STREAM, NO_MEMORY};
 use gv_queues::QueuesFault;
 use gv_serve::ServeFault;
-use gv_text::ScriptFault;
+use gv_text::{Pipe, ScriptFault};
 use gv_threads::ThreadsFault;
 use std::alloc::AllocError;
 use std::fmt;
@@ -157,6 +157,16 @@ pub fn told<R: Eprint>(rt: &R, fault: ProgramFault) -> u8
 {
     let _ = rt.eprintln(fault);
     fault.status()
+}
+
+/// Tells a fault too, but prints nothing where a write failed since the writer's reader has gone: it wanted no more.
+pub fn told_of<R: Eprint, K: Pipe>(rt: &R, writer: &K, fault: ProgramFault) -> u8
+    ensures { result ≡ status_of fault }
+{
+    match fault {
+        ProgramFault::Script(ScriptFault::WriteFault) if writer.is_closed() => fault.status(),
+        _ => told(rt, fault),
+    }
 }
 
 /// Prints why a line is bad, if that is asked and known.

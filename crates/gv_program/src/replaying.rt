@@ -1,13 +1,13 @@
 //! Logs of drivers.
 ghost use Rattle.gv_program.specs.Status.{IsStatus};
 
-use crate::fault::{ProgramFault, told};
+use crate::fault::{ProgramFault, told_of};
 use crate::files::{address, opened, read_all};
 use crate::log_drawing::draw_log;
 use crate::status::DONE;
 use gv_draw::Options;
 use gv_replay::{FlagBits, Form, Format, ReplayFault, Sizes, Terms, measure, replay as play};
-use gv_text::{MemorySource, ScriptFault, Sink, Source};
+use gv_text::{MemorySource, Pipe, ScriptFault, Sink, Source};
 use gv_words::ReplayWords;
 use std::alloc::Global;
 use std::rt::Files;
@@ -24,7 +24,7 @@ impl From<ReplayFault> for ProgramFault {
 }
 
 /// Replays a log, and gives the exit status.
-pub fn replay<R: AllocGlobal + Eprint, T: Files, S: Source, K: Sink>(
+pub fn replay<R: AllocGlobal + Eprint, T: Files, S: Source, K: Sink + Pipe>(
     rt: &R,
     files: &T,
     asked: ReplayWords<'_>,
@@ -35,7 +35,7 @@ pub fn replay<R: AllocGlobal + Eprint, T: Files, S: Source, K: Sink>(
 {
     match replayed(rt.alloc(), files, &asked, reader, writer) {
         Ok(()) => DONE,
-        Err(fault) => told(rt, fault),
+        Err(fault) => told_of(rt, writer, fault),
     }
 }
 

@@ -4,15 +4,15 @@ ghost use Rattle.gv_serve.specs.declared.fault.ServeFault.{ServeFault as TheFaul
 ghost use Rattle.gv_program.specs.Serving.{HasServed, serve_status};
 ghost use Rattle.gv_program.specs.Status.{IsStatus};
 
-use crate::fault::{ProgramFault, told};
+use crate::fault::{ProgramFault, told, told_of};
 use crate::files::opened;
 use crate::status::DONE;
 use gv_serve::{ServeFault, serve as hold, serve_json};
-use gv_text::{Sink, Source};
+use gv_text::{Pipe, Sink, Source};
 use std::rt::Files;
 
 /// Holds a dialogue over these devices, in text or in JSON, and gives the exit status.
-pub fn serve<R: AllocGlobal + Eprint, S: Source, K: Sink>(
+pub fn serve<R: AllocGlobal + Eprint, S: Source, K: Sink + Pipe>(
     rt: &R,
     json: bool,
     reader: &mut S,
@@ -23,24 +23,26 @@ pub fn serve<R: AllocGlobal + Eprint, S: Source, K: Sink>(
     ensures status { IsStatus result }
 {
     if json {
-        return ended(rt, serve_json(rt.alloc(), reader, writer));
+        let outcome = serve_json(rt.alloc(), reader, writer);
+        return ended(rt, writer, outcome);
     }
-    ended(rt, hold(rt.alloc(), reader, writer))
+    let outcome = hold(rt.alloc(), reader, writer);
+    ended(rt, writer, outcome)
 }
 
 /// Tells how a dialogue ended, and gives the exit status.
-fn ended<R: Eprint>(rt: &R, outcome: Result<(), ServeFault>) -> u8
+fn ended<R: Eprint, K: Pipe>(rt: &R, writer: &K, outcome: Result<(), ServeFault>) -> u8
     ensures status { result ≡ serve_status outcome }
     ensures known { IsStatus result }
 {
     match outcome {
         Ok(()) => DONE,
-        Err(fault) => told(rt, ProgramFault::from(fault)),
+        Err(fault) => told_of(rt, writer, ProgramFault::from(fault)),
     }
 }
 
 /// Answers the lines of a file.
-pub fn serve_file<R: AllocGlobal + Eprint, T: Files, K: Sink>(
+pub fn serve_file<R: AllocGlobal + Eprint, T: Files, K: Sink + Pipe>(
     rt: &R,
     files: &T,
     json: bool,

@@ -45,13 +45,20 @@ impl BufRead for Stream<'_> {
     }
 }
 
+/// What becomes of each write to standard output.
+#[derive(Clone, Copy, PartialEq, Eq)]
+enum Writes {
+    Kept,
+    Fail(io::ErrorKind),
+}
+
 /// The program's arguments, its input and what it has written.
 #[derive(Drop)]
 pub struct Fake<'a> {
     alloc: Global,
     words: &'a [&'a [u8]],
     input: Stream<'a>,
-    takes_output: bool,
+    writes: Writes,
     output: RefCell<Vec<u8>>,
     errors: RefCell<Vec<u8>>,
 }
@@ -62,7 +69,7 @@ impl<'a> Fake<'a> {
             alloc,
             words,
             input,
-            takes_output: true,
+            writes: Writes::Kept,
             output: RefCell::new(Vec::new(alloc)),
             errors: RefCell::new(Vec::new(alloc)),
         }
@@ -71,7 +78,15 @@ impl<'a> Fake<'a> {
     /// The same with a standard output of which each write fails.
     pub fn with_broken_output(self) -> Self {
         Fake {
-            takes_output: false,
+            writes: Writes::Fail(io::ErrorKind::Other),
+            ..self
+        }
+    }
+
+    /// The same with a standard output that nobody reads any more.
+    pub fn with_closed_output(self) -> Self {
+        Fake {
+            writes: Writes::Fail(io::ErrorKind::BrokenPipe),
             ..self
         }
     }
@@ -82,10 +97,10 @@ impl<'a> Fake<'a> {
     }
 
     fn output(&self, bytes: &[u8]) -> io::Result<()> {
-        if !self.takes_output {
-            return Err(io::Error::from(io::ErrorKind::Other));
+        match self.writes {
+            Writes::Kept => append(&self.output, bytes),
+            Writes::Fail(kind) => Err(io::Error::from(kind)),
         }
-        append(&self.output, bytes)
     }
 }
 

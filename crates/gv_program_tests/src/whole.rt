@@ -77,7 +77,7 @@ fn tells_of_broken_streams(rt: HostRuntime) {
     expect(&rt, &ended(&rt, broken), 3, b"", b"vmbind: write fault\n");
 }
 
-const TWO_QUEUES: [&[u8]; 4] = [b"vmbind", b"threads", b"--queues", b"2"];
+pub const TWO_QUEUES: [&[u8]; 4] = [b"vmbind", b"threads", b"--queues", b"2"];
 
 #[test]
 fn runs_a_threads_script(rt: HostRuntime) {
