@@ -21,7 +21,7 @@ fn explains_a_bad_line(rt: HostRuntime) {
 /// Words whose faults no parser of words finds, and files that are not there.
 #[test]
 fn tells_of_files_and_numbers(rt: HostRuntime) {
-    let rows: [(&[&[u8]], u8, &[u8]); 6] = [
+    let rows: [(&[&[u8]], u8, &[u8]); 8] = [
         (
             &[b"vmbind", b"run", b"no/such/file"],
             3,
@@ -38,7 +38,7 @@ fn tells_of_files_and_numbers(rt: HostRuntime) {
             b"vmbind: not an address\n",
         ),
         (
-            &[b"vmbind", b"replay", b"--format", b"xe"],
+            &[b"vmbind", b"replay", b"--format", b"msm"],
             2,
             b"vmbind: no such format\n",
         ),
@@ -56,6 +56,16 @@ fn tells_of_files_and_numbers(rt: HostRuntime) {
         ),
         (
             &[b"vmbind", b"replay", b"--format", b"radv"],
+            1,
+            b"vmbind: no line of this format\n",
+        ),
+        (
+            &[b"vmbind", b"replay", b"--format", b"xe"],
+            1,
+            b"vmbind: no line of this format\n",
+        ),
+        (
+            &[b"vmbind", b"replay", b"--format", b"i915"],
             1,
             b"vmbind: no line of this format\n",
         ),
