@@ -9,8 +9,8 @@ use std::alloc::{AllocError, Global};
 /// About how many mappings there are: none, few, as many as a block of the list holds, one more or less, and many blocks.
 pub const SIZES: [u64; 9] = [0, 1, 5, 64, 127, 129, 300, 1_000, 5_000];
 
-/// So many edits a batch has.
-const EDITS: usize = 200;
+/// So many edits a batch has. Each takes a frame of the stack until it is taken back.
+const EDITS: usize = 20;
 
 /// The middle of the pages: where three levels of tables have an edge.
 const MIDDLE: u64 = 1 << 30;

@@ -14,7 +14,7 @@ use std::io;
 use std::process::ExitCode;
 
 /// So many batches there are at each size.
-const BATCHES: u64 = 700;
+const BATCHES: u64 = 7_000;
 
 fn main(rt: HostRuntime) -> io::Result<ExitCode> {
     let mut passed = 0;
