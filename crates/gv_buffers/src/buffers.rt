@@ -67,6 +67,14 @@ impl Buffers {
         })
     }
 
+    /// Gives room back that neither an index needs nor a buffer.
+    pub fn shrink(&mut self)
+        ensures { self.new ≡ self.old }
+    {
+        self.slots.shrink_buffers();
+        self.slots.shrink();
+    }
+
     /// Why no buffer of `pages` pages can be made, whatever memory there is: `BadSize` at 0 pages or
     /// over 2^36, then `TooManyBuffers` where the limit's buffers are alive or 2^64 - 1 were made.
     pub fn create_fault(&self, pages: u64) -> Option<Fault>

@@ -67,6 +67,14 @@ impl LiveBuffer {
         self.places.make_room(self.uses, more)
     }
 
+    /// Gives room back that neither its places nor its users need.
+    pub fn shrink(&mut self)
+        ensures { (index : ℕ) → buffer_at index self.new ≡ buffer_at index self.old }
+    {
+        self.places.shrink();
+        self.users.shrink();
+    }
+
     /// `Mapped`, `Kept` or `InUse`, in this order, where something names the buffer.
     pub fn check_unused(&self) -> Result<(), Fault>
         ensures { MatchOption (use_fault (buffer_at 0 self.now))

@@ -42,6 +42,11 @@ impl Places {
         Ok(())
     }
 
+    /// Gives room back that no page needs.
+    pub fn shrink(&mut self) {
+        self.pages.shrink_to_fit();
+    }
+
     /// A mapping that begins at a page comes to so many others. It takes no memory: without room, the pages aren't known from here on.
     pub fn come(&mut self, page: u64, count: u64) {
         if count >= MOST || !self.are_known(count) || self.pages.len() == self.pages.capacity() {

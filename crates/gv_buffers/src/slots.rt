@@ -9,6 +9,8 @@ ghost use Rattle.gv_buffers.specs.Slots.{Holds, Updates, AreNoted, AreVacant};
 ghost use Rattle.gv_buffers.specs.Slots.{HasRoomForJob, IsUserIn, IsLeftOrSame};
 ghost use Rattle.gv_buffers.specs.Buffers.{count, raised, lowered, most_counted, joined_by, left_by};
 
+mod shrinking;
+
 use crate::counter::Counter;
 use crate::indices::{Indices, note};
 use crate::live_buffer::LiveBuffer;
@@ -58,6 +60,17 @@ impl Slots {
             Ok(index) => Ok(index),
             Err(_) => Err(Fault::OutOfMemory),
         }
+    }
+
+    /// Gives room back that no index needs: each may still be left without memory.
+    pub fn shrink(&mut self)
+        ensures entries { self.new.entries.items ≡ self.old.entries.items }
+        ensures vacant { self.new.vacant.items ≡ self.old.vacant.items }
+        ensures kept { length self.old.entries.items ≤ vec_capacity self.old.vacant
+            → length self.new.entries.items ≤ vec_capacity self.new.vacant }
+    {
+        self.entries.shrink_to_fit();
+        self.vacant.shrink_to(self.entries.len());
     }
 
     /// The index of the next buffer.

@@ -59,6 +59,13 @@ impl Users {
         self.list.iter().position(|user| user.job == job)
     }
 
+    /// Gives room back that no user needs.
+    pub fn shrink(&mut self)
+        ensures { self.new.list.items ≡ self.old.list.items }
+    {
+        self.list.shrink_to_fit();
+    }
+
     /// Adds the job, for which there is room, or makes its usage the stronger one.
     pub fn join(&mut self, job: u64, usage: Usage)
         requires { IsNone (position (λ user. user.job == job) self.old.list.items)

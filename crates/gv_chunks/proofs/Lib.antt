@@ -10,4 +10,5 @@ pub mod SumLemmas
 pub mod IndexLemmas
 pub mod PartsLemmas
 pub mod GapLemmas
+pub mod ShrinkLemmas
 pub mod MovedLemmas

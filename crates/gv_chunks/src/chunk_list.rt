@@ -1,6 +1,7 @@
 //! A list of mappings in chunks.
 ghost use Rattle.std.specs.Prelude.{◌≡◌, ◌+◌, ◌*◌, ◌<◌, ◌≤◌, [], length, take, drop, max, slice_index_or, OnOk, OnErr};
 ghost use Rattle.gv_types.specs.declared.mapping.Mapping.{Mapping};
+ghost use Rattle.gv_chunks.specs.declared.TheConstants.{CHUNK};
 
 use crate::CHUNK;
 use crate::parts::Parts;
@@ -133,6 +134,14 @@ impl ChunkList {
         let whole = need.div_ceil(CHUNK / 2).saturating_mul(CHUNK / 2);
         let wanted = need.max(whole.min(self.parts.room.saturating_mul(2)));
         self.parts.grow(wanted)
+    }
+
+    /// Gives room back: it has room for just its mappings then, or for one more than a chunk holds.
+    pub fn shrink(&mut self)
+        ensures items { self.new.items ≡ self.old.items }
+        ensures room { self.new.room ≤ max (length self.old.items) (CHUNK + 1) }
+    {
+        self.parts.shrink();
     }
 
     /// Replaces `out_count` mappings from `index` on by `pieces`. It takes no memory: the room has

@@ -83,6 +83,52 @@ impl Parts {
         Ok(())
     }
 
+    /// The least room of a list of so many mappings in so many chunks: for just these, and where more than one chunk stands, for one more
+    /// than a chunk holds at least.
+    fn least_room(&self) -> usize
+        requires { AreParts self.now }
+        ensures fits { self.now.len ≤ result }
+        ensures short { result ≤ CHUNK → self.now.standing ≤ 1 }
+        ensures most { result ≤ max self.now.len (CHUNK + 1) }
+        ensures within { result ≤ self.now.room }
+    {
+        if self.standing > 1 {
+            self.len.max(CHUNK + 1)
+        } else {
+            self.len
+        }
+    }
+
+    /// How many chunks it has to have for so much room: none for none.
+    fn least_chunks(&self, room: usize) -> usize
+        ensures standing { self.now.standing ≤ result }
+        ensures some { 0 < room → 0 < result }
+        ensures enough { CHUNK < room → 2 * room + 3 * CHUNK ≤ CHUNK * result }
+    {
+        if room == 0 {
+            return self.standing;
+        }
+        chunks_for(room).max(self.standing)
+    }
+
+    /// Gives back the chunks that hold nothing and of which a list of so many mappings needs none.
+    pub fn shrink(&mut self)
+        requires parts { AreParts self.old }
+        ensures items { items_of self.new ≡ items_of self.old }
+        ensures room { self.new.room ≤ max self.old.len (CHUNK + 1) }
+        ensures len { self.new.len ≡ self.old.len }
+        ensures parts { AreParts self.new }
+    {
+        let least = self.least_room();
+        let count = self.least_chunks(least);
+        self.chunks.truncate(count);
+        self.chunks.shrink_to_fit();
+        self.starts.shorten(count);
+        self.firsts.truncate(count);
+        self.firsts.shrink_to_fit();
+        self.room = least;
+    }
+
     /// The chunk of an index, and how many mappings stand before that chunk.
     pub fn spot(&self, index: usize) -> (usize, usize)
         requires parts { AreParts self.now }

@@ -1,5 +1,5 @@
 //! How many mappings stand before each chunk.
-ghost use Rattle.std.specs.Prelude.{◌≡◌, ◌≢◌, ◌+◌, ◌-◌, ◌<◌, ◌≤◌, ◌^◌, ℕ, [], length, slice_index_or, OnOk};
+ghost use Rattle.std.specs.Prelude.{◌≡◌, ◌≢◌, ◌+◌, ◌-◌, ◌<◌, ◌≤◌, ◌^◌, ℕ, [], length, min, slice_index_or, OnOk};
 
 use crate::BLOCK;
 use crate::index::{add, pad};
@@ -46,6 +46,17 @@ impl Starts {
     {
         pad(&mut self.bases, count.div_ceil(BLOCK), 0)?;
         pad(&mut self.numbers, count, 0)
+    }
+
+    /// Lets all but the first `count` numbers go, and gives their room back.
+    pub fn shorten(&mut self, count: usize)
+        ensures len { length self.new ≡ min count (length self.old) }
+        ensures kept { (k d : ℕ) → k < count → k < length self.old → slice_index_or self.new k d ≡ slice_index_or self.old k d }
+    {
+        self.bases.truncate(count.div_ceil(BLOCK));
+        self.bases.shrink_to_fit();
+        self.numbers.truncate(count);
+        self.numbers.shrink_to_fit();
     }
 
     /// How many mappings stand before a chunk.

@@ -2,6 +2,7 @@
 ghost use Rattle.std.specs.Prelude.{◌≡◌, ◌+◌, ◌*◌, ◌<◌, ◌≤◌, [], length, take, drop, slice_index_or};
 ghost use Rattle.std.specs.Prelude.{max, MatchOption, None, Some, OnOk, OnErr};
 ghost use Rattle.gv_types.specs.declared.mapping.Mapping.{Mapping};
+ghost use Rattle.gv_chunks.specs.declared.TheConstants.{CHUNK};
 
 use crate::chunk_search::{chunk_near_page, entry_in, first_behind_of, overlapping_in};
 use crate::run::Run;
@@ -133,6 +134,14 @@ impl RangeList {
         ensures { IsOverlappingRun self.now.mappings range result.0 result.1 }
     {
         overlapping_in(self.list.chunks(), self.list.near(), range)
+    }
+
+    /// Gives room back that no mapping needs: it has room for just its mappings then, or for a little more than a block of memory holds.
+    pub fn shrink(&mut self)
+        ensures mappings { self.new.mappings ≡ self.old.mappings }
+        ensures room { self.new.room ≤ max (length self.old.mappings) (CHUNK + 1) }
+    {
+        self.list.shrink();
     }
 
     /// Replaces `out_count` mappings from `index` on by `pieces`. It takes no memory: the room has

@@ -2,6 +2,7 @@
 ghost use Rattle.std.specs.Prelude.{◌≡◌, ◌≢◌, ◌+◌, ◌*◌, ◌<◌, ◌≤◌, ℕ, [], length, List, max, Some, slice_get};
 ghost use Rattle.std.specs.Prelude.{IfOk, IsOkUnless, OnOk, OnErr};
 ghost use Rattle.gv_types.specs.declared.mapping.BufferId.{BufferId};
+ghost use Rattle.gv_chunks.specs.declared.TheConstants.{CHUNK};
 ghost use Rattle.gv_table.specs.Names.{most_names, AreNamed};
 ghost use Rattle.gv_space.specs.Mapped.{list_of, AreApart};
 ghost use Rattle.std.specs.List.{splice};
@@ -106,6 +107,16 @@ impl ListWithTable {
             ≤ max (2 * self.old.room) (length self.old.mappings + more) }
     {
         self.list.reserve(more)
+    }
+
+    /// Gives room back that neither list nor table needs, and the tables that are kept.
+    pub fn shrink(&mut self)
+        ensures state { self.new ≡ record self.old { room = self.new.room } }
+        ensures room { self.new.room ≤ max (length self.old.mappings) (CHUNK + 1) }
+    {
+        self.list.shrink();
+        self.table.shrink();
+        self.pool.clear();
     }
 
     /// Keeps tables that are in no tree for later. It takes no memory.

@@ -1,8 +1,9 @@
 //! The address space.
-ghost use Rattle.std.specs.Prelude.{◌≡◌, ◌+◌, ◌<◌, ◌++◌, if◌then◌else◌, ℕ, IsTrue, List, length};
+ghost use Rattle.std.specs.Prelude.{◌≡◌, ◌+◌, ◌<◌, ◌++◌, if◌then◌else◌, ℕ, IsTrue, List, length, max, ◌≤◌};
 ghost use Rattle.std.specs.Prelude.{IfOk, IsOk, IsOkUnless, OnOk, OnErr, MatchOption};
 ghost use Rattle.std.specs.List.{All, splice};
 ghost use Rattle.gv_types.specs.Page.{IsPage};
+ghost use Rattle.gv_chunks.specs.declared.TheConstants.{CHUNK};
 ghost use Rattle.gv_types.specs.PageRange.{covers};
 ghost use Rattle.gv_types.specs.Operation.{has_range, in_pages, own_mapping, range_of, after, IsPageOp};
 ghost use Rattle.gv_types.specs.declared.mapping.Mapping.{Mapping};
@@ -263,6 +264,16 @@ impl Space {
         self.mapped
             .put_back(range, index, put_in, taken.as_slice(), tables);
         self.kept_count -= taken.len() as u64;
+    }
+
+    /// Gives room back that nothing held needs: list, tables, ids and buffers. An undo value that is kept may not fit then, since its room may
+    /// be gone.
+    pub fn trim(&mut self)
+        ensures state { self.new ≡ record self.old { room = self.new.room } }
+        ensures room { self.new.room ≤ max (length self.old.mappings) (CHUNK + 1) }
+    {
+        self.mapped.shrink();
+        self.buffers.shrink();
     }
 
     /// Gives up the mappings that an undo value keeps: the change stays. It takes no memory.

@@ -91,6 +91,13 @@ impl PageTable {
         self.names[id.index as usize] = id;
     }
 
+    /// Gives room for names back that no index needs.
+    pub fn shrink(&mut self)
+        ensures { self.new ≡ self.old }
+    {
+        self.names.shrink_to_fit();
+    }
+
     /// What a page holds: at most five steps from table to table. None past the end of the address
     /// space.
     pub fn walk(&self, page: u64) -> Option<Entry>

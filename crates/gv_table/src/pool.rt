@@ -77,6 +77,13 @@ impl Pool {
         }
     }
 
+    /// Gives all back to the system that it keeps.
+    pub fn clear(&mut self)
+        ensures { self.new ≡ 0 }
+    {
+        self.shrink(0);
+    }
+
     /// Gives back to the system what it keeps beyond `most`.
     fn shrink(&mut self, most: u64)
         ensures { self.new ≡ min most self.old }
