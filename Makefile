@@ -126,9 +126,11 @@ install: lib
 
 # The tests of the C library. They stand beside the gate, and `make test` doesn't call them: a build of the library proves its crates
 # once more. With ./vmbind there (make), scripts by chance are compared with what it writes. The last line is 'N passed, M failed'.
+# BINDS are the binds of a run in flat memory, and the lines of a dialogue with ./vmbind.
 SCRIPTS ?= 200
+BINDS ?= 1000000
 capi-test: lib
-	@CC="$(CC)" CXX="$(CXX)" SEED=$(SEED) SCRIPTS=$(SCRIPTS) tools/capi-test
+	@CC="$(CC)" CXX="$(CXX)" SEED=$(SEED) SCRIPTS=$(SCRIPTS) BINDS=$(BINDS) tools/capi-test
 
 # Times of calls from C and from Python. The figures are of this machine.
 capi-measure: lib

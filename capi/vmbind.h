@@ -91,7 +91,8 @@ enum {
   VMBIND_TOUCHED = 20,           /* the live later entry `number` covers one of its pages */
   VMBIND_CROSSED = 21,           /* the later entry `number` withdraws one that would be settled */
   VMBIND_OUT_OF_TURN = 22,       /* never answered here: it is a fault of the library's own users */
-  VMBIND_QUEUE_SPENT = 23,       /* as many requests were put on the queue as the limit `told` says: it never takes one again */
+  VMBIND_QUEUE_SPENT = 23,       /* as many outcomes that the queue was told, and requests that wait there, are held as the limit `told`
+                                  * says: vmbind_forget makes room. Or the queue was told 2^63: it never takes one again */
   VMBIND_UNMAPPED = 24,          /* access `number` is of a page that holds nothing */
   VMBIND_WRITE_TO_READ_ONLY = 25,/* access `number` writes a page that is read-only */
   VMBIND_QUEUE_FULL = 26,        /* as many requests wait on the queue as it has places */
@@ -100,6 +101,9 @@ enum {
   VMBIND_NO_JOB = 31,            /* no such job runs */
   VMBIND_QUEUE_GONE = 32,        /* never answered here, as OUT_OF_TURN */
   VMBIND_OUT_OF_MEMORY = 33,     /* malloc refused memory */
+  VMBIND_NO_OUTCOME = 34,        /* the number is that of no outcome that is still told, nor the next one */
+  VMBIND_HELD = 35,              /* entry `number` is held, and was told an outcome that would be forgotten, or what it could bring back needs
+                                  * the room that would be given back: vmbind_settle or vmbind_rewind lets the entry go */
 
   VMBIND_BAD_ARGUMENT = 64,      /* a kind, a flag, a queue or a timeline that there is not; counts that should be equal and
                                   * aren't; limits or bounds of no address space */
@@ -119,7 +123,7 @@ struct vmbind_config {
   uint64_t buffers;    /* live buffers: 65,536 */
   uint64_t mappings;   /* mappings in the list: 1,048,576 */
   uint64_t items;      /* entries that the journal holds, withdrawals too: 65,536 */
-  uint64_t told;       /* requests that are put on a queue in its life: 65,536 */
+  uint64_t told;       /* outcomes that a queue was told and that aren't forgotten, and requests that wait there, in all: 65,536 */
   uint64_t queues;     /* queues, which have the numbers below it: 16 */
   uint64_t depth;      /* places of a queue for requests, without the one that was looked at and waits: 65,536 */
   uint64_t timelines;  /* timelines, which have the numbers below it: 64 */
@@ -247,10 +251,17 @@ vmbind_status vmbind_serve(struct vmbind_vm *vm, uint64_t queue, uint32_t flags,
 
 /* What the requests of a queue came to, in the order of their numbers: as many as `list` has room for, from number `from` on.
  * *count is how many were written, and *total how many were told; that is the number of the request that is next. Kinds are
- * ACCEPTED, REFUSED and GIVEN_UP.
+ * ACCEPTED, REFUSED and GIVEN_UP. Where `from` is the number of one that is forgotten, they begin with the first that isn't; *total
+ * counts forgotten ones too.
  *   VMBIND_BAD_ARGUMENT   no such queue */
 vmbind_status vmbind_told(struct vmbind_vm *vm, uint64_t queue, uint64_t from, struct vmbind_outcome *list, size_t room,
                           uint64_t *count, uint64_t *total);
+
+/* Lets go of the outcomes of a queue whose numbers are below `to`, so that it may be told as many more. Numbers go on. It takes no
+ * memory. *number is how many went; for VMBIND_HELD the least entry that is held and has a number below `to` on the queue; else 0.
+ *   VMBIND_NO_OUTCOME     `to` is below the first number still told, or above the next one, or `queue` is 16 or more; the next number of
+ *                         a queue below 16 that there is not is 0. Then VMBIND_HELD */
+vmbind_status vmbind_forget(struct vmbind_vm *vm, uint64_t queue, uint64_t to, uint64_t *number);
 
 /* -- Timelines ------------------------------------------------------------------------------------------------------------- */
 
@@ -279,6 +290,12 @@ vmbind_status vmbind_withdraw(struct vmbind_vm *vm, uint64_t entry, uint64_t *nu
  * went; for VMBIND_CROSSED the least later entry that withdraws one of them; else 0.
  *   VMBIND_NO_ENTRY       `to` is below the oldest entry held, or above the number of the next one; then VMBIND_CROSSED */
 vmbind_status vmbind_settle(struct vmbind_vm *vm, uint64_t to, uint64_t *number);
+
+/* Gives memory back that nothing needs any more: list, page table, buffers, journal, jobs and what queues were told take room for what
+ * they hold then. Nothing else changes, and nothing else that a call answers. It never answers VMBIND_OUT_OF_MEMORY: where malloc or
+ * realloc refuses a smaller block, the larger one stays. *number is 0; for VMBIND_HELD the least entry that is held.
+ *   VMBIND_HELD           an entry is held, and what it could bring back needs its room */
+vmbind_status vmbind_trim(struct vmbind_vm *vm, uint64_t *number);
 
 /* The entries that the journal holds are those from *first on, below *next. */
 vmbind_status vmbind_journal(struct vmbind_vm *vm, uint64_t *first, uint64_t *next);
@@ -445,6 +462,8 @@ static inline const char *vmbind_status_name(vmbind_status status) {
     case VMBIND_NO_JOB: return "NoJob";
     case VMBIND_QUEUE_GONE: return "QueueGone";
     case VMBIND_OUT_OF_MEMORY: return "OutOfMemory";
+    case VMBIND_NO_OUTCOME: return "NoOutcome";
+    case VMBIND_HELD: return "Held";
     case VMBIND_BAD_ARGUMENT: return "BadArgument";
     case VMBIND_NO_VM: return "NoVm";
     case VMBIND_NOT_NULL: return "NotNull";

@@ -160,10 +160,20 @@ public:
     came.status = vmbind_serve(&vm_, queue, give_up ? std::uint32_t{VMBIND_GIVE_UP} : 0u, &came.told);
     return came;
   }
-  std::vector<outcome> told(std::uint64_t queue = 0) const {
-    return listed<outcome>([&](outcome *list, std::size_t room, std::uint64_t *count, std::uint64_t *total) {
-      return vmbind_told(&vm_, queue, 0, list, room, count, total);
-    });
+  std::vector<outcome> told(std::uint64_t queue = 0) const {   // those that aren't forgotten
+    outcome first{};
+    std::uint64_t count = 0, total = 0;
+    ok(vmbind_told(&vm_, queue, 0, &first, 1, &count, &total));
+    if (count == 0) return {};
+    std::vector<outcome> list(static_cast<std::size_t>(total - first.number));
+    ok(vmbind_told(&vm_, queue, first.number, list.data(), list.size(), &count, &total));
+    return list;
+  }
+  std::uint64_t forget(std::uint64_t queue, std::uint64_t to) {
+    std::uint64_t number = 0;
+    vmbind_status status = vmbind_forget(&vm_, queue, to, &number);
+    ok(status, number);
+    return number;
   }
 
   std::uint64_t raise(std::uint64_t timeline, std::uint64_t value) {
@@ -193,6 +203,19 @@ public:
     vmbind_status status = vmbind_settle(&vm_, to, &number);
     ok(status, number);
     return number;
+  }
+  // Settles each entry and forgets each outcome, so that an endless run holds no more than it still needs: how many entries settled.
+  std::uint64_t settle_all() {
+    const std::uint64_t settled = settle(journal().second);
+    std::uint64_t count = 0, total = 0;
+    for (std::uint64_t queue = 0; vmbind_told(&vm_, queue, 0, nullptr, 0, &count, &total) == VMBIND_OK; queue++) forget(queue, total);
+    return settled;
+  }
+  // Gives memory back that nothing needs, once no entry is held.
+  void trim() {
+    std::uint64_t number = 0;
+    vmbind_status status = vmbind_trim(&vm_, &number);
+    ok(status, number);
   }
   std::pair<std::uint64_t, std::uint64_t> journal() const {   // from the first on, below the second
     std::pair<std::uint64_t, std::uint64_t> held{};

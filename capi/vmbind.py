@@ -21,7 +21,8 @@ NAMES = {
     9: "TooManyBuffers", 10: "Mapped", 11: "Kept", 12: "InUse", 13: "Conflict", 14: "TooManyMappings", 15: "TooManyOps",
     16: "JournalFull", 17: "NoEntry", 18: "NotABind", 19: "Withdrawn", 20: "Touched", 21: "Crossed", 22: "OutOfTurn",
     23: "QueueSpent", 24: "Unmapped", 25: "WriteToReadOnly", 26: "QueueFull", 29: "TooManyJobs", 30: "TooManyAccesses",
-    31: "NoJob", 32: "QueueGone", 33: "OutOfMemory", 64: "BadArgument", 65: "NoVm", 66: "NotNull", 67: "Idle", 68: "NotReady",
+    31: "NoJob", 32: "QueueGone", 33: "OutOfMemory", 34: "NoOutcome", 35: "Held", 64: "BadArgument", 65: "NoVm", 66: "NotNull", 67: "Idle",
+    68: "NotReady",
 }
 # Kinds of outcomes, of places and mappings, of entries and of steps, as in the header.
 NOT_PUT, ACCEPTED, REFUSED, GIVEN_UP, PENDING = range(5)
@@ -247,7 +248,7 @@ class Withdrawn(Refused): """The entry is withdrawn already."""
 class Touched(Refused): """The live later entry `n` covers one of its pages."""
 class Crossed(Refused): """The later entry `n` withdraws one that would be settled."""
 class OutOfTurn(Refused): """Never raised here: a fault of the library's own users."""
-class QueueSpent(Refused): """The queue takes no request any more."""
+class QueueSpent(Refused): """As many outcomes and waiting requests are held on the queue as the limit says."""
 class Unmapped(Refused): """Access `n` is of a page that holds nothing."""
 class WriteToReadOnly(Refused): """Access `n` writes a page that is read-only."""
 class QueueFull(Refused): """As many requests wait on the queue as it has places."""
@@ -256,6 +257,8 @@ class TooManyAccesses(Refused): """A job of over 256 accesses."""
 class NoJob(Refused): """No such job runs."""
 class QueueGone(Refused): """Never raised here, as OutOfTurn."""
 class OutOfMemory(Refused): """The system refused memory. Nothing changed."""
+class NoOutcome(Refused): """The number is that of no outcome that is still told, nor the next one."""
+class Held(Refused): """Entry `n` is held, and was told an outcome that would be forgotten, or needs the room that would be given back."""
 class BadArgument(Refused): """A kind, a flag, a queue or a timeline that there is not, or limits or bounds of no address space."""
 class NoVm(Refused): """The Vm was closed."""
 class NotNull(Refused): """Never raised here: of a handle of C's."""
@@ -295,11 +298,13 @@ _bind = _declare("bind", _to(_Request), _to(Outcome))
 _submit = _declare("submit", _to(_Request), _to(_u64))
 _serve = _declare("serve", _u64, _u32, _to(Outcome))
 _told = _declare("told", _u64, _u64, c.c_void_p, _size, _to(_u64), _to(_u64))
+_forget = _declare("forget", _u64, _u64, _to(_u64))
 _timeline_raise = _declare("timeline_raise", _u64, _u64, _to(_u64))
 _timeline_value = _declare("timeline_value", _u64, _to(_u64))
 _rewind = _declare("rewind", _to(_u64))
 _withdraw = _declare("withdraw", _u64, _to(_u64))
 _settle = _declare("settle", _u64, _to(_u64))
+_trim = _declare("trim", _to(_u64))
 _journal = _declare("journal", _to(_u64), _to(_u64))
 _entry = _declare("entry", _u64, _to(_Info), c.c_void_p, _size, _to(_u64))
 _translate = _declare("translate", _u64, c.c_void_p)
@@ -461,8 +466,16 @@ class Vm:
         return self._told_of(_serve(self._vm, _number(queue), int(give_up), outcome), outcome)
 
     def told(self, queue: int = 0, start: int = 0) -> List[Outcome]:
-        """The Outcomes of a queue's requests, from one number on."""
-        return self._listed(Outcome, _told, _number(queue), _number(start), start=start)
+        """The Outcomes of a queue's requests that aren't forgotten, from one number on."""
+        first, count, total = Outcome(), _u64(), _u64()
+        self._check(_told(self._vm, _number(queue), _number(start), _address_of(first), 1, count, total))
+        if not count.value:
+            return []
+        return self._listed(Outcome, _told, queue, first.number, start=first.number)
+
+    def forget(self, queue: int, to: int) -> int:
+        """Lets go of the outcomes of a queue whose numbers are below this one. How many."""
+        return self._counted(_forget, _number(queue), _number(to))
 
     # Timelines
 
@@ -486,6 +499,30 @@ class Vm:
     def settle(self, to: int) -> int:
         """Lets go of the entries below a number. How many."""
         return self._counted(_settle, _number(to))
+
+    def settle_all(self) -> int:
+        """Settles what can be settled and forgets what can be forgotten, so that an endless run holds no more than it still needs:
+        entries and outcomes until now. How many entries were settled. Another thread may settle, rewind or forget between two calls."""
+        queues: List[int] = []   # the next number on each
+        count, total = _u64(), _u64()
+        while _told(self._vm, len(queues), 0, None, 0, count, total) == OK:
+            queues.append(total.value)
+        while True:
+            try:
+                settled = self.settle(self.journal().stop)
+                break
+            except (NoEntry, Crossed):
+                pass   # the journal changed in between
+        for queue, to in enumerate(queues):
+            try:
+                self.forget(queue, to)
+            except NoOutcome:
+                pass   # more are forgotten already
+        return settled
+
+    def trim(self) -> None:
+        """Gives memory back that nothing needs, once no entry is held."""
+        self._counted(_trim)
 
     def journal(self) -> range:
         """The range of the entries that are held."""

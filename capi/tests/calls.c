@@ -37,11 +37,13 @@ static void on_empty(struct vmbind_vm *vm) {
   SPOIL(outcome); CALL(NO_VM, serve, vm, 0, 0, &outcome); ZERO(outcome);
   SPOIL(outcomes); SPOIL(a); SPOIL(b); CALL(NO_VM, told, vm, 0, 0, outcomes, 2, &a, &b); ZERO(a); ZERO(b);
   CHECK(is_stale(outcomes, sizeof outcomes));
+  SPOIL(a); CALL(NO_VM, forget, vm, 0, 0, &a); ZERO(a);
   SPOIL(a); CALL(NO_VM, timeline_raise, vm, 0, 1, &a); ZERO(a);
   SPOIL(a); CALL(NO_VM, timeline_value, vm, 0, &a); ZERO(a);
   SPOIL(a); CALL(NO_VM, rewind, vm, &a); ZERO(a);
   SPOIL(a); CALL(NO_VM, withdraw, vm, 0, &a); ZERO(a);
   SPOIL(a); CALL(NO_VM, settle, vm, 0, &a); ZERO(a);
+  SPOIL(a); CALL(NO_VM, trim, vm, &a); ZERO(a);
   SPOIL(a); SPOIL(b); CALL(NO_VM, journal, vm, &a, &b); ZERO(a); ZERO(b);
   SPOIL(info); SPOIL(ops); SPOIL(a); CALL(NO_VM, entry, vm, 0, &info, ops, 2, &a); ZERO(info); ZERO(a);
   CHECK(is_stale(ops, sizeof ops));
@@ -438,6 +440,143 @@ static void queues(void) {
   CALL(OK, destroy, &vm);
 }
 
+/* What is left of a queue's outcomes: `count` of them, from number `first` on. */
+static void still_told(struct vmbind_vm *vm, uint64_t queue, uint64_t first, uint64_t count) {
+  struct vmbind_outcome list[8];
+  uint64_t written, total;
+  SPOIL(list);
+  CALL(OK, told, vm, queue, 0, list, 8, &written, &total);
+  CHECK(written == count && total == first + count && is_stale(list + count, (8 - count) * sizeof *list));
+  for (uint64_t k = 0; k < count; k++) CHECK(list[k].number == first + k);
+}
+
+/* A queue that holds three outcomes and requests that wait. */
+static void forgetting(void) {
+  struct vmbind_config config = greatest;
+  config.queues = 2;
+  config.told = 3;
+  struct vmbind_vm vm = made(config);
+  struct vmbind_outcome o, list[8];
+  struct vmbind_op op = map_zero(0, PAGE), bad = map_zero(1, PAGE);
+  struct vmbind_point five = { 3, 5 };
+  struct vmbind_request good = asks(1, &op, 1), refused = asks(1, &bad, 1), waits = { 1, &op, 1, &five, 1, NULL, 0 }, other = asks(0, &op, 1);
+  uint64_t n, count, total, first, next;
+  SPOIL(n);
+  CALL(OK, forget, &vm, 1, 0, &n);
+  CHECK(n == 0);
+  const struct { uint64_t queue, to; } none[] = { { 1, 1 }, { 1, UINT64_MAX }, { 2, 1 }, { 16, 0 }, { UINT64_MAX, 0 } };
+  for (size_t k = 0; k < COUNT(none); k++) {
+    SPOIL(n);
+    CALL(NO_OUTCOME, forget, &vm, none[k].queue, none[k].to, &n);
+    CHECK(n == 0);
+  }
+  CALL(OK, bind, &vm, &good, &o);
+  CALL(UNALIGNED, bind, &vm, &refused, &o);
+  CALL(OK, bind, &vm, &good, &o);
+  CALL(OK, bind, &vm, &other, &o);
+  CHECK(o.entry == 2);
+  CALL(QUEUE_SPENT, bind, &vm, &good, &o);
+  /* outcomes of entries that are held stay */
+  SPOIL(n);
+  CALL(HELD, forget, &vm, 1, 3, &n);
+  CHECK(n == 0);
+  CALL(OK, settle, &vm, 1, &n);
+  CALL(HELD, forget, &vm, 1, 3, &n);
+  CHECK(n == 1);
+  CALL(NO_OUTCOME, forget, &vm, 1, 4, &n);   /* before VMBIND_HELD */
+  CHECK(n == 0);
+  still_told(&vm, 1, 0, 3);
+  CALL(OK, forget, &vm, 1, 2, &n);           /* the one that is settled, and the one that was refused */
+  CHECK(n == 2);
+  still_told(&vm, 1, 2, 1);
+  CALL(OK, forget, &vm, 1, 2, &n);
+  CHECK(n == 0);
+  CALL(NO_OUTCOME, forget, &vm, 1, 1, &n);
+  CALL(NO_OUTCOME, forget, &vm, 1, 0, &n);
+  CALL(OK, journal, &vm, &first, &next);
+  CHECK(first == 1 && next == 3);
+  /* there is room for two, of which one waits; numbers go on */
+  CALL(OK, bind, &vm, &good, &o);
+  CHECK(o.kind == VMBIND_ACCEPTED && o.number == 3 && o.entry == 3);
+  CALL(NOT_READY, bind, &vm, &waits, &o);
+  CHECK(o.number == 4);
+  CALL(QUEUE_SPENT, bind, &vm, &good, &o);
+  CALL(QUEUE_SPENT, submit, &vm, &good, &n);
+  CALL(NO_OUTCOME, forget, &vm, 1, 5, &n);   /* the one that waits was told nothing */
+  CALL(NOT_READY, serve, &vm, 1, VMBIND_GIVE_UP, &o);
+  CHECK(o.kind == VMBIND_GIVEN_UP && o.number == 4);
+  CALL(QUEUE_SPENT, bind, &vm, &good, &o);
+  still_told(&vm, 1, 2, 3);
+  SPOIL(list);
+  CALL(OK, told, &vm, 1, 1, list, 1, &count, &total);   /* from one that is forgotten */
+  CHECK(count == 1 && total == 5 && list[0].number == 2 && list[0].entry == 1 && is_stale(list + 1, 7 * sizeof *list));
+  SPOIL(list);
+  CALL(OK, told, &vm, 1, 3, list, 8, &count, &total);
+  CHECK(count == 2 && total == 5 && list[0].number == 3 && list[1].kind == VMBIND_GIVEN_UP && is_stale(list + 2, 6 * sizeof *list));
+  CALL(OK, told, &vm, 1, UINT64_MAX, list, 8, &count, &total);
+  CHECK(count == 0 && total == 5);
+  /* what was taken back is held no more, and stays told until it is forgotten */
+  CALL(OK, rewind, &vm, &n);
+  still_told(&vm, 1, 2, 3);
+  CALL(HELD, forget, &vm, 1, 5, &n);
+  CHECK(n == 1);
+  CALL(OK, settle, &vm, 2, &n);
+  CALL(OK, forget, &vm, 1, 5, &n);
+  CHECK(n == 3);
+  still_told(&vm, 1, 5, 0);
+  still_told(&vm, 0, 0, 1);
+  CALL(HELD, forget, &vm, 0, 1, &n);
+  CHECK(n == 2);
+  CALL(OK, bind, &vm, &good, &o);
+  CHECK(o.number == 5 && o.entry == 3);
+  still_told(&vm, 1, 5, 1);
+  CALL(OK, mappings, &vm, 0, NULL, 0, &count, &total);
+  CHECK(total == 1);
+  CALL(OK, destroy, &vm);
+}
+
+/* Room is given back once no entry is held, and nothing else is seen of it. */
+static void trimming(void) {
+  struct vmbind_vm vm = made(greatest);
+  struct vmbind_buffer buffer;
+  struct vmbind_outcome o;
+  struct vmbind_translation t;
+  uint64_t n;
+  SPOIL(n);
+  CALL(OK, trim, &vm, &n);
+  CHECK(n == 0);
+  CALL(OK, buffer_create, &vm, 4, &buffer);
+  const struct vmbind_op all = map(0, 4 * PAGE, buffer, 0), one = unmap(PAGE, PAGE);
+  struct vmbind_request request = asks(0, &all, 1);
+  for (int k = 0; k < 3; k++) CALL(OK, bind, &vm, &request, &o);
+  SPOIL(n);
+  CALL(HELD, trim, &vm, &n);
+  CHECK(n == 0);
+  CALL(OK, settle, &vm, 2, &n);
+  SPOIL(n);
+  CALL(HELD, trim, &vm, &n);
+  CHECK(n == 2);
+  CALL(OK, settle, &vm, 3, &n);
+  SPOIL(n);
+  CALL(OK, trim, &vm, &n);
+  CHECK(n == 0);
+  still_told(&vm, 0, 0, 3);
+  request = asks(1, &one, 1);
+  CALL(OK, bind, &vm, &request, &o);
+  CHECK(o.number == 0 && o.entry == 3);
+  CALL(OK, translate, &vm, PAGE, &t);
+  CHECK(t.kind == VMBIND_NOTHING);
+  CALL(HELD, trim, &vm, &n);
+  CHECK(n == 3);
+  CALL(OK, rewind, &vm, &n);
+  CALL(OK, trim, &vm, &n);
+  CALL(OK, walk, &vm, PAGE, &t);
+  CHECK(t.kind == VMBIND_BUFFER && same_buffer(t.buffer, buffer) && t.byte == PAGE);
+  CALL(OK, translate, &vm, PAGE, &t);
+  CHECK(t.kind == VMBIND_BUFFER && same_buffer(t.buffer, buffer) && t.byte == PAGE && t.run == 3 * PAGE);
+  CALL(OK, destroy, &vm);
+}
+
 static void going_back(void) {
   struct vmbind_config config = greatest;
   config.items = 5;
@@ -670,6 +809,8 @@ int main(void) {
   operations();
   picture();
   queues();
+  forgetting();
+  trimming();
   going_back();
   asking_the_past();
   buffers_and_jobs();

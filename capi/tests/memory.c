@@ -1,7 +1,8 @@
 /* Each request for memory refused in turn, in a row of calls: a call that wants memory changes nothing, is made again and then comes
- * to the same; and once all memory is refused, what takes none still works. Nothing is lost. Linked with
- * --wrap=malloc,--wrap=realloc,--wrap=free. */
+ * to the same; and once all memory is refused, what takes none still works. Nothing is lost, and what is not needed any more is given
+ * back by a trim. Linked with --wrap=malloc,--wrap=realloc,--wrap=free. */
 #include "check.h"
+#include <malloc.h>
 
 #define PAGE VMBIND_PAGE
 #define COUNT(list) (sizeof(list) / sizeof *(list))
@@ -9,6 +10,7 @@
 static long left = -1;   /* so many requests until one is refused; none below 0 */
 static int for_good;     /* then all are refused */
 static long asked, held;
+static size_t bytes;     /* of the blocks that are held */
 
 void *__real_malloc(size_t);
 void *__real_realloc(void *, size_t);
@@ -27,17 +29,21 @@ static int refused(void) {
 void *__wrap_malloc(size_t size) {
   void *at = refused() ? NULL : __real_malloc(size);
   held += at != NULL;
+  bytes += malloc_usable_size(at);
   return at;
 }
 
 void *__wrap_realloc(void *old, size_t size) {
+  const size_t before = malloc_usable_size(old);
   void *at = refused() ? NULL : __real_realloc(old, size);
   held += at && !old;
+  if (at) bytes += malloc_usable_size(at) - before;
   return at;
 }
 
 void __wrap_free(void *at) {
   held -= at != NULL;
+  bytes -= malloc_usable_size(at);
   __real_free(at);
 }
 
@@ -80,22 +86,25 @@ static void look(struct vmbind_vm *vm, struct seen *s) {
   CHECK(asked == before);   /* looking takes no memory */
 }
 
-enum doing { MAKE, BIND, PUT, SERVE, GIVE_UP, RAISE, REWIND, WITHDRAW, SETTLE, JOB, END, PLAN, PAST, DESTROY, DOINGS };
+enum doing { MAKE, BIND, PUT, SERVE, GIVE_UP, RAISE, REWIND, WITHDRAW, SETTLE, FORGET, TRIM, JOB, END, PLAN, PAST, DESTROY, DOINGS };
 
 /* Which may want memory. */
 static const char grows[DOINGS] = { [MAKE] = 1, [BIND] = 1, [PUT] = 1, [SERVE] = 1, [GIVE_UP] = 1, [WITHDRAW] = 1, [JOB] = 1, [PLAN] = 1, [PAST] = 1 };
+/* A trim asks for smaller blocks, and does without. */
+static const char asks_for_less[DOINGS] = { [TRIM] = 1 };
 static char lacked[DOINGS], left_as[5];   /* and what a bind then was told */
 
 struct row { enum doing doing; uint64_t a, b; vmbind_status wanted; };
 
 /* BIND and PUT are of request `a` on queue `b`, which SERVE and GIVE_UP name too. MAKE makes buffer `a` of `b` pages. PAST lists
- * `b` entries of address `a`. */
+ * `b` entries of address `a`. FORGET is of queue `b`. TRIM says entry `a`. */
 static const struct row rows[] = {
+  { TRIM, 0, 0, VMBIND_OK },
   { MAKE, 0, 4096, VMBIND_OK }, { MAKE, 1, 600, VMBIND_OK }, { MAKE, 2, 4, VMBIND_OK }, { MAKE, 3, 4, VMBIND_OK },
   { MAKE, 4, 4, VMBIND_OK }, { MAKE, 5, 4, VMBIND_OK }, { MAKE, 6, 4, VMBIND_OK }, { MAKE, 7, 4, VMBIND_OK },
   { MAKE, 8, 4, VMBIND_OK }, { MAKE, 9, 4, VMBIND_OK },
   { BIND, 0, 0, VMBIND_OK }, { BIND, 1, 0, VMBIND_OK }, { BIND, 2, 0, VMBIND_OK }, { BIND, 3, 0, VMBIND_OK },
-  { BIND, 4, 0, VMBIND_OK }, { BIND, 5, 0, VMBIND_OUT_OF_BUFFER }, { PLAN, 0x20000000, 0x200000, VMBIND_OK },
+  { BIND, 4, 0, VMBIND_OK }, { BIND, 5, 0, VMBIND_OUT_OF_BUFFER }, { TRIM, 0, 0, VMBIND_HELD }, { PLAN, 0x20000000, 0x200000, VMBIND_OK },
   { PAST, 0x1000, 3, VMBIND_OK },
   { JOB, 0x1000, 0x20000000, VMBIND_OK }, { JOB, 0x2000, 0x5000, VMBIND_OK }, { BIND, 6, 0, VMBIND_OK },
   { WITHDRAW, 2, 0, VMBIND_OK }, { WITHDRAW, 0, 0, VMBIND_TOUCHED }, { REWIND, 6, 0, VMBIND_OK },
@@ -105,8 +114,11 @@ static const struct row rows[] = {
   { SERVE, 0, 1, VMBIND_NOT_READY }, { RAISE, 1, 5, VMBIND_OK }, { SERVE, 0, 1, VMBIND_OK },
   { GIVE_UP, 0, 1, VMBIND_NOT_READY }, { SERVE, 0, 1, VMBIND_OK }, { SERVE, 0, 1, VMBIND_OK },
   { SERVE, 0, 1, VMBIND_OK }, { SERVE, 0, 1, VMBIND_OK }, { SERVE, 0, 1, VMBIND_IDLE },
-  { END, 0, 0, VMBIND_OK }, { END, 0, 0, VMBIND_NO_JOB }, { SETTLE, 7, 0, VMBIND_OK }, { BIND, 9, 0, VMBIND_OK },
+  { END, 0, 0, VMBIND_OK }, { END, 0, 0, VMBIND_NO_JOB }, { SETTLE, 7, 0, VMBIND_OK },
+  { FORGET, 6, 0, VMBIND_OK }, { FORGET, 1, 1, VMBIND_HELD }, { BIND, 9, 0, VMBIND_OK },
   { DESTROY, 9, 0, VMBIND_OK }, { MAKE, 9, 7, VMBIND_OK }, { REWIND, 12, 0, VMBIND_OK },
+  { TRIM, 7, 0, VMBIND_HELD }, { SETTLE, 12, 0, VMBIND_OK }, { TRIM, 0, 0, VMBIND_OK }, { BIND, 1, 0, VMBIND_OK },
+  { BIND, 0, 0, VMBIND_OK }, { REWIND, 13, 0, VMBIND_OK }, { TRIM, 12, 0, VMBIND_HELD },
 };
 
 static vmbind_status ask(struct vmbind_vm *vm, const struct row *row, struct vmbind_outcome *outcome) {
@@ -167,6 +179,8 @@ static vmbind_status once(struct vmbind_vm *vm, const struct row *row, struct vm
     case REWIND: status = vmbind_rewind(vm, &n); CHECK(n == row->a); return status;
     case WITHDRAW: return vmbind_withdraw(vm, row->a, &n);
     case SETTLE: return vmbind_settle(vm, row->a, &n);
+    case TRIM: status = vmbind_trim(vm, &n); CHECK(n == row->a); return status;
+    case FORGET: return vmbind_forget(vm, row->b, row->a, &n);
     case JOB: return vmbind_job_begin(vm, accesses, 2, &n);
     case END: return vmbind_job_end(vm, row->a);
     case PLAN: return vmbind_plan(vm, &op, steps, 4, &n, &m);
@@ -182,7 +196,7 @@ static vmbind_status once(struct vmbind_vm *vm, const struct row *row, struct vm
 /* All that takes no memory, where there is none: back to the oldest entry held, and away. */
 static void back_without_memory(struct vmbind_vm *vm) {
   struct seen s;
-  uint64_t n, first, next;
+  uint64_t n, first, next, total;
   long before = asked;
   look(vm, &s);
   CALL(OK, timeline_raise, vm, 0, 7, &n);
@@ -192,8 +206,11 @@ static void back_without_memory(struct vmbind_vm *vm) {
     CHECK(n == --next);
   }
   CALL(OK, settle, vm, first, &n);
+  CALL(OK, told, vm, 0, 0, NULL, 0, &n, &total);
+  CALL(OK, forget, vm, 0, total, &n);
   vmbind_job_end(vm, 0);
   CHECK(asked == before);
+  CALL(OK, trim, vm, &n);   /* what is refused stays as large as it was */
 }
 
 /* One run, with the request number `n` refused. How many calls wanted memory. */
@@ -223,7 +240,12 @@ static long run(long n, int all, struct seen *last) {
     look(&vm, &before);
     asked_before = asked;
     status = once(&vm, row, &outcome);
-    CHECK(grows[row->doing] || asked == asked_before);
+    CHECK(grows[row->doing] || asks_for_less[row->doing] || asked == asked_before);
+    if (row->doing == TRIM) {
+      look(&vm, &after);
+      CHECK(!memcmp(&before, &after, sizeof after));
+      lacks += n >= asked_before && n < asked;
+    }
     if (status == VMBIND_OUT_OF_MEMORY) {
       lacks++;
       lacked[row->doing] = 1;
@@ -307,12 +329,84 @@ static uint64_t leaf_without_memory(long n) {
   return done;
 }
 
+#define REQUESTS 4096
+#define RUNNING 1000
+/* What as many jobs as there may be, and the requests that a queue takes at first, keep their room for. */
+#define KEPT (128 << 10)
+
+/* Much of all that an address space holds: buffers, mappings in tables of their own, entries, outcomes and jobs. */
+static void fill(struct vmbind_vm *vm, struct vmbind_buffer *of) {
+  struct vmbind_outcome outcome;
+  uint64_t n;
+  for (int k = 0; k < BUFFERS; k++) CALL(OK, buffer_create, vm, 4, &of[k]);
+  for (uint64_t k = 0; k < REQUESTS; k++) {
+    const struct vmbind_op ops[2] = { map(k << 22, PAGE, of[k % BUFFERS], k % 4 * PAGE), map_zero((k << 22) + 0x200000, 3 * PAGE) };
+    const struct vmbind_request request = asks(k % 16, ops, 2);
+    CALL(OK, bind, vm, &request, &outcome);
+  }
+  for (uint64_t k = 0; k < RUNNING; k++) {
+    const struct vmbind_access access = { k << 22, VMBIND_READ, 0 };
+    CALL(OK, job_begin, vm, &access, 1, &n);
+  }
+}
+
+/* It all goes. */
+static void empty(struct vmbind_vm *vm, const struct vmbind_buffer *of) {
+  const struct vmbind_op all = unmap(0, UINT64_C(1) << 57);
+  const struct vmbind_request request = asks(0, &all, 1);
+  struct vmbind_outcome outcome;
+  uint64_t n, first, next, total;
+  CALL(OK, journal, vm, &first, &next);
+  for (uint64_t k = 0; k < RUNNING; k++) CALL(OK, job_end, vm, first / REQUESTS * RUNNING + k);
+  CALL(OK, bind, vm, &request, &outcome);
+  CALL(OK, settle, vm, next + 1, &n);
+  for (uint64_t queue = 0; queue < 16; queue++) {
+    CALL(OK, told, vm, queue, 0, NULL, 0, &n, &total);
+    CALL(OK, forget, vm, queue, total, &n);
+  }
+  for (int k = 0; k < BUFFERS; k++) CALL(OK, buffer_destroy, vm, of[k], &n);
+}
+
+/* A large space that was emptied gives its memory back, but for what a new one holds and KEPT; and once more, where all smaller blocks
+ * were refused before. */
+static void large_space_is_trimmed(void) {
+  struct vmbind_vm vm = VMBIND_INIT;
+  const struct vmbind_config config = VMBIND_CONFIG_DEFAULT;
+  struct vmbind_buffer of[BUFFERS];
+  struct seen before, after;
+  uint64_t n;
+  left = -1;
+  held = asked = 0;
+  bytes = 0;
+  CALL(OK, create, &vm, &config);
+  const size_t anew = bytes;
+  for (int turn = 0; turn < 2; turn++) {
+    fill(&vm, of);
+    CHECK(bytes > 100 * anew);
+    empty(&vm, of);
+    look(&vm, &before);
+    const size_t emptied = bytes;
+    left = turn == 0 ? -1 : 0;
+    for_good = 1;
+    CALL(OK, trim, &vm, &n);
+    CHECK(bytes <= emptied);
+    left = -1;
+    look(&vm, &after);
+    CHECK(!memcmp(&before, &after, sizeof after));
+    CALL(OK, trim, &vm, &n);
+    if (!CHECK(emptied > 4 * bytes && bytes < anew + KEPT)) printf("  of %zu bytes %zu, anew %zu\n", emptied, bytes, anew);
+  }
+  CALL(OK, destroy, &vm);
+  CHECK(held == 0 && bytes == 0);
+}
+
 int main(void) {
   struct seen last;
   uint64_t done = 0;
   char reverted[4] = { 0 };
   for (long n = 0; n < 100 && done < 3; n++) reverted[done = leaf_without_memory(n)] = 1;
   CHECK(reverted[0] && reverted[2] && reverted[3]);
+  large_space_is_trimmed();
   run(-1, 0, &last);
   long most = asked;
   CHECK(most > 50 && last.next > last.first && last.mappings > 4);

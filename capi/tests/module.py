@@ -129,6 +129,59 @@ def waiting():
     check(vm.value(0) == 6, "signalled")
 
 
+def forgetting():
+    vm = v.Vm(queues=3, told=2)
+    vm.bind(v.MapZero(0, 0x1000), queue=1)
+    check(raised(v.Unaligned, vm.bind, v.Unmap(1, 1), queue=1) and vm.bind(queue=2) == 1, "told")
+    check(raised(v.QueueSpent, vm.bind, queue=1) and raised(v.NoOutcome, vm.forget, 1, 3).n == 0, "spent")
+    it = raised(v.Held, vm.forget, 2, 1)
+    check((it.n, it.name, str(it), it.outcome) == (1, "Held", "Held 1", None), "held")
+    check(vm.settle(1) == 1 and vm.forget(1, 1) == 1 and [it.number for it in vm.told(1)] == [1], "the rest")
+    check(vm.bind(v.MapZero(0x1000, 0x1000), queue=1) == 2 and [it.number for it in vm.told(1)] == [1, 2], "room again")
+    check([it.number for it in vm.told(1, start=2)] == [2] and vm.told(1, start=3) == [] == vm.told(1, start=9), "from one on")
+    check(vm.settle_all() == 2 and not vm.journal() and vm.journal().stop == 3, "all entries")
+    check([vm.told(queue) for queue in range(3)] == [[], [], []] and len(list(vm.mappings())) == 2, "all outcomes")
+    check(vm.settle_all() == 0 and vm.submit(queue=1) == 3 and vm.settle_all() == 0 and vm.serve(1).number == 3, "one that waits stays")
+    check([(it.number, it.entry) for it in vm.told(1)] == [(3, 3)], "its outcome")
+    check(raised(v.BadArgument, vm.told, 3) and raised(ValueError, vm.forget, 0, -1) and raised(ValueError, vm.forget, 1 << 64, 0), "bad")
+    vm.close()
+    check(raised(v.NoVm, vm.settle_all) and raised(v.NoVm, vm.forget, 0, 0), "closed")
+
+
+def trimming():
+    vm = v.Vm()
+    b = vm.buffer(2)
+    check(vm.trim() is None and vm.bind(v.Map(0, 0x2000, b)) == 0, "nothing held")
+    it = raised(v.Held, vm.trim)
+    check((it.n, str(it)) == (0, "Held") and vm.settle(1) == 1 and vm.trim() is None, "held until it settles")
+    check(vm.translate(0x1abc).byte == 0x1abc and vm.bind(v.Unmap(0, 0x1000)) == 1 and raised(v.Held, vm.trim).n == 1, "the next one")
+    check(vm.rewind() == 1 and vm.trim() is None and vm.translate(0).buffer == b and [it.number for it in vm.told()] == [0, 1], "back")
+    vm.close()
+    check(raised(v.NoVm, vm.trim), "closed")
+
+
+def settling_beside_others():
+    """What another thread may do between two calls of settle_all: take the newest entry back, withdraw one, settle and forget more."""
+    class Busy(v.Vm):
+        def journal(self):
+            held = super().journal()
+            if others:
+                others.pop(0)()
+            return held
+
+    def more():
+        vm.bind()
+        check(vm.settle(4) == 4 and vm.forget(0, 4) == 4, "settled and forgotten meanwhile")
+
+    vm = Busy()
+    others = []
+    for _ in range(3):
+        vm.bind(v.MapZero(0, 0x1000))
+    others += [vm.rewind, lambda: vm.withdraw(1), more]
+    check(vm.settle_all() == 0 and not others, "beside others")
+    check(not vm.journal() and vm.journal().stop == 4 and vm.told() == [] and vm.bind() == 4 and vm.told()[0].number == 4, "all is settled")
+
+
 def lists():
     vm = v.Vm()
     b = vm.buffer(600)
@@ -224,7 +277,7 @@ def threads():
     check(not wrong and len(list(vm.mappings())) == 32 and len(vm.journal()) == 1200, "threads on one address space")
 
 
-for test in (header, living, kinds, refusals, waiting, lists, past, many, jobs, threads):
+for test in (header, living, kinds, refusals, waiting, forgetting, trimming, settling_beside_others, lists, past, many, jobs, threads):
     test()
 print(f"module.py: {passed} passed, {failed} failed")
 sys.exit(1 if failed or not passed else 0)

@@ -80,8 +80,50 @@ static void calls() {
   CHECK(vmbind_rewind(vm.handle(), &number) == VMBIND_NO_ENTRY);
 }
 
+static void forgetting() {
+  vmbind::config config = vmbind::default_config();
+  config.queues = 3;
+  config.told = 2;
+  vmbind::space vm(config);
+  vm.bind({vmbind::map_zero(0, 0x1000)}, {}, {}, 1);
+  CHECK(!vm.try_bind({vmbind::unmap(1, 1)}, {}, {}, 1) && vm.bind({}, {}, {}, 2) == 1);
+  CHECK(thrown([&] { vm.bind({}, {}, {}, 1); }).status == VMBIND_QUEUE_SPENT);
+  CHECK(thrown([&] { vm.forget(1, 3); }).status == VMBIND_NO_OUTCOME);
+  const vmbind::refused held = thrown([&] { vm.forget(2, 1); });
+  CHECK(held.status == VMBIND_HELD && held.number == 1);
+  CHECK(vm.settle(1) == 1 && vm.forget(1, 1) == 1 && vm.told(1).size() == 1 && vm.told(1)[0].number == 1);
+  CHECK(vm.bind({vmbind::map_zero(0x1000, 0x1000)}, {}, {}, 1) == 2 && vm.told(1).size() == 2 && vm.told(1)[1].number == 2);
+  // all at once: entries 1 and 2, and the outcomes of each queue
+  CHECK(vm.settle_all() == 2 && vm.journal() == std::make_pair(std::uint64_t{3}, std::uint64_t{3}));
+  CHECK(vm.told(0).empty() && vm.told(1).empty() && vm.told(2).empty() && vm.mappings().size() == 2);
+  CHECK(vm.settle_all() == 0);
+  CHECK(vm.submit({}, {}, {}, 1) == 3 && vm.submit({}, {}, {}, 2) == 1 && vm.settle_all() == 0);
+  CHECK(vm.serve(1).told.number == 3 && vm.told(1).size() == 1 && vm.told(1)[0].entry == 3);
+  vmbind::space moved(std::move(vm));
+  CHECK(thrown([&] { vm.settle_all(); }).status == VMBIND_NO_VM && moved.settle_all() == 1);
+}
+
+static void trimming() {
+  vmbind::space vm;
+  const vmbind::buffer b = vm.create_buffer(2);
+  vm.trim();
+  CHECK(vm.bind({vmbind::map(0, 0x2000, b)}) == 0);
+  const vmbind::refused held = thrown([&] { vm.trim(); });
+  CHECK(held.status == VMBIND_HELD && held.number == 0 && vm.settle(1) == 1);
+  vm.trim();
+  CHECK(vm.translate(0x1abc).byte == 0x1abc && vm.bind({vmbind::unmap(0, 0x1000)}) == 1);
+  CHECK(thrown([&] { vm.trim(); }).number == 1 && vm.rewind() == 1);
+  vm.trim();
+  CHECK(vm.mappings().size() == 1 && vm.told(0).size() == 2);
+  vmbind::space moved(std::move(vm));
+  moved.trim();
+  CHECK(thrown([&] { vm.trim(); }).status == VMBIND_NO_VM);
+}
+
 int main() {
   owning();
   calls();
+  forgetting();
+  trimming();
   return ended("owner");
 }

@@ -1,8 +1,9 @@
 -- Lists that are written over others, one thing after another.
-use Rattle.std.proofs.Common.{◌≡◌, ℕ, zero, suc, ◌+◌, ◌<◌, List, [], ◌∷◌, take, drop, length, map, set, get_or, refl, sym, ap, ◌∙◌, arith}
-use Rattle.std.specs.Prelude.{min}
+use Rattle.std.proofs.Common.{◌≡◌, ℕ, zero, suc, ◌+◌, ◌-◌, ◌<◌, List, [], ◌∷◌, take, drop, length, map, set, get_or, refl, sym, ap, ◌∙◌, arith}
+use Rattle.std.specs.Prelude.{max, min}
+use Rattle.std.proofs.lemmas.List.{drop-drop}
 use Rattle.gv_vm.specs.declared.outcome.Outcome.{Outcome}
-use Rattle.gv_c.specs.Lists.{written_over, numbered}
+use Rattle.gv_c.specs.Lists.{written_over, numbered, IsWritten}
 use Rattle.gv_c.specs.Values.{c_outcome}
 use Rattle.gv_c.specs.declared.outcome.RequestOutcome.{RequestOutcome}
 
@@ -69,3 +70,25 @@ pub write_one : {X : Type 0} (old now all : List X) (from k : ℕ) (y : X) → n
 write_one old now all from k y is room some value =
     ap (λ (ts : List _). set ts k y) is ∙ ap (λ (z : _). set (written_over old (take k (drop from all))) k z) (value ∙ sym (at_drop all from k y))
     ∙ over_more old (drop from all) k y room some
+
+-- outcomes from a number on, but for the first ones
+drop_numbered : (n number : ℕ) (outcomes : List Outcome) → numbered (number + n) (drop n outcomes) ≡ drop n (numbered number outcomes)
+drop_numbered zero number outcomes = let same : number + 0 ≡ number = omega arith in ap (λ (k : ℕ). numbered k outcomes) same
+drop_numbered (suc n) number [] = refl
+drop_numbered (suc n) number (o ∷ os) =
+    let same : number + suc n ≡ number + 1 + n = omega arith in
+    ap (λ (k : ℕ). numbered k (drop n os)) same ∙ drop_numbered n (number + 1) os
+
+pub told_written : (told : List Outcome) (first from : ℕ) (old new : List RequestOutcome) (count part : ℕ) → IsWritten (numbered first (drop first told)) (from - first) old new count part →
+    IsWritten (numbered 0 told) (max first from) old new count (length told)
+told_written told first from old new count part is =
+    let number : 0 + first ≡ first = omega arith in
+    let rest : numbered first (drop first told) ≡ drop first (numbered 0 told) = ap (λ (k : ℕ). numbered k (drop first told)) (sym number) ∙ drop_numbered first 0 told in
+    let place : first + (from - first) ≡ max first from = omega arith in
+    let same : drop (from - first) (numbered first (drop first told)) ≡ drop (max first from) (numbered 0 told) =
+    ap (drop (from - first)) rest ∙ drop-drop (from - first) first (numbered 0 told) ∙ ap (λ (k : ℕ). drop k (numbered 0 told)) place in
+    record {
+      list = is.list ∙ ap (written_over old) same;
+      written = is.written ∙ ap (λ (xs : List RequestOutcome). min (length old) (length xs)) same;
+      in_all = sym (length-numbered 0 told);
+    }

@@ -5,7 +5,7 @@ use Rattle.gv_types.specs.declared.fault.OutOfMemory.{OutOfMemory as WantOfMemor
 use Rattle.gv_vm.specs.Step.{IsStep}
 use Rattle.gv_vm.specs.declared.event.Event.{Event}
 use Rattle.gv_vm.specs.declared.event.Reply.{Reply}
-use Rattle.gv_vm.specs.declared.event.Reply.TheVariants.{Created, Put, Rewound, Withdrawn, Settled, Raised, Begun, Refused}
+use Rattle.gv_vm.specs.declared.event.Reply.TheVariants.{Created, Put, Rewound, Withdrawn, Settled, Forgot, Raised, Begun, Refused}
 use Rattle.gv_vm.specs.declared.world.turn.Turn.{Turn}
 use Rattle.gv_vm.specs.declared.world.turn.Turn.TheVariants.{Told, Waits, Idle}
 use Rattle.gv_c.specs.Statuses.{Answer}
@@ -34,6 +34,7 @@ abbrev pub number_said : Reply → ℕ
 number_said (Rewound item) = item
 number_said (Withdrawn item) = item
 number_said (Settled count) = count
+number_said (Forgot count) = count
 number_said (Raised point now) = now
 number_said (Begun job places) = job
 number_said (Put number) = number

@@ -1,5 +1,5 @@
 -- Lists that are written over what the caller has room for.
-use Rattle.std.specs.Prelude.{◌≡◌, ℕ, ◌+◌, ◌<◌, ◌⊎◌, ◌&&◌, nat_lt, min, List, [], ◌∷◌, map, drop, length, Option, Some, None}
+use Rattle.std.specs.Prelude.{◌≡◌, ℕ, ◌+◌, ◌<◌, ◌⊎◌, ◌&&◌, nat_lt, max, min, List, [], ◌∷◌, map, drop, length, Option, Some, None}
 use Rattle.gv_types.specs.Operation.{in_pages}
 use Rattle.gv_types.specs.declared.fault.Fault.{Fault}
 use Rattle.gv_types.specs.declared.operation.Op.{Op}
@@ -7,6 +7,7 @@ use Rattle.gv_types.specs.Fault.{number_of}
 use Rattle.gv_split.specs.Steps.{steps}
 use Rattle.gv_space.specs.Refusal.{operation_fault}
 use Rattle.gv_vm.specs.Outcomes.{told_to, queues}
+use Rattle.gv_vm.specs.State.{forgotten_of}
 use Rattle.gv_vm.specs.QueueTurns.{either}
 use Rattle.gv_split.specs.declared.step.Step.{Step}
 use Rattle.gv_space.specs.State.{SpaceState}
@@ -42,12 +43,12 @@ abbrev pub numbered : ℕ → List Outcome → List RequestOutcome
 numbered number [] = []
 numbered number (outcome ∷ outcomes) = c_outcome number outcome ∷ numbered (number + 1) outcomes
 
--- what a queue was told; no world has more queues than there may be
+-- what a queue was told, from a number on, but for what is forgotten; no world has more queues than there may be
 abbrev pub IsTold : Option Held → ℕ → ℕ → List RequestOutcome → ℕ → List RequestOutcome → ℕ → ℕ → Type 0
 IsTold None queue from old status new count total = (status ≡ no_vm) × IsNotWritten old new count total
 IsTold (Some held) queue from old status new count total =
     either (nat_lt queue (length held.world.queues) && nat_lt queue queues)
-    ((status ≡ ok) × IsWritten (numbered 0 (told_to held.world.vm.told queue)) from old new count total)
+    ((status ≡ ok) × IsWritten (numbered 0 (told_to held.world.vm.told queue)) (max (forgotten_of held.world.vm queue) from) old new count total)
     ((status ≡ bad_argument) × IsNotWritten old new count total)
 
 -- the list of mappings

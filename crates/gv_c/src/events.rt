@@ -1,6 +1,6 @@
 //! Calls that carry out one event of the world.
 ghost use Rattle.std.specs.Prelude.{◌≡◌};
-ghost use Rattle.gv_vm.specs.declared.event.Event.TheVariants.{Create, Destroy, Rewind, Withdraw, Settle, JobEnd, Raise};
+ghost use Rattle.gv_vm.specs.declared.event.Event.TheVariants.{Create, Destroy, Rewind, Withdraw, Settle, Forget, Trim, JobEnd, Raise};
 ghost use Rattle.gv_c.specs.Values.{id_of};
 ghost use Rattle.gv_c.specs.Statuses.{status_of};
 ghost use Rattle.gv_c.specs.Calls.{Answers, made_in, number_in, number_said};
@@ -85,6 +85,34 @@ pub extern "C" fn vmbind_settle(alloc: Global, vm: &mut Handle, to: u64, number:
     of_reply(&reply)
 }
 
+/// Lets the outcomes of a queue below a number go, and writes how many.
+#[unsafe(no_mangle)]
+pub extern "C" fn vmbind_forget(
+    alloc: Global,
+    vm: &mut Handle,
+    queue: u64,
+    to: u64,
+    number: &mut u64,
+) -> u32
+    ensures { Answers vm.old.value (Forget queue to) vm.new.value (λ reply.
+        (result ≡ status_of reply) × (number.new ≡ number_in reply)) }
+{
+    let reply = vm.step(alloc, Event::Forget { queue, to });
+    *number = number_of(&reply);
+    of_reply(&reply)
+}
+
+/// Gives room back that nothing needs, and writes 0. Where entries are held, writes the number of the least.
+#[unsafe(no_mangle)]
+pub extern "C" fn vmbind_trim(alloc: Global, vm: &mut Handle, number: &mut u64) -> u32
+    ensures { Answers vm.old.value Trim vm.new.value (λ reply.
+        (result ≡ status_of reply) × (number.new ≡ number_in reply)) }
+{
+    let reply = vm.step(alloc, Event::Trim);
+    *number = number_of(&reply);
+    of_reply(&reply)
+}
+
 /// Ends a job.
 #[unsafe(no_mangle)]
 pub extern "C" fn vmbind_job_end(alloc: Global, vm: &mut Handle, job: u64) -> u32
@@ -128,6 +156,7 @@ fn number_said(reply: &Reply) -> u64
         Reply::Rewound { item } => *item,
         Reply::Withdrawn { item } => *item,
         Reply::Settled { count } => *count,
+        Reply::Forgot { count } => *count,
         Reply::Raised { now, .. } => *now,
         Reply::Begun { job, .. } => *job,
         Reply::Put { number } => *number,

@@ -1,6 +1,8 @@
 //! Calls that write lists, and change nothing.
-ghost use Rattle.std.specs.Prelude.{◌≡◌, ◌-◌, ◌≤◌, map, min, length};
+ghost use Rattle.std.specs.Prelude.{◌≡◌, ◌+◌, ◌-◌, ◌<◌, ◌≤◌, map, max, min, length};
 ghost use Rattle.gv_space.specs.Refusal.{operation_fault};
+ghost use Rattle.gv_vm.specs.Outcomes.{queues, most_told, told_to};
+ghost use Rattle.gv_vm.specs.State.{forgotten_of};
 ghost use Rattle.gv_c.specs.Lists.{IsTold, AreListed, IsPlanned, ArePlanned, IsWritten, numbered, written_over};
 ghost use Rattle.gv_c.specs.Values.{c_mapping, c_step};
 
@@ -35,9 +37,9 @@ pub extern "C" fn vmbind_told(
         return NO_VM;
     };
     let status = if queue < held.world.queues() && queue < QUEUES as u64 {
-        let told = held.world.vm().told(queue);
-        *count = write_outcomes(list, told, from);
-        *total = told.len() as u64;
+        let vm = held.world.vm();
+        *total = vm.told_next(queue);
+        *count = write_told(list, vm, queue, from);
         OK
     } else {
         BAD_ARGUMENT
@@ -138,12 +140,26 @@ pub fn fitting(room: usize, all: usize, from: u64) -> usize
     room.min(all - from as usize)
 }
 
-fn write_outcomes(list: &mut [RequestOutcome], told: &[Outcome], from: u64) -> u64
-    ensures { IsWritten (numbered 0 told.now) from list.old list.new result (length told.now) }
+/// Writes what a queue was told, but for what is forgotten, from a number on.
+fn write_told(list: &mut [RequestOutcome], vm: &Vm, queue: u64, from: u64) -> u64
+    requires { queue < queues }
+    ensures { IsWritten (numbered 0 (told_to vm.now.told queue)) (max (forgotten_of vm.now queue) from) list.old list.new result
+        (length (told_to vm.now.told queue)) }
+{
+    // For the prover: that the numbers of all outcomes fit.
+    let _next = vm.told_next(queue);
+    let first = vm.told_from(queue);
+    write_outcomes(list, first, vm.told(queue), from.saturating_sub(first))
+}
+
+/// Writes outcomes, of which the first has this number, from the one at the place `from` on.
+fn write_outcomes(list: &mut [RequestOutcome], first: u64, told: &[Outcome], from: u64) -> u64
+    requires { first + length told.now ≤ most_told }
+    ensures { IsWritten (numbered first told.now) from list.old list.new result (length told.now) }
 {
     let count = fitting(list.len(), told.len(), from);
     for k in 0..count {
-        list[k] = RequestOutcome::of(from + k as u64, told[from as usize + k]);
+        list[k] = RequestOutcome::of(first + (from + k as u64), told[from as usize + k]);
     }
     count as u64
 }

@@ -2,12 +2,12 @@
 use crate::binding::{vmbind_bind, vmbind_serve, vmbind_submit};
 use crate::entry::{EntryInfo, vmbind_entry};
 use crate::events::{
-    vmbind_buffer_create, vmbind_buffer_destroy, vmbind_rewind, vmbind_settle,
-    vmbind_timeline_raise, vmbind_withdraw,
+    vmbind_buffer_create, vmbind_buffer_destroy, vmbind_forget, vmbind_rewind, vmbind_settle,
+    vmbind_timeline_raise, vmbind_trim, vmbind_withdraw,
 };
 use crate::found::{ListedMapping, Translation};
 use crate::handle::Handle;
-use crate::lists::vmbind_mappings;
+use crate::lists::{vmbind_mappings, vmbind_told};
 use crate::making::{vmbind_create, vmbind_destroy};
 use crate::outcome::{ACCEPTED, GIVEN_UP, PENDING, REFUSED, RequestOutcome};
 use crate::past::{PastEntry, vmbind_base, vmbind_past};
@@ -248,5 +248,44 @@ fn entries_say_what_an_address_was(rt: HostRuntime) -> Result<(), Fail> {
     let settled = vmbind_settle(alloc, vm, 1, &mut number);
     let under = vmbind_base(alloc, vm, 0x4abc, &mut at);
     assert_eq!(rt; (settled, under, at.byte, at.run), (0, 0, 0xabc, 0));
+    Ok(())
+}
+
+#[test]
+fn outcomes_are_forgotten_and_room_is_given_back(rt: HostRuntime) -> Result<(), Fail> {
+    let alloc = rt.alloc();
+    let vm = &mut Handle::none(alloc);
+    let mut number = 9;
+    let none = vmbind_forget(alloc, vm, 0, 0, &mut number);
+    assert_eq!(rt; (none, number), (65, 0));
+    assert_eq!(rt; vmbind_trim(alloc, vm, &mut number), 65);
+    assert_eq!(rt; vmbind_create(alloc, vm, &CONFIG), 0);
+    let mut outcome = RequestOutcome::none();
+    for queue in [1, 1, 0] {
+        let request = BindRequest {
+            queue,
+            ops: &[],
+            waits: &[],
+            signals: &[],
+        };
+        assert_eq!(rt; vmbind_bind(alloc, vm, &request, &mut outcome), 0);
+    }
+    let unknown = vmbind_forget(alloc, vm, 1, 3, &mut number);
+    assert_eq!(rt; (unknown, number), (34, 0));
+    assert_eq!(rt; vmbind_settle(alloc, vm, 1, &mut number), 0);
+    let held = vmbind_forget(alloc, vm, 1, 2, &mut number);
+    assert_eq!(rt; (held, number), (35, 1));
+    let forgotten = vmbind_forget(alloc, vm, 1, 1, &mut number);
+    assert_eq!(rt; (forgotten, number), (0, 1));
+    let (mut count, mut total) = (0, 0);
+    let list = &mut [RequestOutcome::none(); 2];
+    let told = vmbind_told(alloc, vm, 1, 0, list, &mut count, &mut total);
+    assert_eq!(rt; (told, count, total), (0, 1, 2));
+    assert_eq!(rt; (list[0].number, list[0].entry, list[1].kind), (1, 1, 0));
+    let held = vmbind_trim(alloc, vm, &mut number);
+    assert_eq!(rt; (held, number), (35, 1));
+    assert_eq!(rt; vmbind_settle(alloc, vm, 3, &mut number), 0);
+    let trimmed = vmbind_trim(alloc, vm, &mut number);
+    assert_eq!(rt; (trimmed, number), (0, 0));
     Ok(())
 }

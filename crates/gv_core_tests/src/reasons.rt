@@ -59,7 +59,7 @@ const BYTES: [Row; 17] = [
     (b"job  ", "column 5: a space at the end"),
 ];
 
-const BEGINNINGS: [Row; 19] = [
+const BEGINNINGS: [Row; 22] = [
     (b"bnid", "no such line: bnid; did you mean bind?"),
     (b"BIND", "no such line: BIND; did you mean bind?"),
     (b"Map", "no such line: Map; did you mean map?"),
@@ -77,6 +77,9 @@ const BEGINNINGS: [Row; 19] = [
     (b"put zero 0x0 0x1000", "put stands in vmbind serve alone"),
     (b"turn 0", "turn stands in vmbind serve alone"),
     (b"giveup 0", "giveup stands in vmbind serve alone"),
+    (b"forget 0 1", "forget stands in vmbind serve alone"),
+    (b"trim", "trim stands in vmbind serve alone"),
+    (b"trin", "no such line: trin"),
     (b"show 0", "show stands in vmbind serve alone"),
     (b"past 0x0", "past stands in vmbind serve alone"),
     (

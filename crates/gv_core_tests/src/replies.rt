@@ -8,7 +8,7 @@ use std::test::Fail;
 type Row = (&'static [u8], &'static str, &'static str);
 
 /// Replies of one line.
-const LONE: [Row; 34] = [
+const LONE: [Row; 38] = [
     (b"space", "ok\n", r#""ok":true"#),
     (b"limits", "ok\n", r#""ok":true"#),
     (b"timeline", "ok\n", r#""ok":true"#),
@@ -95,6 +95,18 @@ const LONE: [Row; 34] = [
         r#""notready":{"timeline":"t","value":3,"have":1}"#,
     ),
     (b"giveup", "idle\n", r#""idle":true"#),
+    (b"forget", "forgot 1000\n", r#""forgot":1000"#),
+    (
+        b"forget",
+        "refused Held 0\n",
+        r#""refused":{"fault":"Held","number":0}"#,
+    ),
+    (b"trim", "trimmed\n", r#""trimmed":true"#),
+    (
+        b"trim",
+        "refused Held 7\n",
+        r#""refused":{"fault":"Held","number":7}"#,
+    ),
     (b"show", "withdrawal of 4\n", r#""withdrawal":4"#),
     (
         b"show",

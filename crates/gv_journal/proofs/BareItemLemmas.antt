@@ -96,7 +96,7 @@ prefix_len-map : {A B : Type 0} (test : B → Bool) (f : A → B) (own : A → B
 prefix_len-map test f own [] same = refl
 prefix_len-map test f own (x ∷ xs) same = rw (same x, prefix_len-map test f own xs same) refl
 
-position-map : {A B : Type 0} (test : B → Bool) (f : A → B) (own : A → Bool) (xs : List A) → ((x : A) → own x ≡ test (f x)) →
+pub position-map : {A B : Type 0} (test : B → Bool) (f : A → B) (own : A → Bool) (xs : List A) → ((x : A) → own x ≡ test (f x)) →
     position own xs ≡ position test (map f xs)
 position-map test f own xs same = rw (prefix_len-map test f own xs same, length-map xs f) refl
 

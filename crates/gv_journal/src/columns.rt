@@ -156,6 +156,19 @@ impl Columns {
         self.truncate(held);
     }
 
+    /// Gives room back: there is none for one item more then.
+    pub fn shrink(&mut self)
+        ensures notes { self.new.notes ≡ self.old.notes }
+        ensures firsts { self.new.firsts ≡ self.old.firsts }
+        ensures pasts { self.new.pasts ≡ self.old.pasts }
+        ensures regions { self.new.regions ≡ self.old.regions }
+    {
+        self.notes.shrink_to_fit();
+        self.firsts.shrink_to_fit();
+        self.pasts.shrink_to_fit();
+        self.regions.shrink_to_fit();
+    }
+
     /// Writes which withdrawal names an item.
     pub fn mark(&mut self, index: usize, withdrawal: Option<u64>)
         requires index { index < length self.old.notes }

@@ -141,6 +141,16 @@ impl ItemStore {
         self.spent = 0;
     }
 
+    /// Lets go of what is left of settled items, and gives back the room that no held item needs.
+    pub fn shrink(&mut self)
+        ensures items { self.new.items ≡ self.old.items }
+        ensures notes { self.new.notes ≡ self.old.notes }
+    {
+        self.compact();
+        self.items.shrink_to_fit();
+        self.columns.shrink();
+    }
+
     /// Adds an item, which nothing withdraws.
     pub fn push(&mut self, item: Item)
         requires { HasSlot self.old }

@@ -234,6 +234,13 @@ impl Journal {
         Ok(count)
     }
 
+    /// Gives back the room that no held item needs.
+    pub fn trim(&mut self)
+        ensures { self.new ≡ self.old }
+    {
+        self.item_store.shrink();
+    }
+
     /// How many items are below a number, where they can be settled.
     fn count_below(&self, to: u64) -> Result<u64, Fault>
         ensures accepted { OnOk result (settle_fault self.now to ≡ None) }

@@ -7,8 +7,8 @@ use crate::words::Words;
 pub fn write_outcome(json: &mut Json, words: &mut Words<'_>) -> Result<(), Stop> {
     let form = words.take()?;
     match form {
-        "ok" | "idle" => json.flag(form, true)?,
-        "accepted" | "put" | "rewound" | "settled" | "ended" => {
+        "ok" | "idle" | "trimmed" => json.flag(form, true)?,
+        "accepted" | "put" | "rewound" | "settled" | "forgot" | "ended" => {
             json.number(form, words.number()?)?;
         }
         "refused" => write_refusal(json, words)?,

@@ -6,7 +6,7 @@ use Rattle.gv_lines.specs.Clause.{bind_clauses, clauses_read}
 use Rattle.gv_lines.specs.Grammar.{parsed}
 use Rattle.gv_lines.specs.declared.line.Line.{Line}
 use Rattle.gv_lines.specs.declared.serve_line.ServeLine.{ServeLine}
-use Rattle.gv_lines.specs.declared.serve_line.ServeLine.TheVariants.{Run, Put, Turn, GiveUp, Show, Past}
+use Rattle.gv_lines.specs.declared.serve_line.ServeLine.TheVariants.{Run, Put, Turn, GiveUp, Forget, Trim, Show, Past}
 
 -- put, or put CLAUSE ; CLAUSE ..
 abbrev pub put_line : List (List ℕ) → Option ServeLine
@@ -28,6 +28,18 @@ give_up_line words = do
   queue ← queue_of number.0
   ended number.1 (GiveUp queue)
 
+-- forget NUM NUM, the first below the number of queues
+abbrev pub forget_line : List (List ℕ) → Option ServeLine
+forget_line words = do
+  number ← first_number words
+  queue ← queue_of number.0
+  to ← first_number number.1
+  ended to.1 (Forget queue to.0)
+
+-- trim, and no more
+abbrev pub trim_line : List (List ℕ) → Option ServeLine
+trim_line words = ended words Trim
+
 -- show NUM
 abbrev pub show_line : List (List ℕ) → Option ServeLine
 show_line words = do
@@ -46,6 +58,8 @@ added_line first more =
     if bytes_eq first (codes "put") then put_line more
     else if bytes_eq first (codes "turn") then turn_line more
     else if bytes_eq first (codes "giveup") then give_up_line more
+    else if bytes_eq first (codes "forget") then forget_line more
+    else if bytes_eq first (codes "trim") then trim_line more
     else if bytes_eq first (codes "show") then show_line more
     else if bytes_eq first (codes "past") then past_line more
     else None

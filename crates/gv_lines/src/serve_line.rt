@@ -1,7 +1,7 @@
-//! The lines of a dialogue: those of the language, and some that act on a queue by steps or ask of the journal.
+//! The lines of a dialogue: those of the language, and some that act on a queue by steps, forget its outcomes, trim or ask of the journal.
 ghost use Rattle.std.specs.Prelude.{◌≡◌};
 ghost use Rattle.gv_lines.specs.ServeLine.{serve_parsed, added, added_line, put_line, turn_line, give_up_line};
-ghost use Rattle.gv_lines.specs.ServeLine.{show_line, past_line};
+ghost use Rattle.gv_lines.specs.ServeLine.{forget_line, trim_line, show_line, past_line};
 
 use super::clauses::ClauseList;
 use super::cutting::Clauses;
@@ -20,6 +20,10 @@ pub enum ServeLine<'a> {
     Turn { queue: u64 },
     /// `giveup NUM`: the request in hand on the queue, 0 to 15, is given up.
     GiveUp { queue: u64 },
+    /// `forget NUM NUM`: the outcomes of the queue, 0 to 15, below the number are forgotten.
+    Forget { queue: u64, to: u64 },
+    /// `trim`: room that nothing needs is given back.
+    Trim,
     /// `show NUM`: what the item of this number did.
     Show { entry: u64 },
     /// `past NUM`: what the items held say of an address in bytes.
@@ -57,6 +61,10 @@ fn added_line<'a>(first: &[u8], words: Words<'a>) -> Option<ServeLine<'a>>
         turn_line(words)
     } else if first == b"giveup".as_slice() {
         give_up_line(words)
+    } else if first == b"forget".as_slice() {
+        forget_line(words)
+    } else if first == b"trim".as_slice() {
+        trim_line(words)
     } else if first == b"show".as_slice() {
         show_line(words)
     } else if first == b"past".as_slice() {
@@ -89,6 +97,20 @@ fn give_up_line(mut words: Words<'_>) -> Option<ServeLine<'_>>
 {
     let queue = queue_of(words.take_number()?)?;
     words.is_done().then_some(ServeLine::GiveUp { queue })
+}
+
+fn forget_line(mut words: Words<'_>) -> Option<ServeLine<'_>>
+    ensures { result ≡ forget_line words.entry }
+{
+    let queue = queue_of(words.take_number()?)?;
+    let to = words.take_number()?;
+    words.is_done().then_some(ServeLine::Forget { queue, to })
+}
+
+fn trim_line(words: Words<'_>) -> Option<ServeLine<'_>>
+    ensures { result ≡ trim_line words.entry }
+{
+    words.is_done().then_some(ServeLine::Trim)
 }
 
 fn show_line(mut words: Words<'_>) -> Option<ServeLine<'_>>

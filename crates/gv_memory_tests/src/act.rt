@@ -62,6 +62,7 @@ pub enum Act {
     Settle {
         to: u64,
     },
+    Trim,
     Job {
         reads: &'static [u64],
         writes: &'static [u64],
@@ -167,6 +168,7 @@ pub fn event_of(alloc: Global, ids: &Ids, act: Act) -> Result<Option<Event>, All
         Act::Rewind => Ok(Some(Event::Rewind)),
         Act::Withdraw { entry } => Ok(Some(Event::Withdraw { entry })),
         Act::Settle { to } => Ok(Some(Event::Settle { to })),
+        Act::Trim => Ok(Some(Event::Trim)),
         Act::Job { reads, writes } => {
             let mut accesses = Vec::new(alloc);
             push_accesses(&mut accesses, reads, Usage::Read)?;

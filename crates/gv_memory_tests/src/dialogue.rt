@@ -5,7 +5,7 @@ use gv_text::{MemorySink, MemorySource};
 use std::alloc::Global;
 
 const LINES: &[u8] =
-    b"buffer b 4\nput map 0x0 0x4000 b 0x0\nturn 0\nturn 0\nshow 0\npast 0x1000\nmap\nrewind\nuses b\n";
+    b"buffer b 4\nput map 0x0 0x4000 b 0x0\nturn 0\nturn 0\nshow 0\npast 0x1000\nmap\nrewind\ntrim\nuses b\n";
 
 /// What is asked in JSON.
 const FEW_LINES: &[u8] = b"buffer b 4\nmap\n";
@@ -13,15 +13,15 @@ const FEW_LINES: &[u8] = b"buffer b 4\nmap\n";
 /// What the lines are answered: where no request is refused, and where one of a line is, from the first line on. A turn's may be
 /// refused before its operation, and in it.
 const ANSWERS: [&[u8]; 9] = [
-    b"ok\nput 0\naccepted 0\nidle\nmap 0x0 0x4000 b 0x0\n0 live b 0000000000001000 rw\nunder none\n0000000000000000 0000000000004000 b 0000000000000000 rw\nrewound 0\nuses 0 kept 0\n",
-    b"out of memory\nbad line 2: buffer b is not declared\nidle\nidle\nrefused NoEntry\nunder none\nempty\nrefused NoEntry\nbad line 9: buffer b is not declared\n",
-    b"ok\nout of memory\nidle\nidle\nrefused NoEntry\nunder none\nempty\nrefused NoEntry\nuses 0 kept 0\n",
-    b"ok\nput 0\nout of memory\naccepted 0\nmap 0x0 0x4000 b 0x0\n0 live b 0000000000001000 rw\nunder none\n0000000000000000 0000000000004000 b 0000000000000000 rw\nrewound 0\nuses 0 kept 0\n",
-    b"ok\nput 0\nrefused 0 OutOfMemory\nidle\nrefused NoEntry\nunder none\nempty\nrefused NoEntry\nuses 0 kept 0\n",
-    b"ok\nput 0\nout of memory\nidle\nmap 0x0 0x4000 b 0x0\n0 live b 0000000000001000 rw\nunder none\n0000000000000000 0000000000004000 b 0000000000000000 rw\nrewound 0\nuses 0 kept 0\n",
-    b"ok\nput 0\naccepted 0\nidle\nout of memory\n0 live b 0000000000001000 rw\nunder none\n0000000000000000 0000000000004000 b 0000000000000000 rw\nrewound 0\nuses 0 kept 0\n",
-    b"ok\nput 0\naccepted 0\nidle\nmap 0x0 0x4000 b 0x0\nout of memory\n0000000000000000 0000000000004000 b 0000000000000000 rw\nrewound 0\nuses 0 kept 0\n",
-    b"ok\nput 0\naccepted 0\nidle\nmap 0x0 0x4000 b 0x0\n0 live b 0000000000001000 rw\nunder none\nout of memory\nrewound 0\nuses 0 kept 0\n",
+    b"ok\nput 0\naccepted 0\nidle\nmap 0x0 0x4000 b 0x0\n0 live b 0000000000001000 rw\nunder none\n0000000000000000 0000000000004000 b 0000000000000000 rw\nrewound 0\ntrimmed\nuses 0 kept 0\n",
+    b"out of memory\nbad line 2: buffer b is not declared\nidle\nidle\nrefused NoEntry\nunder none\nempty\nrefused NoEntry\ntrimmed\nbad line 10: buffer b is not declared\n",
+    b"ok\nout of memory\nidle\nidle\nrefused NoEntry\nunder none\nempty\nrefused NoEntry\ntrimmed\nuses 0 kept 0\n",
+    b"ok\nput 0\nout of memory\naccepted 0\nmap 0x0 0x4000 b 0x0\n0 live b 0000000000001000 rw\nunder none\n0000000000000000 0000000000004000 b 0000000000000000 rw\nrewound 0\ntrimmed\nuses 0 kept 0\n",
+    b"ok\nput 0\nrefused 0 OutOfMemory\nidle\nrefused NoEntry\nunder none\nempty\nrefused NoEntry\ntrimmed\nuses 0 kept 0\n",
+    b"ok\nput 0\nout of memory\nidle\nmap 0x0 0x4000 b 0x0\n0 live b 0000000000001000 rw\nunder none\n0000000000000000 0000000000004000 b 0000000000000000 rw\nrewound 0\ntrimmed\nuses 0 kept 0\n",
+    b"ok\nput 0\naccepted 0\nidle\nout of memory\n0 live b 0000000000001000 rw\nunder none\n0000000000000000 0000000000004000 b 0000000000000000 rw\nrewound 0\ntrimmed\nuses 0 kept 0\n",
+    b"ok\nput 0\naccepted 0\nidle\nmap 0x0 0x4000 b 0x0\nout of memory\n0000000000000000 0000000000004000 b 0000000000000000 rw\nrewound 0\ntrimmed\nuses 0 kept 0\n",
+    b"ok\nput 0\naccepted 0\nidle\nmap 0x0 0x4000 b 0x0\n0 live b 0000000000001000 rw\nunder none\nout of memory\nrewound 0\ntrimmed\nuses 0 kept 0\n",
 ];
 
 /// Holds the dialogue in text, and a short one in JSON. Where a request is refused, its answers are those of such a dialogue.

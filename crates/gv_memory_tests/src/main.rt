@@ -4,7 +4,7 @@
 //! `gv_memory_tests script DUMMIES` the script on its standard input, behind so many requests for memory that nobody
 //! needs: in runs in each of which the same request counted from the start is refused, the refused one so moves through
 //! the row. Beside the rows of events on a world there are `space`, `journal` and `queues`, which call these by
-//! themselves, and `replies` and `dialogue`, lines whose answers are written by hand.
+//! themselves, `replies` and `dialogue`, lines whose answers are written by hand, and `trimming`, events whose memory is refused unseen.
 #![tactic(auto)]
 
 mod act;
@@ -18,6 +18,7 @@ mod rows;
 mod scripts;
 mod sight;
 mod space;
+mod trimming;
 mod watch;
 
 use play::{Wrong, play};
@@ -30,8 +31,11 @@ use std::sync::Wait;
 use std::thread::Threads;
 use std::{env, io};
 
-/// The rows of calls on a space, on a journal and on running queues, of a script with its replies, and of a dialogue.
-const APART: [&str; 5] = ["space", "journal", "queues", "replies", "dialogue"];
+/// The rows of calls on a space, on a journal and on running queues, of a script with its replies, of a dialogue, and of room that is
+/// given back.
+const APART: [&str; 6] = [
+    "space", "journal", "queues", "replies", "dialogue", "trimming",
+];
 
 /// More requests for memory than a round of tools/refuse-memory has runs: the refused one is no further behind a row.
 const PAST_THE_REFUSED: u32 = 1_000;
@@ -137,6 +141,7 @@ fn apart<R: Threads + Wait + Sync>(rt: &R, alloc: Global, name: &str) -> Result<
         "queues" => queues::play(rt, alloc),
         "replies" => replies::play(alloc),
         "dialogue" => dialogue::play(alloc),
+        "trimming" => trimming::play(alloc),
         _ => Err(Wrong::NoRow),
     }
 }

@@ -118,7 +118,7 @@ fn is_done(
         Ok(reply) => {
             take_reply(&mut course.fold, &reply);
             note_id(ids, &reply);
-            destroyed(act, &reply)
+            is_as_asked(act, &reply, sight_of(world, ids) == before)
         }
         Err(_) if !may_grow(act) => Err(Wrong::Wanted),
         Err(_) => unchanged(world, ids, before, 0),
@@ -138,11 +138,12 @@ fn unchanged(world: &World, ids: &Ids, before: Sight, told: u64) -> Result<bool,
     }
 }
 
-/// Done, where a buffer that was to be destroyed is.
-fn destroyed(act: Act, reply: &Reply) -> Result<bool, Wrong> {
+/// Done, where a buffer that was to be destroyed is, and where all is the same once room was to be given back.
+fn is_as_asked(act: Act, reply: &Reply, is_same: bool) -> Result<bool, Wrong> {
     match (act, reply) {
         (Act::Destroy { .. }, Reply::Destroyed) => Ok(true),
         (Act::Destroy { .. }, _) => Err(Wrong::Held),
+        (Act::Trim, _) if !is_same => Err(Wrong::Changed),
         _ => Ok(true),
     }
 }

@@ -142,7 +142,7 @@ pub fn take_reply(fold: &mut Fold, reply: &Reply) {
         Reply::Refused { fault } => take_fault(fold, fault),
         Reply::Raised { now, .. } => fold.take(*now),
         Reply::Rewound { item } | Reply::Withdrawn { item } => fold.take(*item),
-        Reply::Settled { count } => fold.take(*count),
+        Reply::Settled { count } | Reply::Forgot { count } => fold.take(*count),
         Reply::Begun { job, places } => {
             fold.take(*job);
             fold.take(places.len() as u64);
@@ -151,6 +151,7 @@ pub fn take_reply(fold: &mut Fold, reply: &Reply) {
         Reply::Found { place } => fold.take(u64::from(place.is_some())),
         Reply::Created { .. } => fold.take_text("created"),
         Reply::Destroyed => fold.take_text("destroyed"),
+        Reply::Trimmed => fold.take_text("trimmed"),
         _ => fold.take_text("other"),
     }
 }

@@ -42,7 +42,7 @@ point_decides a b = (
 fault_decides : (a b : Fault) → Decides (fault-eq.it a b) (a ≡ b)
 fault_decides a b =
     let go : AllDecide fault_enum.parts _ → Decides (fault-eq.it a b) (a ≡ b) = same_decides fault_enum _ a b in
-    go (point, (point, (point, (point, (point, (point, (point, (point, (one nat, (one nat, (one nat, (one nat, (point, (point, (point, (point, (point, (point, (one nat, (one nat, (one nat, (point, (one nat, (one nat, (point, (point, (point, (point, (point, (point, tt))))))))))))))))))))))))))))))
+    go (point, (point, (point, (point, (point, (point, (point, (point, (one nat, (one nat, (one nat, (one nat, (point, (point, (point, (point, (point, (point, (one nat, (one nat, (one nat, (point, (one nat, (one nat, (point, (point, (point, (point, (point, (point, (one nat, (point, tt))))))))))))))))))))))))))))))))
 
 pub outcome_decides : (a b : Outcome) → Decides (outcome-eq.it a b) (a ≡ b)
 outcome_decides a b =

@@ -1,7 +1,7 @@
 -- The ends of queues.
-use Rattle.std.specs.Prelude.{◌≡◌, ℕ, ◌+◌, ◌<◌, List, [], length, slice_index_or}
+use Rattle.std.specs.Prelude.{◌≡◌, ℕ, ◌+◌, ◌<◌, List, [], drop, length, slice_index_or}
 use Rattle.gv_types.specs.declared.request.Request.{Request}
-use Rattle.gv_vm.specs.State.{VmState}
+use Rattle.gv_vm.specs.State.{VmState, forgotten_of}
 use Rattle.gv_vm.specs.Outcomes.{told_to}
 use Rattle.gv_queues.specs.Submitting.{ChannelId, PutEndState, SubmitterState, no_channel, submitter_at}
 use Rattle.gv_queues.specs.Working.{WorkerEndState, WorkerState, end_at, worker_at}
@@ -13,10 +13,12 @@ use Rattle.gv_queues.specs.declared.finishing.QueuesFault.TheVariants.{NotMade, 
 abbrev pub AreInOrder : {X : Type 0} → (X → ℕ) → List X → Type 0
 AreInOrder {X} queue xs = (k : ℕ) (d : X) → k < length xs → queue (slice_index_or xs k d) ≡ k
 
--- the worker of a queue took as many requests as were put, and gave the outcomes that the address space tells
+-- the worker of a queue took as many requests as were put, and gave as many outcomes as the address space was told, those that it
+-- still tells among them
 pub record Agrees (vm : VmState) (put : PutEndState) (worker : WorkerEndState) : Type 0 where
   pub took_all : length worker.taken ≡ length put.put
-  pub told : worker.gave ≡ told_to vm.told worker.queue
+  pub count : length worker.gave ≡ length (told_to vm.told worker.queue)
+  pub told : drop (forgotten_of vm worker.queue) worker.gave ≡ drop (forgotten_of vm worker.queue) (told_to vm.told worker.queue)
 
 abbrev pub no_put : PutEndState
 no_put = record { queue = 0; channel = no_channel; put = [] }

@@ -82,7 +82,7 @@ pub fn finish(
         }
         ends.push_reserved(QueueEnd {
             put: put.put(),
-            told: vm.told(index as u64).len() as u64,
+            told: vm.told_next(index as u64),
             left: worker.into_left(),
         });
         index += 1;

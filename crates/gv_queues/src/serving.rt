@@ -5,6 +5,7 @@ ghost use Rattle.gv_types.specs.Request.{Fits as FitsTimelines};
 ghost use Rattle.gv_sync.specs.Seats.{IsSeatOf, timeline_count};
 ghost use Rattle.gv_sync.specs.Turns.{HasRaised};
 ghost use Rattle.gv_vm.specs.Outcomes.{tell_fault, with_outcome};
+ghost use Rattle.gv_vm.specs.State.{told_limit};
 ghost use Rattle.gv_vm.specs.Told.{IsBoundAndTold, seen_by};
 ghost use Rattle.gv_queues.specs.Paying.{AreReached, IfBind, ArePaid};
 
@@ -64,7 +65,7 @@ pub fn serve(
     requires reached { AreReached ready.taken.request.waits.items seat.old ready.reached.now }
     ensures own { IsSeatOf timelines.now seat.new }
     ensures fault { MatchOption
-        (tell_fault vm.old.space.limits.told vm.old.told ready.entry.taken.queue ready.entry.taken.number)
+        (tell_fault (told_limit vm.old ready.entry.taken.queue) vm.old.told ready.entry.taken.queue ready.entry.taken.number)
         (IfErr result (λ n. n.fault ≡ Fault.OutOfMemory)) (λ fault. IsErrAnd result (λ n. n.fault ≡ fault)) }
     ensures request { IfErr result (λ n. n.request ≡ ready.entry.taken.request) }
     ensures outcome { IfOk result (IsBoundAndTold vm.old vm.new ready.entry.taken.queue ready.entry.taken.number
@@ -85,7 +86,7 @@ pub fn serve(
 /// Gives up a request, a point of whose waits lacks, as `Vm::give_up` does.
 pub fn decline(vm: &mut Vm, taken: Taken, lacking: Lacking) -> Result<Outcome, NotTold>
     requires { Contains taken.request.waits.items lacking.point }
-    ensures fault { MatchOption (tell_fault vm.old.space.limits.told vm.old.told taken.queue taken.number)
+    ensures fault { MatchOption (tell_fault (told_limit vm.old taken.queue) vm.old.told taken.queue taken.number)
         (IfErr result (λ n. n.fault ≡ Fault.OutOfMemory)) (λ fault. IsErrAnd result (λ n. n.fault ≡ fault)) }
     ensures request { IfErr result (λ n. n.request ≡ taken.request) }
     ensures outcome { IfOk result (λ outcome. outcome ≡ Outcome.NotReady lacking.point lacking.number) }

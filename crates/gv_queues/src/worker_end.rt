@@ -69,11 +69,17 @@ impl WorkerEnd {
         self.gave.len() as u64 + self.left.len() as u64
     }
 
-    /// Whether the worker took as many requests as were put, and gave the outcomes that the address space tells.
+    /// Whether the worker took as many requests as were put, and gave as many outcomes as the address space was told, those that
+    /// it still tells among them.
     pub(crate) fn agrees(&self, vm: &Vm, put: &PutEnd) -> bool
         ensures { IsTrue result ↔ Agrees vm.now put.now self.now }
     {
-        self.put() == put.put() && self.gave.as_slice() == vm.told(self.taker.queue())
+        let queue = self.taker.queue();
+        if self.put() != put.put() || self.gave.len() as u64 != vm.told_next(queue) {
+            return false;
+        }
+        let first = vm.told_from(queue) as usize;
+        &self.gave[first..] == vm.told(queue)
     }
 
     /// Takes what still stands in the channel of a closed queue and leaves it, as far as there is room.

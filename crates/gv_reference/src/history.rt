@@ -86,6 +86,11 @@ impl History {
         self.first.saturating_add(self.entries.len() as u64)
     }
 
+    /// The number of the oldest entry, where one is held.
+    pub fn oldest(&self) -> Option<u64> {
+        (!self.entries.is_empty()).then_some(self.first)
+    }
+
     /// The entry with a number.
     pub fn get(&self, number: u64) -> Option<&Past> {
         let place = number.checked_sub(self.first)?;
@@ -139,6 +144,25 @@ impl History {
         for entry in &self.entries {
             if let Kind::Withdrawal { of } = &entry.kind {
                 if number >= to && *of < to {
+                    return Some(number);
+                }
+            }
+            number = number.saturating_add(1);
+        }
+        None
+    }
+
+    /// The least entry that is a request of this queue with a number below this one.
+    pub fn told_below(&self, queue: u64, to: u64) -> Option<u64> {
+        let mut number = self.first;
+        for entry in &self.entries {
+            if let Kind::Bind {
+                queue: of,
+                number: own,
+                ..
+            } = &entry.kind
+            {
+                if *of == queue && *own < to {
                     return Some(number);
                 }
             }

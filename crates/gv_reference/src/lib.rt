@@ -6,9 +6,11 @@ mod history;
 mod lines;
 mod model;
 mod running;
+mod told;
 
 pub use ground::{Ground, Made, Turn};
 pub use history::{History, Kind, Past};
 pub use lines::{InHand, Line, Numbered, copy_of};
 pub use model::{Model, Setting};
 pub use running::{Running, place_of};
+pub use told::Told;

@@ -3,8 +3,9 @@ use crate::ground::{Ground, Turn};
 use crate::history::History;
 use crate::lines::{InHand, Line, Numbered, copy_of};
 use crate::running::{Running, place_of};
+use crate::told::Told;
 use gv_types::{Bounds, BufferId, Fault, Limits, OutOfMemory, Point, Request};
-use gv_vm::{Access, Event, Outcome, Reply};
+use gv_vm::{Access, Event, Outcome, QUEUES, Reply};
 use std::alloc::Global;
 
 /// What a world is made for.
@@ -22,7 +23,7 @@ pub struct Model {
     pub setting: Setting,
     pub ground: Ground,
     pub running: Running,
-    pub told: Vec<Vec<Outcome>>,
+    pub told: Vec<Told>,
     pub lines: Vec<Line>,
     pub numbers: Vec<u64>,
 }
@@ -40,8 +41,10 @@ impl Model {
     pub fn new(alloc: Global, setting: Setting) -> Result<Model, OutOfMemory> {
         let mut told = Vec::new(alloc);
         let mut lines = Vec::new(alloc);
+        for _ in 0..QUEUES {
+            told.push(Told::new(alloc))?;
+        }
         for _ in 0..setting.queues {
-            told.push(Vec::new(alloc))?;
             lines.push(Line::new(alloc))?;
         }
         let numbers = vec![in alloc; 0; setting.timelines as usize]?;
@@ -81,6 +84,8 @@ impl Model {
             Event::Rewind => Ok(self.rewind()),
             Event::Withdraw { entry } => Ok(self.withdraw(alloc, *entry)),
             Event::Settle { to } => Ok(self.settle(alloc, *to)),
+            Event::Forget { queue, to } => Ok(self.forget(*queue, *to)),
+            Event::Trim => Ok(self.trim()),
             Event::Translate { addr } => Ok(Reply::Found {
                 place: place_of(&self.ground, *addr),
             }),
@@ -96,6 +101,10 @@ impl Model {
                 .signals
                 .iter()
                 .all(|point| point.timeline < self.setting.timelines);
+        let forgotten = match self.told.get(queue as usize) {
+            Some(told) => told.forgotten,
+            None => 0,
+        };
         let Some(line) = self.lines.get_mut(queue as usize) else {
             return Ok(Reply::Idle);
         };
@@ -104,7 +113,7 @@ impl Model {
         }
         let request = copy_of(alloc, request)?;
         let number = line.put;
-        if number >= self.setting.limits.told() {
+        if number >= forgotten.saturating_add(self.setting.limits.told()) {
             let fault = Fault::QueueSpent;
             return Ok(Reply::NotPut { fault, request });
         }
@@ -154,7 +163,7 @@ impl Model {
     /// Tells a queue what a request came to.
     fn tell(&mut self, queue: u64, number: u64, outcome: Outcome) -> Result<Reply, OutOfMemory> {
         if let Some(told) = self.told.get_mut(queue as usize) {
-            told.push(outcome)?;
+            told.outcomes.push(outcome)?;
         }
         Ok(Reply::Told { number, outcome })
     }
@@ -244,6 +253,33 @@ impl Model {
     fn settle(&mut self, alloc: Global, to: u64) -> Reply {
         let settled = self.ground.settle(alloc, to);
         reply_of(settled.map(|count| Reply::Settled { count }))
+    }
+
+    /// The outcomes of a queue below a number are let go, but for what held entries were told.
+    fn forget(&mut self, queue: u64, to: u64) -> Reply {
+        let fault = Fault::NoOutcome;
+        let Some(told) = self.told.get_mut(queue as usize) else {
+            return Reply::Refused { fault };
+        };
+        if !told.has(to) {
+            return Reply::Refused { fault };
+        }
+        if let Some(by) = self.ground.history.told_below(queue, to) {
+            let fault = Fault::Held { by };
+            return Reply::Refused { fault };
+        }
+        let count = told.forget(to);
+        Reply::Forgot { count }
+    }
+
+    /// Room is given back, which is not seen; but not while an entry is held.
+    fn trim(&self) -> Reply {
+        match self.ground.history.oldest() {
+            Some(by) => Reply::Refused {
+                fault: Fault::Held { by },
+            },
+            None => Reply::Trimmed,
+        }
     }
 
     fn job_begin(&mut self, alloc: Global, accesses: &[Access]) -> Reply {

@@ -7,8 +7,8 @@ use gv_types::{Backing, Bounds, BufferId, Entry, Fault, Limits, Op, OutOfMemory,
 use std::alloc::Global;
 use std::marker::Model;
 
-/// One address space and its journal. Of a log of any length it holds what is live and the newest entries: a `Vm`, which keeps
-/// what each of its queues was told, ends after 1,048,576 requests. It has to be closed: it isn't `Drop`.
+/// One address space and its journal. Of a log of any length it holds what is live and the newest entries. It has to be closed: it
+/// isn't `Drop`.
 pub struct Machine {
     space: Space,
     journal: Journal,

@@ -4,7 +4,7 @@ use Rattle.std.specs.List.{flat_map}
 use Rattle.gv_types.specs.declared.request.Request.{Request}
 use Rattle.gv_vm.specs.Plans.{once}
 use Rattle.gv_vm.specs.QueueTurns.{TookTurn, StoppedInTurn, IsQuiet}
-use Rattle.gv_vm.specs.declared.event.Event.TheVariants.{Put as PutEvent, GiveUp as GiveUpEvent}
+use Rattle.gv_vm.specs.declared.event.Event.TheVariants.{Put as PutEvent, GiveUp as GiveUpEvent, Forget as ForgetEvent, Trim as TrimEvent}
 use Rattle.gv_vm.specs.declared.event.Reply.{Reply}
 use Rattle.gv_vm.specs.declared.event.Reply.TheVariants.{Put as IsPut, NotPut, Told as IsTold, Idle as IsIdle}
 use Rattle.gv_vm.specs.declared.world.turn.Turn.{Turn as TurnOf}
@@ -15,9 +15,9 @@ use Rattle.gv_lines.specs.declared.clause.Clause.{Clause}
 use Rattle.gv_lines.specs.declared.line.Line.{Line}
 use Rattle.gv_lines.specs.declared.line.Line.TheVariants as line
 use Rattle.gv_lines.specs.declared.serve_line.ServeLine.{ServeLine}
-use Rattle.gv_lines.specs.declared.serve_line.ServeLine.TheVariants.{Run, Put, Turn, GiveUp, Show, Past}
+use Rattle.gv_lines.specs.declared.serve_line.ServeLine.TheVariants.{Run, Put, Turn, GiveUp, Forget, Trim, Show, Past}
 use Rattle.gv_text.specs.Asking.{IsRequest}
-use Rattle.gv_text.specs.Line.{Written, plain, Answers, Does, Runs, IsGood, AreDeclared}
+use Rattle.gv_text.specs.Line.{Written, plain, Answers, Does, DoesOnce, Runs, IsGood, AreDeclared}
 use Rattle.gv_text.specs.Reply.{reply, refused_reply, counted_reply, outcome_text, timeline_text}
 use Rattle.gv_text.specs.State.{SessionState, begun}
 use Rattle.gv_text.specs.Stopping.{Loses, StopsAmid}
@@ -72,6 +72,8 @@ Serves (Run line) s w t = Runs line s w t
 Serves (Put clauses) s w t = Puts clauses s w t
 Serves (Turn queue) s w t = Turns queue s w t
 Serves (GiveUp queue) s w t = GivesUp queue s w t
+Serves (Forget queue to) s w t = DoesOnce (ForgetEvent queue to) s w t
+Serves Trim s w t = DoesOnce TrimEvent s w t
 Serves (Show entry) s w t = Asks s w t
 Serves (Past addr) s w t = Asks s w t
 
@@ -90,6 +92,8 @@ IsGoodServe (Run line) s = IsAlone line s × IsGood line s
 IsGoodServe (Put clauses) s = AreDeclared s.buffers s.timelines clauses
 IsGoodServe (Turn queue) s = Unit {0}
 IsGoodServe (GiveUp queue) s = Unit {0}
+IsGoodServe (Forget queue to) s = Unit {0}
+IsGoodServe Trim s = Unit {0}
 IsGoodServe (Show entry) s = Unit {0}
 IsGoodServe (Past addr) s = Unit {0}
 

@@ -8,7 +8,8 @@ ghost use Rattle.gv_serve.specs.Added.{Serves, ServesText, IsAlone, IsGoodServe,
 
 use crate::{added, asking};
 use gv_lines::{Line, ServeLine, parse_serve_line};
-use gv_text::{LineFault, Session, run_line};
+use gv_text::{LineFault, Session, once, run_line};
+use gv_vm::Event;
 use std::alloc::Global;
 
 /// Carries out a line as it stands in a dialogue, and writes its reply. A bad line changes nothing.
@@ -55,6 +56,8 @@ fn serve_line(
         ServeLine::Put { clauses } => added::put(alloc, session, &clauses, out),
         ServeLine::Turn { queue } => added::turn(alloc, session, queue, out),
         ServeLine::GiveUp { queue } => added::give_up(alloc, session, queue, out),
+        ServeLine::Forget { queue, to } => once(alloc, session, Event::Forget { queue, to }, out),
+        ServeLine::Trim => once(alloc, session, Event::Trim, out),
         ServeLine::Show { entry } => asking::show(alloc, session, entry, out),
         ServeLine::Past { addr } => asking::past(alloc, session, addr, out),
     }

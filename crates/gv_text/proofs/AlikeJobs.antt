@@ -1,5 +1,5 @@
 -- A job that is refused for the number of its accesses is one that the world refuses.
-use Rattle.std.proofs.Common.{◌≡◌, ℕ, false, List, [], ◌++◌, length, Option, Some, Vec, refl, sym, ap, ◌∙◌, subst, append-nil, arith}
+use Rattle.std.proofs.Common.{◌≡◌, ℕ, false, List, [], ◌++◌, length, Option, Some, Vec, refl, sym, ap, ◌∙◌, subst, append-nil}
 use Rattle.std.specs.declared.alloc.Global.{Global}
 use Rattle.std.specs.List.{flat_map}
 use Rattle.gv_types.specs.declared.fault.Fault.{Fault}

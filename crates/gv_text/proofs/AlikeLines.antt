@@ -10,7 +10,7 @@ use Rattle.gv_table.specs.Table.{tables_of}
 use Rattle.gv_buffers.specs.Buffers.{BuffersState}
 use Rattle.gv_space.specs.State.{SpaceState}
 use Rattle.gv_vm.specs.Alike.{AreAlikeEvents}
-use Rattle.gv_vm.specs.Outcomes.{told_to}
+use Rattle.gv_vm.specs.declared.outcome.Outcome.{Outcome}
 use Rattle.gv_vm.specs.Places.{place_at}
 use Rattle.gv_vm.specs.World.{WorldState}
 use Rattle.gv_vm.specs.declared.event.Event.{Event}
@@ -28,8 +28,8 @@ use Rattle.gv_text.specs.AlikePlans.{AreAllAlike, AreAmple, StayAlike}
 use Rattle.gv_text.specs.Asking.{op_named, point_named, access_named}
 use Rattle.gv_vm.specs.Plans.{once, serving, IsCarriedOut}
 use Rattle.gv_text.specs.Line.{Written, DoesOnce, Withdraws, Answers, Of, SetsBounds, Makes, declared, BeginsJob, HasTooMany, Serves, caps_of, Runs}
-use Rattle.gv_text.specs.Reply.{refused_reply, lines_reply, mapping_text, place_reply, tables_reply, number_reply, journal_reply, told_reply}
-use Rattle.gv_text.specs.Said.{said, said_of_withdrawal, told, uses_said, plan_said}
+use Rattle.gv_text.specs.Reply.{refused_reply, lines_reply, mapping_text, place_reply, tables_reply, number_reply, journal_reply}
+use Rattle.gv_text.specs.Said.{said, said_of_withdrawal, told, told_said, uses_said, plan_said}
 use Rattle.gv_text.specs.State.{SessionState, Buffers, names_alone, buffer_named, timeline_named, begun, empty_world}
 use Rattle.gv_text.specs.declared.stage.Stage.TheVariants.{Bounded, Begun}
 use Rattle.gv_text.proofs.AlikeAnswers.{journal_alike}
@@ -242,8 +242,9 @@ module _ (s s' t t' : SessionState) (w w' : Written) (alike : AreAlikeStates s s
   line_alike (line.Withdraw entry) here here' ample ample' = withdrawal_same entry here here' ample ample'
   line_alike (line.Settle to) here here' ample ample' = once_same (Settle to) (Settle to) refl here here' ample ample'
   line_alike (line.Told queue) here here' ample ample' =
-      answers_alike s s' alike w w' t t' (told_reply s.timelines (told_to s.world.vm.told queue)) (told_reply s'.timelines (told_to s'.world.vm.told queue))
-      (ap (λ told. told_reply s.timelines (told_to told queue)) alike.worlds.vm.told
-      ∙ ap (λ (timelines : List (List ℕ)). told_reply timelines (told_to s'.world.vm.told queue)) alike.timelines) here.1 here'.1
+      answers_alike s s' alike w w' t t' (told_said s.timelines s.world.vm queue) (told_said s'.timelines s'.world.vm queue)
+      (ap (λ (told : List (List Outcome)). told_said s.timelines (record s.world.vm { told = told }) queue) alike.worlds.vm.told
+      ∙ ap (λ (gone : List ℕ). told_said s.timelines (record s.world.vm { told = s'.world.vm.told; forgotten = gone }) queue) alike.worlds.vm.forgotten
+      ∙ ap (λ (timelines : List (List ℕ)). told_said timelines s'.world.vm queue) alike.timelines) here.1 here'.1
   line_alike (line.Job accesses) here here' ample ample' = job_line_same (map access_named accesses) here here' ample ample'
   line_alike (line.End job) here here' ample ample' = once_same (JobEnd job) (JobEnd job) refl here here' ample ample'

@@ -1,5 +1,5 @@
 -- For callers: what an answer tells of what is there, and of faults.
-use Rattle.std.proofs.Common.{◌≡◌, ◌≢◌, true, false, Option, Some, None, is_some, Result, Ok, Err, MatchOption, IsOkUnless, OnOk, refl, sym, ap, subst}
+use Rattle.std.proofs.Common.{◌≡◌, ◌≢◌, false, Option, Some, None, is_some, Result, Ok, Err, MatchOption, IsOkUnless, OnOk, refl, sym, ap, subst}
 use Rattle.std.specs.Prelude.{ok_or}
 use Rattle.gv_types.specs.declared.fault.Fault.{Fault}
 use Rattle.gv_types.specs.declared.fault.Fault.TheVariants.{OutOfMemory}

@@ -1,11 +1,8 @@
 -- What single lines do.
-use Rattle.std.proofs.Common.{◌≡◌, ◌≢◌, ℕ, List, [], ◌∷◌, ◌++◌, true, false, Option, Some, None, is_some, Result, Ok, Err, MatchOption, IsOkUnless, String, string_bytes, refl, sym, ap, ◌∙◌, subst, append-nil, ◌<◌, nat_lt, arith}
+use Rattle.std.proofs.Common.{◌≡◌, ℕ, List, [], ◌∷◌, ◌++◌, true, Some, Result, Err, String, string_bytes, refl, sym, ap, ◌∙◌, subst, append-nil, ◌<◌, nat_lt, arith}
 use Rattle.std.proofs.lemmas.Bool.Decides.{nat_tests}
-use Rattle.std.specs.Prelude.{ok_or}
 use Rattle.std.specs.List.{flat_map, list_any}
 use Rattle.std.specs.declared.alloc.Global.{Global}
-use Rattle.gv_types.specs.declared.fault.Fault.{Fault}
-use Rattle.gv_types.specs.declared.fault.Fault.TheVariants.{OutOfMemory}
 use Rattle.gv_types.specs.declared.fault.Fault.TheVariants.{TooManyAccesses}
 use Rattle.gv_vm.specs.Jobs.{JobsState, most_accesses, many_fault}
 use Rattle.gv_vm.specs.World.{WorldState}
@@ -19,7 +16,7 @@ use Rattle.gv_text.specs.State.{SessionState, Buffers, begun}
 use Rattle.gv_vm.specs.Plans.{once, IsCarriedOut, Steps, nothing}
 use Rattle.gv_text.specs.Reply.{reply}
 use Rattle.gv_text.specs.Said.{is_lacking}
-use Rattle.gv_text.specs.Line.{Written, plain, Does, Of, Runs}
+use Rattle.gv_text.specs.Line.{Written, plain, Does, Runs}
 use Rattle.gv_text.specs.Question.{IsAnswer, with_vm}
 use Rattle.gv_text.specs.Serving.{Wrote}
 use Rattle.gv_vm.proofs.PlanLemmas.{goes_first, carried_out}

@@ -15,12 +15,18 @@ numbered_lines-append line number (x ∷ xs) ys =
     ∙ ap (λ (n : ℕ). (here ++ numbered_lines line (number + 1) xs) ++ numbered_lines line n ys) count
 
 -- the first k lines, and the one behind them
+pub numbered_lines-from : {X : Type 0} (line : ℕ → X → List ℕ) (first k : ℕ) (xs : List X) (d : X) → k < length xs →
+    numbered_lines line first (take (k + 1) xs) ≡ numbered_lines line first (take k xs) ++ line (first + k) (get_or xs k d)
+numbered_lines-from line first k xs d below =
+    let taken : length (take k xs) ≡ k = length-take-le k xs (omega arith) in
+    let count : first + length (take k xs) ≡ first + k = omega (arith, taken) in
+    ap (numbered_lines line first) (take_more xs k d below)
+    ∙ numbered_lines-append line first (take k xs) (get_or xs k d ∷ [])
+    ∙ ap (λ (n : ℕ). numbered_lines line first (take k xs) ++ numbered_lines line n (get_or xs k d ∷ [])) count
+    ∙ ap (λ (bytes : List ℕ). numbered_lines line first (take k xs) ++ bytes) (append-nil _)
+
 pub numbered_lines-more : {X : Type 0} (line : ℕ → X → List ℕ) (k : ℕ) (xs : List X) (d : X) → k < length xs →
     numbered_lines line 0 (take (k + 1) xs) ≡ numbered_lines line 0 (take k xs) ++ line k (get_or xs k d)
 numbered_lines-more line k xs d below =
-    let taken : length (take k xs) ≡ k = length-take-le k xs (omega arith) in
-    let count : 0 + length (take k xs) ≡ k = omega (arith, taken) in
-    ap (numbered_lines line 0) (take_more xs k d below)
-    ∙ numbered_lines-append line 0 (take k xs) (get_or xs k d ∷ [])
-    ∙ ap (λ (n : ℕ). numbered_lines line 0 (take k xs) ++ numbered_lines line n (get_or xs k d ∷ [])) count
-    ∙ ap (λ (bytes : List ℕ). numbered_lines line 0 (take k xs) ++ bytes) (append-nil _)
+    let number : 0 + k ≡ k = omega arith in
+    numbered_lines-from line 0 k xs d below ∙ ap (λ (n : ℕ). numbered_lines line 0 (take k xs) ++ line n (get_or xs k d)) number

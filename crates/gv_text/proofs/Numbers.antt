@@ -9,9 +9,9 @@ use Rattle.gv_vm.specs.Run.{RunsWith}
 use Rattle.gv_vm.specs.Step.{step, IsStep}
 use Rattle.gv_vm.specs.declared.world.turn.Turn.{Turn}
 use Rattle.gv_vm.specs.declared.event.Event.{Event}
-use Rattle.gv_vm.specs.declared.event.Event.TheVariants.{Put, Take, Look, Bind, GiveUp, Pay, Raise, Create, Destroy, Rewind, Withdraw, Settle, JobBegin, JobEnd, Translate}
+use Rattle.gv_vm.specs.declared.event.Event.TheVariants.{Put, Take, Look, Bind, GiveUp, Pay, Raise, Create, Destroy, Rewind, Withdraw, Settle, Forget, Trim, JobBegin, JobEnd, Translate}
 use Rattle.gv_vm.specs.declared.event.Reply.{Reply}
-use Rattle.gv_vm.specs.declared.event.Reply.TheVariants.{Idle, Put as IsPut, NotPut, Taken, Reached, Lacking, Told, Raised, Created, Destroyed, Rewound, Withdrawn, Settled, Begun, Ended, Found, Refused}
+use Rattle.gv_vm.specs.declared.event.Reply.TheVariants.{Idle, Put as IsPut, NotPut, Taken, Reached, Lacking, Told, Raised, Created, Destroyed, Rewound, Withdrawn, Settled, Forgot, Trimmed, Begun, Ended, Found, Refused}
 
 pub numbers_stay : (old : WorldState) (event : Event) (reply : Reply) (new : WorldState) → step old event reply new → length new.numbers ≡ length old.numbers
 numbers_stay old event Idle new is = ap (λ (w : WorldState). length w.numbers) is.1
@@ -30,6 +30,8 @@ numbers_stay old (Destroy id) Destroyed new is = ap (λ (w : WorldState). length
 numbers_stay old Rewind (Rewound item) new is = ap (λ (w : WorldState). length w.numbers) is.state
 numbers_stay old (Withdraw entry) (Withdrawn item) new is = ap (λ (w : WorldState). length w.numbers) is.state
 numbers_stay old (Settle to) (Settled settled) new is = ap (λ (w : WorldState). length w.numbers) is.state
+numbers_stay old (Forget queue to) (Forgot count) new is = ap (λ (w : WorldState). length w.numbers) is.state
+numbers_stay old Trim Trimmed new is = ap (λ (w : WorldState). length w.numbers) is.state
 numbers_stay old (JobBegin accesses) (Begun job places) new is = ap (λ (w : WorldState). length w.numbers) is.state
 numbers_stay old (JobEnd asked) (Ended job) new is = ap (λ (w : WorldState). length w.numbers) is.state
 numbers_stay old (Translate addr) (Found place) new is = ap (λ (w : WorldState). length w.numbers) is.1

@@ -7,7 +7,7 @@ use Rattle.gv_types.specs.Limits.{LimitsState, caps, greatest, IsWithin}
 use Rattle.gv_types.specs.declared.request.Request.{Request}
 use Rattle.gv_sync.specs.Seats.{most_timelines}
 use Rattle.gv_table.specs.Table.{tables_of}
-use Rattle.gv_vm.specs.Outcomes.{queues, told_to}
+use Rattle.gv_vm.specs.Outcomes.{queues}
 use Rattle.gv_vm.specs.Places.{place_at}
 use Rattle.gv_vm.specs.declared.event.Event.{Event}
 use Rattle.gv_vm.specs.declared.event.Event.TheVariants.{Raise, Create, Destroy, Rewind, Withdraw, Settle, JobBegin, JobEnd}
@@ -27,8 +27,8 @@ use Rattle.gv_text.specs.declared.stage.Stage.TheVariants.{Fresh, Bounded, Begun
 use Rattle.gv_text.specs.State.{SessionState, Buffers, names_alone, buffer_named, timeline_named, empty_world, begun}
 use Rattle.gv_text.specs.Asking.{op_named, point_named, access_named, IsRequest}
 use Rattle.gv_vm.specs.Plans.{Plan, once, serving, IsCarriedOut}
-use Rattle.gv_text.specs.Reply.{ok_reply, refused_reply, lines_reply, mapping_text, place_reply, tables_reply, number_reply, journal_reply, told_reply}
-use Rattle.gv_text.specs.Said.{said, said_of_withdrawal, told, is_lacking, uses_said, plan_said}
+use Rattle.gv_text.specs.Reply.{ok_reply, refused_reply, lines_reply, mapping_text, place_reply, tables_reply, number_reply, journal_reply}
+use Rattle.gv_text.specs.Said.{said, said_of_withdrawal, told, is_lacking, told_said, uses_said, plan_said}
 
 -- What a line wrote, and whether memory was refused to its request.
 pub record Written : Type 0 where
@@ -141,7 +141,7 @@ Runs line.Rewind s w t = DoesOnce Rewind s w t
 Runs line.Journal s w t = Answers (journal_reply s.world.vm.journal) s w t
 Runs (line.Withdraw entry) s w t = Withdraws entry s w t
 Runs (line.Settle to) s w t = DoesOnce (Settle to) s w t
-Runs (line.Told queue) s w t = (queue < queues) × Answers (told_reply s.timelines (told_to s.world.vm.told queue)) s w t
+Runs (line.Told queue) s w t = (queue < queues) × Answers (told_said s.timelines s.world.vm queue) s w t
 Runs (line.Job accesses) s w t = BeginsJob (map access_named accesses) s w t ⊎ HasTooMany (map access_named accesses) s w t
 Runs (line.End job) s w t = DoesOnce (JobEnd job) s w t
 

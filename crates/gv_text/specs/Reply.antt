@@ -78,6 +78,9 @@ lines_reply text (x ∷ xs) = flat_map (λ y. reply (text y ∷ [])) (x ∷ xs)
 abbrev pub ok_reply : List ℕ
 ok_reply = reply (codes "ok" ∷ [])
 
+abbrev pub trimmed_reply : List ℕ
+trimmed_reply = reply (codes "trimmed" ∷ [])
+
 abbrev pub refused_reply : Fault → List ℕ
 refused_reply fault = reply (codes "refused " ∷ fault_text fault ∷ [])
 
@@ -128,10 +131,10 @@ numbered_lines line number (x ∷ xs) = line number x ++ numbered_lines line (nu
 abbrev pub outcome_line : List (List ℕ) → ℕ → Outcome → List ℕ
 outcome_line timelines number outcome = reply (decimal number ∷ codes " " ∷ outcome_text timelines outcome ∷ [])
 
--- what a queue was told, or the word empty
-abbrev pub told_reply : List (List ℕ) → List Outcome → List ℕ
-told_reply timelines [] = reply (codes "empty" ∷ [])
-told_reply timelines (outcome ∷ outcomes) = numbered_lines (outcome_line timelines) 0 (outcome ∷ outcomes)
+-- what a queue was told, of which the first outcome has this number, or the word empty
+abbrev pub told_reply : List (List ℕ) → ℕ → List Outcome → List ℕ
+told_reply timelines first [] = reply (codes "empty" ∷ [])
+told_reply timelines first (outcome ∷ outcomes) = numbered_lines (outcome_line timelines) first (outcome ∷ outcomes)
 
 abbrev pub liveness_text : Bool → List ℕ
 liveness_text true = codes "withdrawn"

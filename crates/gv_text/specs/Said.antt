@@ -1,5 +1,5 @@
 -- What the replies of the world say in a script.
-use Rattle.std.specs.Prelude.{ℕ, Bool, true, false, codes, List, [], ◌∷◌, Option, Some, None}
+use Rattle.std.specs.Prelude.{ℕ, Bool, true, false, codes, List, [], ◌∷◌, drop, Option, Some, None}
 use Rattle.std.specs.Option.{option_zip}
 use Rattle.gv_types.specs.Operation.{in_pages}
 use Rattle.gv_types.specs.declared.fault.Fault.{Fault}
@@ -10,11 +10,13 @@ use Rattle.gv_types.specs.declared.mapping.BufferId.{BufferId}
 use Rattle.gv_split.specs.Steps.{steps}
 use Rattle.gv_space.specs.State.{SpaceState}
 use Rattle.gv_space.specs.Refusal.{operation_fault}
+use Rattle.gv_vm.specs.Outcomes.{told_to}
+use Rattle.gv_vm.specs.State.{VmState, forgotten_of}
 use Rattle.gv_vm.specs.declared.event.Reply.{Reply}
-use Rattle.gv_vm.specs.declared.event.Reply.TheVariants.{NotPut, Told, Raised, Created, Destroyed, Rewound, Withdrawn, Settled, Begun, Ended, Refused}
+use Rattle.gv_vm.specs.declared.event.Reply.TheVariants.{NotPut, Told, Raised, Created, Destroyed, Rewound, Withdrawn, Settled, Forgot, Trimmed, Begun, Ended, Refused}
 use Rattle.gv_vm.specs.declared.outcome.Outcome.{Outcome}
 use Rattle.gv_vm.specs.declared.outcome.Outcome.TheVariants.{Refused as RefusedAt}
-use Rattle.gv_text.specs.Reply.{reply as reply_line, ok_reply, refused_reply, outcome_text, number_reply, counted_reply, withdrawn_reply, begun_reply, uses_reply, lines_reply, step_text}
+use Rattle.gv_text.specs.Reply.{reply as reply_line, ok_reply, trimmed_reply, refused_reply, outcome_text, number_reply, counted_reply, withdrawn_reply, begun_reply, told_reply, uses_reply, lines_reply, step_text}
 
 -- what is written for the reply to a call
 abbrev pub said : List (List ℕ) → List (List ℕ) → Reply → List ℕ
@@ -23,6 +25,8 @@ said names timelines (Created id) = ok_reply
 said names timelines Destroyed = ok_reply
 said names timelines (Rewound item) = counted_reply (codes "rewound ") item
 said names timelines (Settled count) = counted_reply (codes "settled ") count
+said names timelines (Forgot count) = counted_reply (codes "forgot ") count
+said names timelines Trimmed = trimmed_reply
 said names timelines (Begun job places) = begun_reply names job places.items
 said names timelines (Ended job) = counted_reply (codes "ended ") job
 said names timelines (Refused fault) = refused_reply fault
@@ -53,6 +57,10 @@ lacked outcome = false
 abbrev pub is_lacking : Reply → Bool
 is_lacking (Told number outcome) = lacked outcome
 is_lacking reply = false
+
+-- the outcomes of a queue that aren't forgotten, with their numbers
+abbrev pub told_said : List (List ℕ) → VmState → ℕ → List ℕ
+told_said timelines v queue = told_reply timelines (forgotten_of v queue) (drop (forgotten_of v queue) (told_to v.told queue))
 
 abbrev pub counts_reply : Option (ℕ × ℕ) → List ℕ
 counts_reply None = refused_reply NoBuffer

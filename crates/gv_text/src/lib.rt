@@ -31,7 +31,7 @@ pub use output::Output;
 pub use question::{NamedVm, answer};
 pub use reply::write_place;
 pub use request::{asked_by, point_named};
-pub use run::run as run_line;
+pub use run::{once, run as run_line};
 pub use said::{write_number, write_outcome_line, write_refused, write_timeline};
 pub use script::{run_script, run_script_explained};
 pub use session::Session;

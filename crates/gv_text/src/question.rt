@@ -1,7 +1,8 @@
 //! What is asked of an address space. Nothing changes.
-ghost use Rattle.std.specs.Prelude.{◌≡◌, ◌≢◌, ◌++◌, ℕ, List, Err, OnOk, string_bytes};
+ghost use Rattle.std.specs.Prelude.{◌≡◌, ◌≢◌, ◌<◌, ◌++◌, ℕ, List, Err, OnOk, string_bytes};
 ghost use Rattle.gv_text.specs.Reply.{journal_reply};
-ghost use Rattle.gv_text.specs.Said.{uses_said, plan_said};
+ghost use Rattle.gv_vm.specs.Outcomes.{queues};
+ghost use Rattle.gv_text.specs.Said.{uses_said, plan_said, told_said};
 ghost use Rattle.gv_text.specs.State.{SessionState, names_alone};
 ghost use Rattle.gv_text.specs.Line.{IsGood};
 ghost use Rattle.gv_text.specs.Question.{IsQuestion, IsAnswer, with_vm};
@@ -62,11 +63,26 @@ pub fn answer(
         Line::Tables => Ok(write_tables(out, vm.space().tables())?),
         Line::Journal => Ok(write_items(alloc, out, vm)?),
         Line::Told { queue } if *queue < QUEUES as u64 => {
-            Ok(write_told(out, timelines, vm.told(*queue))?)
+            Ok(write_outcomes(out, timelines, vm, *queue)?)
         }
         Line::Told { .. } => Err(LineFault::Bad),
         _ => Ok(()),
     }
+}
+
+/// Writes what a queue was told, but for what is forgotten.
+fn write_outcomes(
+    out: &mut String,
+    timelines: &TimelineNames,
+    vm: &Vm,
+    queue: u64,
+) -> Result<(), AllocError>
+    requires { queue < queues }
+    ensures { OnOk result (string_bytes out.new ≡ string_bytes out.old ++ told_said timelines.now.names vm.now queue) }
+{
+    // For the prover: that the numbers of all outcomes fit.
+    let _next = vm.told_next(queue);
+    write_told(out, timelines, vm.told_from(queue), vm.told(queue))
 }
 
 /// Writes how many mappings of a buffer there are, unless it is destroyed.

@@ -249,8 +249,8 @@ fn bind(
     serve(alloc, session, asked.0, asked.1, out)
 }
 
-/// One call of the world, and what it replies.
-fn once(
+/// One event of the world, and what it replies. Only want of memory is an error.
+pub fn once(
     alloc: Global,
     session: &mut Session,
     event: Event,

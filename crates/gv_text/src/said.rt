@@ -1,7 +1,8 @@
 //! The texts of what the world replies.
-ghost use Rattle.std.specs.Prelude.{◌≡◌, ◌+◌, ◌++◌, ◌∷◌, [], OnOk, codes, decimal, string_bytes};
+ghost use Rattle.std.specs.Prelude.{◌≡◌, ◌+◌, ◌≤◌, ◌++◌, ◌∷◌, [], length, OnOk, codes, decimal, string_bytes};
 ghost use Rattle.std.specs.List.{flat_map};
 ghost use Rattle.gv_types.specs.Fault.{fault_text};
+ghost use Rattle.gv_vm.specs.Outcomes.{most_told};
 ghost use Rattle.gv_text.specs.State.{names_alone};
 ghost use Rattle.gv_text.specs.Reply.{reply, place_text, begun_reply, refused_reply, outcome_text, outcome_line, told_reply};
 ghost use Rattle.gv_text.specs.Reply.{timeline_text, number_reply, counted_reply, withdrawn_reply};
@@ -127,7 +128,7 @@ pub fn write_outcome_line(
 fn write_numbered(
     out: &mut String,
     timelines: &TimelineNames,
-    number: usize,
+    number: u64,
     outcome: &Outcome,
 ) -> Result<(), AllocError>
     ensures { OnOk result (string_bytes out.new
@@ -137,19 +138,21 @@ fn write_numbered(
     write_outcome_line(out, timelines, outcome)
 }
 
-/// Writes each outcome that a queue was told, with its number.
+/// Writes each outcome that a queue was told, with its number: that of the first one is `first`.
 pub fn write_told(
     out: &mut String,
     timelines: &TimelineNames,
+    first: u64,
     outcomes: &[Outcome],
 ) -> Result<(), AllocError>
-    ensures { OnOk result (string_bytes out.new ≡ string_bytes out.old ++ told_reply timelines.now.names outcomes.now) }
+    requires { first + length outcomes.now ≤ most_told }
+    ensures { OnOk result (string_bytes out.new ≡ string_bytes out.old ++ told_reply timelines.now.names first outcomes.now) }
 {
     if outcomes.is_empty() {
         return out.push_str("empty\n");
     }
-    for (number, outcome) in outcomes.iter().enumerate() {
-        write_numbered(out, timelines, number, outcome)?;
+    for (index, outcome) in outcomes.iter().enumerate() {
+        write_numbered(out, timelines, first + index as u64, outcome)?;
     }
     Ok(())
 }
@@ -195,6 +198,8 @@ pub fn write_said(
         Reply::Created { .. } | Reply::Destroyed => out.push_str("ok\n"),
         Reply::Rewound { item } => write_counted(out, "rewound ", *item),
         Reply::Settled { count } => write_counted(out, "settled ", *count),
+        Reply::Forgot { count } => write_counted(out, "forgot ", *count),
+        Reply::Trimmed => out.push_str("trimmed\n"),
         Reply::Begun { job, places } => write_begun(out, names, *job, places),
         Reply::Ended { job } => write_counted(out, "ended ", *job),
         Reply::Refused { fault } => write_refused(out, fault),

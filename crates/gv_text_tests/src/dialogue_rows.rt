@@ -7,7 +7,7 @@ pub struct Row {
     pub answers: &'static [u8],
 }
 
-pub const ROWS: [Row; 7] = [
+pub const ROWS: [Row; 11] = [
     Row {
         name: "lines of a script",
         input: b"buffer b 4\n# a comment\n\nbind map 0x0 0x4000 b 0x0\nat 0x1abc\n",
@@ -34,6 +34,26 @@ pub const ROWS: [Row; 7] = [
         answers: b"put 0\nbad line 2: requests wait on queue 0; turn 0 serves them\naccepted 0\naccepted 1\naccepted 2\nput 2\nrefused 0 Unaligned\n",
     },
     Row {
+        name: "what a queue was told is forgotten, but for held items",
+        input: b"bind\nbind\nforget 0 3\nforget 0 1\nforget 0 0\nsettle 1\nforget 0 2\nforget 0 1\ntold 0\nforget 0 0\nsettle 2\nforget 0 2\ntold 0\nbind\ntold 0\nforget 1 0\nforget 1 1\n",
+        answers: b"accepted 0\naccepted 1\nrefused NoOutcome\nrefused Held 0\nforgot 0\nsettled 1\nrefused Held 1\nforgot 1\n1 accepted 1\nrefused NoOutcome\nsettled 1\nforgot 1\nempty\naccepted 2\n2 accepted 2\nforgot 0\nrefused NoOutcome\n",
+    },
+    Row {
+        name: "bad lines that forget",
+        input: b"forget 16 0\nforget 0\nforget 0 0 0\nforget 0 x\n",
+        answers: b"bad line 1: column 8: 16; a queue is below 16\nbad line 2: column 10: no TO; the form is forget QUEUE TO\nbad line 3: column 12: 0; nothing stands behind forget QUEUE TO\nbad line 4: column 10: x; a number is decimal, or 0x and digits 0-9a-f\n",
+    },
+    Row {
+        name: "room is given back once no item is held, and nothing else is seen of it",
+        input: b"trim\nbuffer b 4\nbind map 0x0 0x4000 b 0x0\ntrim\nbind unmap 0x1000 0x1000\nsettle 1\ntrim\nsettle 2\ntrim\nmap\nbind unmap 0x0 0x1000\ntrim\nrewind\ntrim\nat 0x0\nput\ntrim\nturn 0\n",
+        answers: b"trimmed\nok\naccepted 0\nrefused Held 0\naccepted 1\nsettled 1\nrefused Held 1\nsettled 1\ntrimmed\n0000000000000000 0000000000001000 b 0000000000000000 rw\n0000000000002000 0000000000004000 b 0000000000002000 rw\naccepted 2\nrefused Held 2\nrewound 2\ntrimmed\nb 0000000000000000 rw\nput 3\ntrimmed\naccepted 2\n",
+    },
+    Row {
+        name: "bad lines that trim",
+        input: b"trim 0\ntrim \ntirm\n",
+        answers: b"bad line 1: column 6: 0; nothing stands behind trim\nbad line 2: column 5: a space at the end\nbad line 3: no such line: tirm; did you mean trim?\n",
+    },
+    Row {
         name: "the last line has no line end",
         input: b"map\nmap",
         answers: b"empty\nbad line 2: no line end\n",
@@ -46,11 +66,21 @@ pub const ROWS: [Row; 7] = [
 ];
 
 /// The same in JSON: one line for each that is no comment and not empty.
-pub const JSON_ROWS: [Row; 2] = [
+pub const JSON_ROWS: [Row; 4] = [
     Row {
         name: "replies, bad lines, and no line end",
         input: b"buffer b 4\n# a comment\n\nbind map 0x0 0x4000 b 0x0\nat 0x1abc\nat\t0x0\nturn 0\nbnid\n# \x80\nmap",
         answers: b"{\"line\":1,\"ok\":true}\n{\"line\":4,\"accepted\":0}\n{\"line\":5,\"place\":{\"buffer\":\"b\",\"offset\":\"0x1abc\",\"ro\":false}}\n{\"line\":6,\"bad\":\"column 3: a tab; words are separated by one space\",\"column\":3}\n{\"line\":7,\"idle\":true}\n{\"line\":8,\"bad\":\"no such line: bnid; did you mean bind?\"}\n{\"line\":9,\"bad\":\"column 3: byte 0x80; all bytes are ASCII, also in a comment\",\"column\":3}\n{\"line\":10,\"bad\":\"no line end\"}\n",
+    },
+    Row {
+        name: "what is forgotten",
+        input: b"bind\nforget 0 1\nrewind\nforget 0 1\nforget 0 0\ntold 0\nforget 16 0\n",
+        answers: b"{\"line\":1,\"accepted\":0}\n{\"line\":2,\"refused\":{\"fault\":\"Held\",\"number\":0}}\n{\"line\":3,\"rewound\":0}\n{\"line\":4,\"forgot\":1}\n{\"line\":5,\"refused\":{\"fault\":\"NoOutcome\"}}\n{\"line\":6,\"outcomes\":[]}\n{\"line\":7,\"bad\":\"column 8: 16; a queue is below 16\",\"column\":8}\n",
+    },
+    Row {
+        name: "room that is given back",
+        input: b"bind\ntrim\nrewind\ntrim\ntrim x\n",
+        answers: b"{\"line\":1,\"accepted\":0}\n{\"line\":2,\"refused\":{\"fault\":\"Held\",\"number\":0}}\n{\"line\":3,\"rewound\":0}\n{\"line\":4,\"trimmed\":true}\n{\"line\":5,\"bad\":\"column 6: x; nothing stands behind trim\",\"column\":6}\n",
     },
     Row {
         name: "requests that wait",

@@ -1,7 +1,7 @@
 -- What a fault is called, and the number that it carries.
 use Rattle.std.specs.Prelude.{ℕ, List, ◌++◌, Option, Some, None, codes, decimal}
 use Rattle.gv_types.specs.declared.fault.Fault.{Fault}
-use Rattle.gv_types.specs.declared.fault.Fault.TheVariants.{Unaligned, Empty, OutOfSpace, Reserved, NoBuffer, OutOfBuffer, BadSize, TooManyBuffers, Mapped, Kept, InUse, Conflict, TooManyMappings, TooManyOps, JournalFull, NoEntry, NotABind, Withdrawn, Touched, Crossed, OutOfTurn, QueueSpent, Unmapped, WriteToReadOnly, QueueFull, TooManyJobs, TooManyAccesses, NoJob, QueueGone, OutOfMemory}
+use Rattle.gv_types.specs.declared.fault.Fault.TheVariants.{Unaligned, Empty, OutOfSpace, Reserved, NoBuffer, OutOfBuffer, BadSize, TooManyBuffers, Mapped, Kept, InUse, Conflict, TooManyMappings, TooManyOps, JournalFull, NoEntry, NotABind, Withdrawn, Touched, Crossed, OutOfTurn, QueueSpent, Unmapped, WriteToReadOnly, QueueFull, TooManyJobs, TooManyAccesses, NoJob, QueueGone, NoOutcome, Held, OutOfMemory}
 
 -- its printed name
 abbrev pub name_of : Fault → List ℕ
@@ -34,6 +34,8 @@ name_of TooManyJobs = codes "TooManyJobs"
 name_of TooManyAccesses = codes "TooManyAccesses"
 name_of NoJob = codes "NoJob"
 name_of QueueGone = codes "QueueGone"
+name_of NoOutcome = codes "NoOutcome"
+name_of (Held by) = codes "Held"
 name_of OutOfMemory = codes "OutOfMemory"
 
 -- its number, which is never used for another fault
@@ -68,6 +70,8 @@ number_of TooManyAccesses = 30
 number_of NoJob = 31
 number_of QueueGone = 32
 number_of OutOfMemory = 33
+number_of NoOutcome = 34
+number_of (Held by) = 35
 
 -- the number that it carries, if any
 abbrev pub carried_by : Fault → Option ℕ
@@ -100,6 +104,8 @@ carried_by TooManyJobs = None
 carried_by TooManyAccesses = None
 carried_by NoJob = None
 carried_by QueueGone = None
+carried_by NoOutcome = None
+carried_by (Held by) = Some by
 carried_by OutOfMemory = None
 
 -- a name, and a number behind a space if there is one

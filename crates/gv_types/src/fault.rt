@@ -67,6 +67,10 @@ pub enum Fault {
     NoJob,
     /// The queue has no other end.
     QueueGone,
+    /// The number is that of no outcome that is told, nor the next one.
+    NoOutcome,
+    /// A held item needs what is to go.
+    Held { by: u64 },
     /// The system refused to give memory.
     OutOfMemory,
 }
@@ -106,6 +110,8 @@ impl Fault {
             Fault::TooManyAccesses => "TooManyAccesses",
             Fault::NoJob => "NoJob",
             Fault::QueueGone => "QueueGone",
+            Fault::NoOutcome => "NoOutcome",
+            Fault::Held { .. } => "Held",
             Fault::OutOfMemory => "OutOfMemory",
         }
     }
@@ -145,6 +151,8 @@ impl Fault {
             Fault::NoJob => 31,
             Fault::QueueGone => 32,
             Fault::OutOfMemory => 33,
+            Fault::NoOutcome => 34,
+            Fault::Held { .. } => 35,
         }
     }
 
@@ -160,6 +168,7 @@ impl Fault {
             Fault::Touched { by } => Some(by),
             Fault::Crossed { by } => Some(by),
             Fault::OutOfTurn { next } => Some(next),
+            Fault::Held { by } => Some(by),
             Fault::Unmapped { access } => Some(access),
             Fault::WriteToReadOnly { access } => Some(access),
             _ => None,

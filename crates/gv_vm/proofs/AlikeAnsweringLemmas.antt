@@ -8,12 +8,12 @@ use Rattle.gv_types.specs.declared.mapping.Mapping.{Mapping}
 use Rattle.gv_vm.specs.Places.{place_at}
 use Rattle.gv_vm.specs.State.{VmState}
 use Rattle.gv_vm.specs.World.{WorldState}
-use Rattle.gv_vm.specs.Step.{event_fault, IsCreatedNow, IsDestroyedNow, HasOtherEntries, step}
+use Rattle.gv_vm.specs.Step.{event_fault, IsCreatedNow, IsDestroyedNow, IsTrimmedNow, HasOtherEntries, step}
 use Rattle.gv_vm.specs.Alike.{AreAlikeWorlds, StaysAlike}
 use Rattle.gv_vm.specs.declared.event.Event.{Event}
-use Rattle.gv_vm.specs.declared.event.Event.TheVariants.{Create, Destroy, Translate}
+use Rattle.gv_vm.specs.declared.event.Event.TheVariants.{Create, Destroy, Trim, Translate}
 use Rattle.gv_vm.specs.declared.event.Reply.{Reply}
-use Rattle.gv_vm.specs.declared.event.Reply.TheVariants.{Idle, Created, Destroyed, Found, Refused}
+use Rattle.gv_vm.specs.declared.event.Reply.TheVariants.{Idle, Created, Destroyed, Trimmed, Found, Refused}
 use Rattle.gv_vm.specs.declared.places.Place.{Place}
 use Rattle.gv_vm.proofs.AlikeVmLemmas.{list_alike, event_fault_alike, id_alike, created_alike, destroyed_alike}
 use Rattle.gv_vm.proofs.AlikeTurnLemmas.{vms_alike}
@@ -96,6 +96,29 @@ module _ (w w' : WorldState) (alike : AreAlikeWorlds w w') where
         replies = refl;
         worlds = vms_alike w w' alike x x' done.gone.state done'.gone.state
             (destroyed_alike w.vm w'.vm alike.vm x.vm x'.vm id done.gone.gone done'.gone.gone done.gone.vm done'.gone.vm);
+      }))
+
+-- Room is given back.
+
+pub record TrimDone (w : WorldState) (r : Reply) (x : WorldState) : Type 0 where
+  pub is : r ≡ Trimmed
+  pub trimmed : IsTrimmedNow w x
+
+trim_cases : (w x : WorldState) (r : Reply) → step w Trim r x → (IsRefusal w Trim r x) ⊎ TrimDone w r x
+trim_cases w x Idle is = absurd (is.0 tt)
+trim_cases w x (Refused fault) is = inl (record { fault = fault; is = refl; why = is.0; rest = is.1 })
+trim_cases w x Trimmed is = inr (record { is = refl; trimmed = is })
+trim_cases w x r is = absurd is
+
+module _ (w w' : WorldState) (alike : AreAlikeWorlds w w') where
+  pub trim_step : (r r' : Reply) (x x' : WorldState) → step w Trim r x → step w' Trim r' x' → StaysAlike r r' x x'
+  trim_step r r' x x' is is' =
+      call_pair w w' alike Trim Trim r r' x x' (trim_cases w x r is) (trim_cases w' x' r' is') refl
+      (λ done. done.trimmed.allowed) (λ done. done.trimmed.allowed)
+      (λ done done'. moved r r' Trimmed Trimmed x x' done.is done'.is
+      (record {
+        replies = refl;
+        worlds = subst (λ z. AreAlikeWorlds z x') (sym done.trimmed.state) (subst (AreAlikeWorlds w) (sym done'.trimmed.state) alike);
       }))
 
 -- An address is asked for.

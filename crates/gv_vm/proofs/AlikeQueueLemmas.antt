@@ -8,10 +8,11 @@ use Rattle.gv_types.specs.declared.request.Point.{Point}
 use Rattle.gv_types.specs.declared.request.Request.{Request}
 use Rattle.gv_sync.specs.Sights.{Sight, sight}
 use Rattle.gv_journal.specs.Bare.{BareRequest, bare_request}
-use Rattle.gv_space.specs.State.{SpaceState}
 use Rattle.gv_vm.specs.Outcomes.{told_to}
+use Rattle.gv_vm.specs.State.{told_limit}
 use Rattle.gv_vm.specs.World.{WorldState, QueueState, HandState, new_queue, put_fault_of, queue_at, with_queue, taken, next_number, seen_at}
 use Rattle.gv_vm.specs.Step.{put_fault, IsPutAs, IsTaken, CanLook, IsReachedNow, IsLackingNow}
+use Rattle.gv_vm.proofs.AlikeForgettingLemmas.{told_limit_alike}
 use Rattle.gv_vm.specs.Alike.{BareHand, bare_hand, BareQueue, bare_queue, AreAlikeVms, AreAlikeWorlds}
 
 fault_by : (limit depth : ℕ) (q q' : QueueState) → q.put ≡ q'.put → length q.waiting ≡ length q'.waiting → put_fault_of limit depth q ≡ put_fault_of limit depth q'
@@ -59,9 +60,9 @@ module _ (w w' : WorldState) (alike : AreAlikeWorlds w w') where
   put_fault_alike n =
       let count : length (queue_at w n).waiting ≡ length (queue_at w' n).waiting =
       sym (length-map (queue_at w n).waiting bare_request) ∙ ap (λ (rs : List BareRequest). length rs) (waiting_alike n) ∙ length-map (queue_at w' n).waiting bare_request in
-      let limit : w.vm.space.limits.told ≡ w'.vm.space.limits.told = ap (λ (s : SpaceState). s.limits.told) alike.vm.space in
-      ap (λ l. put_fault_of l w.depth (queue_at w n)) limit ∙ ap (λ d. put_fault_of w'.vm.space.limits.told d (queue_at w n)) alike.depth
-      ∙ fault_by w'.vm.space.limits.told w'.depth (queue_at w n) (queue_at w' n) (put_is_alike n) count
+      let limit : told_limit w.vm n ≡ told_limit w'.vm n = told_limit_alike w.vm w'.vm alike.vm n in
+      ap (λ l. put_fault_of l w.depth (queue_at w n)) limit ∙ ap (λ d. put_fault_of (told_limit w'.vm n) d (queue_at w n)) alike.depth
+      ∙ fault_by (told_limit w'.vm n) w'.depth (queue_at w n) (queue_at w' n) (put_is_alike n) count
 
   pub next_number_alike : (n : ℕ) → next_number w n ≡ next_number w' n
   next_number_alike n = ap (λ told. length (told_to told n)) alike.vm.told

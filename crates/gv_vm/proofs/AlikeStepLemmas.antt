@@ -7,7 +7,7 @@ use Rattle.gv_vm.specs.World.{WorldState}
 use Rattle.gv_vm.specs.Step.{IsBegunNow, IsEndedNow, step}
 use Rattle.gv_vm.specs.Alike.{AreAlikeEvents, AreAlikeWorlds, IsAmpleReply, StaysAlike}
 use Rattle.gv_vm.specs.declared.event.Event.{Event}
-use Rattle.gv_vm.specs.declared.event.Event.TheVariants.{Put, Take, Look, Bind, GiveUp, Pay, Raise, Create, Destroy, Rewind, Withdraw, Settle, JobBegin, JobEnd, Translate}
+use Rattle.gv_vm.specs.declared.event.Event.TheVariants.{Put, Take, Look, Bind, GiveUp, Pay, Raise, Create, Destroy, Rewind, Withdraw, Settle, Forget, Trim, JobBegin, JobEnd, Translate}
 use Rattle.gv_vm.specs.declared.event.Reply.{Reply}
 use Rattle.gv_vm.specs.declared.event.Reply.TheVariants.{Idle, Begun, Ended, Refused}
 use Rattle.gv_vm.specs.declared.jobs.Access.{Access}
@@ -17,8 +17,8 @@ use Rattle.gv_vm.proofs.AlikeVmLemmas.{begun_alike, ended_alike, places_alike, j
 use Rattle.gv_vm.proofs.AlikeTurnLemmas.{vms_alike}
 use Rattle.gv_vm.proofs.AlikeTakingLemmas.{moved, put_step, take_step}
 use Rattle.gv_vm.proofs.AlikeServingLemmas.{look_step, bind_step, give_up_step, pay_step, raise_step}
-use Rattle.gv_vm.proofs.AlikeAnsweringLemmas.{IsRefusal, call_pair, create_step, destroy_step, translate_step}
-use Rattle.gv_vm.proofs.AlikeRewindingLemmas.{rewind_step, withdraw_step, settle_step}
+use Rattle.gv_vm.proofs.AlikeAnsweringLemmas.{IsRefusal, call_pair, create_step, destroy_step, trim_step, translate_step}
+use Rattle.gv_vm.proofs.AlikeRewindingLemmas.{rewind_step, withdraw_step, settle_step, forget_step}
 
 -- A job begins.
 
@@ -97,6 +97,8 @@ module _ (w w' : WorldState) (alike : AreAlikeWorlds w w') where
   one_step Rewind r r' x x' ample ample' is is' = rewind_step w w' alike r r' x x' is is'
   one_step (Withdraw entry) r r' x x' ample ample' is is' = withdraw_step w w' alike entry r r' x x' is is'
   one_step (Settle to) r r' x x' ample ample' is is' = settle_step w w' alike to r r' x x' is is'
+  one_step (Forget n to) r r' x x' ample ample' is is' = forget_step w w' alike n to r r' x x' is is'
+  one_step Trim r r' x x' ample ample' is is' = trim_step w w' alike r r' x x' is is'
   one_step (JobBegin accesses) r r' x x' ample ample' is is' = begin_step accesses accesses r r' x x' refl is is'
   one_step (JobEnd job) r r' x x' ample ample' is is' = end_step job r r' x x' is is'
   one_step (Translate addr) r r' x x' ample ample' is is' = translate_step w w' alike addr r r' x x' is is'
@@ -114,7 +116,7 @@ module _ (w w' : WorldState) (alike : AreAlikeWorlds w w') where
 -- a world is the same as itself
 pub AreAlikeWorlds-itself : (w : WorldState) → AreAlikeWorlds w w
 AreAlikeWorlds-itself w = record {
-  vm = record { space = refl; journal = refl; jobs = refl; told = refl };
+  vm = record { space = refl; journal = refl; jobs = refl; told = refl; forgotten = refl };
   numbers = refl;
   depth = refl;
   queues = refl;

@@ -78,6 +78,7 @@ module _ (w w' : WorldState) (alike : AreAlikeWorlds w w') where
               journal = alike.vm.journal;
               jobs = alike.vm.jobs;
               told = ap (λ told. with_outcome told n outcome) alike.vm.told ∙ ap (with_outcome w'.vm.told n) one;
+              forgotten = alike.vm.forgotten;
             }) alike.numbers
             (ap (λ (q : BareQueue). let y : BareQueue = record q { hand = None } in y) (queue_alike w w' alike n)),
       )

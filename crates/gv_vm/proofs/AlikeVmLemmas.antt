@@ -3,7 +3,7 @@
 use Rattle.std.proofs.Common.{◌≡◌, ℕ, ◌+◌, List, [], ◌∷◌, ◌++◌, map, Some, None, Option, inl, inr, refl, sym, ap, ◌∙◌, subst}
 use Rattle.std.proofs.lemmas.Option.{none-some, same_Some}
 use Rattle.gv_types.specs.declared.fault.Fault.{Fault}
-use Rattle.gv_types.specs.declared.fault.Fault.TheVariants.{NoEntry}
+use Rattle.gv_types.specs.declared.fault.Fault.TheVariants.{NoEntry, Held}
 use Rattle.gv_types.specs.declared.mapping.BufferId.{BufferId}
 use Rattle.gv_types.specs.declared.mapping.Mapping.{Mapping}
 use Rattle.gv_types.specs.declared.operation.Op.{Op}
@@ -25,10 +25,12 @@ use Rattle.gv_vm.specs.Jobs.{JobsState, JobState, begin_fault, end_fault, withou
 use Rattle.gv_vm.specs.State.{VmState, HasOtherBuffers, HasOtherJobs}
 use Rattle.gv_vm.specs.Outcomes.{with_outcome}
 use Rattle.gv_vm.specs.Told.{CameTo, IsBoundAndTold}
+use Rattle.gv_vm.specs.Trimming.{held_from, trim_fault}
 use Rattle.gv_vm.specs.Step.{event_fault, rewind_fault}
+use Rattle.gv_vm.proofs.AlikeForgettingLemmas.{forget_fault_alike}
 use Rattle.gv_vm.specs.Alike.{AreAlikeVms, IsAmple}
 use Rattle.gv_vm.specs.declared.event.Event.{Event}
-use Rattle.gv_vm.specs.declared.event.Event.TheVariants.{Put, Take, Look, Bind, GiveUp, Pay, Raise, Create, Destroy, Rewind, Withdraw, Settle, JobBegin, JobEnd, Translate}
+use Rattle.gv_vm.specs.declared.event.Event.TheVariants.{Put, Take, Look, Bind, GiveUp, Pay, Raise, Create, Destroy, Rewind, Withdraw, Settle, Forget, Trim, JobBegin, JobEnd, Translate}
 use Rattle.gv_vm.specs.declared.jobs.Access.{Access}
 use Rattle.gv_vm.specs.declared.jobs.Job.{Job}
 use Rattle.gv_vm.specs.declared.places.Place.{Place}
@@ -36,7 +38,7 @@ use Rattle.gv_vm.specs.declared.outcome.Outcome.{Outcome}
 use Rattle.gv_vm.specs.declared.outcome.Outcome.TheVariants.{Accepted, NotReady, Refused as RefusedAt}
 
 pub AreAlikeVms-sym : (v v' : VmState) → AreAlikeVms v v' → AreAlikeVms v' v
-AreAlikeVms-sym v v' alike = record { space = sym alike.space; journal = sym alike.journal; jobs = sym alike.jobs; told = sym alike.told }
+AreAlikeVms-sym v v' alike = record { space = sym alike.space; journal = sym alike.journal; jobs = sym alike.jobs; told = sym alike.told; forgotten = sym alike.forgotten }
 
 abbrev rewind_of : List BareItem → Option Fault
 rewind_of [] = Some NoEntry
@@ -45,6 +47,17 @@ rewind_of (item ∷ older) = None
 rewind_is : (items : List Item) → rewind_fault items ≡ rewind_of (map bare_item items)
 rewind_is [] = refl
 rewind_is (item ∷ older) = refl
+
+abbrev held_of : ℕ → List BareItem → Option Fault
+held_of first [] = None
+held_of first (item ∷ older) = Some (Held first)
+
+held_is : (first : ℕ) (items : List Item) → held_from first items ≡ held_of first (map bare_item items)
+held_is first [] = refl
+held_is first (item ∷ older) = refl
+
+trim_is : (j : JournalState) → trim_fault j ≡ held_of j.first (bare_journal j).items
+trim_is j = held_is j.first j.items
 
 some_same : {A : Type 0} (xs ys : List A) → map Some xs ≡ map Some ys → xs ≡ ys
 some_same [] [] same = refl
@@ -75,6 +88,8 @@ module _ (v v' : VmState) (alike : AreAlikeVms v v') where
   event_fault_alike Rewind = rewind_is v.journal.items ∙ ap (λ (j : BareJournal). rewind_of j.items) alike.journal ∙ sym (rewind_is v'.journal.items)
   event_fault_alike (Withdraw entry) = withdraw_fault_alike v.space v'.space v.journal v'.journal alike.space alike.journal entry
   event_fault_alike (Settle to) = settle_fault_alike v.journal v'.journal alike.journal to
+  event_fault_alike (Forget queue to) = forget_fault_alike v v' alike queue to
+  event_fault_alike Trim = trim_is v.journal ∙ ap (λ (j : BareJournal). held_of j.first j.items) alike.journal ∙ sym (trim_is v'.journal)
   event_fault_alike (JobBegin accesses) =
       ap (λ (s : SpaceState). begin_fault s v.jobs accesses.items) alike.space ∙ ap (λ (r : JobsState). begin_fault v'.space r accesses.items) alike.jobs
   event_fault_alike (JobEnd job) = ap (λ (r : JobsState). end_fault r job) alike.jobs
@@ -97,6 +112,7 @@ module _ (v v' : VmState) (alike : AreAlikeVms v v') where
       journal = ap (λ (m : VmState). bare_journal m.journal) rest ∙ alike.journal ∙ sym (ap (λ (m : VmState). bare_journal m.journal) rest');
       jobs = ap (λ (m : VmState). m.jobs) rest ∙ alike.jobs ∙ sym (ap (λ (m : VmState). m.jobs) rest');
       told = ap (λ (m : VmState). m.told) rest ∙ alike.told ∙ sym (ap (λ (m : VmState). m.told) rest');
+      forgotten = ap (λ (m : VmState). m.forgotten) rest ∙ alike.forgotten ∙ sym (ap (λ (m : VmState). m.forgotten) rest');
     }
 
     -- only the jobs changed, and what they hold
@@ -108,16 +124,18 @@ module _ (v v' : VmState) (alike : AreAlikeVms v v') where
       journal = ap (λ (m : VmState). bare_journal m.journal) rest ∙ alike.journal ∙ sym (ap (λ (m : VmState). bare_journal m.journal) rest');
       jobs = jobs;
       told = ap (λ (m : VmState). m.told) rest ∙ alike.told ∙ sym (ap (λ (m : VmState). m.told) rest');
+      forgotten = ap (λ (m : VmState). m.forgotten) rest ∙ alike.forgotten ∙ sym (ap (λ (m : VmState). m.forgotten) rest');
     }
 
     -- only the space and the journal changed
     pub other_entries : (w.space ≡ w'.space) × (bare_journal w.journal ≡ bare_journal w'.journal) →
-        w.jobs ≡ v.jobs → w'.jobs ≡ v'.jobs → w.told ≡ v.told → w'.told ≡ v'.told → AreAlikeVms w w'
-    other_entries entries running running' told told' = record {
+        w.jobs ≡ v.jobs → w'.jobs ≡ v'.jobs → w.told ≡ v.told → w'.told ≡ v'.told → w.forgotten ≡ v.forgotten → w'.forgotten ≡ v'.forgotten → AreAlikeVms w w'
+    other_entries entries running running' told told' forgotten forgotten' = record {
       space = entries.0;
       journal = entries.1;
       jobs = running ∙ alike.jobs ∙ sym running';
       told = told ∙ alike.told ∙ sym told';
+      forgotten = forgotten ∙ alike.forgotten ∙ sym forgotten';
     }
 
     -- a buffer was made
@@ -172,17 +190,17 @@ module _ (v v' : VmState) (alike : AreAlikeVms v v') where
 
     -- the newest item was taken back, one was withdrawn, some were settled
     pub vm_rewound : IsRewound v.space w.space v.journal w.journal → IsRewound v'.space w'.space v'.journal w'.journal →
-        w.jobs ≡ v.jobs → w'.jobs ≡ v'.jobs → w.told ≡ v.told → w'.told ≡ v'.told → AreAlikeVms w w'
+        w.jobs ≡ v.jobs → w'.jobs ≡ v'.jobs → w.told ≡ v.told → w'.told ≡ v'.told → w.forgotten ≡ v.forgotten → w'.forgotten ≡ v'.forgotten → AreAlikeVms w w'
     vm_rewound done done' = other_entries (rewound_alike v.space v'.space v.journal v'.journal alike.space alike.journal w.space w'.space w.journal w'.journal done done')
 
     pub vm_withdrawn : (n : ℕ) → w.space.room ≡ v.space.room → w'.space.room ≡ v'.space.room → IsWithdrawn v.space w.space v.journal w.journal n → IsWithdrawn v'.space w'.space v'.journal w'.journal n →
-        w.jobs ≡ v.jobs → w'.jobs ≡ v'.jobs → w.told ≡ v.told → w'.told ≡ v'.told → AreAlikeVms w w'
+        w.jobs ≡ v.jobs → w'.jobs ≡ v'.jobs → w.told ≡ v.told → w'.told ≡ v'.told → w.forgotten ≡ v.forgotten → w'.forgotten ≡ v'.forgotten → AreAlikeVms w w'
     vm_withdrawn n room room' done done' =
         other_entries (withdrawn_alike v.space v'.space v.journal v'.journal alike.space alike.journal w.space w'.space w.journal w'.journal n
         (room ∙ ap (λ (s : SpaceState). s.room) alike.space ∙ sym room') done done')
 
     pub vm_settled : (to : ℕ) → IsSettled v.space w.space v.journal w.journal to → IsSettled v'.space w'.space v'.journal w'.journal to →
-        w.jobs ≡ v.jobs → w'.jobs ≡ v'.jobs → w.told ≡ v.told → w'.told ≡ v'.told → AreAlikeVms w w'
+        w.jobs ≡ v.jobs → w'.jobs ≡ v'.jobs → w.told ≡ v.told → w'.told ≡ v'.told → w.forgotten ≡ v.forgotten → w'.forgotten ≡ v'.forgotten → AreAlikeVms w w'
     vm_settled to done done' = other_entries (settled_alike v.space v'.space v.journal v'.journal alike.space alike.journal w.space w'.space w.journal w'.journal to done done')
 
     module _ (queue number : ℕ) (request request' : Request) (seen : List ℕ) (same : bare_request request ≡ bare_request request') where
@@ -233,4 +251,5 @@ module _ (v v' : VmState) (alike : AreAlikeVms v v') where
             journal = entries.1;
             jobs = done.jobs ∙ alike.jobs ∙ sym done'.jobs;
             told = done.told ∙ ap (λ told. with_outcome told queue outcome) alike.told ∙ ap (with_outcome v'.told queue) one ∙ sym done'.told;
+            forgotten = done.forgotten ∙ alike.forgotten ∙ sym done'.forgotten;
           }

@@ -4,7 +4,7 @@ use Rattle.std.proofs.lemmas.List.{get_or-replicate, length-replicate}
 use Rattle.gv_types.specs.Bounds.{BoundsState}
 use Rattle.gv_types.specs.Limits.{LimitsState}
 use Rattle.gv_vm.specs.Outcomes.{queues, told_to}
-use Rattle.gv_vm.specs.State.{new_vm}
+use Rattle.gv_vm.specs.State.{new_vm, told_limit}
 use Rattle.gv_vm.specs.Queues.{IsQueueOf, AreQueues}
 use Rattle.gv_vm.specs.World.{QueueState, new_queue, new_world}
 use Rattle.gv_vm.specs.declared.outcome.Outcome.{Outcome}
@@ -28,6 +28,6 @@ new_queues area limits count depth timelines most = record {
       let within : n < count = omega (arith, below, length-replicate count new_queue) in
       let told : told_to (new_vm area limits).told n ≡ [] = get_or-replicate queues n [] [] (omega (arith, within, most)) in
       let queue : get_or (replicate count new_queue) n new_queue ≡ new_queue = get_or-replicate count n new_queue new_queue within in
-      subst (λ (q : QueueState). IsQueueOf limits.told (length numbers) (length (told_to (new_vm area limits).told n)) q) (sym queue)
-      (subst (λ (xs : List Outcome). IsQueueOf limits.told (length numbers) (length xs) new_queue) (sym told) (nothing_put limits.told (length numbers)));
+      subst (λ (q : QueueState). IsQueueOf (told_limit (new_vm area limits) n) (length numbers) (length (told_to (new_vm area limits).told n)) q) (sym queue)
+      (subst (λ (xs : List Outcome). IsQueueOf (told_limit (new_vm area limits) n) (length numbers) (length xs) new_queue) (sym told) (nothing_put (told_limit (new_vm area limits) n) (length numbers)));
 }

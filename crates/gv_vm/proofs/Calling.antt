@@ -9,6 +9,6 @@ use Rattle.gv_vm.proofs.Worlds.{AreQueues-rest}
 abbrev pub with_vm : WorldState → VmState → WorldState
 with_vm w v = record w { vm = v }
 
-pub vm_keeps : (w : WorldState) (v : VmState) → AreQueues w → v.space.limits ≡ w.vm.space.limits → v.told ≡ w.vm.told → AreQueues (with_vm w v)
-vm_keeps w v holds limits told =
-    AreQueues-rest w (with_vm w v) holds refl (record { limit = ap (λ l. l.told) limits; timelines = refl; told = ap (λ ls. length ls) told }) told
+pub vm_keeps : (w : WorldState) (v : VmState) → AreQueues w → v.space.limits ≡ w.vm.space.limits → v.told ≡ w.vm.told → v.forgotten ≡ w.vm.forgotten → AreQueues (with_vm w v)
+vm_keeps w v holds limits told forgotten =
+    AreQueues-rest w (with_vm w v) holds refl (record { limit = ap (λ l. l.told) limits; forgotten = forgotten; timelines = refl; told = ap (λ ls. length ls) told }) told

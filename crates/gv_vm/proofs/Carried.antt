@@ -57,14 +57,15 @@ all_told_still : (told : List (List Outcome)) (queue : ℕ) (more : Outcome) (xs
 all_told_still told queue more xs less all = All-weaker (λ x. WasTold x.item.kind x.number told) (λ x. WasTold x.item.kind x.number (with_outcome told queue more)) (λ x h. was_told_still told queue more x.item.kind x.number less h) xs all
 
 -- a queue was told something more, and nothing else changed
-pub IsVm-told : (v : VmState) (queue : ℕ) (outcome : Outcome) (told : List (List Outcome)) → IsVm v → queue < 16 → told ≡ with_outcome v.told queue outcome →
-    IsVm (record { space = v.space; journal = v.journal; jobs = v.jobs; told = told })
-IsVm-told v queue outcome told holds less is =
+pub IsVm-told : (v : VmState) (queue : ℕ) (outcome : Outcome) (told : List (List Outcome)) (forgotten : List ℕ) → IsVm v → queue < 16 → told ≡ with_outcome v.told queue outcome →
+    forgotten ≡ v.forgotten → IsVm (record { space = v.space; journal = v.journal; jobs = v.jobs; told = told; forgotten = forgotten })
+IsVm-told v queue outcome told forgotten holds less is same =
     let within : queue < length v.told = omega (arith, holds.queues) in
-    subst (λ (x : List (List Outcome)). IsVm (record { space = v.space; journal = v.journal; jobs = v.jobs; told = x })) (sym is)
-    (IsVm-of v.space v.journal v.jobs (with_outcome v.told queue outcome) (fits_space v holds) holds.buffers_counted.used holds.buffers_counted.held
+    subst (λ (gone : List ℕ). IsVm (record { space = v.space; journal = v.journal; jobs = v.jobs; told = told; forgotten = gone })) (sym same)
+    (subst (λ (x : List (List Outcome)). IsVm (record { space = v.space; journal = v.journal; jobs = v.jobs; told = x; forgotten = v.forgotten })) (sym is)
+    (IsVm-of v.space v.journal v.jobs (with_outcome v.told queue outcome) v.forgotten (fits_space v holds) holds.buffers_counted.used holds.buffers_counted.held
     (all_told_still v.told queue outcome (entries v.journal) within holds.told_matches_journal) holds.waits_were_reached
-    (length-set v.told queue (told_to v.told queue ++ outcome ∷ []) ∙ holds.queues))
+    (length-set v.told queue (told_to v.told queue ++ outcome ∷ []) ∙ holds.queues) holds.forgotten))
 
 -- what reached points saw is at least their values
 saw_waits : (sights : List Sight) → All (λ r. r.point.value ≤ r.number) sights → AllZip (λ (p : Point) n. p.value ≤ n) (map (λ r. r.point) sights) (seen_by sights)
@@ -110,21 +111,22 @@ came_saw s t old new queue number request seen (NotReady point have) came saw al
 turn_from_none : (limit : ℕ) (told : List (List Outcome)) (queue number : ℕ) → tell_fault limit told queue number ≡ None → number ≡ length (told_to told queue)
 turn_from_none limit told queue number none = grind arith
 
-pub IsVm-carried_out : (v : VmState) (t : SpaceState) (j : JournalState) (queue number : ℕ) (request : Request) (sights : List Sight) (outcome : Outcome) (told : List (List Outcome)) → IsVm v →
-    FitsSpace t j → IsSpace t → CameTo (roomless v.space) (roomless t) v.journal j queue number request (seen_by sights) outcome → queue < 16 → tell_fault v.space.limits.told v.told queue number ≡ None →
+pub IsVm-carried_out : (v : VmState) (t : SpaceState) (j : JournalState) (limit queue number : ℕ) (request : Request) (sights : List Sight) (outcome : Outcome) (told : List (List Outcome)) (forgotten : List ℕ) → IsVm v →
+    FitsSpace t j → IsSpace t → CameTo (roomless v.space) (roomless t) v.journal j queue number request (seen_by sights) outcome → queue < 16 → tell_fault limit v.told queue number ≡ None →
     map (λ r. r.point) sights ≡ request.waits.items → All (λ r. r.point.value ≤ r.number) sights → told ≡ with_outcome v.told queue outcome →
-    IsVm (record { space = t; journal = j; jobs = v.jobs; told = told })
-IsVm-carried_out v t j queue number request sights outcome told holds fits space came less none points reached is =
+    forgotten ≡ v.forgotten → IsVm (record { space = t; journal = j; jobs = v.jobs; told = told; forgotten = forgotten })
+IsVm-carried_out v t j limit queue number request sights outcome told forgotten holds fits space came less none points reached is same =
     let within : queue < length v.told = omega (arith, holds.queues) in
-    let turn : number ≡ length (told_to v.told queue) = turn_from_none v.space.limits.told v.told queue number none in
+    let turn : number ≡ length (told_to v.told queue) = turn_from_none limit v.told queue number none in
     let saw : AllZip (λ (p : Point) n. p.value ≤ n) request.waits.items (seen_by sights) =
     subst (λ (ps : List Point). AllZip (λ (p : Point) n. p.value ≤ n) ps (seen_by sights)) points (saw_waits sights reached) in
-    subst (λ (x : List (List Outcome)). IsVm (record { space = t; journal = j; jobs = v.jobs; told = x })) (sym is)
-    (IsVm-of t j v.jobs (with_outcome v.told queue outcome) fits space
+    subst (λ (gone : List ℕ). IsVm (record { space = t; journal = j; jobs = v.jobs; told = told; forgotten = gone })) (sym same)
+    (subst (λ (x : List (List Outcome)). IsVm (record { space = t; journal = j; jobs = v.jobs; told = x; forgotten = v.forgotten })) (sym is)
+    (IsVm-of t j v.jobs (with_outcome v.told queue outcome) v.forgotten fits space
     (came_held (roomless v.space) (roomless t) v.journal j queue number request (seen_by sights) outcome v.jobs.running came holds.buffers_counted.held)
     (came_told (roomless v.space) (roomless t) v.journal j queue number request (seen_by sights) outcome v.told came within turn holds.told_matches_journal)
     (came_saw (roomless v.space) (roomless t) v.journal j queue number request (seen_by sights) outcome came saw holds.waits_were_reached)
-    (length-set v.told queue (told_to v.told queue ++ outcome ∷ []) ∙ holds.queues))
+    (length-set v.told queue (told_to v.told queue ++ outcome ∷ []) ∙ holds.queues) holds.forgotten))
 
 abbrev made : Unit {0} → Result (Unit {0}) Fault
 made u = Ok u

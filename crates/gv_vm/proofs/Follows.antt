@@ -16,15 +16,16 @@ use Rattle.gv_vm.specs.State.{VmState}
 use Rattle.gv_vm.specs.World.{WorldState, HandState, QueueState, new_queue, new_world, queue_at, next_number}
 use Rattle.gv_vm.specs.Outcomes.{told_to, with_outcome}
 use Rattle.gv_vm.specs.Told.{CameTo}
-use Rattle.gv_vm.specs.Step.{step, owed_for, CanBind, IsBoundNow, IsGivenUp, IsPaidNow, IsReachedNow, IsLackingNow, IsRewoundNow, IsWithdrawnNow, IsSettledNow}
+use Rattle.gv_vm.specs.Step.{step, owed_for, CanBind, IsBoundNow, IsGivenUp, IsPaidNow, IsReachedNow, IsLackingNow, IsRewoundNow, IsWithdrawnNow, IsSettledNow, IsForgottenNow}
 use Rattle.gv_vm.specs.Run.{IsRunOf}
 use Rattle.gv_vm.specs.Past.{Past, HasReached, IsInTurn, HasReachedAll, no_past, one_more, past_from, due_for, HoldsPut, IsQueueAfter, AreHeldAsPut, AreAfter, IsAfterPast}
 use Rattle.gv_vm.specs.declared.event.Event.{Event}
-use Rattle.gv_vm.specs.declared.event.Event.TheVariants.{Put, Take, Look, Bind, GiveUp, Pay, Raise, Create, Destroy, Rewind, Withdraw, Settle, JobBegin, JobEnd, Translate}
+use Rattle.gv_vm.specs.declared.event.Event.TheVariants.{Put, Take, Look, Bind, GiveUp, Pay, Raise, Create, Destroy, Rewind, Withdraw, Settle, Forget, Trim, JobBegin, JobEnd, Translate}
 use Rattle.gv_vm.specs.declared.event.Reply.{Reply}
-use Rattle.gv_vm.specs.declared.event.Reply.TheVariants.{Idle, Put as IsPut, NotPut, Taken, Reached, Lacking, Told, Raised, Created, Destroyed, Rewound, Withdrawn, Settled, Begun, Ended, Found, Refused}
+use Rattle.gv_vm.specs.declared.event.Reply.TheVariants.{Idle, Put as IsPut, NotPut, Taken, Reached, Lacking, Told, Raised, Created, Destroyed, Rewound, Withdrawn, Settled, Forgot, Trimmed, Begun, Ended, Found, Refused}
 use Rattle.gv_vm.specs.declared.outcome.Outcome.{Outcome}
 use Rattle.gv_vm.specs.declared.outcome.Outcome.TheVariants.{Accepted, Refused as RefusedAt, NotReady}
+use Rattle.gv_vm.proofs.Forgettings.{forgotten_count, forgotten_length}
 use Rattle.gv_vm.proofs.Turning.{all_reached}
 use Rattle.gv_vm.proofs.Pasts.{after_put, after_take, after_reach, after_lack, after_bind, after_give_up, after_pay, after_turn, put_in_hand, held_more}
 
@@ -174,6 +175,16 @@ settles queue p old new to count st h =
     same queue p old new (ap queues_in st.state) (ap told_in st.state)
     (subst (λ (j : JournalState). AreHeldAsPut queue p.puts j.items) (sym st.settled.items) (All-take (λ x. HoldsPut queue p.puts x.kind) (next old.vm.journal - to) old.vm.journal.items h.items_are)) h
 
+-- outcomes were forgotten: each queue was told as many
+forgets : (queue n to count : ℕ) (p : Past) (old new : WorldState) → IsForgottenNow old n to count new → IsAfterPast queue p old → IsAfterPast queue p new
+forgets queue n to count p old new st h =
+    subst (IsAfterPast queue p) (sym st.state)
+    (record {
+      there = subst (λ k. length old.queues ≤ k) (sym (forgotten_count old.vm n to)) h.there;
+      queue_is = subst (λ k. IsQueueAfter p k (queue_at old queue)) (sym (forgotten_length old.vm n to queue st.allowed)) h.queue_is;
+      items_are = h.items_are;
+    })
+
 -- a call that leaves items and outcomes
 calls : (queue : ℕ) (p : Past) (old new : WorldState) → new ≡ record old { vm = new.vm } → new.vm.told ≡ old.vm.told → new.vm.journal ≡ old.vm.journal → IsAfterPast queue p old → IsAfterPast queue p new
 calls queue p old new state told journal h = still queue p old new (ap queues_in state) told journal h
@@ -208,6 +219,8 @@ follows queue p old new (Destroy id) Destroyed st h = calls queue p old new st.s
 follows queue p old new Rewind (Rewound item) st h = rewinds queue p old new item st h
 follows queue p old new (Withdraw entry) (Withdrawn item) st h = withdraws queue p old new entry item st h
 follows queue p old new (Settle to) (Settled count) st h = settles queue p old new to count st h
+follows queue p old new (Forget n to) (Forgot count) st h = forgets queue n to count p old new st h
+follows queue p old new Trim Trimmed st h = subst (IsAfterPast queue p) (sym st.state) h
 follows queue p old new (JobBegin accesses) (Begun number places) st h = calls queue p old new st.state (ap told_by st.vm) (ap journal_by st.vm) h
 follows queue p old new (JobEnd asked) (Ended job) st h = calls queue p old new st.state (ap told_by st.vm) (ap journal_by st.vm) h
 follows queue p old new (Translate addr) (Found place) st h = subst (IsAfterPast queue p) (sym st.1) h

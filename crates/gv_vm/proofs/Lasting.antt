@@ -10,9 +10,9 @@ use Rattle.gv_vm.specs.World.{WorldState}
 use Rattle.gv_vm.specs.Step.{step}
 use Rattle.gv_vm.specs.Run.{IsRunOf}
 use Rattle.gv_vm.specs.declared.event.Event.{Event}
-use Rattle.gv_vm.specs.declared.event.Event.TheVariants.{Put, Take, Look, Bind, GiveUp, Pay, Raise, Create, Destroy, Rewind, Withdraw, Settle, JobBegin, JobEnd, Translate}
+use Rattle.gv_vm.specs.declared.event.Event.TheVariants.{Put, Take, Look, Bind, GiveUp, Pay, Raise, Create, Destroy, Rewind, Withdraw, Settle, Forget, Trim, JobBegin, JobEnd, Translate}
 use Rattle.gv_vm.specs.declared.event.Reply.{Reply}
-use Rattle.gv_vm.specs.declared.event.Reply.TheVariants.{Idle, Put as IsPut, NotPut, Taken, Reached, Lacking, Told, Raised, Created, Destroyed, Rewound, Withdrawn, Settled, Begun, Ended, Found, Refused}
+use Rattle.gv_vm.specs.declared.event.Reply.TheVariants.{Idle, Put as IsPut, NotPut, Taken, Reached, Lacking, Told, Raised, Created, Destroyed, Rewound, Withdrawn, Settled, Forgot, Trimmed, Begun, Ended, Found, Refused}
 
 abbrev running_in : WorldState → JobsState
 running_in w = w.vm.jobs
@@ -81,6 +81,8 @@ step_lasts number old new (Destroy id) Destroyed st below other = lasts number _
 step_lasts number old new Rewind (Rewound item) st below other = lasts number _ _ (ap running_in st.state)
 step_lasts number old new (Withdraw entry) (Withdrawn item) st below other = lasts number _ _ (ap running_in st.state)
 step_lasts number old new (Settle to) (Settled count) st below other = lasts number _ _ (ap running_in st.state)
+step_lasts number old new (Forget queue to) (Forgot count) st below other = lasts number _ _ (ap running_in st.state)
+step_lasts number old new Trim Trimmed st below other = lasts number _ _ (ap running_in st.state)
 step_lasts number old new (Translate addr) (Found place) st below other = lasts number _ _ (ap running_in st.1)
 step_lasts number old new event Idle st below other = lasts number _ _ (ap running_in st.1)
 step_lasts number old new event (Refused fault) st below other = lasts number _ _ (ap running_in st.1)

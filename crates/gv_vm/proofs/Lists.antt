@@ -1,26 +1,57 @@
--- What the queues were told, with one list changed.
-use Rattle.std.proofs.Common.{◌≡◌, ℕ, ◌<◌, List, [], ◌∷◌, ◌++◌, length, map, get_or, set, vec_len, vec_capacity, sym, ◌∙◌, ap, subst}
-use Rattle.std.specs.Global.{Vec}
-use Rattle.std.proofs.lemmas.List.{map-set, get_or-map, get_or-set_same}
+-- What the queues were told, with one of them changed.
+use Rattle.std.proofs.Common.{◌≡◌, ℕ, zero, suc, ◌+◌, ◌-◌, ◌<◌, ◌≤◌, List, [], ◌∷◌, ◌++◌, length, map, drop, replicate, get_or, set, arith, sym, ◌∙◌, ap, subst}
+use Rattle.std.proofs.lemmas.List.{map-set, get_or-map, get_or-set_same, drop-drop}
 use Rattle.std.proofs.Math.Seq.{map-set_same}
-use Rattle.gv_vm.specs.Outcomes.{with_outcome}
+use Rattle.gv_vm.specs.Outcomes.{with_outcome, told_to, forgotten_outcome}
+use Rattle.gv_vm.specs.Telling.{ToldState, HasSlot}
 use Rattle.gv_vm.specs.declared.outcome.Outcome.{Outcome}
 
-abbrev items_of : Vec Outcome → List Outcome
-items_of v = v.items
+abbrev pub list_of : ToldState → List Outcome
+list_of t = t.list
 
--- a list that has more room now
-pub same_lists : (lists : List (Vec Outcome)) (queue : ℕ) (list d : Vec Outcome) → list.items ≡ (get_or lists queue d).items → map items_of (set lists queue list) ≡ map items_of lists
-same_lists lists queue list d same = map-set_same items_of lists queue list d same
+abbrev pub gone_of : ToldState → ℕ
+gone_of t = t.forgotten
 
-pub room_there : (lists : List (Vec Outcome)) (queue : ℕ) (list d : Vec Outcome) → queue < length lists → vec_len list < vec_capacity list →
-    vec_len (get_or (set lists queue list) queue d) < vec_capacity (get_or (set lists queue list) queue d)
-room_there lists queue list d less room = subst (λ (v : Vec Outcome). vec_len v < vec_capacity v) (sym (get_or-set_same lists queue list d less)) room
+-- one that has more room now
+pub same_lists : (told : List ToldState) (queue : ℕ) (t d : ToldState) → t.list ≡ (get_or told queue d).list → map list_of (set told queue t) ≡ map list_of told
+same_lists told queue t d same = map-set_same list_of told queue t d same
 
--- a list with an outcome more
-pub outcome_there : (lists : List (Vec Outcome)) (queue : ℕ) (list d : Vec Outcome) (outcome : Outcome) → queue < length lists →
-    list.items ≡ (get_or lists queue d).items ++ outcome ∷ [] → map items_of (set lists queue list) ≡ with_outcome (map items_of lists) queue outcome
-outcome_there lists queue list d outcome less is =
-    map-set items_of lists queue list
-    ∙ ap (λ (xs : List Outcome). set (map items_of lists) queue xs)
-    (is ∙ ap (λ (xs : List Outcome). xs ++ outcome ∷ []) (sym (get_or-map items_of lists queue d [] less)))
+pub same_forgotten : (told : List ToldState) (queue : ℕ) (t d : ToldState) → t.forgotten ≡ (get_or told queue d).forgotten → map gone_of (set told queue t) ≡ map gone_of told
+same_forgotten told queue t d same = map-set_same gone_of told queue t d same
+
+pub room_there : (told : List ToldState) (queue : ℕ) (t d : ToldState) → queue < length told → HasSlot t → HasSlot (get_or (set told queue t) queue d)
+room_there told queue t d less room = subst HasSlot (sym (get_or-set_same told queue t d less)) room
+
+-- one with an outcome more
+pub outcome_there : (told : List ToldState) (queue : ℕ) (t d : ToldState) (outcome : Outcome) → queue < length told →
+    t.list ≡ (get_or told queue d).list ++ outcome ∷ [] → map list_of (set told queue t) ≡ with_outcome (map list_of told) queue outcome
+outcome_there told queue t d outcome less is =
+    map-set list_of told queue t
+    ∙ ap (λ (xs : List Outcome). set (map list_of told) queue xs)
+    (is ∙ ap (λ (xs : List Outcome). xs ++ outcome ∷ []) (sym (get_or-map list_of told queue d [] less)))
+
+-- one of which the first outcomes are forgotten
+pub list_forgotten : (told : List ToldState) (queue to : ℕ) (t d : ToldState) → queue < length told →
+    t.list ≡ replicate to forgotten_outcome ++ drop to (get_or told queue d).list →
+    map list_of (set told queue t) ≡ set (map list_of told) queue (replicate to forgotten_outcome ++ drop to (told_to (map list_of told) queue))
+list_forgotten told queue to t d less is =
+    map-set list_of told queue t
+    ∙ ap (λ (xs : List Outcome). set (map list_of told) queue xs)
+    (is ∙ ap (λ (xs : List Outcome). replicate to forgotten_outcome ++ drop to xs) (sym (get_or-map list_of told queue d [] less)))
+
+pub count_forgotten : (told : List ToldState) (queue to : ℕ) (t : ToldState) → t.forgotten ≡ to → map gone_of (set told queue t) ≡ set (map gone_of told) queue to
+count_forgotten told queue to t is = map-set gone_of told queue t ∙ ap (λ (k : ℕ). set (map gone_of told) queue k) is
+
+-- so many more of those that stand are forgotten
+drop_blanks : (first to : ℕ) (xs : List Outcome) → first ≤ to → drop to (replicate first forgotten_outcome ++ xs) ≡ drop (to - first) xs
+drop_blanks zero to xs low = let less : to - 0 ≡ to = omega arith in ap (λ (k : ℕ). drop k xs) (sym less)
+drop_blanks (suc first) zero xs low = absurd (omega (arith, low))
+drop_blanks (suc first) (suc to) xs low =
+    let less : suc to - suc first ≡ to - first = omega arith in
+    drop_blanks first to xs (omega (arith, low)) ∙ ap (λ (k : ℕ). drop k xs) (sym less)
+
+pub gone_more : (first gone to : ℕ) (xs : List Outcome) → first ≤ to →
+    replicate to forgotten_outcome ++ drop (gone + (to - first)) xs ≡ replicate to forgotten_outcome ++ drop to (replicate first forgotten_outcome ++ drop gone xs)
+gone_more first gone to xs low =
+    ap (λ (ys : List Outcome). replicate to forgotten_outcome ++ ys)
+    (sym (drop-drop (to - first) gone xs) ∙ sym (drop_blanks first to (drop gone xs) low))

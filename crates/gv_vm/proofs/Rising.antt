@@ -14,9 +14,9 @@ use Rattle.gv_vm.specs.Step.{step, IsStep, NoneFalls}
 use Rattle.gv_vm.specs.Run.{IsRunOf}
 use Rattle.gv_vm.specs.Past.{raised_by}
 use Rattle.gv_vm.specs.declared.event.Event.{Event}
-use Rattle.gv_vm.specs.declared.event.Event.TheVariants.{Put, Take, Look, Bind, GiveUp, Pay, Raise, Create, Destroy, Rewind, Withdraw, Settle, JobBegin, JobEnd, Translate}
+use Rattle.gv_vm.specs.declared.event.Event.TheVariants.{Put, Take, Look, Bind, GiveUp, Pay, Raise, Create, Destroy, Rewind, Withdraw, Settle, Forget, Trim, JobBegin, JobEnd, Translate}
 use Rattle.gv_vm.specs.declared.event.Reply.{Reply}
-use Rattle.gv_vm.specs.declared.event.Reply.TheVariants.{Idle, Put as IsPut, NotPut, Taken, Reached, Lacking, Told, Raised, Created, Destroyed, Rewound, Withdrawn, Settled, Begun, Ended, Found, Refused}
+use Rattle.gv_vm.specs.declared.event.Reply.TheVariants.{Idle, Put as IsPut, NotPut, Taken, Reached, Lacking, Told, Raised, Created, Destroyed, Rewound, Withdrawn, Settled, Forgot, Trimmed, Begun, Ended, Found, Refused}
 
 abbrev numbers_in : WorldState → List ℕ
 numbers_in w = w.numbers
@@ -41,6 +41,8 @@ moved old new (Destroy id) Destroyed st = ap numbers_in st.state
 moved old new Rewind (Rewound item) st = ap numbers_in st.state
 moved old new (Withdraw entry) (Withdrawn item) st = ap numbers_in st.state
 moved old new (Settle to) (Settled count) st = ap numbers_in st.state
+moved old new (Forget queue to) (Forgot count) st = ap numbers_in st.state
+moved old new Trim Trimmed st = ap numbers_in st.state
 moved old new (JobBegin accesses) (Begun number places) st = ap numbers_in st.state
 moved old new (JobEnd asked) (Ended job) st = ap numbers_in st.state
 moved old new (Translate addr) (Found place) st = ap numbers_in st.1

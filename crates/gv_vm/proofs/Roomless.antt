@@ -1,8 +1,11 @@
 -- What is said of a space with the room that there is, said of it without.
-use Rattle.std.proofs.Common.{◌≡◌, ℕ, List, [], ◌∷◌, reverse, Option, None, Result, Ok, Err, inl, inr, sym, ap, ◌∙◌, subst}
+use Rattle.std.proofs.Common.{◌≡◌, ℕ, List, [], ◌∷◌, reverse, Option, None, Result, Ok, Err, inl, inr, refl, sym, ap, ◌∙◌, subst}
+use Rattle.std.proofs.lemmas.Option.{none-some}
+use Rattle.std.proofs.lemmas.List.{reverse-reverse}
 use Rattle.std.specs.Prelude.{OnOk, OnErr, IfOk, IfErr}
 use Rattle.gv_types.specs.Limits.{LimitsState}
 use Rattle.gv_types.specs.declared.fault.Fault.{Fault}
+use Rattle.gv_types.specs.declared.fault.Fault.TheVariants.{Held}
 use Rattle.gv_types.specs.declared.mapping.Entry.{Entry}
 use Rattle.gv_types.specs.declared.mapping.Mapping.{Mapping}
 use Rattle.gv_types.specs.declared.operation.Op.{Op}
@@ -24,6 +27,7 @@ use Rattle.gv_journal.specs.declared.refusal.Refusal.{Refusal}
 use Rattle.gv_journal.proofs.RoomLemmas.{with_room, after_all-room, verdict_from-room, after_withdrawal-room, withdrawal_limits-room, reverted_by-room}
 use Rattle.gv_vm.specs.Jobs.{JobsState, IsBegun}
 use Rattle.gv_vm.specs.State.{VmState, IsVm, roomless}
+use Rattle.gv_vm.specs.Trimming.{held_from, trim_fault}
 use Rattle.gv_vm.specs.declared.jobs.Access.{Access}
 use Rattle.gv_vm.specs.declared.jobs.Job.{Job}
 use Rattle.gv_vm.proofs.Limited.{limits-after_all, limits-after_withdrawal, limits-reverted_by}
@@ -40,8 +44,8 @@ rewinds limit room first ms [] below is = tt
 rewinds limit room first ms (item ∷ older) below is =
     (revertible limit room ms (undos_of item) is.0, is.1, is.2, is.3, rewinds limit room first (undone_by ms (undos_of item)) older below is.4)
 
-pub IsSpace-roomless : (s : SpaceState) → IsSpace s → IsSpace (roomless s)
-IsSpace-roomless s is = record {
+pub IsSpace-room : (s : SpaceState) (room : ℕ) → IsSpace s → IsSpace (record s { room = room })
+IsSpace-room s room is = record {
   limits = is.limits;
   laid_out = is.laid_out;
   few = is.few;
@@ -52,6 +56,40 @@ IsSpace-roomless s is = record {
   are_kept = record { placed = is.are_kept.placed; kept = is.are_kept.kept; kept_count = is.are_kept.kept_count };
   few_kept = is.few_kept;
 }
+
+pub IsSpace-roomless : (s : SpaceState) → IsSpace s → IsSpace (roomless s)
+IsSpace-roomless s is = IsSpace-room s s.limits.mappings is
+
+-- nothing is held: no undo value needs room
+none_held : (first : ℕ) (items : List Item) → held_from first items ≡ None → items ≡ []
+none_held first [] none = refl
+none_held first (item ∷ older) none = absurd (none-some (Held first) (sym none))
+
+pub none_of_empty : (j : JournalState) → reverse j.items ≡ [] → trim_fault j ≡ None
+none_of_empty j empty = ap (held_from j.first) (sym (reverse-reverse j.items) ∙ ap reverse empty)
+
+pub IsVm-room : (v : VmState) (t : SpaceState) → IsVm v → trim_fault v.journal ≡ None → t ≡ record v.space { room = t.room } → IsVm (record v { space = t })
+IsVm-room v t holds none is =
+    let items : v.journal.items ≡ [] = none_held v.journal.first v.journal.items none in
+    let ms = v.space.mappings in
+    let limit = v.space.limits.mappings in
+    let there : IsVm (record v { space = record v.space { room = t.room } }) =
+    record {
+      translates = holds.translates;
+      buffers_counted = record {
+        used = IsSpace-room v.space t.room holds.buffers_counted.used;
+        kept = record { placed = holds.buffers_counted.kept.placed; kept = holds.buffers_counted.kept.kept; kept_count = holds.buffers_counted.kept.kept_count };
+        held = holds.buffers_counted.held;
+      };
+      rewinds = subst (λ (is : List Item). Rewinds limit t.room v.journal.first ms is (base ms is)) (sym items) tt;
+      undo_saves_the_view = holds.undo_saves_the_view;
+      told_matches_journal = holds.told_matches_journal;
+      waits_were_reached = holds.waits_were_reached;
+      no_conflicting_jobs = holds.no_conflicting_jobs;
+      queues = holds.queues;
+      forgotten = holds.forgotten;
+    } in
+    subst (λ (s : SpaceState). IsVm (record v { space = s })) (sym is) there
 
 pub IsVm-roomless : (v : VmState) → IsVm v → IsVm (record v { space = roomless v.space })
 IsVm-roomless v holds = record {
@@ -67,6 +105,7 @@ IsVm-roomless v holds = record {
   waits_were_reached = holds.waits_were_reached;
   no_conflicting_jobs = holds.no_conflicting_jobs;
   queues = holds.queues;
+  forgotten = holds.forgotten;
 }
 
 -- a space that only has more room is the same

@@ -30,7 +30,7 @@ use Rattle.gv_buffers.proofs.buffers.Buffers.TheSendSync.{the_send as buffers_se
 use Rattle.gv_journal.proofs.item.ItemKind.TheSendSync.{the_send as kind_send}
 use Rattle.gv_journal.proofs.columns.Columns.TheSendSync.{the_send as columns_send}
 use Rattle.gv_vm.proofs.jobs.Jobs.TheSendSync.{the_send as jobs_send}
-use Rattle.gv_vm.proofs.outcome.Outcome.TheSendSync.{the_send as outcome_send}
+use Rattle.gv_vm.proofs.told.Told.TheSendSync.{the_send as told_send}
 use Rattle.gv_types.proofs.mapping.Mapping.TheSendSync.{the_send as mapping_send}
 use Rattle.smallvec.proofs.small_vec.SmallVec.TheSendSync.{the_send as small_vec_send}
 use Rattle.gv_space.specs.contracts.list_with_table.ListWithTable.TheInside.{the_row as list_with_table_inside, the_type as list_with_table_type}
@@ -117,7 +117,7 @@ journal_send : IsSend journal
 journal_send = view_send journal_inside _ _ _ _ (declared_send journal_type (item_store_send, (wide, (wide, tt))))
 
 pub vm_send : IsSend vm
-vm_send = view_send vm_inside _ _ _ _ (declared_send vm_type (space_send, (journal_send, (as_row_send (row_field _) jobs_send, (search (sendable, crosses, outcome_send) depth 8, tt)))))
+vm_send = view_send vm_inside _ _ _ _ (declared_send vm_type (space_send, (journal_send, (as_row_send (row_field _) jobs_send, (search (sendable, crosses, told_send) depth 8, tt)))))
 
 pub world_send : IsSend world
 world_send = view_send world_inside _ _ _ _ (declared_send world_type (vm_send, (as_row_send (row_field _) clock_send, (wide, (search (sendable, crosses, queue_send) depth 8, tt)))))

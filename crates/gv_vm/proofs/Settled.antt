@@ -48,20 +48,20 @@ All-left : (P : NumberedItem → Type 0) (old new : JournalState) (to : ℕ) →
 All-left P old new to is low high all = subst (All P) (sym (entries_left old new to is low high)) (All-take P (next old - to) (entries old) all)
 
 IsVm-settled : (v : VmState) (t : SpaceState) (j : JournalState) (to : ℕ) → IsVm v → settle_fault v.journal to ≡ None → IsSettled v.space t v.journal j to → FitsSpace t j → IsSpace t →
-    IsVm (record { space = t; journal = j; jobs = v.jobs; told = v.told })
+    IsVm (record { space = t; journal = j; jobs = v.jobs; told = v.told; forgotten = v.forgotten })
 IsVm-settled v t j to holds none settled fits space =
     let low : v.journal.first ≤ to = low_from_none v.journal to none in
     let high : to ≤ next v.journal = high_from_none v.journal to none in
     let held : AreHeld t.buffers v.jobs.running = subst (λ (x : SpaceState). AreHeld x.buffers v.jobs.running) (sym settled.space)
     (AreHeld-by_count less_kept (kept_by (earlier v.journal to)) v.space.buffers v.jobs.running less_kept_of_counts holds.buffers_counted.held) in
-    IsVm-of t j v.jobs v.told fits space held
+    IsVm-of t j v.jobs v.told v.forgotten fits space held
     (All-left (λ x. WasTold x.item.kind x.number v.told) v.journal j to settled.items low high holds.told_matches_journal)
-    (All-left (λ x. SawItsWaits x.item.kind) v.journal j to settled.items low high holds.waits_were_reached) holds.queues
+    (All-left (λ x. SawItsWaits x.item.kind) v.journal j to settled.items low high holds.waits_were_reached) holds.queues holds.forgotten
 
 pub IsVm-settle : (v : VmState) (t : SpaceState) (j : JournalState) (to : ℕ) (r : Result ℕ Fault) → IsVm v → OnOk r (settle_fault v.journal to ≡ None) →
     OnOk r (IsSettled v.space t v.journal j to) → OnErr r (t ≡ v.space) → OnErr r (j ≡ v.journal) → FitsSpace t j → IsSpace t →
-    IsVm (record { space = t; journal = j; jobs = v.jobs; told = v.told })
+    IsVm (record { space = t; journal = j; jobs = v.jobs; told = v.told; forgotten = v.forgotten })
 IsVm-settle v t j to (Ok count) holds why settled space_same same fits space = IsVm-settled v t j to holds why settled fits space
 IsVm-settle v t j to (Err fault) holds why settled space_same same fits space =
-    subst (λ (x : JournalState). IsVm (record { space = t; journal = x; jobs = v.jobs; told = v.told })) (sym same)
-    (subst (λ (x : SpaceState). IsVm (record { space = x; journal = v.journal; jobs = v.jobs; told = v.told })) (sym space_same) holds)
+    subst (λ (x : JournalState). IsVm (record { space = t; journal = x; jobs = v.jobs; told = v.told; forgotten = v.forgotten })) (sym same)
+    (subst (λ (x : SpaceState). IsVm (record { space = x; journal = v.journal; jobs = v.jobs; told = v.told; forgotten = v.forgotten })) (sym space_same) holds)

@@ -13,7 +13,7 @@ use Rattle.gv_sync.specs.Raises.{IsReached, with_raise}
 use Rattle.gv_sync.specs.Sights.{Sight, sight}
 use Rattle.gv_vm.specs.Outcomes.{told_to, with_outcome, tell_fault}
 use Rattle.gv_vm.specs.Told.{IsBoundAndTold, seen_by}
-use Rattle.gv_vm.specs.State.{VmState}
+use Rattle.gv_vm.specs.State.{VmState, told_limit}
 use Rattle.gv_vm.specs.World.{WorldState, HandState, QueueState, put_fault_of, new_queue, queue_at, with_queue, next_number, next_wait, seen_at}
 use Rattle.gv_vm.specs.Turns.{IsPutReply, MayTake, TookFront, wait_in, wait_of, hand_reached, with_reached, hand_lacked, with_lacked, IsReadyToBind, IsLacking, without_hand, PaidFirst, IsToldLacking}
 use Rattle.gv_vm.specs.Step.{step, IsStep, MayGrow, CanTake, CanLook, CanReach, CanBind, CanGiveUp, CanPay, owed_in, owed_for}
@@ -195,16 +195,16 @@ pub record PutCameTo (limit depth : ℕ) (request : Request) (old new : QueueSta
   pub err : OnErr r (new ≡ old)
 
 pub put_keeps : (w : WorldState) (n : ℕ) (request : Request) (q : QueueState) (r : Result ℕ NotTold) → AreQueues w → n < length w.queues → Fits (length w.numbers) request →
-    PutCameTo w.vm.space.limits.told w.depth request (queue_at w n) q r → AreQueues (with_queue w n q)
+    PutCameTo (told_limit w.vm n) w.depth request (queue_at w n) q r → AreQueues (with_queue w n q)
 put_keeps w n request q (Ok number) holds less fits came =
     let old : QueueState = queue_at w n in
     let is : q ≡ record old { put = old.put + 1; waiting = old.waiting ++ request ∷ [] } = came.back ∙ ap (λ (k : ℕ). record old { put = k + 1; waiting = old.waiting ++ request ∷ [] }) came.number in
-    AreQueues-with_queue w n q holds less (subst (IsQueueOf w.vm.space.limits.told (length w.numbers) (next_number w n)) (sym is)
-    (IsQueueOf-put w.vm.space.limits.told (length w.numbers) (next_number w n) w.depth old request (allowed_where_ok _ number came.fault) fits (holds.each n less)))
+    AreQueues-with_queue w n q holds less (subst (IsQueueOf (told_limit w.vm n) (length w.numbers) (next_number w n)) (sym is)
+    (IsQueueOf-put (told_limit w.vm n) (length w.numbers) (next_number w n) w.depth old request (allowed_where_ok _ number came.fault) fits (holds.each n less)))
 put_keeps w n request q (Err e) holds less fits came = subst AreQueues (sym (same_world w n q came.err)) holds
 
 pub was_put : (w : WorldState) (n : ℕ) (request : Request) (q : QueueState) (number : ℕ) → n < length w.queues → Fits (length w.numbers) request →
-    PutCameTo w.vm.space.limits.told w.depth request (queue_at w n) q (Ok number) → step w (Put n request) (IsPut number) (with_queue w n q)
+    PutCameTo (told_limit w.vm n) w.depth request (queue_at w n) q (Ok number) → step w (Put n request) (IsPut number) (with_queue w n q)
 was_put w n request q number less fits came = record {
   enabled = (less, fits);
   allowed = allowed_where_ok _ number came.fault;
@@ -213,25 +213,25 @@ was_put w n request q number less fits came = record {
 }
 
 pub was_not_put : (w : WorldState) (n : ℕ) (request : Request) (q : QueueState) (e : NotTold) → n < length w.queues → Fits (length w.numbers) request → e.fault ≢ OutOfMemory → e.request ≡ request →
-    PutCameTo w.vm.space.limits.told w.depth request (queue_at w n) q (Err e) → step w (Put n request) (NotPut e.fault e.request) (with_queue w n q)
+    PutCameTo (told_limit w.vm n) w.depth request (queue_at w n) q (Err e) → step w (Put n request) (NotPut e.fault e.request) (with_queue w n q)
 was_not_put w n request q e less fits named back came = record {
   enabled = (less, fits);
-  refused = put_refused w.vm.space.limits.told w.depth (queue_at w n) e named came.fault;
+  refused = put_refused (told_limit w.vm n) w.depth (queue_at w n) e named came.fault;
   returned = back;
   state = same_world w n q came.err;
 }
 
 pub put_wanted : (w : WorldState) (n : ℕ) (request : Request) (q : QueueState) (e : NotTold) → n < length w.queues → Fits (length w.numbers) request → e.fault ≡ OutOfMemory →
-    PutCameTo w.vm.space.limits.told w.depth request (queue_at w n) q (Err e) → MayGrow w (Put n request) × (with_queue w n q ≡ w)
+    PutCameTo (told_limit w.vm n) w.depth request (queue_at w n) q (Err e) → MayGrow w (Put n request) × (with_queue w n q ≡ w)
 put_wanted w n request q e less fits memory came =
-    (((less, fits), put_allowed w.vm.space.limits.told w.depth (queue_at w n) e memory came.fault), same_world w n q came.err)
+    (((less, fits), put_allowed (told_limit w.vm n) w.depth (queue_at w n) e memory came.fault), same_world w n q came.err)
 
 wanted : (w new : WorldState) (event : Event) (a : Result Reply WantOfMemory) → IsErr a → MayGrow w event × (new ≡ w) → IsStep w event a new
 wanted w new event (Ok reply) is h = cc
 wanted w new event (Err e) is h = h
 
 pub put_answers : (w : WorldState) (n : ℕ) (request : Request) (q : QueueState) (r : Result ℕ NotTold) (a : Result Reply WantOfMemory) → n < length w.queues → Fits (length w.numbers) request →
-    PutCameTo w.vm.space.limits.told w.depth request (queue_at w n) q r → IfErr r (λ e. e.request ≡ request) → IsPutReply r a → IsStep w (Put n request) a (with_queue w n q)
+    PutCameTo (told_limit w.vm n) w.depth request (queue_at w n) q r → IfErr r (λ e. e.request ≡ request) → IsPutReply r a → IsStep w (Put n request) a (with_queue w n q)
 put_answers w n request q (Ok number) a less fits came back is =
     subst (λ (x : Result Reply WantOfMemory). IsStep w (Put n request) x (with_queue w n q)) (sym is) (was_put w n request q number less fits came)
 put_answers w n request q (Err e) a less fits came back (inl memory) = wanted w (with_queue w n q) (Put n request) a memory.0 (put_wanted w n request q e less fits memory.1 came)
@@ -261,8 +261,8 @@ pub bound_keeps : (w : WorldState) (v : VmState) (n number : ℕ) (hand : HandSt
     IsBoundAndTold w.vm v n number hand.request (seen_by hand.reached) outcome → AreQueues (with_vm w v n (record (queue_at w n) { hand = None; owed = owed_for hand.request outcome }))
 bound_keeps w v n number hand outcome holds less is carried =
     AreQueues-told w v n hand outcome (owed_for hand.request outcome) holds less is
-    (limits-came w.vm.space v.space w.vm.journal v.journal n number hand.request (seen_by hand.reached) outcome carried.came) carried.told
-    (owed_fit (length w.numbers) hand.request outcome (signals_fit w.vm.space.limits.told (length w.numbers) (next_number w n) (queue_at w n) hand is (holds.each n less)))
+    (limits-came w.vm.space v.space w.vm.journal v.journal n number hand.request (seen_by hand.reached) outcome carried.came) carried.told carried.forgotten
+    (owed_fit (length w.numbers) hand.request outcome (signals_fit (told_limit w.vm n) (length w.numbers) (next_number w n) (queue_at w n) hand is (holds.each n less)))
 
 pub may_give_up : (w : WorldState) (n : ℕ) (hand : HandState) → n < length w.queues → (queue_at w n).hand ≡ Some hand → hand.lacked ≢ None → CanGiveUp w n
 may_give_up w n hand less is lacks =
@@ -274,4 +274,4 @@ may_give_up w n hand less is lacks =
 pub given_up_keeps : (w : WorldState) (v : VmState) (n : ℕ) (hand : HandState) (outcome : Outcome) → AreQueues w → n < length w.queues → (queue_at w n).hand ≡ Some hand →
     IsToldLacking w.vm v n hand outcome → AreQueues (with_vm w v n (without_hand (queue_at w n)))
 given_up_keeps w v n hand outcome holds less is told =
-    AreQueues-told w v n hand outcome (queue_at w n).owed holds less is (ap (λ (x : VmState). x.space.limits) told.state) (ap (λ (x : VmState). x.told) told.state) (holds.each n less).owed
+    AreQueues-told w v n hand outcome (queue_at w n).owed holds less is (ap (λ (x : VmState). x.space.limits) told.state) (ap (λ (x : VmState). x.told) told.state) (ap (λ (x : VmState). x.forgotten) told.state) (holds.each n less).owed

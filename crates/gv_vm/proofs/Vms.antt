@@ -44,9 +44,9 @@ no_conflict : (t : BuffersState) → IsTable t → NoConflictingJobs t
 no_conflict t table = All-weaker (IsBuffer t.made) (λ b. HaveNoConflict b.users) (λ b h. h.no_conflict) t.live table.buffers
 
 -- A machine of parts that fit: their clauses say all.
-pub IsVm-of : (s : SpaceState) (j : JournalState) (r : JobsState) (told : List (List Outcome)) → FitsSpace s j → IsSpace s → AreHeld s.buffers r.running →
-    ToldMatchesJournal (entries j) told → WaitsWereReached (entries j) → length told ≡ 16 → IsVm (record { space = s; journal = j; jobs = r; told = told })
-IsVm-of s j r told fits space held was_told saw queues = record {
+pub IsVm-of : (s : SpaceState) (j : JournalState) (r : JobsState) (told : List (List Outcome)) (forgotten : List ℕ) → FitsSpace s j → IsSpace s → AreHeld s.buffers r.running →
+    ToldMatchesJournal (entries j) told → WaitsWereReached (entries j) → length told ≡ 16 → length forgotten ≡ 16 → IsVm (record { space = s; journal = j; jobs = r; told = told; forgotten = forgotten })
+IsVm-of s j r told forgotten fits space held was_told saw queues gone = record {
   translates = fits.translates;
   buffers_counted = record { used = space; kept = fits.kept; held = held };
   rewinds = fits.rewinds;
@@ -55,6 +55,7 @@ IsVm-of s j r told fits space held was_told saw queues = record {
   waits_were_reached = saw;
   no_conflicting_jobs = no_conflict s.buffers space.buffers;
   queues = queues;
+  forgotten = gone;
 }
 
 -- Other buffers, and other jobs that hold them, in the same list.
@@ -64,9 +65,9 @@ FitsSpace-buffers s t j is kept fits =
     subst (λ (x : SpaceState). FitsSpace x j) (sym is) (record { translates = fits.translates; saves = fits.saves; rewinds = fits.rewinds; kept = there })
 
 pub IsVm-buffers : (v : VmState) (t : SpaceState) (r : JobsState) → IsVm v → t ≡ record v.space { buffers = t.buffers } → ((ms : List Mapping) → AreKept v.space ms → AreKept t ms) →
-    IsSpace t → AreHeld t.buffers r.running → IsVm (record { space = t; journal = v.journal; jobs = r; told = v.told })
+    IsSpace t → AreHeld t.buffers r.running → IsVm (record { space = t; journal = v.journal; jobs = r; told = v.told; forgotten = v.forgotten })
 IsVm-buffers v t r holds is kept space held =
-    IsVm-of t v.journal r v.told (FitsSpace-buffers v.space t v.journal is kept (fits_space v holds)) space held holds.told_matches_journal holds.waits_were_reached holds.queues
+    IsVm-of t v.journal r v.told v.forgotten (FitsSpace-buffers v.space t v.journal is kept (fits_space v holds)) space held holds.told_matches_journal holds.waits_were_reached holds.queues holds.forgotten
 
 some_user : (n : ℕ) (o : Option Buffer) → IsSomeAnd o (λ b. list_any (λ u. eqb u.job n) b.users ≡ true) → is_some o ≡ true
 some_user n None h = absurd h
@@ -190,20 +191,20 @@ All-older P old new item is all =
     All-tail P (record { number = new.first + length new.items; item = item }) (entries new) here
 
 pub IsVm-rewound : (v : VmState) (t : SpaceState) (j : JournalState) → IsVm v → IsRewound v.space t v.journal j → FitsSpace t j → IsSpace t →
-    IsVm (record { space = t; journal = j; jobs = v.jobs; told = v.told })
+    IsVm (record { space = t; journal = j; jobs = v.jobs; told = v.told; forgotten = v.forgotten })
 IsVm-rewound v t j holds rewound fits space =
     let held : AreHeld t.buffers v.jobs.running = subst (λ (x : SpaceState). AreHeld x.buffers v.jobs.running) (sym rewound.space)
     (AreHeld-reverted_by v.space (undos_of rewound.item) v.jobs.running holds.buffers_counted.held) in
-    IsVm-of t j v.jobs v.told fits space held
+    IsVm-of t j v.jobs v.told v.forgotten fits space held
     (All-older (λ x. WasTold x.item.kind x.number v.told) v.journal j rewound.item rewound.items holds.told_matches_journal)
-    (All-older (λ x. SawItsWaits x.item.kind) v.journal j rewound.item rewound.items holds.waits_were_reached) holds.queues
+    (All-older (λ x. SawItsWaits x.item.kind) v.journal j rewound.item rewound.items holds.waits_were_reached) holds.queues holds.forgotten
 
 pub IsVm-rewind : (v : VmState) (t : SpaceState) (j : JournalState) (r : Result ℕ Fault) → IsVm v → OnOk r (IsRewound v.space t v.journal j) → OnErr r (t ≡ v.space) → OnErr r (j ≡ v.journal) →
-    FitsSpace t j → IsSpace t → IsVm (record { space = t; journal = j; jobs = v.jobs; told = v.told })
+    FitsSpace t j → IsSpace t → IsVm (record { space = t; journal = j; jobs = v.jobs; told = v.told; forgotten = v.forgotten })
 IsVm-rewind v t j (Ok n) holds rewound space_same same fits space = IsVm-rewound v t j holds rewound fits space
 IsVm-rewind v t j (Err fault) holds rewound space_same same fits space =
-    subst (λ (x : JournalState). IsVm (record { space = t; journal = x; jobs = v.jobs; told = v.told })) (sym same)
-    (subst (λ (x : SpaceState). IsVm (record { space = x; journal = v.journal; jobs = v.jobs; told = v.told })) (sym space_same) holds)
+    subst (λ (x : JournalState). IsVm (record { space = t; journal = x; jobs = v.jobs; told = v.told; forgotten = v.forgotten })) (sym same)
+    (subst (λ (x : SpaceState). IsVm (record { space = x; journal = v.journal; jobs = v.jobs; told = v.told; forgotten = v.forgotten })) (sym space_same) holds)
 
 other_buffers : (s t : SpaceState) (buffers : BuffersState) → t ≡ record s { buffers = buffers } → t ≡ record s { buffers = t.buffers }
 other_buffers s t buffers is = is ∙ ap (λ (u : BuffersState). (let x : SpaceState = record s { buffers = u } in x)) (sym (ap (λ (x : SpaceState). x.buffers) is))

@@ -36,6 +36,7 @@ pub record AreAlikeVms (v v' : VmState) : Type 0 where
   pub journal : bare_journal v.journal ≡ bare_journal v'.journal
   pub jobs : v.jobs ≡ v'.jobs
   pub told : v.told ≡ v'.told
+  pub forgotten : v.forgotten ≡ v'.forgotten
 
 pub record AreAlikeWorlds (w w' : WorldState) : Type 0 where
   pub vm : AreAlikeVms w.vm w'.vm

@@ -5,6 +5,8 @@ pub mod Holding
 pub mod Outcomes
 pub mod Telling
 pub mod State
+pub mod Forgetting
+pub mod Trimming
 pub mod VmInside
 pub mod Told
 pub mod World

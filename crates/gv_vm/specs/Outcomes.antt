@@ -1,12 +1,21 @@
 -- What the queues were told.
-use Rattle.std.specs.Prelude.{ℕ, ◌==◌, if◌then◌else◌, nat_le, List, [], ◌∷◌, ◌++◌, length, slice_index_or, slice_set, Option, Some, None}
+use Rattle.std.specs.Prelude.{ℕ, ◌^◌, ◌==◌, if◌then◌else◌, nat_le, List, [], ◌∷◌, ◌++◌, length, slice_index_or, slice_set, Option, Some, None}
 use Rattle.gv_types.specs.declared.fault.Fault.{Fault}
-use Rattle.gv_types.specs.declared.fault.Fault.TheVariants.{OutOfTurn, QueueSpent}
+use Rattle.gv_types.specs.declared.fault.Fault.TheVariants.{OutOfMemory, OutOfTurn, QueueSpent}
 use Rattle.gv_vm.specs.declared.outcome.Outcome.{Outcome}
+use Rattle.gv_vm.specs.declared.outcome.Outcome.TheVariants.{Refused}
 
 -- so many queues there are
 abbrev pub queues : ℕ
 queues = 16
+
+-- an outcome that was forgotten is seen as this one
+abbrev pub forgotten_outcome : Outcome
+forgotten_outcome = Refused 0 OutOfMemory
+
+-- so many outcomes a queue is told in its life
+abbrev pub most_told : ℕ
+most_told = 2 ^ 63
 
 -- what a queue was told, the first outcome first: an outcome's number is its place
 abbrev pub told_to : List (List Outcome) → ℕ → List Outcome

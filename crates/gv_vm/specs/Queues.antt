@@ -3,6 +3,7 @@ use Rattle.std.specs.Prelude.{◌≡◌, ℕ, ◌+◌, ◌<◌, ◌≤◌, lengt
 use Rattle.std.specs.List.{All}
 use Rattle.gv_types.specs.Request.{Fits}
 use Rattle.gv_vm.specs.Outcomes.{queues}
+use Rattle.gv_vm.specs.State.{told_limit}
 use Rattle.gv_vm.specs.World.{WorldState, HandState, QueueState, queue_at, next_number}
 
 -- Those waits of a request in hand that were reached are its first ones, in order, and what lacked last is one of its waits.
@@ -33,4 +34,4 @@ pub record AreQueues (w : WorldState) : Type 0 where
   pub few : length w.queues ≤ queues
   pub told : length w.vm.told ≡ queues
   pub each : (n : ℕ) → n < length w.queues →
-      IsQueueOf w.vm.space.limits.told (length w.numbers) (next_number w n) (queue_at w n)
+      IsQueueOf (told_limit w.vm n) (length w.numbers) (next_number w n) (queue_at w n)

@@ -1,5 +1,5 @@
 -- One address space with its journal, its running jobs and what its queues were told, and the clauses that always hold of it.
-use Rattle.std.specs.Prelude.{◌≡◌, ℕ, ◌≤◌, List, [], length, replicate, slice_get, Some}
+use Rattle.std.specs.Prelude.{◌≡◌, ℕ, ◌+◌, ◌≤◌, List, [], length, min, replicate, slice_get, slice_index_or, Some}
 use Rattle.std.specs.List.{All, AllZip}
 use Rattle.gv_types.specs.Bounds.{BoundsState}
 use Rattle.gv_types.specs.Limits.{LimitsState}
@@ -12,16 +12,17 @@ use Rattle.gv_journal.specs.History.{base, kept_by, Translates, UndoSavesTheView
 use Rattle.gv_journal.specs.declared.item.ItemKind.{ItemKind}
 use Rattle.gv_journal.specs.declared.item.ItemKind.TheVariants.{Bind, Withdrawal}
 use Rattle.gv_vm.specs.Jobs.{JobsState, AreHeld, no_jobs}
-use Rattle.gv_vm.specs.Outcomes.{queues, told_to}
+use Rattle.gv_vm.specs.Outcomes.{queues, most_told, told_to}
 use Rattle.gv_vm.specs.declared.outcome.Outcome.{Outcome}
 use Rattle.gv_vm.specs.declared.outcome.Outcome.TheVariants.{Accepted}
 
--- what contracts see of a `Vm`
+-- what contracts see of a `Vm`: of what a queue was told the first outcomes may be forgotten, and so many are
 pub record VmState : Type 0 where
   pub space : SpaceState
   pub journal : JournalState
   pub jobs : JobsState
   pub told : List (List Outcome)
+  pub forgotten : List ℕ
 
 -- The room for mappings isn't told: a machine's is told as the limit, which no list passes.
 abbrev pub roomless : SpaceState → SpaceState
@@ -35,7 +36,16 @@ new_vm area limits =
       journal = record { limit = limits.items; first = 0; items = [] };
       jobs = no_jobs;
       told = replicate queues [];
+      forgotten = replicate queues 0;
     }
+
+-- how many outcomes of a queue are forgotten
+abbrev pub forgotten_of : VmState → ℕ → ℕ
+forgotten_of v queue = slice_index_or v.forgotten queue 0
+
+-- how many outcomes a queue may be told: as many as the limit says beside those that are forgotten
+abbrev pub told_limit : VmState → ℕ → ℕ
+told_limit v queue = min most_told (forgotten_of v queue + v.space.limits.told)
 
 -- `uses` counts the list, `kept` what undo values keep, and every buffer that one of these or a running job's place names
 -- is alive; each mapping lies inside its buffer, inside the bounds and off the reserved region
@@ -73,6 +83,7 @@ pub record IsVm (v : VmState) : Type 0 where
   pub told_matches_journal : ToldMatchesJournal (entries v.journal) v.told
   pub waits_were_reached : WaitsWereReached (entries v.journal)
   pub no_conflicting_jobs : NoConflictingJobs v.space.buffers
+  pub forgotten : length v.forgotten ≡ queues
   pub queues : length v.told ≡ queues
 
 -- only the buffers are others

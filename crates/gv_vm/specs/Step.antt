@@ -20,13 +20,15 @@ use Rattle.gv_journal.specs.Withdrawing.{entry_fault, withdraw_fault, IsWithdraw
 use Rattle.gv_vm.specs.Places.{place_at}
 use Rattle.gv_vm.specs.Jobs.{begin_fault, end_fault, IsBegun, IsEnded, IsBeginRefused}
 use Rattle.gv_vm.specs.Outcomes.{with_outcome}
+use Rattle.gv_vm.specs.Forgetting.{forget_fault, with_forgotten}
+use Rattle.gv_vm.specs.Trimming.{trim_fault}
 use Rattle.gv_vm.specs.Told.{IsBoundAndTold, seen_by}
-use Rattle.gv_vm.specs.State.{VmState, HasOtherBuffers, HasOtherJobs}
+use Rattle.gv_vm.specs.State.{VmState, forgotten_of, told_limit, HasOtherBuffers, HasOtherJobs}
 use Rattle.gv_vm.specs.World.{WorldState, HandState, put_fault_of, queue_at, with_queue, taken, next_number, next_wait, seen_at}
 use Rattle.gv_vm.specs.declared.event.Event.{Event}
-use Rattle.gv_vm.specs.declared.event.Event.TheVariants.{Put, Take, Look, Bind, GiveUp, Pay, Raise, Create, Destroy, Rewind, Withdraw, Settle, JobBegin, JobEnd, Translate}
+use Rattle.gv_vm.specs.declared.event.Event.TheVariants.{Put, Take, Look, Bind, GiveUp, Pay, Raise, Create, Destroy, Rewind, Withdraw, Settle, Forget, Trim, JobBegin, JobEnd, Translate}
 use Rattle.gv_vm.specs.declared.event.Reply.{Reply}
-use Rattle.gv_vm.specs.declared.event.Reply.TheVariants.{Idle, Put as IsPut, NotPut, Taken, Reached, Lacking, Told, Raised, Created, Destroyed, Rewound, Withdrawn, Settled, Begun, Ended, Found, Refused}
+use Rattle.gv_vm.specs.declared.event.Reply.TheVariants.{Idle, Put as IsPut, NotPut, Taken, Reached, Lacking, Told, Raised, Created, Destroyed, Rewound, Withdrawn, Settled, Forgot, Trimmed, Begun, Ended, Found, Refused}
 use Rattle.gv_vm.specs.declared.jobs.Access.{Access}
 use Rattle.gv_vm.specs.declared.jobs.Job.{Job}
 use Rattle.gv_vm.specs.declared.outcome.Outcome.{Outcome}
@@ -93,6 +95,8 @@ IsEnabled w (Destroy id) = Unit {0}
 IsEnabled w Rewind = Unit {0}
 IsEnabled w (Withdraw entry) = Unit {0}
 IsEnabled w (Settle to) = Unit {0}
+IsEnabled w (Forget queue to) = Unit {0}
+IsEnabled w Trim = Unit {0}
 IsEnabled w (JobBegin accesses) = Unit {0}
 IsEnabled w (JobEnd job) = Unit {0}
 IsEnabled w (Translate addr) = Unit {0}
@@ -100,7 +104,7 @@ IsEnabled w (Translate addr) = Unit {0}
 -- What they do.
 
 abbrev pub put_fault : WorldState → ℕ → Option Fault
-put_fault w queue = put_fault_of w.vm.space.limits.told w.depth (queue_at w queue)
+put_fault w queue = put_fault_of (told_limit w.vm queue) w.depth (queue_at w queue)
 
 -- a request is at the back
 pub record IsPutAs (old : WorldState) (queue : ℕ) (request : Request) (number : ℕ) (new : WorldState) : Type 0 where
@@ -220,6 +224,17 @@ pub record IsSettledNow (old : WorldState) (to count : ℕ) (new : WorldState) :
   pub settled : IsSettled old.vm.space new.vm.space old.vm.journal new.vm.journal to
   pub state : HasOtherEntries old new
 
+-- the outcomes of a queue below a number are forgotten
+pub record IsForgottenNow (old : WorldState) (queue to count : ℕ) (new : WorldState) : Type 0 where
+  pub allowed : forget_fault old.vm queue to ≡ None
+  pub count_is : forgotten_of old.vm queue + count ≡ to
+  pub state : new ≡ record old { vm = with_forgotten old.vm queue to }
+
+-- room is given back, and nothing is seen of it
+pub record IsTrimmedNow (old new : WorldState) : Type 0 where
+  pub allowed : trim_fault old.vm.journal ≡ None
+  pub state : new ≡ old
+
 pub record IsBegunNow (old : WorldState) (accesses : List Access) (job : Job) (new : WorldState) : Type 0 where
   pub allowed : begin_fault old.vm.space old.vm.jobs accesses ≡ None
   pub begun : IsBegun old.vm.space new.vm.space old.vm.jobs new.vm.jobs accesses job
@@ -245,6 +260,8 @@ event_fault v (Destroy id) = destroy_fault v.space.buffers id
 event_fault v Rewind = rewind_fault v.journal.items
 event_fault v (Withdraw entry) = withdraw_fault v.space v.journal entry
 event_fault v (Settle to) = settle_fault v.journal to
+event_fault v (Forget queue to) = forget_fault v queue to
+event_fault v Trim = trim_fault v.journal
 event_fault v (JobBegin accesses) = begin_fault v.space v.jobs accesses.items
 event_fault v (JobEnd job) = end_fault v.jobs job
 event_fault v _ = None
@@ -267,6 +284,8 @@ step old (Destroy id) Destroyed new = IsDestroyedNow old id new
 step old Rewind (Rewound item) new = IsRewoundNow old item new
 step old (Withdraw entry) (Withdrawn item) new = IsWithdrawnNow old entry item new
 step old (Settle to) (Settled count) new = IsSettledNow old to count new
+step old (Forget queue to) (Forgot count) new = IsForgottenNow old queue to count new
+step old Trim Trimmed new = IsTrimmedNow old new
 step old (JobBegin accesses) (Begun number places) new = IsBegunNow old accesses.items (record { number = number; places = places }) new
 step old (JobEnd asked) (Ended job) new = IsEndedNow old asked job new
 step old (Translate addr) (Found place) new = (place ≡ place_at old.vm.space.mappings addr) × (new ≡ old)

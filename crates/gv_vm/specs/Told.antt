@@ -43,6 +43,7 @@ pub record IsBoundAndTold (old new : VmState) (queue number : ℕ) (request : Re
   pub came : CameTo old.space new.space old.journal new.journal queue number request seen outcome
   pub jobs : new.jobs ≡ old.jobs
   pub told : new.told ≡ with_outcome old.told queue outcome
+  pub forgotten : new.forgotten ≡ old.forgotten
 
 -- what the points saw
 abbrev pub seen_by : List Sight → List ℕ

@@ -28,6 +28,10 @@ pub enum Event {
     Rewind,
     Withdraw { entry: u64 },
     Settle { to: u64 },
+    /// The outcomes of a queue below a number are let go.
+    Forget { queue: u64, to: u64 },
+    /// Room that nothing needs is given back.
+    Trim,
     JobBegin { accesses: Vec<Access> },
     JobEnd { job: u64 },
     /// Where does an address, in bytes, lead?
@@ -50,6 +54,8 @@ pub enum Reply {
     Rewound { item: u64 },
     Withdrawn { item: u64 },
     Settled { count: u64 },
+    Forgot { count: u64 },
+    Trimmed,
     Begun { job: u64, places: Vec<Place> },
     Ended { job: u64 },
     Found { place: Option<Place> },

@@ -75,6 +75,13 @@ impl Jobs {
         }
     }
 
+    /// Gives room back that no running job needs.
+    pub fn shrink(&mut self)
+        ensures { self.new ≡ self.old }
+    {
+        self.running.shrink_to_fit();
+    }
+
     /// Where the accesses of a running job led when it began. None where no such job runs.
     pub fn places(&self, number: u64) -> Option<&[Place]>
         ensures { option_copied result ≡ places_in self.now.running number }

@@ -9,7 +9,8 @@
 //!                                                        `-> a wait lacks: Look again, or GiveUp
 //! ```
 //!
-//! Rewind, Withdraw and Settle go back over the entries; Create, Destroy, JobBegin, JobEnd and Translate ask the machine alone.
+//! Rewind, Withdraw and Settle go back over the entries; Forget lets outcomes go; Create, Destroy, JobBegin, JobEnd and Translate ask
+//! the machine alone.
 #![tactic(auto)]
 
 mod ahead;

@@ -1,55 +1,180 @@
 //! The outcomes that each queue was told.
-ghost use Rattle.std.specs.Prelude.{◌≡◌, ◌+◌, ◌<◌, ◌≤◌, map, replicate, length, [], IfOk, IsOk, IsOkUnless, OnOk, OnErr, MatchOption};
-ghost use Rattle.gv_vm.specs.Outcomes.{queues, told_to, with_outcome, tell_fault};
-ghost use Rattle.gv_vm.specs.Telling.{Lists, lists_of, HasRoomToTell, HaveQueue};
+ghost use Rattle.std.specs.Prelude.{◌≡◌, ◌<◌, ◌≤◌, ◌++◌, ◌∷◌, replicate, length, drop, [], IfOk, IsOkUnless, OnOk, MatchOption};
+ghost use Rattle.gv_vm.specs.Outcomes.{queues, with_outcome, tell_fault, forgotten_outcome, most_told};
+ghost use Rattle.gv_vm.specs.Telling.{lists_of, forgotten_in, HasRoomToTell, HaveQueue};
 
 use crate::outcome::Outcome;
 use gv_types::{Fault, OutOfMemory};
 use std::alloc::Global;
+use std::marker::Model;
 
 /// So many queues there are.
 pub const QUEUES: usize = 16;
 
-/// What each queue was told. A queue's list grows by doubling, when it is told something.
-pub type Told = Vec<Vec<Outcome>>;
+/// So many outcomes a queue is told in its life.
+pub const MOST_TOLD: u64 = 1 << 63;
+
+/// What a queue was told. Of the first outcomes, those that are forgotten, only the count is kept. Of those that stand, `gone` are
+/// forgotten too: they give way once they are at least half of what stands.
+#[derive(Drop)]
+pub struct Told {
+    first: u64,
+    gone: usize,
+    outcomes: Vec<Outcome>,
+}
+
+impl Model for Told {
+    ghost use Rattle.gv_vm.specs.Telling.{ToldState, told_of, IsSoundTold};
+
+    ghost Value = { ToldState };
+
+    ghost view = { told_of };
+
+    ghost invariant = { IsSoundTold };
+}
+
+impl Told {
+    ghost use Rattle.gv_vm.specs.Telling.{HasSlot};
+
+    /// Nothing. It takes no memory.
+    fn new(alloc: Global) -> Told
+        ensures list { result.list ≡ [] }
+        ensures forgotten { result.forgotten ≡ 0 }
+    {
+        Told {
+            first: 0,
+            gone: 0,
+            outcomes: Vec::new(alloc),
+        }
+    }
+
+    /// The number of the next outcome.
+    pub fn next(&self) -> u64
+        ensures number { result ≡ length self.now.list }
+        ensures few { result ≤ most_told }
+    {
+        self.first + (self.outcomes.len() - self.gone) as u64
+    }
+
+    /// The number of the first one that isn't forgotten.
+    pub fn first(&self) -> u64
+        ensures number { result ≡ self.now.forgotten }
+        ensures few { result ≤ length self.now.list }
+    {
+        self.first
+    }
+
+    /// Those that aren't forgotten.
+    pub fn rest(&self) -> &[Outcome]
+        ensures { result.now ≡ drop self.now.forgotten self.now.list }
+    {
+        &self.outcomes[self.gone..]
+    }
+
+    /// Makes room for one outcome more.
+    fn reserve(&mut self) -> Result<(), OutOfMemory>
+        ensures list { self.new.list ≡ self.old.list }
+        ensures forgotten { self.new.forgotten ≡ self.old.forgotten }
+        ensures room { OnOk result (length self.old.list < most_told → HasSlot self.new) }
+    {
+        self.outcomes.reserve(1)?;
+        Ok(())
+    }
+
+    /// One outcome more, for which there is room.
+    fn push(&mut self, outcome: Outcome)
+        requires { HasSlot self.old }
+        ensures list { self.new.list ≡ self.old.list ++ outcome ∷ [] }
+        ensures forgotten { self.new.forgotten ≡ self.old.forgotten }
+    {
+        self.outcomes.push_reserved(outcome);
+    }
+
+    /// Lets those below a number go. It takes no memory.
+    pub fn forget(&mut self, to: u64)
+        requires from { self.old.forgotten ≤ to }
+        requires up_to { to ≤ length self.old.list }
+        ensures list { self.new.list ≡ replicate to forgotten_outcome ++ drop to self.old.list }
+        ensures forgotten { self.new.forgotten ≡ to }
+    {
+        self.gone += (to - self.first) as usize;
+        self.first = to;
+        if self.outcomes.len() - self.gone <= self.gone {
+            self.compact();
+        }
+    }
+
+    /// Gives room back: it has room for just what isn't forgotten then.
+    fn shrink(&mut self)
+        ensures list { self.new.list ≡ self.old.list }
+        ensures forgotten { self.new.forgotten ≡ self.old.forgotten }
+    {
+        self.compact();
+        self.outcomes.shrink_to_fit();
+    }
+
+    /// Lets go of what is left of forgotten ones.
+    fn compact(&mut self)
+        ensures list { self.new.list ≡ self.old.list }
+        ensures forgotten { self.new.forgotten ≡ self.old.forgotten }
+    {
+        let held = self.outcomes.len() - self.gone;
+        self.outcomes.rotate_left(self.gone);
+        self.outcomes.truncate(held);
+        self.gone = 0;
+    }
+}
 
 /// Sixteen queues that were told nothing.
-pub fn nothing_told(alloc: Global) -> Result<Told, OutOfMemory>
+pub fn nothing_told(alloc: Global) -> Result<Vec<Told>, OutOfMemory>
     ensures none { IfOk result (λ told. lists_of told ≡ replicate queues []) }
+    ensures forgotten { IfOk result (λ told. forgotten_in told ≡ replicate queues 0) }
 {
     let mut told = Vec::with_capacity(alloc, QUEUES)?;
     for queue in 0..QUEUES {
-        told.push_reserved(Vec::new(alloc));
+        told.push_reserved(Told::new(alloc));
     }
     Ok(told)
 }
 
+/// Gives back the room that no outcome needs.
+pub fn shrink_all(told: &mut Vec<Told>)
+    ensures list { lists_of told.new ≡ lists_of told.old }
+    ensures forgotten { forgotten_in told.new ≡ forgotten_in told.old }
+{
+    for queue in 0..told.len() {
+        told[queue].shrink();
+    }
+}
+
 /// Makes room to tell a queue the outcome with this number. `QueueSpent` where the limit's outcomes are told, `OutOfTurn`
 /// with the next number where this is another, then `OutOfMemory`.
-pub fn prepare(told: &mut Told, limit: u64, queue: u64, number: u64) -> Result<(), Fault>
-    requires { HaveQueue told.old queue }
+pub fn prepare(told: &mut Vec<Told>, limit: u64, queue: u64, number: u64) -> Result<(), Fault>
+    requires queue { HaveQueue told.old queue }
+    requires limit { limit ≤ most_told }
     ensures fault { MatchOption (tell_fault limit (lists_of told.old) queue number)
         (IsOkUnless result Fault.OutOfMemory) (λ fault. result ≡ Err fault) }
     ensures room { OnOk result (HasRoomToTell told.new queue) }
     ensures same { lists_of told.new ≡ lists_of told.old }
+    ensures forgotten { forgotten_in told.new ≡ forgotten_in told.old }
 {
-    let list = &mut told[queue as usize];
-    let next = list.len() as u64;
+    let next = told[queue as usize].next();
     if next >= limit {
         return Err(Fault::QueueSpent);
     }
     if number != next {
         return Err(Fault::OutOfTurn { next });
     }
-    list.reserve(1)?;
+    told[queue as usize].reserve()?;
     Ok(())
 }
 
 /// Tells a queue an outcome, for which there is room.
-pub fn tell(told: &mut Told, queue: u64, outcome: Outcome)
+pub fn tell(told: &mut Vec<Told>, queue: u64, outcome: Outcome)
     requires queue { HaveQueue told.old queue }
     requires room { HasRoomToTell told.old queue }
-    ensures { lists_of told.new ≡ with_outcome (lists_of told.old) queue outcome }
+    ensures list { lists_of told.new ≡ with_outcome (lists_of told.old) queue outcome }
+    ensures forgotten { forgotten_in told.new ≡ forgotten_in told.old }
 {
-    told[queue as usize].push_reserved(outcome);
+    told[queue as usize].push(outcome);
 }

@@ -26,7 +26,9 @@ use std::marker::Model;
 
 mod buffers;
 mod entries;
+mod outcomes;
 mod past;
+mod trimming;
 
 pub use past::PastItem;
 
@@ -36,7 +38,7 @@ pub struct Vm {
     space: Space,
     journal: Journal,
     jobs: Jobs,
-    told: Told,
+    told: Vec<Told>,
 }
 
 impl Model for Vm {
@@ -54,7 +56,7 @@ impl Vm {
     ghost use Rattle.gv_journal.specs.Items.{next};
     ghost use Rattle.gv_journal.specs.History.{back};
     ghost use Rattle.gv_journal.specs.Binding.{IsRewound};
-    ghost use Rattle.gv_vm.specs.State.{new_vm, roomless, IsVm, HasOtherJobs};
+    ghost use Rattle.gv_vm.specs.State.{new_vm, roomless, told_limit, IsVm, HasOtherJobs};
     ghost use Rattle.gv_vm.specs.Jobs.{begin_fault, end_fault, places_in, IsBegun, IsEnded, IsBeginRefused};
 
     /// A machine of no mapping, no buffer, no entry and no job. `OutOfMemory` where the system refuses its first room.
@@ -117,14 +119,6 @@ impl Vm {
         ensures { result ≡ next self.now.journal }
     {
         self.journal.next()
-    }
-
-    /// What a queue was told, in the order of the requests' numbers.
-    pub fn told(&self, queue: u64) -> &[Outcome]
-        requires { queue < queues }
-        ensures { result.now ≡ told_to self.now.told queue }
-    {
-        self.told[queue as usize].as_slice()
     }
 
     /// Where an address, in bytes, leads, by the page table. None where no mapping holds its page, and past the end of the
@@ -214,14 +208,14 @@ impl Vm {
     ) -> Result<Outcome, NotTold>
         requires queue { queue < queues }
         requires reached { map (λ r. r.point) reached.now ≡ request.waits.items }
-        ensures fault { MatchOption (tell_fault self.old.space.limits.told self.old.told queue number)
+        ensures fault { MatchOption (tell_fault (told_limit self.old queue) self.old.told queue number)
             (IfErr result (λ n. n.fault ≡ Fault.OutOfMemory)) (λ fault. IsErrAnd result (λ n. n.fault ≡ fault)) }
         ensures request { IfErr result (λ n. n.request ≡ request) }
         ensures outcome { IfOk result
             (IsBoundAndTold self.old self.new queue number request (seen_by reached.now)) }
         ensures err { OnErr result (self.new ≡ self.old) }
     {
-        let limit = self.space.limits().told();
+        let limit = self.told_limit(queue);
         if let Err(fault) = prepare(&mut self.told, limit, queue, number) {
             return Err(NotTold { fault, request });
         }
@@ -258,7 +252,7 @@ impl Vm {
     ) -> Result<Outcome, NotTold>
         requires queue { queue < queues }
         requires lacking { Contains request.waits.items lacking.point }
-        ensures fault { MatchOption (tell_fault self.old.space.limits.told self.old.told queue number)
+        ensures fault { MatchOption (tell_fault (told_limit self.old queue) self.old.told queue number)
             (IfErr result (λ n. n.fault ≡ Fault.OutOfMemory)) (λ fault. IsErrAnd result (λ n. n.fault ≡ fault)) }
         ensures request { IfErr result (λ n. n.request ≡ request) }
         ensures outcome { IfOk result (λ outcome. outcome ≡ Outcome.NotReady lacking.point lacking.number) }
@@ -266,7 +260,7 @@ impl Vm {
             self.new ≡ record self.old { told = with_outcome self.old.told queue outcome }) }
         ensures err { OnErr result (self.new ≡ self.old) }
     {
-        let limit = self.space.limits().told();
+        let limit = self.told_limit(queue);
         if let Err(fault) = prepare(&mut self.told, limit, queue, number) {
             return Err(NotTold { fault, request });
         }

@@ -131,6 +131,8 @@ impl World {
             Event::Rewind => Ok(self.rewind()),
             Event::Withdraw { entry } => self.withdraw(alloc, entry),
             Event::Settle { to } => Ok(self.settle(to)),
+            Event::Forget { queue, to } => Ok(self.forget(queue, to)),
+            Event::Trim => Ok(self.trim()),
             Event::JobBegin { accesses } => self.job_begin(alloc, accesses),
             Event::JobEnd { job } => Ok(self.job_end(job)),
             Event::Translate { addr } => Ok(self.translate(addr)),

@@ -154,6 +154,17 @@ impl Chance {
             .saturating_sub(u64::from(self.random.is_one_in(12)))
     }
 
+    /// The number of an outcome of a queue that isn't forgotten, or one on either side of those.
+    fn outcome(&mut self, model: &Model, queue: u64) -> u64 {
+        let Some(told) = model.told.get(queue as usize) else {
+            return self.random.below(2);
+        };
+        let rest = told.rest().len() as u64;
+        told.forgotten
+            .saturating_add(self.random.below(rest.saturating_add(2)))
+            .saturating_sub(u64::from(self.random.is_one_in(12)))
+    }
+
     /// How many pages a buffer gets, now and then none.
     fn pages(&mut self) -> u64 {
         if self.random.is_one_in(12) { 0 } else { 7 }
@@ -210,9 +221,29 @@ impl Chance {
         Ok(event)
     }
 
+    /// Outcomes of a queue are to go, now and then of one that there is not.
+    fn forget(&mut self, model: &Model) -> Event {
+        let queue = if self.random.is_one_in(24) {
+            16
+        } else {
+            self.random.below(3)
+        };
+        let to = self.outcome(model, queue);
+        Event::Forget { queue, to }
+    }
+
+    /// Room is to be given back: of every second one, entries that are held are settled before.
+    fn trim(&mut self, model: &Model) -> Event {
+        let history = &model.ground.history;
+        if history.oldest().is_none() || self.random.is_one_in(2) {
+            return Event::Trim;
+        }
+        Event::Settle { to: history.next() }
+    }
+
     /// The next event that is no queue's.
     fn call(&mut self, alloc: Global, model: &Model) -> Result<Event, OutOfMemory> {
-        let event = match self.random.below(18) {
+        let event = match self.random.below(22) {
             0 => Event::Raise {
                 point: self.point(model),
             },
@@ -235,6 +266,8 @@ impl Chance {
             13 | 14 => Event::JobEnd {
                 job: self.job(model),
             },
+            15 | 16 => self.forget(model),
+            17 | 18 => self.trim(model),
             _ => Event::Translate {
                 addr: self.addr(model),
             },

@@ -15,6 +15,8 @@ mod events;
 #[cfg(test)]
 mod fixtures;
 #[cfg(test)]
+mod forgetting;
+#[cfg(test)]
 mod jobs;
 #[cfg(test)]
 mod limits;
@@ -28,5 +30,7 @@ mod rounds;
 mod rows;
 #[cfg(test)]
 mod tally;
+#[cfg(test)]
+mod trimming;
 #[cfg(test)]
 mod turns;

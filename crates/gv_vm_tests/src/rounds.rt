@@ -91,10 +91,10 @@ fn counts_buffers(alloc: Global, world: &World, model: &Model) -> Result<bool, O
 fn told_each_queue(world: &World, model: &Model) -> bool {
     for queue in 0..QUEUES as u64 {
         let wanted = match model.told.get(queue as usize) {
-            Some(told) => told.as_slice(),
-            None => &[],
+            Some(told) => (told.forgotten, told.rest()),
+            None => (0, [].as_slice()),
         };
-        if world.vm().told(queue) != wanted {
+        if (world.vm().told_from(queue), world.vm().told(queue)) != wanted {
             return false;
         }
     }
@@ -113,7 +113,7 @@ fn is_each_timeline(world: &World, model: &Model) -> bool {
 }
 
 /// Whether a world is what the definitions have.
-fn agrees(alloc: Global, world: &World, model: &Model) -> Result<bool, OutOfMemory> {
+pub fn agrees(alloc: Global, world: &World, model: &Model) -> Result<bool, OutOfMemory> {
     let is_listed = world
         .vm()
         .space()
@@ -129,7 +129,7 @@ fn agrees(alloc: Global, world: &World, model: &Model) -> Result<bool, OutOfMemo
 }
 
 /// Whether a reply is the one that was wanted. A new buffer has any free place of the table.
-fn is_wanted(model: &mut Model, wanted: &Reply, given: &Reply) -> bool {
+pub fn is_wanted(model: &mut Model, wanted: &Reply, given: &Reply) -> bool {
     match (wanted, given) {
         (Reply::Created { .. }, Reply::Created { id }) => model.ground.place_newest(id),
         _ => wanted == given,
@@ -245,6 +245,8 @@ fn expect_faults_of_calls(rt: &impl Abort, tally: &Tally) {
         Fault::WriteToReadOnly { access: 0 },
         Fault::Conflict { job: 0 },
         Fault::NoJob,
+        Fault::NoOutcome,
+        Fault::Held { by: 0 },
     ] {
         assert!(rt; tally.of_calls(fault) > 0, "{fault}");
     }
@@ -271,7 +273,7 @@ fn expect_faults_of_requests(rt: &impl Abort, tally: &Tally) {
 fn chance_agrees_with_the_definitions(rt: HostRuntime) -> Result<(), Fail> {
     let wide = Limits::new(3, 64, 40, 200).ok_or("wide")?;
     let narrow = Limits::new(2, 3, 12, 200).ok_or("narrow")?;
-    let short = Limits::new(3, 9, 3, 30).ok_or("short")?;
+    let short = Limits::new(3, 9, 3, 12).ok_or("short")?;
     let mut tally = Tally::new();
     for seed in 0..16u64 {
         play(&rt, &round_of(wide, seed, 800)?, &mut tally)?;

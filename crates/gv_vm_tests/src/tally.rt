@@ -3,13 +3,13 @@ use gv_types::Fault;
 use gv_vm::{Event, Outcome, Reply};
 
 /// How many kinds of events there are.
-const EVENTS: usize = 15;
+const EVENTS: usize = 17;
 
 /// How many kinds of replies there are, where what a request came to and what an address reaches are told apart.
-const REPLIES: usize = 21;
+const REPLIES: usize = 23;
 
 /// Faults have numbers below this.
-const FAULTS: usize = 34;
+const FAULTS: usize = 36;
 
 /// Counts by kind: of events, of replies, of the faults of calls, and of the faults of requests that were bound.
 #[derive(Clone, Copy)]
@@ -37,6 +37,8 @@ fn event_kind(event: &Event) -> usize {
         Event::JobBegin { .. } => 12,
         Event::JobEnd { .. } => 13,
         Event::Translate { .. } => 14,
+        Event::Forget { .. } => 15,
+        Event::Trim => 16,
     }
 }
 
@@ -59,6 +61,8 @@ fn reply_kind(reply: &Reply) -> usize {
         Reply::Ended { .. } => 17,
         Reply::Found { place } => 18 + usize::from(place.is_some()),
         Reply::Refused { .. } => 20,
+        Reply::Forgot { .. } => 21,
+        Reply::Trimmed => 22,
     }
 }
 

@@ -26,7 +26,8 @@ pub const FILE: &str = "The file to read in place of standard input";
 pub const SERVE_LINES: &str = "\
 Each line of 'vmbind run' is answered as there. Answers are written before the next read, so a program
 may wait for one before it sends the next line, over a pipe or at a terminal. It ends with its input:
-a script may be of any length, a line has at most 1048576 bytes, and a queue takes 65536 requests.
+a script may be of any length, a line has at most 1048576 bytes, and a queue holds 65536 outcomes and
+waiting requests.
 A bad line changes nothing and is answered
   bad line K: REASON
 and a line for which memory is refused
@@ -40,6 +41,13 @@ and the dialogue goes on. It has more lines than a script:
       hand, or 'idle'.
   giveup QUEUE
       Gives up the request in hand, whose last look lacked: 'notready NAME N have N', or 'idle'.
+  forget QUEUE TO
+      Lets the outcomes of a queue below the number TO go, so that it takes more requests: 'forgot N',
+      how many; 'refused NoOutcome' where there is no such number; or 'refused Held N', where item N of
+      the journal has one of them.
+  trim
+      Gives room back that nothing needs: 'trimmed', and nothing else changes; or 'refused Held N' where
+      the journal holds items, of which N is the oldest: 'settle' lets them go.
   show ENTRY
       Prints what a journal item did, a line an operation, as 'bind' reads it.
   past ADDR

@@ -10,9 +10,11 @@ const REPLIES: u64 = 8;
 /// Names that words of a reply are called like, too.
 const NAMES: [&str; 6] = ["b", "none", "ro", "live", "refused", "under"];
 
-const FAULTS: [&str; 4] = [
+const FAULTS: [&str; 6] = [
     "QueueFull",
     "NoEntry",
+    "NoOutcome",
+    "Held 3",
     "Conflict 7",
     "Touched 18446744073709551615",
 ];
@@ -40,11 +42,13 @@ pub fn changed_reply(alloc: Global, seed: u64) -> Result<Option<Said>, AllocErro
 impl Said {
     fn by_chance(alloc: Global, random: &mut Random) -> Result<Said, AllocError> {
         let mut text = String::new(alloc);
-        let word = match random.below(5) {
+        let word = match random.below(7) {
             0 => write_put(random, &mut text)?,
             1 => write_turn(random, &mut text)?,
             2 => write_give_up(random, &mut text)?,
-            3 => write_show(random, &mut text)?,
+            3 => write_forget(random, &mut text)?,
+            4 => write_trim(random, &mut text)?,
+            5 => write_show(random, &mut text)?,
             _ => write_past(random, &mut text)?,
         };
         Ok(Said { word, text })
@@ -90,6 +94,24 @@ fn write_give_up(random: &mut Random, out: &mut String) -> Result<&'static str, 
         write_wait(random, "notready", out)?;
     }
     Ok("giveup")
+}
+
+fn write_forget(random: &mut Random, out: &mut String) -> Result<&'static str, AllocError> {
+    if random.is_one_in(3) {
+        writeln!(out, "refused {}", one_of(random, &FAULTS))?;
+    } else {
+        writeln!(out, "forgot {}", number(random))?;
+    }
+    Ok("forget")
+}
+
+fn write_trim(random: &mut Random, out: &mut String) -> Result<&'static str, AllocError> {
+    if random.is_one_in(2) {
+        writeln!(out, "refused Held {}", number(random))?;
+    } else {
+        out.push_str("trimmed\n")?;
+    }
+    Ok("trim")
 }
 
 fn write_wait(random: &mut Random, word: &str, out: &mut String) -> Result<(), AllocError> {

@@ -5,10 +5,10 @@ use serde_json::Value;
 use std::fmt::Write;
 
 /// Words that stand alone.
-const ALONE: [&str; 2] = ["ok", "idle"];
+const ALONE: [&str; 3] = ["ok", "idle", "trimmed"];
 
 /// Words with a number.
-const COUNTED: [&str; 5] = ["accepted", "put", "rewound", "settled", "ended"];
+const COUNTED: [&str; 6] = ["accepted", "put", "rewound", "settled", "forgot", "ended"];
 
 /// Writes a reply of one line without its end, and gives how many members say it.
 pub fn write_lone(out: &mut String, value: &Value) -> Option<usize> {

@@ -10,7 +10,7 @@ pub const LINES: [&str; 20] = [
 ];
 
 /// The first words of the lines that stand in a dialogue alone.
-pub const SERVE_LINES: [&str; 5] = ["put", "turn", "giveup", "show", "past"];
+pub const SERVE_LINES: [&str; 7] = ["put", "turn", "giveup", "forget", "trim", "show", "past"];
 
 /// The first words of clauses.
 pub const CLAUSES: [&str; 7] = [

@@ -87,6 +87,8 @@ impl Shape {
             b"put" => return Some(Shape::Clauses),
             b"turn" => of_buffers("turn QUEUE"),
             b"giveup" => of_buffers("giveup QUEUE"),
+            b"forget" => of_buffers("forget QUEUE TO"),
+            b"trim" => of_buffers("trim"),
             b"show" => of_buffers("show ENTRY"),
             b"past" => of_buffers("past ADDR"),
             _ => return None,

@@ -66,6 +66,26 @@ impl World {
         }
     }
 
+    /// Outcomes of a queue are let go.
+    pub(super) fn forget(&mut self, queue: u64, to: u64) -> Reply
+        ensures { step self.old (Event.Forget queue to) result self.new }
+    {
+        match self.vm.forget(queue, to) {
+            Ok(count) => Reply::Forgot { count },
+            Err(fault) => Reply::Refused { fault },
+        }
+    }
+
+    /// Room that nothing needs is given back.
+    pub(super) fn trim(&mut self) -> Reply
+        ensures { step self.old Event.Trim result self.new }
+    {
+        match self.vm.trim() {
+            Ok(()) => Reply::Trimmed,
+            Err(fault) => Reply::Refused { fault },
+        }
+    }
+
     pub(super) fn job_begin(
         &mut self,
         alloc: Global,

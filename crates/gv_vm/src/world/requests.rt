@@ -2,6 +2,7 @@
 ghost use Rattle.std.specs.Prelude.{◌≡◌, ◌≢◌, ◌<◌, map, None, OnErr, IfErr, IfOk, reverse};
 ghost use Rattle.gv_vm.specs.World.{next_wait};
 ghost use Rattle.gv_vm.specs.Outcomes.{queues, told_to, tell_fault};
+ghost use Rattle.gv_vm.specs.State.{told_limit};
 ghost use Rattle.gv_vm.specs.Told.{IsBoundAndTold, seen_by};
 ghost use Rattle.gv_vm.specs.Step.{owed_in, owed_for};
 ghost use Rattle.gv_vm.specs.Turns.{IsToldLacking, IsPutReply};
@@ -30,7 +31,7 @@ impl World {
         if queue >= self.queues.len() as u64 || !request.fits(self.clock.count()) {
             return Ok(Reply::Idle);
         }
-        let limit = self.vm.limits().told();
+        let limit = self.vm.told_limit(queue);
         let put = self.queues[queue as usize].put(limit, self.depth, request);
         put_reply(put)
     }
@@ -42,7 +43,7 @@ impl World {
         if queue >= self.queues.len() as u64 {
             return Reply::Idle;
         }
-        let number = self.vm.told(queue).len() as u64;
+        let number = self.vm.told_next(queue);
         if self.queues[queue as usize].take(alloc) {
             Reply::Taken { number }
         } else {
@@ -87,7 +88,7 @@ impl World {
         let Some(hand) = place.ready() else {
             return Ok(Reply::Idle);
         };
-        let number = self.vm.told(queue).len() as u64;
+        let number = self.vm.told_next(queue);
         let Bound { outcome, owed } = match bind_hand(alloc, &mut self.vm, queue, number, hand) {
             Ok(bound) => bound,
             Err(hand) => {
@@ -110,7 +111,7 @@ impl World {
         let Some(hand) = place.lacking() else {
             return Ok(Reply::Idle);
         };
-        let number = self.vm.told(queue).len() as u64;
+        let number = self.vm.told_next(queue);
         match give_up_hand(&mut self.vm, queue, number, hand) {
             Ok(outcome) => Ok(Reply::Told { number, outcome }),
             Err(hand) => {
@@ -155,7 +156,7 @@ fn put_reply(put: Result<u64, NotTold>) -> Result<Reply, OutOfMemory>
 /// Carries a request in hand out. For want of memory it comes back.
 fn bind_hand(alloc: Global, vm: &mut Vm, queue: u64, number: u64, hand: Hand) -> Result<Bound, Hand>
     requires queue { queue < queues }
-    requires turn { tell_fault vm.old.space.limits.told vm.old.told queue number ≡ None }
+    requires turn { tell_fault (told_limit vm.old queue) vm.old.told queue number ≡ None }
     requires reached { next_wait hand ≡ None }
     ensures carried { IfOk result (λ b. IsBoundAndTold vm.old vm.new queue number hand.request (seen_by hand.reached) b.outcome) }
     ensures owed { IfOk result (λ b. reverse b.owed.items ≡ owed_for hand.request b.outcome) }
@@ -210,7 +211,7 @@ fn owed(alloc: Global, outcome: Outcome, signals: Vec<Point>) -> Vec<Point>
 /// Gives a request in hand up. For want of memory it comes back.
 fn give_up_hand(vm: &mut Vm, queue: u64, number: u64, hand: Hand) -> Result<Outcome, Hand>
     requires queue { queue < queues }
-    requires turn { tell_fault vm.old.space.limits.told vm.old.told queue number ≡ None }
+    requires turn { tell_fault (told_limit vm.old queue) vm.old.told queue number ≡ None }
     requires lacked { hand.lacked ≢ None }
     ensures told { IfOk result (IsToldLacking vm.old vm.new queue hand) }
     ensures hand { IfErr result (λ back. back ≡ hand) }

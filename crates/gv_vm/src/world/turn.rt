@@ -147,7 +147,7 @@ impl World {
         ensures { result ≡ next_number self.now queue }
     {
         if queue < QUEUES as u64 {
-            self.vm.told(queue).len() as u64
+            self.vm.told_next(queue)
         } else {
             0
         }

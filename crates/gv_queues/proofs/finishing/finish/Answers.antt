@@ -3,7 +3,6 @@ use Rattle.std.proofs.lemmas.Bool.{false≢true}
 use Rattle.std.proofs.lemmas.List.{get_or_read}
 use Rattle.gv_types.specs.declared.request.Request.{Request}
 use Rattle.gv_vm.specs.Outcomes.{told_to}
-use Rattle.gv_vm.specs.declared.outcome.Outcome.{Outcome}
 use Rattle.gv_queues.specs.declared.finishing.QueueEnd.{QueueEnd}
 use Rattle.gv_queues.specs.Ending.{AgreesAt, Agrees, IsEndOf, no_put, put_at}
 use Rattle.gv_queues.specs.Submitting.{PutEndState}
@@ -40,17 +39,17 @@ loop-worker-preserved c =
     let here : AgreesAt c.args.vm.now c.args.puts.now c.args.workers.items index = subst P (sym worker) (subst Q put (c.if-not-agrees.ensures.0 refl)) in
     let agree : Agrees c.args.vm.now c.index-puts-index.result c.in-Some.worker = c.if-not-agrees.ensures.0 refl in
     let order : (end_at c.args.workers.items index).queue ≡ index = c.requires.order.1 index no_end (search rules) in
-    let end : QueueEnd = record { put = c.put.result; told = length c.told.result.now; left = c.into_left.result } in
+    let end : QueueEnd = record { put = c.put.result; told = c.told_next.result; left = c.into_left.result } in
     let worker_queue : c.in-Some.worker.queue ≡ index = ap (λ (w : WorkerEndState). w.queue) (sym worker) ∙ order in
     let kept : length c.in-Some.worker.taken ≡ length c.in-Some.worker.gave + length c.in-Some.worker.left =
     subst (λ (w : WorkerEndState). length w.taken ≡ length w.gave + length w.left) c.worker.view_is (left_count _ _ _ c.worker.invariant.0) in
-    let each : c.put.result ≡ length c.told.result.now + length c.into_left.result.items =
-    let took = agree.took_all in let gave = ap (λ (l : List Outcome). length l) (agree.told ∙ ap (λ (q : ℕ). told_to c.args.vm.now.told q) worker_queue) in let told = ap (λ (l : List Outcome). length l) c.told.ensures in
+    let each : c.put.result ≡ c.told_next.result + length c.into_left.result.items =
+    let took = agree.took_all in let gave = agree.count ∙ ap (λ (q : ℕ). length (told_to c.args.vm.now.told q)) worker_queue in let told = c.told_next.ensures.number in
     let left = ap (λ (l : List Request). length l) c.into_left.ensures in let put_is = c.put.ensures in
     omega (arith, kept, took, gave, told, left, put_is) in
     let end_is : IsEndOf c.args.vm.now (put_at c.args.puts.now index) (end_at c.args.workers.items index) end = record {
       put = c.put.ensures ∙ ap (λ (p : PutEndState). length p.put) put;
-      told = ap (λ (l : List Outcome). length l) c.told.ensures ∙ ap (λ (q : ℕ). length (told_to c.args.vm.now.told q)) (sym order);
+      told = c.told_next.ensures.number ∙ ap (λ (q : ℕ). length (told_to c.args.vm.now.told q)) (sym order);
       left = c.into_left.ensures ∙ ap (λ (w : WorkerEndState). w.left) (sym worker);
       each = each;
     } in

@@ -3,7 +3,6 @@ use Rattle.std.specs.List.{flat_map, list_any}
 use Rattle.gv_vm.specs.Plans.{serving, IsCarriedOut}
 use Rattle.gv_text.specs.Said.{told, is_lacking}
 use Rattle.gv_text.proofs.AnswerLemmas.{then_ok}
-use Rattle.std.proofs.Common.{inr}
 use Rattle.gv_lines.specs.declared.line.Line.TheVariants as line
 use Rattle.gv_text.proofs.StoppedLemmas.{leaves_any, leaves_amid}
 use Rattle.gv_text.proofs.run.bind.Goals as goal

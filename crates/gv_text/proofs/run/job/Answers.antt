@@ -9,7 +9,6 @@ use Rattle.gv_text.specs.Reply.{refused_reply}
 use Rattle.gv_text.specs.Line.{Runs, DoesOnce}
 use Rattle.gv_text.proofs.AnswerLemmas.{then_ok}
 use Rattle.gv_text.proofs.LinesLemmas.{wrote_plain, wrote_as, too_many}
-use Rattle.gv_text.specs.Line.{plain}
 use Rattle.gv_text.proofs.StoppedLemmas.{on_err, then_on_err, loses_as}
 use Rattle.gv_text.proofs.run.job.Goals as goal
 

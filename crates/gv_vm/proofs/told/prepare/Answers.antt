@@ -1,18 +1,19 @@
-use Rattle.std.proofs.Common.{◌<◌, ◌∙◌, ap, arith, vec_len, vec_capacity}
-use Rattle.std.specs.Global.{Vec}
-use Rattle.gv_vm.specs.declared.outcome.Outcome.{Outcome}
-use Rattle.gv_vm.proofs.Lists.{same_lists, room_there}
+use Rattle.std.proofs.Common.{◌∙◌, ap}
+use Rattle.gv_vm.proofs.Lists.{same_lists, same_forgotten, list_of, gone_of}
 use Rattle.gv_vm.proofs.told.prepare.Goals as goal
 
 pub returns-in_err-reserve-clause-same : goal.returns-in_err-reserve-clause-same
 returns-in_err-reserve-clause-same c =
-    same_lists c.args.told.now.items c.args.queue c.reserve.new.self c.index_mut-list.result.now (c.in_err-reserve.ensures.items ∙ ap (λ (v : Vec Outcome). v.items) c.index_mut-list.ensures.value)
+    same_lists c.args.told.now.items c.args.queue c.reserve.new.self c.index_mut.result.now (c.in_err-reserve.ensures.list ∙ ap list_of c.index_mut.ensures.value)
 
-pub returns-clause-room : goal.returns-clause-room
-returns-clause-room c = λ d.
-    let room : vec_len c.reserve.new.self < vec_capacity c.reserve.new.self = omega (arith, c.in_ok-reserve.ensures.ok) in
-    room_there c.args.told.now.items c.args.queue c.reserve.new.self d c.requires room
+pub returns-in_err-reserve-clause-forgotten : goal.returns-in_err-reserve-clause-forgotten
+returns-in_err-reserve-clause-forgotten c =
+    same_forgotten c.args.told.now.items c.args.queue c.reserve.new.self c.index_mut.result.now (c.in_err-reserve.ensures.forgotten ∙ ap gone_of c.index_mut.ensures.value)
 
 pub returns-clause-same : goal.returns-clause-same
 returns-clause-same c =
-    same_lists c.args.told.now.items c.args.queue c.reserve.new.self c.index_mut-list.result.now (c.in_ok-reserve.ensures.items ∙ ap (λ (v : Vec Outcome). v.items) c.index_mut-list.ensures.value)
+    same_lists c.args.told.now.items c.args.queue c.reserve.new.self c.index_mut.result.now (c.in_ok-reserve.ensures.list ∙ ap list_of c.index_mut.ensures.value)
+
+pub returns-clause-forgotten : goal.returns-clause-forgotten
+returns-clause-forgotten c =
+    same_forgotten c.args.told.now.items c.args.queue c.reserve.new.self c.index_mut.result.now (c.in_ok-reserve.ensures.forgotten ∙ ap gone_of c.index_mut.ensures.value)

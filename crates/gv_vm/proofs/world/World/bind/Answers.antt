@@ -4,7 +4,6 @@ use Rattle.gv_vm.specs.World.{WorldState, QueueState, HandState, queue_at, with_
 use Rattle.gv_vm.specs.WorldInside.{world_of}
 use Rattle.gv_vm.specs.Queues.{AreQueues}
 use Rattle.gv_vm.specs.Told.{IsBoundAndTold, seen_by}
-use Rattle.gv_vm.specs.declared.outcome.Outcome.{Outcome}
 use Rattle.gv_vm.specs.Turns.{IsReadyToBind}
 use Rattle.gv_vm.specs.Step.{step, CanBind, owed_for}
 use Rattle.gv_vm.specs.declared.event.Event.TheVariants.{Bind}
@@ -50,7 +49,7 @@ invariant_of-self-2 c =
     ∙ ap (λ (q : QueueState). record q { hand = None; owed = reverse c.in-Ok.bound.owed.items }) read
     ∙ ap (λ (ps : List Point). record (queue_at w n) { hand = None; owed = ps }) c.in-Ok.ensures.owed in
     subst (λ (q : QueueState). AreQueues (with_queue (record w { vm = c.bind_hand.new.vm }) n q)) (sym new)
-    (bound_keeps w c.bind_hand.new.vm n (length c.told.result.now) hand c.in-Ok.bound.outcome c.self.invariant less is c.in-Ok.ensures.carried)
+    (bound_keeps w c.bind_hand.new.vm n c.told_next-number.result hand c.in-Ok.bound.outcome c.self.invariant less is c.in-Ok.ensures.carried)
 
 pub returns : goal.returns
 returns c =
@@ -64,8 +63,8 @@ returns c =
     c.owe.ensures ∙ ap (λ (q : QueueState). record q { owed = reverse c.in-Ok.bound.owed.items }) c.in-Some.ensures.gone
     ∙ ap (λ (q : QueueState). record q { hand = None; owed = reverse c.in-Ok.bound.owed.items }) read
     ∙ ap (λ (ps : List Point). record (queue_at w n) { hand = None; owed = ps }) c.in-Ok.ensures.owed in
-    let number : length c.told.result.now ≡ next_number w n = ap (λ (ls : List Outcome). length ls) c.told.ensures in
-    subst (λ (v : WorldState). step v (Bind n) (Told (length c.told.result.now) c.in-Ok.bound.outcome) (with_queue (record w { vm = c.bind_hand.new.vm }) n c.owe.new.self)) c.self.view_is
+    let number : c.told_next-number.result ≡ next_number w n = c.told_next-number.ensures.number in
+    subst (λ (v : WorldState). step v (Bind n) (Told c.told_next-number.result c.in-Ok.bound.outcome) (with_queue (record w { vm = c.bind_hand.new.vm }) n c.owe.new.self)) c.self.view_is
     (subst (λ (k : ℕ). step w (Bind n) (Told k c.in-Ok.bound.outcome) (with_queue (record w { vm = c.bind_hand.new.vm }) n c.owe.new.self)) (sym number)
     (bound w c.bind_hand.new.vm n hand c.in-Ok.bound.outcome c.owe.new.self less is c.in-Some.ensures.reached
     (subst (λ (k : ℕ). IsBoundAndTold w.vm c.bind_hand.new.vm n k hand.request (seen_by hand.reached) c.in-Ok.bound.outcome) number c.in-Ok.ensures.carried) new))

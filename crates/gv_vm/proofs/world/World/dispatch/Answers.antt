@@ -37,6 +37,9 @@ returns-in-Withdraw c = rw c.in-Withdraw.is c.withdraw.ensures
 pub returns-in-Settle : goal.returns-in-Settle
 returns-in-Settle c = rw c.in-Settle.is c.settle.ensures
 
+pub returns-in-Forget : goal.returns-in-Forget
+returns-in-Forget c = rw c.in-Forget.is c.forget.ensures
+
 pub returns-in-JobBegin : goal.returns-in-JobBegin
 returns-in-JobBegin c = rw c.in-JobBegin.is c.job_begin.ensures
 

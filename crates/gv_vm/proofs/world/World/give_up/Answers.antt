@@ -1,10 +1,9 @@
-use Rattle.std.proofs.Common.{◌≡◌, ◌<◌, ℕ, ◌∙◌, arith, ap, subst, sym, length, List, Some}
+use Rattle.std.proofs.Common.{◌≡◌, ◌<◌, ℕ, ◌∙◌, arith, ap, subst, sym, length, Some}
 use Rattle.gv_vm.specs.World.{WorldState, QueueState, HandState, queue_at, with_queue, next_number}
 use Rattle.gv_vm.specs.WorldInside.{world_of}
 use Rattle.gv_vm.specs.Queues.{AreQueues}
 use Rattle.gv_vm.specs.Turns.{IsLacking, without_hand}
 use Rattle.gv_vm.specs.Step.{step, CanGiveUp}
-use Rattle.gv_vm.specs.declared.outcome.Outcome.{Outcome}
 use Rattle.gv_vm.specs.declared.event.Event.TheVariants.{GiveUp}
 use Rattle.gv_vm.specs.declared.event.Reply.TheVariants.{Idle, Told}
 use Rattle.gv_vm.proofs.Stepping.{queue_read, same_world, not_given_up, may_give_up, given_up, given_up_keeps, came_back}
@@ -70,7 +69,7 @@ returns c =
     let hand : HandState = c.in-Some.hand in
     let is : (queue_at w n).hand ≡ Some hand = subst (λ (q : QueueState). q.hand ≡ Some hand) read c.in-Some.ensures.hand in
     let new : c.lacking.new.self ≡ without_hand (queue_at w n) = c.in-Some.ensures.gone ∙ ap (λ (q : QueueState). without_hand q) read in
-    let number : length c.told.result.now ≡ next_number w n = ap (λ (ls : List Outcome). length ls) c.told.ensures in
-    subst (λ (v : WorldState). step v (GiveUp n) (Told (length c.told.result.now) c.in-Ok.outcome) (with_queue (record w { vm = c.give_up_hand.new.vm }) n c.lacking.new.self)) c.self.view_is
+    let number : c.told_next-number.result ≡ next_number w n = c.told_next-number.ensures.number in
+    subst (λ (v : WorldState). step v (GiveUp n) (Told c.told_next-number.result c.in-Ok.outcome) (with_queue (record w { vm = c.give_up_hand.new.vm }) n c.lacking.new.self)) c.self.view_is
     (subst (λ (k : ℕ). step w (GiveUp n) (Told k c.in-Ok.outcome) (with_queue (record w { vm = c.give_up_hand.new.vm }) n c.lacking.new.self)) (sym number)
     (given_up w c.give_up_hand.new.vm n hand c.in-Ok.outcome c.lacking.new.self less is c.in-Ok.ensures.told new))

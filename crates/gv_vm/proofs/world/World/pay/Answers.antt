@@ -1,5 +1,6 @@
 use Rattle.std.proofs.Common.{◌≡◌, ◌<◌, ℕ, ◌∙◌, arith, ap, subst, sym, refl, length, List}
 use Rattle.std.proofs.lemmas.List.{length-set}
+use Rattle.gv_vm.specs.State.{told_limit}
 use Rattle.gv_vm.specs.World.{WorldState, QueueState, queue_at, with_queue, next_number}
 use Rattle.gv_vm.specs.WorldInside.{world_of}
 use Rattle.gv_vm.specs.Queues.{IsQueueOf}
@@ -31,8 +32,8 @@ invariant_of-self c =
     let count : length c.raise-now.new.self ≡ length w.numbers = ap (λ (ns : List ℕ). length ns) c.raise-now.ensures.numbers ∙ length-set w.numbers _ _ in
     let new : WorldState = with_queue (record w { numbers = c.raise-now.new.self }) n c.pay.new.self in
     let here : IsOf w n c.pay.new.self = IsQueueOf-paid _ _ _ (queue_at w n) c.pay.new.self c.in-Some.point first (c.self.invariant.each n less) in
-    AreQueues-one w new n c.pay.new.self c.self.invariant less refl (record { limit = refl; timelines = count; told = refl }) (λ m other. refl)
-    (subst (λ (k : ℕ). IsQueueOf w.vm.space.limits.told k (next_number w n) c.pay.new.self) (sym count) here)
+    AreQueues-one w new n c.pay.new.self c.self.invariant less refl (record { limit = refl; forgotten = refl; timelines = count; told = refl }) (λ m other. refl)
+    (subst (λ (k : ℕ). IsQueueOf (told_limit w.vm n) k (next_number w n) c.pay.new.self) (sym count) here)
 
 pub returns-in-Some : goal.returns-in-Some
 returns-in-Some c =

@@ -11,4 +11,4 @@ invariant_of-self c =
     let w : WorldState = world_of c.self.inside in
     vm_keeps w c.rewind.new.self c.self.invariant
     (limits-rewound w.vm.space c.rewind.new.self.space w.vm.journal c.rewind.new.self.journal c.rewind.result c.rewind.ensures.item (same_space c.rewind.new.self w.vm c.rewind.result c.rewind.ensures.err))
-    (ap (λ (v : VmState). v.told) c.rewind.ensures.rest)
+    (ap (λ (v : VmState). v.told) c.rewind.ensures.rest) (ap (λ (v : VmState). v.forgotten) c.rewind.ensures.rest)

@@ -1,4 +1,4 @@
-use Rattle.std.proofs.Common.{◌≡◌, ◌<◌, ◌∙◌, arith, ap, subst, sym, length, List}
+use Rattle.std.proofs.Common.{◌≡◌, ◌<◌, ℕ, ◌∙◌, arith, ap, subst, sym, length}
 use Rattle.gv_vm.specs.World.{WorldState, QueueState, queue_at, with_queue, next_number}
 use Rattle.gv_vm.specs.WorldInside.{world_of}
 use Rattle.gv_vm.specs.Queues.{AreQueues}
@@ -7,7 +7,6 @@ use Rattle.gv_vm.specs.Turns.{TookFront, MayTake}
 use Rattle.gv_vm.specs.declared.event.Event.TheVariants.{Take}
 use Rattle.gv_vm.specs.declared.event.Reply.{Reply}
 use Rattle.gv_vm.specs.declared.event.Reply.TheVariants.{Taken}
-use Rattle.gv_vm.specs.declared.outcome.Outcome.{Outcome}
 use Rattle.gv_vm.proofs.Worlds.{AreQueues-with_queue}
 use Rattle.gv_vm.proofs.Stepping.{queue_read, same_world, took, not_taken}
 use Rattle.gv_vm.proofs.Turning.{IsQueueOf-took}
@@ -37,7 +36,7 @@ returns c =
     (elim c.if-take.branch [
       | then-take x ↦
           let front : TookFront (queue_at w c.args.queue) c.take.new.self = subst (λ (q : QueueState). TookFront q c.take.new.self) read (c.take.ensures.took x.if-take.true) in
-          let number : c.if-take.result ≡ Taken (next_number w c.args.queue) = x.result-is ∙ ap (λ (ls : List Outcome). Taken (length ls)) c.told.ensures in
+          let number : c.if-take.result ≡ Taken (next_number w c.args.queue) = x.result-is ∙ ap (λ (k : ℕ). Taken k) c.told_next-number.ensures.number in
           subst (λ (r : Reply). step w (Take c.args.queue) r (with_queue w c.args.queue c.take.new.self)) (sym number)
           (took w c.args.queue c.take.new.self less front)
       | else-take x ↦

@@ -11,4 +11,4 @@ invariant_of-self c =
     let w : WorldState = world_of c.self.inside in
     vm_keeps w c.withdraw.new.self c.self.invariant
     (limits-withdrawn w.vm.space c.withdraw.new.self.space w.vm.journal c.withdraw.new.self.journal c.args.entry c.withdraw.result c.withdraw.ensures.withdrawn (same_space c.withdraw.new.self w.vm c.withdraw.result c.withdraw.ensures.err))
-    (ap (λ (v : VmState). v.told) c.withdraw.ensures.rest)
+    (ap (λ (v : VmState). v.told) c.withdraw.ensures.rest) (ap (λ (v : VmState). v.forgotten) c.withdraw.ensures.rest)
