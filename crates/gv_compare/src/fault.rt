@@ -19,8 +19,29 @@ pub enum CompareFault {
     /// The line's mapping begins before the one before it ends. In a `gpuvas`, whose rows may come in any order, the one
     /// before it is that of the next lower address.
     Overlapping { list: Which, line: u64 },
+    /// The list is of several address spaces, and none is named, or more than one by this name.
+    ManySpaces { list: Which },
+    /// No address space of the list has this name.
+    NoSpace { list: Which },
     /// The system refused to give memory.
     OutOfMemory,
+}
+
+impl CompareFault {
+    /// The same of a text before which so many lines stand.
+    pub fn behind(self, lines: u64) -> CompareFault {
+        match self {
+            CompareFault::NoMapping { list, line } => CompareFault::NoMapping {
+                list,
+                line: line.saturating_add(lines),
+            },
+            CompareFault::Overlapping { list, line } => CompareFault::Overlapping {
+                list,
+                line: line.saturating_add(lines),
+            },
+            other => other,
+        }
+    }
 }
 
 impl fmt::Display for Which {
@@ -41,6 +62,10 @@ impl fmt::Display for CompareFault {
             CompareFault::Overlapping { list, line } => {
                 write!(f, "line {line} of {list} overlaps the mapping before it")
             }
+            CompareFault::ManySpaces { list } => {
+                write!(f, "{list} has more than one address space")
+            }
+            CompareFault::NoSpace { list } => write!(f, "{list} has no such address space"),
             CompareFault::OutOfMemory => f.write_str("out of memory"),
         }
     }

@@ -4,10 +4,11 @@
 mod fault;
 mod listing;
 mod objects;
+mod part;
 mod report;
 mod row;
 mod walk;
 
 pub use fault::{CompareFault, Which};
-pub use report::compare;
+pub use report::{compare, compare_of};
 pub use walk::{Difference, Walk};

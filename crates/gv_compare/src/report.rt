@@ -3,6 +3,7 @@
 use crate::fault::{CompareFault, Which};
 use crate::listing::{Kind, Listing};
 use crate::objects::Objects;
+use crate::part::Part;
 use crate::walk::{Difference, Walk};
 use gv_lines::write_hex;
 use gv_types::{Backing, BufferId, Entry, Flags, Mapping, PAGE_BYTES};
@@ -18,15 +19,29 @@ use std::fmt::Write;
 /// compared by the names, or the kernel's addresses, of their buffers. Between a `map` and a `gpuvas` names can't agree: two
 /// buffers are taken for one another at the first page that both lists map to buffers that weren't taken for any, so that
 /// other names are no difference. There, and between two `gpuvas`, nothing is said of flags.
+///
+/// A `gpuvas` is of one address space: of several with rows none is taken.
 pub fn compare(
     alloc: Global,
     first: &[u8],
     second: &[u8],
     out: &mut String,
 ) -> Result<u64, CompareFault> {
+    compare_of(alloc, first, second, None, out)
+}
+
+/// The same, of the address space of this name in each `gpuvas` that names its spaces: by what stands in parentheses in the
+/// head, or the head's number, counted from 1.
+pub fn compare_of(
+    alloc: Global,
+    first: &[u8],
+    second: &[u8],
+    space: Option<&str>,
+    out: &mut String,
+) -> Result<u64, CompareFault> {
     let mut objects = Objects::new(alloc);
-    let left = Listing::read(alloc, &mut objects, Which::First, first)?;
-    let right = Listing::read(alloc, &mut objects, Which::Second, second)?;
+    let left = read_part(alloc, &mut objects, Which::First, first, space)?;
+    let right = read_part(alloc, &mut objects, Which::Second, second, space)?;
     let kinds = (left.kind, right.kind);
     let mut pair = Pair {
         left: left.mappings,
@@ -43,6 +58,18 @@ pub fn compare(
         right: kinds.1,
     };
     report.write_all(out, Walk::new(&pair.left, &pair.right))
+}
+
+/// The list of one address space of a text.
+fn read_part(
+    alloc: Global,
+    objects: &mut Objects,
+    list: Which,
+    text: &[u8],
+    space: Option<&str>,
+) -> Result<Listing, CompareFault> {
+    let part = Part::of(text, list, space)?;
+    Listing::read(alloc, objects, list, part.text).map_err(|fault| fault.behind(part.lines))
 }
 
 /// The mappings of both lists.

@@ -61,7 +61,9 @@ fn outcome(
         (Err(left), Err(right)) if left == right => match left {
             CompareFault::NoMapping { .. } => Some("n"),
             CompareFault::Overlapping { .. } => Some("o"),
-            CompareFault::OutOfMemory => None,
+            CompareFault::ManySpaces { .. }
+            | CompareFault::NoSpace { .. }
+            | CompareFault::OutOfMemory => None,
         },
         _ => None,
     }
