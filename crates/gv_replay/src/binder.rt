@@ -4,7 +4,7 @@ use crate::fault::ReplayFault;
 use crate::replaying::{Freed, Replay};
 use crate::row::{Act, Cause, Moment};
 use crate::tally::Place;
-use crate::vma_line::{Vma, VmaEvent, VmaLine};
+use crate::vma_line::{Vma, VmaEvent};
 use crate::watcher::Watcher;
 use gv_types::{BufferId, Flags, Op, PAGE_BYTES, SPACE_PAGES};
 use std::alloc::Global;
@@ -54,31 +54,20 @@ impl Bound {
     }
 }
 
-/// The address space whose events are carried out, once one is known, and the VMAs that are bound in it, by their pointers.
+/// The VMAs that are bound in an address space, by their pointers.
 #[derive(Drop)]
 pub struct Binder {
-    space: Option<u64>,
     bound: BTreeMap<u64, Bound>,
 }
 
 impl Binder {
     pub fn new(alloc: Global) -> Binder {
         Binder {
-            space: None,
             bound: BTreeMap::new(alloc),
         }
     }
 
-    /// Whether an event is of the address space that is taken: the first one in which this process or thread has a VMA. Its
-    /// events count whoever they are of, since workers of the kernel free it.
-    pub fn takes(&mut self, line: &VmaLine, pid: Option<u64>) -> bool {
-        if self.space.is_none() && line.head.is_of(pid) && line.event.is_of_vma() {
-            self.space = Some(line.space);
-        }
-        self.space == Some(line.space)
-    }
-
-    /// Carries out an event of that address space.
+    /// Carries out an event of the address space.
     pub fn take<V: Watcher>(
         &mut self,
         alloc: Global,

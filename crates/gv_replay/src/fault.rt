@@ -9,6 +9,10 @@ use std::alloc::{AllocError, AllocFailed};
 pub enum ReplayFault {
     /// No line is of the format.
     NoLine,
+    /// No event is of the address space that is to be taken.
+    NoSpace,
+    /// One address space is to be taken, and there are several.
+    ManySpaces,
     ReadFault,
     WriteFault,
     OutOfMemory,

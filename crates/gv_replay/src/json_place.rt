@@ -2,9 +2,10 @@
 
 use crate::row::{Act, Moment};
 use crate::tally::Place;
-use crate::text::{byte_of, write_buffer, write_op, write_time};
+use crate::text::{write_buffer, write_op, write_time};
 use gv_json::Json;
-use gv_types::{Backing, BufferId, Entry, Fault, Op};
+use gv_types::{BufferId, Fault, Op};
+use gv_vm::{Place as Reached, Target};
 use std::alloc::{AllocError, Global};
 
 /// An object that is being written, and room for a text.
@@ -76,18 +77,18 @@ impl JsonWriter {
     }
 
     /// What an address reaches, in bytes of its buffer: an object, or null.
-    pub fn entry(&mut self, key: &str, entry: Option<Entry>, addr: u64) -> Result<(), AllocError> {
+    pub fn reached(&mut self, key: &str, reached: Option<Reached>) -> Result<(), AllocError> {
         self.json.key(key)?;
-        let Some(Entry { backing, flags }) = entry else {
+        let Some(Reached { target, flags }) = reached else {
             return self.json.null();
         };
         self.json.open_object()?;
-        match backing {
-            Backing::Buffer { id, page } => {
+        match target {
+            Target::Buffer { id, byte } => {
                 self.buffer(&id)?;
-                self.json.address("offset", byte_of(page, addr))?;
+                self.json.address("offset", byte)?;
             }
-            Backing::Zero => self.json.flag("zero", true)?,
+            Target::Zero => self.json.flag("zero", true)?,
         }
         self.json.flag("ro", flags.read_only)?;
         self.json.close_object()

@@ -4,19 +4,71 @@ use crate::alive::Alive;
 use crate::json_place::JsonWriter;
 use crate::outcome::Outcome;
 use crate::past::{Before, Past};
+use crate::spaces::SpaceOutcome;
 use crate::tally::{Finding, Tally};
 use std::alloc::{AllocError, Global};
 
-/// Writes what a replay came to: one object, on a line of its own.
-pub fn write_json(alloc: Global, out: &mut String, outcome: &Outcome) -> Result<(), AllocError> {
+/// Writes what each address space of a log came to that has something to tell, and the names of the others: one object, on a line of
+/// its own. One space alone has no name.
+pub fn write_json(
+    alloc: Global,
+    out: &mut String,
+    spaces: &[SpaceOutcome],
+) -> Result<(), AllocError> {
     let mut writer = JsonWriter::new(alloc)?;
-    write_tally(&mut writer, &outcome.tally)?;
-    write_alive(&mut writer, &outcome.alive)?;
-    write_pasts(&mut writer, &outcome.pasts)?;
+    match spaces {
+        [one] => write_outcome(&mut writer, &one.outcome)?,
+        several => {
+            write_spaces(&mut writer, several)?;
+            write_others(&mut writer, several)?;
+        }
+    }
+    writer.finish(out)
+}
+
+/// The list of the spaces that have something to tell.
+fn write_spaces(writer: &mut JsonWriter, spaces: &[SpaceOutcome]) -> Result<(), AllocError> {
+    writer.json.key("spaces")?;
+    writer.json.open_list()?;
+    for space in spaces {
+        if space.outcome.has_news() {
+            write_space(writer, space)?;
+        }
+    }
+    writer.json.close_list()
+}
+
+/// What a space came to, behind its name.
+fn write_space(writer: &mut JsonWriter, space: &SpaceOutcome) -> Result<(), AllocError> {
+    writer.json.open_object()?;
+    writer.json.address("space", space.number)?;
+    write_outcome(writer, &space.outcome)?;
+    writer.json.close_object()
+}
+
+/// The list of the spaces that have nothing to tell.
+fn write_others(writer: &mut JsonWriter, spaces: &[SpaceOutcome]) -> Result<(), AllocError> {
+    writer.json.key("nothing_found")?;
+    writer.json.open_list()?;
+    for space in spaces {
+        if !space.outcome.has_news() {
+            writer.json.open_object()?;
+            writer.json.address("space", space.number)?;
+            writer.json.close_object()?;
+        }
+    }
+    writer.json.close_list()
+}
+
+/// The members of an outcome.
+fn write_outcome(writer: &mut JsonWriter, outcome: &Outcome) -> Result<(), AllocError> {
+    write_tally(writer, &outcome.tally)?;
+    write_alive(writer, &outcome.alive)?;
+    write_pasts(writer, &outcome.pasts)?;
     if outcome.first > 0 {
         writer.json.number("first", outcome.first)?;
     }
-    writer.finish(out)
+    Ok(())
 }
 
 /// The members of what was counted.
@@ -78,19 +130,19 @@ fn write_pasts(writer: &mut JsonWriter, pasts: &[Past]) -> Result<(), AllocError
 fn write_past(writer: &mut JsonWriter, past: &Past) -> Result<(), AllocError> {
     writer.json.open_object()?;
     writer.json.address("addr", past.addr)?;
-    writer.entry("place", past.now, past.addr)?;
+    writer.reached("place", past.now)?;
     writer.json.key("before")?;
     writer.json.open_list()?;
     for before in &past.before {
-        write_before(writer, before, past.addr)?;
+        write_before(writer, before)?;
     }
     writer.json.close_list()?;
     writer.json.close_object()
 }
 
-fn write_before(writer: &mut JsonWriter, before: &Before, addr: u64) -> Result<(), AllocError> {
+fn write_before(writer: &mut JsonWriter, before: &Before) -> Result<(), AllocError> {
     writer.json.open_object()?;
     writer.act(&before.act)?;
-    writer.entry("place", before.entry, addr)?;
+    writer.reached("place", before.reached)?;
     writer.json.close_object()
 }

@@ -1,8 +1,8 @@
 //! What a replay came to.
 
 use crate::alive::Alive;
+use crate::left::Left;
 use crate::past::{Past, pasts_of};
-use crate::replaying::Left;
 use crate::tally::Tally;
 use crate::terms::Terms;
 use std::alloc::{AllocError, Global};
@@ -40,6 +40,17 @@ impl Outcome {
             pasts,
             first,
         })
+    }
+}
+
+impl Outcome {
+    /// Whether there is something to tell: a finding, or an address that is asked and reaches something, or did.
+    pub fn has_news(&self) -> bool {
+        self.tally.has_finding()
+            || self
+                .pasts
+                .iter()
+                .any(|past| past.now.is_some() || !past.before.is_empty())
     }
 }
 

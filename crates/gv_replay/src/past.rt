@@ -2,7 +2,8 @@
 
 use crate::machine::Machine;
 use crate::row::Act;
-use gv_types::{Entry, Op, PAGE_BYTES};
+use gv_types::Op;
+use gv_vm::Place as Reached;
 use std::alloc::{AllocError, Global};
 use std::collections::VecDeque;
 
@@ -10,23 +11,23 @@ use std::collections::VecDeque;
 #[derive(Clone, Copy)]
 pub struct Before {
     pub act: Act,
-    pub entry: Option<Entry>,
+    pub reached: Option<Reached>,
 }
 
 /// An address: what it reaches, and what it reached before each entry that covers it, the newest first.
 #[derive(Drop)]
 pub struct Past {
     pub addr: u64,
-    pub now: Option<Entry>,
+    pub now: Option<Reached>,
     pub before: Vec<Before>,
 }
 
 impl Past {
     /// An entry covers the address, before which it reached this.
-    fn add(&mut self, act: &Act, entry: Option<Entry>) -> Result<(), AllocError> {
+    fn add(&mut self, act: &Act, reached: Option<Reached>) -> Result<(), AllocError> {
         // The borrow checker proves this only where the function names the types inside the act.
         let _op = Op::Unmap { addr: 0, len: 0 };
-        self.before.push(Before { act: *act, entry })?;
+        self.before.push(Before { act: *act, reached })?;
         Ok(())
     }
 }
@@ -53,30 +54,24 @@ fn past_of(
     acts: &VecDeque<Act>,
     addr: u64,
 ) -> Result<Past, AllocError> {
-    let page = addr / PAGE_BYTES;
     let mut past = Past {
         addr,
-        now: machine.space().walk(page),
+        now: machine.reached(addr),
         before: Vec::new(alloc),
     };
-    let mut newer: Option<usize> = None;
-    for index in (0..acts.len()).rev() {
-        let number = machine.first().saturating_add(index as u64);
-        let Some(said) = machine.said_of(number, page) else {
-            continue;
-        };
-        if let Some(act) = act_at(acts, newer) {
-            past.add(act, said)?;
+    let mut newer: Option<&Act> = None;
+    let items = match machine.past(alloc, addr) {
+        Ok(items) => items,
+        Err(_) => return Err(AllocError),
+    };
+    for item in &items {
+        if let Some(act) = newer {
+            past.add(act, item.place)?;
         }
-        newer = Some(index);
+        newer = acts.get(item.entry.saturating_sub(machine.first()) as usize);
     }
-    if let Some(act) = act_at(acts, newer) {
-        past.add(act, machine.base_at(page))?;
+    if let Some(act) = newer {
+        past.add(act, machine.base_at(addr))?;
     }
     Ok(past)
-}
-
-/// The act at an index, if there is one.
-fn act_at(acts: &VecDeque<Act>, index: Option<usize>) -> Option<&Act> {
-    acts.get(index?)
 }

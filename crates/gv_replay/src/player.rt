@@ -2,15 +2,17 @@
 
 use crate::amdgpu_line::AmdgpuLine;
 use crate::binder::Binder;
+use crate::chosen::Chosen;
 use crate::fault::ReplayFault;
 use crate::gpuvas_line::GpuvasLine;
+use crate::left::Left;
 use crate::line_reader::{Found, LineReader};
 use crate::mapper::{Mapper, Part};
 use crate::radv::Radv;
 use crate::radv_line::RadvLine;
-use crate::replaying::{Left, Replay};
+use crate::replaying::Replay;
 use crate::row::Moment;
-use crate::terms::{Format, Terms};
+use crate::terms::{Form, Format, Terms};
 use crate::vma_line::{VmaDriver, VmaLine};
 use crate::watcher::Watcher;
 use gv_text::Source;
@@ -22,11 +24,13 @@ struct Player {
     replay: Replay,
     radv: Radv,
     mapper: Mapper,
+    chosen: Chosen,
     binder: Binder,
     heads: u64,
 }
 
-/// Carries out all lines of a log. `NoLine` where none is of the format.
+/// Carries out all lines of a log, of one address space. `NoLine` where none is of the format, `NoSpace` where none is of the
+/// space that is asked, `ManySpaces` where the mappings of one are asked and there are several.
 pub fn play<R: Source, V: Watcher>(
     alloc: Global,
     reader: &mut R,
@@ -34,10 +38,12 @@ pub fn play<R: Source, V: Watcher>(
     watcher: &mut V,
 ) -> Result<Left, ReplayFault> {
     let mut lines = LineReader::new(alloc)?;
+    let chosen = Chosen::new(terms)?;
     let mut player = Player {
         replay: Replay::new(alloc, terms.all)?,
         radv: Radv::new(alloc),
         mapper: Mapper::new(alloc),
+        chosen,
         binder: Binder::new(alloc),
         heads: 0,
     };
@@ -46,25 +52,25 @@ pub fn play<R: Source, V: Watcher>(
         replay,
         radv: _,
         mapper: _,
+        chosen,
         binder: _,
         heads: _,
     } = player;
     let left = replay.end();
     match played {
-        Ok(()) if left.tally.lines > 0 => Ok(left),
-        Ok(()) => Err(closed(left, ReplayFault::NoLine)),
+        Ok(()) if left.tally.lines == 0 => Err(closed(left, ReplayFault::NoLine)),
+        Ok(()) if chosen.is_missing() => Err(closed(left, ReplayFault::NoSpace)),
+        Ok(()) if chosen.has_others() && terms.form == Form::Mappings => {
+            Err(closed(left, ReplayFault::ManySpaces))
+        }
+        Ok(()) => Ok(left),
         Err(fault) => Err(closed(left, fault)),
     }
 }
 
 /// Closes what a replay left, and answers the fault.
 fn closed(left: Left, fault: ReplayFault) -> ReplayFault {
-    let Left {
-        machine,
-        acts: _,
-        tally: _,
-    } = left;
-    machine.close();
+    left.close();
     fault
 }
 
@@ -150,6 +156,9 @@ impl Player {
         if !line.head.is_of(terms.pid) {
             return Ok(false);
         }
+        if let Some(process) = line.head.process {
+            self.chosen.meet(process);
+        }
         let moment = Moment {
             line: number,
             time: line.head.time,
@@ -171,7 +180,7 @@ impl Player {
             return Ok(false);
         };
         self.replay.tally.count_line();
-        if !self.binder.takes(&line, terms.pid) {
+        if !self.chosen.takes(&line, terms.pid) {
             return Ok(false);
         }
         let moment = Moment {
@@ -183,7 +192,7 @@ impl Player {
         Ok(true)
     }
 
-    /// A row of the first address space; those of others are passed over.
+    /// A row of the address space that is taken; those of others are passed over.
     fn take_row<V: Watcher>(
         &mut self,
         alloc: Global,
@@ -203,9 +212,9 @@ impl Player {
         } = line
         else {
             self.heads = self.heads.saturating_add(1);
-            return Ok(self.heads == 1);
+            return Ok(self.chosen.takes_head(self.heads));
         };
-        if self.heads > 1 {
+        if !self.chosen.takes_rows(self.heads.max(1)) {
             return Ok(false);
         }
         let moment = Moment {

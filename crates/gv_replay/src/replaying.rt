@@ -1,6 +1,7 @@
 //! A log's operations, carried out one after another.
 
 use crate::fault::ReplayFault;
+use crate::left::Left;
 use crate::machine::Machine;
 use crate::row::{Act, Moment};
 use crate::tally::{Place, Tally};
@@ -14,14 +15,12 @@ use std::alloc::Global;
 use std::collections::VecDeque;
 
 mod freeing;
+mod room;
 
 pub use freeing::Freed;
 
 /// So many ranges of a buffer may be known beside twice as many as it has mappings.
 const SLACK: u64 = 64;
-
-/// At each line at most so many buffers that were freed are tried.
-const TRIES: usize = 4;
 
 /// The address space and its journal, what is known of each entry, and what was counted. The journal holds the newest entries, as
 /// many as it may; older ones are settled, so that buffers that were freed can go. It has to be closed: it isn't `Drop`.
@@ -30,13 +29,6 @@ pub struct Replay {
     acts: VecDeque<Act>,
     freed: FreedBuffers,
     whereabouts: Whereabouts,
-    pub tally: Tally,
-}
-
-/// What a replay leaves: what the held entries were, and what was counted.
-pub struct Left {
-    pub machine: Machine,
-    pub acts: VecDeque<Act>,
     pub tally: Tally,
 }
 
@@ -170,10 +162,7 @@ impl Replay {
         ops: Vec<Op>,
         watcher: &mut V,
     ) -> Result<bool, ReplayFault> {
-        if self.machine.is_full() {
-            self.settle_one(watcher)?;
-            self.destroy_some(watcher)?;
-        }
+        self.make_room(watcher)?;
         match refusal(self.machine.bind(alloc, ops))? {
             Ok(_) => {
                 self.note_bound(act)?;
@@ -228,55 +217,6 @@ impl Replay {
 
     fn note_refused(&mut self, act: &Act, fault: Fault) -> Result<(), ReplayFault> {
         self.tally.refused.add(Place::Refused { act: *act, fault })
-    }
-
-    /// Lets the oldest entry go.
-    fn settle_one<V: Watcher>(&mut self, watcher: &mut V) -> Result<(), ReplayFault> {
-        if self.machine.settle() {
-            let _oldest = self.acts.pop_front();
-            watcher.settled(self.machine.first())?;
-        }
-        Ok(())
-    }
-
-    /// Tries to destroy a few of the buffers that were freed and that no entry keeps, the oldest first. One that a mapping
-    /// still has waits on.
-    fn destroy_some<V: Watcher>(&mut self, watcher: &mut V) -> Result<(), ReplayFault> {
-        for _tries in 0..TRIES {
-            let Some(id) = self.freed.take_due(self.machine.first()) else {
-                return Ok(());
-            };
-            self.destroy(id, watcher)?;
-        }
-        Ok(())
-    }
-
-    /// Destroys a buffer, or lets it wait on.
-    fn destroy<V: Watcher>(&mut self, id: BufferId, watcher: &mut V) -> Result<(), ReplayFault> {
-        if self.is_destroyed(&id) {
-            self.whereabouts.forget(&id);
-            watcher.destroyed(number_of(&id))
-        } else {
-            self.give_up(id)
-        }
-    }
-
-    fn is_destroyed(&mut self, id: &BufferId) -> bool {
-        self.machine.destroy(*id).is_ok()
-    }
-
-    /// Where buffers were freed, settles all entries and destroys those that no mapping has.
-    fn give_way<V: Watcher>(&mut self, watcher: &mut V) -> Result<(), ReplayFault> {
-        if self.freed.len() == 0 {
-            return Ok(());
-        }
-        for _entry in 0..self.machine.held() {
-            self.settle_one(watcher)?;
-        }
-        for _round in 0..self.freed.len() / TRIES + 1 {
-            self.destroy_some(watcher)?;
-        }
-        Ok(())
     }
 
     /// Ends it: the machine has to be closed.

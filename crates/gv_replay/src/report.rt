@@ -3,8 +3,9 @@
 use crate::alive::Alive;
 use crate::outcome::Outcome;
 use crate::past::Past;
+use crate::spaces::SpaceOutcome;
 use crate::tally::{Finding, Tally};
-use crate::text::{write_act, write_entry, write_place};
+use crate::text::{write_act, write_place, write_reached};
 use std::alloc::AllocError;
 use std::fmt::Write;
 
@@ -15,8 +16,40 @@ const MIB: u64 = 1 << 20;
 
 const FEW: u64 = 10;
 
+/// Writes what each address space of a log came to that has something to tell, below its name, and last the names of the others. One
+/// space alone has no name.
+pub fn write_report(out: &mut String, spaces: &[SpaceOutcome]) -> Result<(), AllocError> {
+    if let [one] = spaces {
+        return write_outcome(out, &one.outcome);
+    }
+    for space in spaces {
+        if space.outcome.has_news() {
+            let number = space.number;
+            writeln!(out, "space 0x{number:x}:")?;
+            write_outcome(out, &space.outcome)?;
+        }
+    }
+    write_others(out, spaces)
+}
+
+/// Writes the names of the spaces that have nothing to tell, if there are any.
+fn write_others(out: &mut String, spaces: &[SpaceOutcome]) -> Result<(), AllocError> {
+    let mut before = "nothing found in space ";
+    for space in spaces {
+        if !space.outcome.has_news() {
+            let number = space.number;
+            write!(out, "{before}0x{number:x}")?;
+            before = ", ";
+        }
+    }
+    if before == ", " {
+        out.push_str("\n")?;
+    }
+    Ok(())
+}
+
 /// Writes what a replay came to.
-pub fn write_report(out: &mut String, outcome: &Outcome) -> Result<(), AllocError> {
+fn write_outcome(out: &mut String, outcome: &Outcome) -> Result<(), AllocError> {
     write_tally(out, &outcome.tally)?;
     write_alive(out, &outcome.alive)?;
     for past in &outcome.pasts {
@@ -86,13 +119,13 @@ fn write_size(out: &mut String, bytes: u64) -> Result<(), AllocError> {
 fn write_past(out: &mut String, past: &Past, first: u64) -> Result<(), AllocError> {
     let addr = past.addr;
     write!(out, "0x{addr:x}: ")?;
-    write_entry(out, past.now, addr)?;
+    write_reached(out, past.now)?;
     out.push_str("\n")?;
     for before in &past.before {
         out.push_str("  ")?;
         write_act(out, &before.act)?;
         out.push_str(": ")?;
-        write_entry(out, before.entry, addr)?;
+        write_reached(out, before.reached)?;
         out.push_str(" before\n")?;
     }
     if first > 0 {

@@ -2,36 +2,71 @@
 
 use crate::fault::ReplayFault;
 use crate::json_report::write_json;
+use crate::mappings::write_mappings;
 use crate::outcome::Outcome;
 use crate::player::play;
-use crate::replaying::Left;
 use crate::report::write_report;
 use crate::script::ScriptWriter;
+use crate::spaces::{SpaceOutcome, play_each};
 use crate::terms::{Form, Terms};
 use crate::watcher::{Nobody, Watcher};
 use gv_text::{Sink, Source, write_all};
 use std::alloc::Global;
 
-/// Replays a log and writes the report, as text or as JSON, or the script if the terms ask for that. `NoLine` where no line is of the format, and then
-/// nothing is written. A log of any length takes the memory of what is live in it and of its last 65,536 binds; the objects that it
-/// knows by pointers are all kept.
+/// Replays a log and writes what the terms ask for: the report, as text or as JSON, the script, or the mappings at the end. `NoLine` where no line is of
+/// the format, `NoSpace` where none is of the address space that is asked, and `ManySpaces` where the mappings of one are asked and
+/// there are several; then nothing is written. A log of any length takes the memory of what is live in it and of the last 65,536 binds of
+/// each address space; the objects that it knows by pointers are all kept.
 pub fn replay<R: Source, W: Sink>(
     alloc: Global,
     reader: &mut R,
     writer: &mut W,
     terms: &Terms<'_>,
 ) -> Result<(), ReplayFault> {
-    if terms.form == Form::Script {
-        return write_script(alloc, reader, writer, terms);
+    let mut report = String::new(alloc);
+    match terms.form {
+        Form::Script => return write_script(alloc, reader, writer, terms),
+        Form::Json => {
+            let spaces = outcomes_of(alloc, reader, terms)?;
+            write_json(alloc, &mut report, &spaces)?;
+        }
+        Form::Report => {
+            let spaces = outcomes_of(alloc, reader, terms)?;
+            write_report(&mut report, &spaces)?;
+        }
+        Form::Mappings => list_mappings(alloc, reader, &mut report, terms)?,
+    }
+    write_all(writer, report.as_bytes())?;
+    Ok(())
+}
+
+/// What each address space of a log came to, or the one that is asked.
+fn outcomes_of<R: Source>(
+    alloc: Global,
+    reader: &mut R,
+    terms: &Terms<'_>,
+) -> Result<Vec<SpaceOutcome>, ReplayFault> {
+    if let Some(driver) = terms.driver_of_each() {
+        return play_each(alloc, reader, driver, terms);
     }
     let left = play(alloc, reader, terms, &mut Nobody)?;
     let outcome = Outcome::of(alloc, left, terms)?;
-    let mut report = String::new(alloc);
-    match terms.form {
-        Form::Json => write_json(alloc, &mut report, &outcome)?,
-        Form::Report | Form::Script => write_report(&mut report, &outcome)?,
-    }
-    write_all(writer, report.as_bytes())?;
+    let mut spaces = Vec::new(alloc);
+    spaces.push(SpaceOutcome { number: 0, outcome })?;
+    Ok(spaces)
+}
+
+/// Writes the mappings at the end of a log of one address space, or of the one that is asked.
+fn list_mappings<R: Source>(
+    alloc: Global,
+    reader: &mut R,
+    out: &mut String,
+    terms: &Terms<'_>,
+) -> Result<(), ReplayFault> {
+    let left = play(alloc, reader, terms, &mut Nobody)?;
+    let written = write_mappings(out, left.machine.space().list());
+    left.close();
+    written?;
     Ok(())
 }
 
@@ -42,12 +77,7 @@ pub fn watch<R: Source, V: Watcher>(
     terms: &Terms<'_>,
     watcher: &mut V,
 ) -> Result<(), ReplayFault> {
-    let Left {
-        machine,
-        acts: _,
-        tally: _,
-    } = play(alloc, reader, terms, watcher)?;
-    machine.close();
+    play(alloc, reader, terms, watcher)?.close();
     Ok(())
 }
 

@@ -1,6 +1,7 @@
 //! How large the objects of a log are.
 
 use crate::amdgpu_line::{AmdgpuEvent, AmdgpuLine};
+use crate::chosen::Chosen;
 use crate::fault::ReplayFault;
 use crate::gpuvas_line::GpuvasLine;
 use crate::line_reader::{Found, LineReader};
@@ -31,11 +32,12 @@ struct Size {
     is_said: bool,
 }
 
-/// Objects so far, and how many heads there were.
+/// Objects so far, how many heads there were, and whose rows are taken.
 #[derive(Drop)]
 struct Measured {
     objects: Objects<Size>,
     heads: u64,
+    chosen: Chosen,
 }
 
 /// Reads a log for the sizes of its objects. It is to be read again for the replay.
@@ -48,6 +50,7 @@ pub fn measure<R: Source>(
     let mut measured = Measured {
         objects: Objects::new(alloc),
         heads: 0,
+        chosen: Chosen::new(terms)?,
     };
     for _lines in 0..u64::MAX {
         match lines.find_next(reader)? {
@@ -56,7 +59,11 @@ pub fn measure<R: Source>(
             Found::End => break,
         }
     }
-    let Measured { objects, heads: _ } = measured;
+    let Measured {
+        objects,
+        heads: _,
+        chosen: _,
+    } = measured;
     let mut pages = Vec::new(alloc);
     for size in objects.into_known() {
         pages.push(size.pages)?;
@@ -91,7 +98,7 @@ impl Measured {
         }
     }
 
-    /// A row of the first address space.
+    /// A row of the address space that is taken.
     fn take_row(&mut self, line: Option<GpuvasLine>) -> Result<(), AllocError> {
         match line {
             Some(GpuvasLine::Head) => {
@@ -105,7 +112,7 @@ impl Measured {
                     offset,
                     ..
                 },
-            ) if self.heads <= 1 => self.reach(object, offset, len),
+            ) if self.chosen.takes_rows(self.heads.max(1)) => self.reach(object, offset, len),
             _ => Ok(()),
         }
     }

@@ -138,6 +138,15 @@ impl Tally {
         }
     }
 
+    /// Whether anything was found.
+    pub fn has_finding(&self) -> bool {
+        self.over_live.count() > 0
+            || self.of_nothing.count() > 0
+            || self.still_reached.count() > 0
+            || self.to_no_memory.count() > 0
+            || self.refused.count() > 0
+    }
+
     /// One line more of the format.
     pub fn count_line(&mut self) {
         self.lines = self.lines.saturating_add(1);

@@ -2,6 +2,7 @@
 
 use crate::radv_line::cut;
 use crate::sizes::Sizes;
+use crate::vma_line::VmaDriver;
 
 /// Who wrote the log.
 #[derive(Clone, Copy, Debug, PartialEq, Eq)]
@@ -67,6 +68,8 @@ pub enum Form {
     Json,
     /// The operations as a script, in place of the report.
     Script,
+    /// The mappings at the end, as a script's line `map` tells them, in place of the report.
+    Mappings,
 }
 
 /// What is asked of a replay.
@@ -77,6 +80,9 @@ pub struct Terms<'a> {
     /// Of amdgpu's events those of this process or thread alone; of xe's and i915's those of the first address space in which it has
     /// a VMA.
     pub pid: Option<u64>,
+    /// The address space that is taken: of xe's and i915's events its number in hexadecimal digits, with or without `0x`, and of a list
+    /// the number of its head, counted from 1.
+    pub space: Option<&'a str>,
     /// The addresses, in bytes, whose past is asked.
     pub addresses: &'a [u64],
     /// Each finding is told with all places where it was made, and not with three.
@@ -87,12 +93,22 @@ pub struct Terms<'a> {
 }
 
 impl<'a> Terms<'a> {
+    /// Whose events tell address spaces apart, where each space of the log is told.
+    pub fn driver_of_each(&self) -> Option<VmaDriver> {
+        match (self.format, self.pid, self.space) {
+            (Format::Xe, None, None) => Some(VmaDriver::Xe),
+            (Format::I915, None, None) => Some(VmaDriver::I915),
+            _ => None,
+        }
+    }
+
     /// The report of a log of this format, and nothing else.
     pub fn new(format: Format) -> Terms<'a> {
         Terms {
             format,
             flag_bits: FlagBits::Unsaid,
             pid: None,
+            space: None,
             addresses: &[],
             all: false,
             form: Form::Report,
@@ -107,6 +123,7 @@ impl<'a> Terms<'a> {
             format: self.format,
             flag_bits: self.flag_bits,
             pid: self.pid,
+            space: self.space,
             addresses: self.addresses,
             all: self.all,
             form: self.form,

@@ -2,7 +2,8 @@
 
 use crate::row::{Act, Moment};
 use crate::tally::Place;
-use gv_types::{Backing, BufferId, Entry, Flags, Op, PAGE_BYTES};
+use gv_types::{BufferId, Flags, Op};
+use gv_vm::{Place as Reached, Target};
 use std::alloc::AllocError;
 use std::fmt::Write;
 
@@ -86,24 +87,17 @@ pub fn write_act(out: &mut String, act: &Act) -> Result<(), AllocError> {
     }
 }
 
-/// The byte of a buffer that an address reaches in a page of it.
-pub fn byte_of(page: u64, addr: u64) -> u64 {
-    page.wrapping_mul(PAGE_BYTES)
-        .wrapping_add(addr % PAGE_BYTES)
-}
-
 /// Writes what an address reaches, in bytes of its buffer.
-pub fn write_entry(out: &mut String, entry: Option<Entry>, addr: u64) -> Result<(), AllocError> {
-    let Some(Entry { backing, flags }) = entry else {
+pub fn write_reached(out: &mut String, reached: Option<Reached>) -> Result<(), AllocError> {
+    let Some(Reached { target, flags }) = reached else {
         return out.push_str("none");
     };
-    match backing {
-        Backing::Buffer { id, page } => {
-            let byte = byte_of(page, addr);
+    match target {
+        Target::Buffer { id, byte } => {
             write_buffer(out, &id)?;
             write!(out, " 0x{byte:x}")?;
         }
-        Backing::Zero => out.push_str("zero")?,
+        Target::Zero => out.push_str("zero")?,
     }
     write_flags(out, flags)
 }

@@ -3,6 +3,8 @@
 #![tactic(auto)]
 
 #[cfg(test)]
+mod apart;
+#[cfg(test)]
 mod devices;
 #[cfg(test)]
 mod going;
@@ -30,6 +32,8 @@ mod rewound;
 mod rows;
 #[cfg(test)]
 mod scripts;
+#[cfg(test)]
+mod space_rows;
 #[cfg(test)]
 mod vmas;
 #[cfg(test)]

@@ -20,6 +20,7 @@ pub struct Asked {
     pub format: Format,
     pub flag_bits: FlagBits,
     pub pid: Option<u64>,
+    pub space: Option<&'static str>,
     pub addresses: &'static [u64],
     pub all: bool,
     pub form: Form,
@@ -31,6 +32,7 @@ impl Asked {
             format: self.format,
             flag_bits: self.flag_bits,
             pid: self.pid,
+            space: self.space,
             addresses: self.addresses,
             all: self.all,
             form: self.form,
@@ -44,6 +46,7 @@ pub const OF_RADV: Asked = Asked {
     format: Format::Radv,
     flag_bits: FlagBits::Unsaid,
     pid: None,
+    space: None,
     addresses: &[],
     all: false,
     form: Form::Report,
@@ -77,6 +80,7 @@ pub const RADV: Terms<'static> = Terms {
     format: Format::Radv,
     flag_bits: FlagBits::Unsaid,
     pid: None,
+    space: None,
     addresses: &[],
     all: false,
     form: Form::Report,
@@ -87,6 +91,7 @@ pub const AMDGPU: Terms<'static> = Terms {
     format: Format::Amdgpu,
     flag_bits: FlagBits::Unsaid,
     pid: None,
+    space: None,
     addresses: &[],
     all: false,
     form: Form::Report,
@@ -97,6 +102,7 @@ pub const XE: Terms<'static> = Terms {
     format: Format::Xe,
     flag_bits: FlagBits::Unsaid,
     pid: None,
+    space: None,
     addresses: &[],
     all: false,
     form: Form::Report,
@@ -107,6 +113,7 @@ pub const I915: Terms<'static> = Terms {
     format: Format::I915,
     flag_bits: FlagBits::Unsaid,
     pid: None,
+    space: None,
     addresses: &[],
     all: false,
     form: Form::Report,
@@ -117,6 +124,7 @@ pub const GPUVAS: Terms<'static> = Terms {
     format: Format::Gpuvas,
     flag_bits: FlagBits::Unsaid,
     pid: None,
+    space: None,
     addresses: &[],
     all: false,
     form: Form::Report,
@@ -175,6 +183,13 @@ fn rows_of_xe_have_their_lines(rt: HostRuntime) {
 #[test]
 fn rows_of_i915_have_their_lines(rt: HostRuntime) {
     for row in &crate::i915_rows::ROWS {
+        expect(&rt, row);
+    }
+}
+
+#[test]
+fn rows_of_spaces_have_their_lines(rt: HostRuntime) {
+    for row in &crate::space_rows::ROWS {
         expect(&rt, row);
     }
 }

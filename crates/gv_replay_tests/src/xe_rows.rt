@@ -179,8 +179,11 @@ pub static ROWS: [Row; 15] = [
         ],
     },
     Row {
-        name: "the first address space that has a VMA is taken",
-        asked: OF_XE,
+        name: "of one address space that is asked the events are taken, from its first VMA on",
+        asked: Asked {
+            space: Some("0x123456"),
+            ..OF_XE
+        },
         log: "xe_vm_create: vm=00000000aa, asid=0x00021\n\
             xe_vma_bind: vma=f0, asid=0x123456, start=0x200000, end=0x200fff, userptr=0x0,\n\
             xe_vma_bind: vma=f1, asid=0x00021, start=0x200000, end=0x200fff, userptr=0x0,\n\

@@ -75,6 +75,7 @@ fn hold(alloc: Global, log: &Text, done: &mut Done) -> Result<(), Failure> {
         format: terms.format,
         flag_bits: terms.flag_bits,
         pid: terms.pid,
+        space: None,
         addresses: &[],
         all: terms.all,
         form: Form::Script,
