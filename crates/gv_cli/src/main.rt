@@ -2,8 +2,10 @@
 #![tactic(auto)]
 
 use gv_program::program;
+use std::io::IsTerminal;
 use std::process::ExitCode;
 
 fn main(rt: HostRuntime) -> ExitCode {
-    ExitCode::from(program(&rt, &rt))
+    let is_terminal = rt.stderr().is_terminal();
+    ExitCode::from(program(&rt, &rt, is_terminal))
 }

@@ -63,8 +63,8 @@ module _ {R W : Type 0} (remaining : R → Option (List ℕ)) (read_failed : R �
   run_done words (Run explain (Some file)) status is names did run none = absurd (let named : Some file.now ≡ None = names run ∙ none in cc)
   run_done words (Serve json file) status is names did run none = absurd (apart (Some (codes "serve")) the_run (λ e. omega (arith, e)) (sym is ∙ run))
   run_done words (Replay asked) status is names did run none = absurd (longer (Some (codes "replay")) the_run (λ e. omega (arith, e)) (sym is ∙ run))
-  run_done words (Draw at width file) status is names did run none = absurd (apart (Some (codes "draw")) the_run (λ e. omega (arith, e)) (sym is ∙ run))
-  run_done words (Compare first second) status is names did run none = absurd (apart (Some (codes "compare")) the_run (λ e. omega (arith, e)) (sym is ∙ run))
+  run_done words (Draw at width quiet file) status is names did run none = absurd (apart (Some (codes "draw")) the_run (λ e. omega (arith, e)) (sym is ∙ run))
+  run_done words (Compare asked) status is names did run none = absurd (apart (Some (codes "compare")) the_run (λ e. omega (arith, e)) (sym is ∙ run))
   run_done words (Threads queues turns explain) status is names did run none = absurd (apart the_threads the_run (λ e. omega (arith, e)) (sym is ∙ run))
 
   -- and of those that name a file
@@ -75,8 +75,8 @@ module _ {R W : Type 0} (remaining : R → Option (List ℕ)) (read_failed : R �
   run_file_done words (Run explain (Some file)) status is names did run some = did
   run_file_done words (Serve json file) status is names did run some = absurd (apart (Some (codes "serve")) the_run (λ e. omega (arith, e)) (sym is ∙ run))
   run_file_done words (Replay asked) status is names did run some = absurd (longer (Some (codes "replay")) the_run (λ e. omega (arith, e)) (sym is ∙ run))
-  run_file_done words (Draw at width file) status is names did run some = absurd (apart (Some (codes "draw")) the_run (λ e. omega (arith, e)) (sym is ∙ run))
-  run_file_done words (Compare first second) status is names did run some = absurd (apart (Some (codes "compare")) the_run (λ e. omega (arith, e)) (sym is ∙ run))
+  run_file_done words (Draw at width quiet file) status is names did run some = absurd (apart (Some (codes "draw")) the_run (λ e. omega (arith, e)) (sym is ∙ run))
+  run_file_done words (Compare asked) status is names did run some = absurd (apart (Some (codes "compare")) the_run (λ e. omega (arith, e)) (sym is ∙ run))
   run_file_done words (Threads queues turns explain) status is names did run some = absurd (apart the_threads the_run (λ e. omega (arith, e)) (sym is ∙ run))
 
   -- the task of words that are read as `threads`
@@ -87,8 +87,8 @@ module _ {R W : Type 0} (remaining : R → Option (List ℕ)) (read_failed : R �
   threads_done words (Run explain file) status is fits did threads = absurd (is.1 threads)
   threads_done words (Serve json file) status is fits did threads = absurd (apart (Some (codes "serve")) the_threads (λ e. omega (arith, e)) (sym is ∙ threads))
   threads_done words (Replay asked) status is fits did threads = absurd (apart (Some (codes "replay")) the_threads (λ e. omega (arith, e)) (sym is ∙ threads))
-  threads_done words (Draw at width file) status is fits did threads = absurd (apart (Some (codes "draw")) the_threads (λ e. omega (arith, e)) (sym is ∙ threads))
-  threads_done words (Compare first second) status is fits did threads = absurd (apart (Some (codes "compare")) the_threads (λ e. omega (arith, e)) (sym is ∙ threads))
+  threads_done words (Draw at width quiet file) status is fits did threads = absurd (apart (Some (codes "draw")) the_threads (λ e. omega (arith, e)) (sym is ∙ threads))
+  threads_done words (Compare asked) status is fits did threads = absurd (apart (Some (codes "compare")) the_threads (λ e. omega (arith, e)) (sym is ∙ threads))
   threads_done words (Threads queues turns explain) status is fits did threads = (queues, fits.0, did.0, did.1, did.2)
 
   -- the task of the word `run` alone, and of `serve`

@@ -10,7 +10,7 @@ use Rattle.gv_threads.specs.declared.fault.ThreadsFault.{ThreadsFault}
 use Rattle.gv_threads.specs.declared.fault.ThreadsFault.TheVariants as threads
 use Rattle.gv_program.specs.Status.{bad_queues, bad_script, bad_words, broken_stream, no_memory}
 use Rattle.gv_program.specs.declared.fault.ProgramFault.{ProgramFault}
-use Rattle.gv_program.specs.declared.fault.ProgramFault.TheVariants.{Script, Queues, ArgumentNotText, NotOpened, NoFormat, NoFlags, TwoForms, NoAddress, NoLine}
+use Rattle.gv_program.specs.declared.fault.ProgramFault.TheVariants.{Script, Queues, ArgumentNotText, NotOpened, NoFormat, NoFlags, TwoForms, NoAddress, NoLine, NoSpace, ManySpaces}
 
 -- the exit status of a script that ended early
 abbrev pub script_status : ScriptFault → ℕ
@@ -37,6 +37,8 @@ status_of NoFlags = bad_words
 status_of TwoForms = bad_words
 status_of NoAddress = bad_words
 status_of NoLine = bad_script
+status_of NoSpace = bad_script
+status_of ManySpaces = bad_words
 
 -- the line on standard error, but for its line end
 abbrev pub line_of_fault : ProgramFault → List ℕ
@@ -55,6 +57,8 @@ line_of_fault NoFlags = codes "vmbind: no such flags"
 line_of_fault TwoForms = codes "vmbind: more than one form"
 line_of_fault NoAddress = codes "vmbind: not an address"
 line_of_fault NoLine = codes "vmbind: no line of this format"
+line_of_fault NoSpace = codes "vmbind: no such address space"
+line_of_fault ManySpaces = codes "vmbind: more than one address space"
 
 -- a threads script's fault as the program's
 abbrev pub of_threads : ThreadsFault → ProgramFault

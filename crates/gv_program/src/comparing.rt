@@ -1,34 +1,45 @@
-//! Two lists of mappings compared.
-ghost use Rattle.gv_program.specs.Status.{IsStatus};
+//! Two lists of mappings compared, or one and what a log comes to.
+ghost use Rattle.std.specs.Prelude.{◌≢◌};
+ghost use Rattle.gv_program.specs.Status.{IsStatus, bad_script};
 
 use crate::fault::{ProgramFault, told, told_of};
-use crate::files::{opened, read_all};
+use crate::files::opened;
+use crate::progress::Onlooker;
+use crate::replaying::list_log;
 use crate::status::{BAD_WORDS, DIFFERENT, DONE};
-use gv_compare::{CompareFault, compare as differences};
-use gv_text::{Pipe, ScriptFault, Sink, write_all};
+use gv_compare::{CompareFault, compare_of};
+use gv_text::{MemorySink, Pipe, ScriptFault, Sink, write_all};
+use gv_words::CompareWords;
 use std::alloc::Global;
-use std::rt::Files;
+use std::rt::{Clock, Files};
 
-/// Compares the lists of two files, and gives the exit status: `DIFFERENT` where some page differs.
-pub fn compare<R: AllocGlobal + Eprint, T: Files, K: Sink + Pipe>(
+/// Compares the lists of two files, or that of one and the mappings at the end of a log, and gives the exit status: `DIFFERENT`
+/// where some page differs.
+pub fn compare<R: AllocGlobal + Eprint + Clock, T: Files, K: Sink + Pipe>(
     rt: &R,
     files: &T,
-    first: &str,
-    second: &str,
+    asked: CompareWords<'_>,
+    is_terminal: bool,
     writer: &mut K,
 ) -> u8
     ensures { IsStatus result }
 {
-    let left = match read_file(rt.alloc(), files, first) {
+    let onlooker = Onlooker::new(rt, is_terminal && !asked.quiet);
+    let left = match read_file(rt.alloc(), files, &onlooker, asked.first) {
         Ok(bytes) => bytes,
         Err(fault) => return told(rt, fault),
     };
-    let right = match read_file(rt.alloc(), files, second) {
+    let right = match second_of(rt.alloc(), files, &onlooker, &asked) {
         Ok(bytes) => bytes,
-        Err(fault) => return told(rt, fault),
+        Err(fault) => return no_list(rt, fault),
     };
     let mut report = String::new(rt.alloc());
-    match differences(rt.alloc(), left.as_slice(), right.as_slice(), &mut report) {
+    // Of a log it names the log's.
+    let space = match asked.format {
+        Some(_) => None,
+        None => asked.space,
+    };
+    match compare_of(rt.alloc(), &left, &right, space, &mut report) {
         Ok(pages) => written(rt, writer, report.as_str(), pages),
         Err(CompareFault::OutOfMemory) => told(rt, ProgramFault::Script(ScriptFault::OutOfMemory)),
         Err(fault) => refused(rt, fault),
@@ -36,9 +47,43 @@ pub fn compare<R: AllocGlobal + Eprint, T: Files, K: Sink + Pipe>(
 }
 
 /// All bytes of a file.
-fn read_file<T: Files>(alloc: Global, files: &T, path: &str) -> Result<Vec<u8>, ProgramFault> {
+fn read_file<R: Eprint + Clock, T: Files>(
+    alloc: Global,
+    files: &T,
+    onlooker: &Onlooker<'_, R>,
+    path: &str,
+) -> Result<Vec<u8>, ProgramFault> {
     let mut reader = opened(files, path)?;
-    read_all(alloc, &mut reader)
+    onlooker.read_all(alloc, &mut reader, onlooker.len_of(files, path))
+}
+
+/// The second list: a file, or what a log comes to.
+fn second_of<R: Eprint + Clock, T: Files>(
+    alloc: Global,
+    files: &T,
+    onlooker: &Onlooker<'_, R>,
+    asked: &CompareWords<'_>,
+) -> Result<Vec<u8>, ProgramFault> {
+    let Some(format) = asked.format else {
+        return read_file(alloc, files, onlooker, asked.second);
+    };
+    let mut list = MemorySink::new(alloc);
+    list_log(alloc, files, onlooker, asked, format, &mut list)?;
+    Ok(Vec::from_slice(alloc, list.bytes())?)
+}
+
+/// Tells why a log gives no list, and gives the exit status: that of lists that differ would say otherwise.
+fn no_list<R: Eprint>(rt: &R, fault: ProgramFault) -> u8
+    ensures status { IsStatus result }
+    // No status of lists that differ.
+    ensures apart { result ≢ bad_script }
+{
+    let status = told(rt, fault);
+    if status == DIFFERENT {
+        BAD_WORDS
+    } else {
+        status
+    }
 }
 
 /// Writes where the lists differ, and gives the exit status.

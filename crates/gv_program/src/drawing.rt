@@ -2,23 +2,26 @@
 ghost use Rattle.gv_program.specs.Status.{IsStatus};
 
 use crate::fault::{ProgramFault, told, told_of};
-use crate::files::{address, opened, read_all};
+use crate::files::{address, opened};
+use crate::progress::Onlooker;
 use crate::status::DONE;
 use gv_draw::{DrawFault, Options, draw_script};
 use gv_text::{Pipe, ScriptFault, Sink, Source, write_all};
 use std::alloc::Global;
-use std::rt::Files;
+use std::rt::{Clock, Files};
 
-/// What picture is asked: around an address if one is given, so many pixels wide, of the script of a file or of standard input.
+/// What picture is asked: around an address if one is given, so many pixels wide, of the script of a file or of standard input, and
+/// whether it is told how far that is.
 #[derive(Clone, Copy)]
 pub struct Picture<'a> {
     pub at: Option<&'a str>,
     pub width: u64,
+    pub is_told: bool,
     pub file: Option<&'a str>,
 }
 
 /// Draws a script, and gives the exit status.
-pub fn draw<R: AllocGlobal + Eprint, T: Files, S: Source, K: Sink + Pipe>(
+pub fn draw<R: AllocGlobal + Eprint + Clock, T: Files, S: Source, K: Sink + Pipe>(
     rt: &R,
     files: &T,
     asked: Picture<'_>,
@@ -27,7 +30,8 @@ pub fn draw<R: AllocGlobal + Eprint, T: Files, S: Source, K: Sink + Pipe>(
 ) -> u8
     ensures { IsStatus result }
 {
-    match drawn(rt.alloc(), files, asked, reader) {
+    let onlooker = Onlooker::new(rt, asked.is_told);
+    match drawn(rt.alloc(), files, &onlooker, asked, reader) {
         Ok(picture) => shown(rt, writer, picture.as_str()),
         Err(fault) => told(rt, fault),
     }
@@ -44,9 +48,10 @@ pub fn shown<R: Eprint, K: Sink + Pipe>(rt: &R, writer: &mut K, text: &str) -> u
 }
 
 /// The picture.
-fn drawn<T: Files, S: Source>(
+fn drawn<R: Eprint + Clock, T: Files, S: Source>(
     alloc: Global,
     files: &T,
+    onlooker: &Onlooker<'_, R>,
     asked: Picture<'_>,
     reader: &mut S,
 ) -> Result<String, ProgramFault> {
@@ -57,9 +62,9 @@ fn drawn<T: Files, S: Source>(
     let script = match asked.file {
         Some(path) => {
             let mut file = opened(files, path)?;
-            read_all(alloc, &mut file)?
+            onlooker.read_all(alloc, &mut file, onlooker.len_of(files, path))?
         }
-        None => read_all(alloc, reader)?,
+        None => onlooker.read_all(alloc, reader, None)?,
     };
     let options = Options {
         at,

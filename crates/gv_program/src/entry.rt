@@ -30,17 +30,17 @@ use gv_text::{
 };
 use gv_threads::{RunTerms, run_threads_explained};
 use gv_words::{Task, WordsFault, read_words};
-use std::rt::{Env, Files};
+use std::rt::{Clock, Env, Files};
 use std::sync::Wait;
 use std::thread::Threads;
 use std::{env, io};
 
 /// Does what the words of the command line ask for, over the standard streams, with the host's threads and files, and gives
-/// the exit status. It may wait, for threads alone.
-pub fn program<R: Env + AllocGlobal + Input + Print + Eprint, T: Threads + Wait + Sync + Files>(
-    rt: &R,
-    host: &T,
-) -> u8
+/// the exit status. It may wait, for threads alone. Where standard error is a terminal, it is told there how far a long reading is.
+pub fn program<
+    R: Env + AllocGlobal + Input + Print + Eprint + Clock,
+    T: Threads + Wait + Sync + Files,
+>(rt: &R, host: &T, is_terminal: bool) -> u8
     ensures { IsStatus result }
 {
     if !is_stack_there(DONE) {
@@ -52,16 +52,17 @@ pub fn program<R: Env + AllocGlobal + Input + Print + Eprint, T: Threads + Wait 
     };
     let mut reader = ReadSource::new(rt.reader());
     let mut writer = WriteSink::new(io::writer(rt));
-    obey(rt, host, words.as_slice(), &mut reader, &mut writer)
+    let words = words.as_slice();
+    obey(rt, host, words, is_terminal, &mut reader, &mut writer)
 }
 
 /// Does what these words ask for, over these devices, with the host's threads and files, and gives the exit status.
 fn obey<
-    R: AllocGlobal + Print + Eprint,
+    R: AllocGlobal + Print + Eprint + Clock,
     T: Threads + Wait + Sync + Files,
     S: Source,
     K: Sink + Pipe,
->(rt: &R, host: &T, words: &[String], reader: &mut S, writer: &mut K) -> u8
+>(rt: &R, host: &T, words: &[String], is_terminal: bool, reader: &mut S, writer: &mut K) -> u8
     // The word `run` runs the script, unless memory for reading the words is refused.
     ensures run { (name : List ℕ) → words_of words.now ≡ name ∷ codes "run" ∷ []
         → ((result ≡ no_memory) × (reader.new ≡ reader.old) × (writer.new ≡ writer.old))
@@ -101,7 +102,7 @@ fn obey<
     ensures status { IsStatus result }
 {
     match read_words(rt.alloc(), words) {
-        Ok(task) => carry_out(rt, host, task, reader, writer),
+        Ok(task) => carry_out(rt, host, task, is_terminal, reader, writer),
         Err(WordsFault::Printed(error)) => printed(rt, &error),
         Err(WordsFault::OutOfMemory) => told(rt, ProgramFault::Script(ScriptFault::OutOfMemory)),
     }
@@ -109,11 +110,11 @@ fn obey<
 
 /// Does a task over these devices, and gives the exit status.
 fn carry_out<
-    R: AllocGlobal + Print + Eprint,
+    R: AllocGlobal + Print + Eprint + Clock,
     T: Threads + Wait + Sync + Files,
     S: Source,
     K: Sink + Pipe,
->(rt: &R, host: &T, task: Task<'_>, reader: &mut S, writer: &mut K) -> u8
+>(rt: &R, host: &T, task: Task<'_>, is_terminal: bool, reader: &mut S, writer: &mut K) -> u8
     requires { IsTask task }
     ensures done { IsDone S.remaining S.failed K.written K.failed reader.old reader.new writer.old writer.new task.entry result }
     ensures status { IsStatus result }
@@ -144,11 +145,22 @@ fn carry_out<
             };
             run_with_threads(rt, host, reader, writer, asked)
         }
-        Task::Replay(asked) => replay(rt, host, asked, reader, writer),
-        Task::Draw { at, width, file } => {
-            draw(rt, host, Picture { at, width, file }, reader, writer)
+        Task::Replay(asked) => replay(rt, host, asked, is_terminal, reader, writer),
+        Task::Draw {
+            at,
+            width,
+            quiet,
+            file,
+        } => {
+            let asked = Picture {
+                at,
+                width,
+                is_told: is_terminal && !quiet,
+                file,
+            };
+            draw(rt, host, asked, reader, writer)
         }
-        Task::Compare { first, second } => compare(rt, host, first, second, writer),
+        Task::Compare(asked) => compare(rt, host, asked, is_terminal, writer),
     }
 }
 

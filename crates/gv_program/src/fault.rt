@@ -34,6 +34,10 @@ pub enum ProgramFault {
     NoAddress,
     /// No line of a log is of its format.
     NoLine,
+    /// No event of a log is of the address space that the words name.
+    NoSpace,
+    /// A log is of several address spaces, and the words name none.
+    ManySpaces,
 }
 
 impl ProgramFault {
@@ -48,9 +52,10 @@ impl ProgramFault {
             | ProgramFault::NoFormat
             | ProgramFault::NoFlags
             | ProgramFault::TwoForms
-            | ProgramFault::NoAddress => BAD_WORDS,
+            | ProgramFault::NoAddress
+            | ProgramFault::ManySpaces => BAD_WORDS,
             ProgramFault::NotOpened => BROKEN_STREAM,
-            ProgramFault::NoLine => BAD_SCRIPT,
+            ProgramFault::NoLine | ProgramFault::NoSpace => BAD_SCRIPT,
         }
     }
 }
@@ -104,6 +109,8 @@ impl fmt::Display for ProgramFault {
             ProgramFault::TwoForms => write!(f, "vmbind: more than one form"),
             ProgramFault::NoAddress => write!(f, "vmbind: not an address"),
             ProgramFault::NoLine => write!(f, "vmbind: no line of this format"),
+            ProgramFault::NoSpace => write!(f, "vmbind: no such address space"),
+            ProgramFault::ManySpaces => write!(f, "vmbind: more than one address space"),
         }
     }
 }

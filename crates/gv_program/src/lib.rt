@@ -8,6 +8,7 @@ mod entry;
 mod fault;
 mod files;
 mod log_drawing;
+mod progress;
 mod replaying;
 mod serving;
 mod stack;

@@ -2,20 +2,23 @@
 ghost use Rattle.gv_program.specs.Status.{IsStatus};
 
 use crate::fault::{ProgramFault, told_of};
-use crate::files::{address, opened, read_all};
+use crate::files::{address, opened};
 use crate::log_drawing::draw_log;
+use crate::progress::Onlooker;
 use crate::status::DONE;
 use gv_draw::Options;
 use gv_replay::{FlagBits, Form, Format, ReplayFault, Sizes, Terms, measure, replay as play};
 use gv_text::{MemorySource, Pipe, ScriptFault, Sink, Source};
-use gv_words::ReplayWords;
+use gv_words::{CompareWords, ReplayWords};
 use std::alloc::Global;
-use std::rt::Files;
+use std::rt::{Clock, Files};
 
 impl From<ReplayFault> for ProgramFault {
     fn from(fault: ReplayFault) -> ProgramFault {
         match fault {
             ReplayFault::NoLine => ProgramFault::NoLine,
+            ReplayFault::NoSpace => ProgramFault::NoSpace,
+            ReplayFault::ManySpaces => ProgramFault::ManySpaces,
             ReplayFault::ReadFault => ProgramFault::Script(ScriptFault::ReadFault),
             ReplayFault::WriteFault => ProgramFault::Script(ScriptFault::WriteFault),
             ReplayFault::OutOfMemory => ProgramFault::Script(ScriptFault::OutOfMemory),
@@ -24,144 +27,169 @@ impl From<ReplayFault> for ProgramFault {
 }
 
 /// Replays a log, and gives the exit status.
-pub fn replay<R: AllocGlobal + Eprint, T: Files, S: Source, K: Sink + Pipe>(
+pub fn replay<R: AllocGlobal + Eprint + Clock, T: Files, S: Source, K: Sink + Pipe>(
     rt: &R,
     files: &T,
     asked: ReplayWords<'_>,
+    is_terminal: bool,
     reader: &mut S,
     writer: &mut K,
 ) -> u8
     ensures { IsStatus result }
 {
-    match replayed(rt.alloc(), files, &asked, reader, writer) {
+    let onlooker = Onlooker::new(rt, is_terminal && !asked.quiet);
+    match replayed(rt.alloc(), files, &onlooker, &asked, reader, writer) {
         Ok(()) => DONE,
         Err(fault) => told_of(rt, writer, fault),
     }
 }
 
 /// The log of a file, or of standard input.
-fn replayed<T: Files, S: Source, K: Sink>(
+fn replayed<R: Eprint + Clock, T: Files, S: Source, K: Sink>(
     alloc: Global,
     files: &T,
+    onlooker: &Onlooker<'_, R>,
     asked: &ReplayWords<'_>,
     reader: &mut S,
     writer: &mut K,
 ) -> Result<(), ProgramFault> {
     let addresses = addresses_of(alloc, asked)?;
-    let format = format_of(asked)?;
+    let format = format_of(asked.format)?;
     let form = form_of(asked)?;
     let picture = picture_of(asked, format, addresses.as_slice());
     let terms = Terms {
         format,
-        flag_bits: flags_of(asked)?,
+        flag_bits: flags_of(asked.flags)?,
         pid: asked.pid,
+        space: asked.space,
         addresses: addresses.as_slice(),
         all: asked.all,
         form,
         sizes: None,
     };
-    let telling = Telling { alloc, picture };
+    let telling = Telling {
+        alloc,
+        onlooker,
+        picture,
+    };
     match asked.file {
         Some(path) => telling.tell_file(files, path, &terms, writer),
         None => telling.tell_input(reader, &terms, writer),
     }
 }
 
-/// How a log is told: as a picture, or in the form that its terms say.
-#[derive(Clone, Copy)]
-struct Telling {
+/// Writes the mappings at the end of a file's log.
+pub fn list_log<R: Eprint + Clock, T: Files, K: Sink>(
     alloc: Global,
+    files: &T,
+    onlooker: &Onlooker<'_, R>,
+    asked: &CompareWords<'_>,
+    format: &str,
+    writer: &mut K,
+) -> Result<(), ProgramFault> {
+    let terms = Terms {
+        format: format_of(format)?,
+        flag_bits: flags_of(asked.flags)?,
+        pid: asked.pid,
+        space: asked.space,
+        addresses: &[],
+        all: false,
+        form: Form::Mappings,
+        sizes: None,
+    };
+    let telling = Telling {
+        alloc,
+        onlooker,
+        picture: None,
+    };
+    telling.tell_file(files, asked.second, &terms, writer)
+}
+
+/// How a log is told: as a picture, or in the form that its terms say, and before whom.
+#[derive(Drop)]
+struct Telling<'a, 'r, R> {
+    alloc: Global,
+    onlooker: &'a Onlooker<'r, R>,
     picture: Option<Options>,
 }
 
-impl Telling {
+impl<'a, 'r, R: Eprint + Clock> Telling<'a, 'r, R> {
     /// Tells the log of a file, which is read twice where its lines don't tell sizes.
     fn tell_file<T: Files, K: Sink>(
-        self,
+        &self,
         files: &T,
         path: &str,
         terms: &Terms<'_>,
         writer: &mut K,
     ) -> Result<(), ProgramFault> {
         let mut log = opened(files, path)?;
+        let of = self.onlooker.len_of(files, path);
         if !terms.format.wants_sizes() {
-            return self.tell(&mut log, writer, terms);
+            return self.tell(&mut log, of, writer, terms);
         }
-        let sizes = measure(self.alloc, &mut log, terms)?;
+        let sizes = self.measured(&mut log, of, terms)?;
         let mut again = opened(files, path)?;
-        match self.picture {
-            Some(options) => Ok(draw_log(
-                self.alloc,
-                &mut again,
-                writer,
-                &unasked(terms, &sizes),
-                &options,
-            )?),
-            None => play_sized(self.alloc, &mut again, writer, terms, &sizes),
-        }
+        self.tell_sized(&mut again, of, writer, terms, &sizes)
     }
 
     /// Tells the log of standard input, which is kept where it has to be read twice.
     fn tell_input<S: Source, K: Sink>(
-        self,
+        &self,
         reader: &mut S,
         terms: &Terms<'_>,
         writer: &mut K,
     ) -> Result<(), ProgramFault> {
         if !terms.format.wants_sizes() {
-            return self.tell(reader, writer, terms);
+            return self.tell(reader, None, writer, terms);
         }
-        let log = read_all(self.alloc, reader)?;
-        let sizes = measure(self.alloc, &mut MemorySource::new(&log), terms)?;
+        let log = self.onlooker.read_all(self.alloc, reader, None)?;
+        let of = Some(log.len() as u64);
+        let sizes = self.measured(&mut MemorySource::new(&log), of, terms)?;
         let mut again = MemorySource::new(&log);
-        match self.picture {
-            Some(options) => Ok(draw_log(
-                self.alloc,
-                &mut again,
-                writer,
-                &unasked(terms, &sizes),
-                &options,
-            )?),
-            None => play_sized(self.alloc, &mut again, writer, terms, &sizes),
-        }
+        self.tell_sized(&mut again, of, writer, terms, &sizes)
+    }
+
+    /// How large the objects of a log are.
+    fn measured<S: Source>(
+        &self,
+        log: &mut S,
+        of: Option<u64>,
+        terms: &Terms<'_>,
+    ) -> Result<Sizes, ProgramFault> {
+        let mut watched = self.onlooker.watch(log, of);
+        let sizes = measure(self.alloc, &mut watched, terms);
+        watched.finish();
+        Ok(sizes?)
+    }
+
+    /// Tells a log whose objects have these sizes.
+    fn tell_sized<'t, S: Source, K: Sink>(
+        &self,
+        log: &mut S,
+        of: Option<u64>,
+        writer: &mut K,
+        terms: &Terms<'t>,
+        sizes: &'t Sizes,
+    ) -> Result<(), ProgramFault> {
+        let sized = terms.sized(sizes);
+        self.tell(log, of, writer, &sized)
     }
 
     /// Draws a log, or writes it in its form.
     fn tell<S: Source, K: Sink>(
-        self,
+        &self,
         log: &mut S,
+        of: Option<u64>,
         writer: &mut K,
         terms: &Terms<'_>,
     ) -> Result<(), ProgramFault> {
-        match self.picture {
-            Some(options) => Ok(draw_log(self.alloc, log, writer, terms, &options)?),
-            None => Ok(play(self.alloc, log, writer, terms)?),
-        }
-    }
-}
-
-/// Writes a log in its form, whose objects have these sizes.
-fn play_sized<'a, S: Source, K: Sink>(
-    alloc: Global,
-    log: &mut S,
-    writer: &mut K,
-    terms: &Terms<'a>,
-    sizes: &'a Sizes,
-) -> Result<(), ProgramFault> {
-    let sized = terms.sized(sizes);
-    Ok(play(alloc, log, writer, &sized)?)
-}
-
-/// The same terms for objects of these sizes, where no address is asked: a picture has its own.
-fn unasked<'s>(terms: &Terms<'_>, sizes: &'s Sizes) -> Terms<'s> {
-    Terms {
-        format: terms.format,
-        flag_bits: terms.flag_bits,
-        pid: terms.pid,
-        addresses: &[],
-        all: terms.all,
-        form: terms.form,
-        sizes: Some(sizes),
+        let mut watched = self.onlooker.watch(log, of);
+        let told = match &self.picture {
+            Some(options) => draw_log(self.alloc, &mut watched, writer, terms, options),
+            None => play(self.alloc, &mut watched, writer, terms),
+        };
+        watched.finish();
+        Ok(told?)
     }
 }
 
@@ -198,8 +226,8 @@ fn addresses_of(alloc: Global, asked: &ReplayWords<'_>) -> Result<Vec<u64>, Prog
     Ok(addresses)
 }
 
-fn format_of(asked: &ReplayWords<'_>) -> Result<Format, ProgramFault> {
-    match asked.format {
+fn format_of(word: &str) -> Result<Format, ProgramFault> {
+    match word {
         "radv" => Ok(Format::Radv),
         "amdgpu" => Ok(Format::Amdgpu),
         "xe" => Ok(Format::Xe),
@@ -209,8 +237,8 @@ fn format_of(asked: &ReplayWords<'_>) -> Result<Format, ProgramFault> {
     }
 }
 
-fn flags_of(asked: &ReplayWords<'_>) -> Result<FlagBits, ProgramFault> {
-    match asked.flags {
+fn flags_of(word: Option<&str>) -> Result<FlagBits, ProgramFault> {
+    match word {
         None => Ok(FlagBits::Unsaid),
         Some("entry") => Ok(FlagBits::Entry),
         Some("call") => Ok(FlagBits::Call),

@@ -1,12 +1,13 @@
 //! A runtime over memory, which keeps what the program writes.
 
 use std::alloc::{Allocator, Global};
-use std::cell::RefCell;
+use std::cell::{Cell, RefCell};
 use std::env::FillError;
 use std::fmt::Display;
 use std::io;
 use std::io::{BufRead, Lines, Read};
-use std::rt::Env;
+use std::rt::{Clock, Env};
+use std::time::Duration;
 
 /// A stream that gives these bytes, or one of which each read fails.
 #[derive(Clone, Copy)]
@@ -52,10 +53,16 @@ enum Writes {
     Fail(io::ErrorKind),
 }
 
+/// How many milliseconds pass between two looks at the clock.
+#[derive(Clone, Copy)]
+pub struct Pace(pub u64);
+
 /// The program's arguments, its input and what it has written.
 #[derive(Drop)]
 pub struct Fake<'a> {
     alloc: Global,
+    pace: Pace,
+    looks: Cell<u64>,
     words: &'a [&'a [u8]],
     input: Stream<'a>,
     writes: Writes,
@@ -67,6 +74,8 @@ impl<'a> Fake<'a> {
     pub fn new(alloc: Global, words: &'a [&'a [u8]], input: Stream<'a>) -> Self {
         Fake {
             alloc,
+            pace: Pace(0),
+            looks: Cell::new(0),
             words,
             input,
             writes: Writes::Kept,
@@ -89,6 +98,11 @@ impl<'a> Fake<'a> {
             writes: Writes::Fail(io::ErrorKind::BrokenPipe),
             ..self
         }
+    }
+
+    /// The same with a clock that goes on at each look.
+    pub fn with_clock(self, pace: Pace) -> Self {
+        Fake { pace, ..self }
     }
 
     /// What stands on standard output, and on standard error.
@@ -116,6 +130,18 @@ impl Alloc for Fake<'_> {
 
     fn alloc(&self) -> Global {
         self.alloc
+    }
+}
+
+impl Clock for Fake<'_> {
+    fn monotonic(&self) -> io::Result<Duration> {
+        let looks = self.looks.get();
+        self.looks.set(looks.wrapping_add(1));
+        Ok(Duration::from_millis(looks.wrapping_mul(self.pace.0)))
+    }
+
+    fn since_1970(&self) -> io::Result<Duration> {
+        Err(io::Error::from(io::ErrorKind::Unsupported))
     }
 }
 

@@ -10,6 +10,8 @@ mod forms;
 #[cfg(test)]
 mod helps;
 #[cfg(test)]
+mod telling;
+#[cfg(test)]
 mod whole;
 #[cfg(test)]
 mod wrong;

@@ -21,7 +21,23 @@ pub struct Outcome {
 }
 
 pub fn ended<T: Threads + Wait + Sync + Files>(threads: &T, runtime: Fake<'_>) -> Outcome {
-    let status = program(&runtime, threads);
+    ended_at(threads, runtime, false)
+}
+
+/// The same where standard error is a terminal.
+pub fn ended_at_terminal<T: Threads + Wait + Sync + Files>(
+    threads: &T,
+    runtime: Fake<'_>,
+) -> Outcome {
+    ended_at(threads, runtime, true)
+}
+
+fn ended_at<T: Threads + Wait + Sync + Files>(
+    threads: &T,
+    runtime: Fake<'_>,
+    is_terminal: bool,
+) -> Outcome {
+    let status = program(&runtime, threads, is_terminal);
     let (output, errors) = runtime.written();
     Outcome {
         status,

@@ -94,8 +94,8 @@ is_entered words m (Run explain file) found is =
     (λ e. is.0 (same ∙ e), λ e. is.1 (same ∙ e))
 is_entered words m (Serve json file) found is = sym (entered_by words m found) ∙ is.0
 is_entered words m (Replay given) found is = sym (entered_by words m found) ∙ is
-is_entered words m (Draw at width file) found is = sym (entered_by words m found) ∙ is
-is_entered words m (Compare first second) found is = sym (entered_by words m found) ∙ is
+is_entered words m (Draw at width quiet file) found is = sym (entered_by words m found) ∙ is
+is_entered words m (Compare given) found is = sym (entered_by words m found) ∙ is
 is_entered words m (Threads queues turns explain) found is = sym (entered_by words m found) ∙ is
 
 -- the file among the matches of a subcommand
@@ -120,8 +120,8 @@ names_file words m (Serve json file) found is =
     let there = rows_there (subcommand_rows_of m) (codes "serve") (sym (name_of_rows m) ∙ is.0) in
     (is.1 there.0 there.1).0 ∙ file_among _ there.0 there.1 ∙ ap (option_and_then (λ (p : Text × List Row). first_of (codes "file") p.1)) found
 names_file words m (Replay given) found is = tt
-names_file words m (Draw at width file) found is = tt
-names_file words m (Compare first second) found is = tt
+names_file words m (Draw at width quiet file) found is = tt
+names_file words m (Compare given) found is = tt
 names_file words m (Threads queues turns explain) found is = tt
 
 -- the words `run` and `serve` alone
@@ -195,8 +195,8 @@ run_by name words m (Run explain file) asked found named is =
     rw (plain, none) refl
 run_by name words m (Serve json file) asked found named is = absurd (apart the_serve the_run (λ e. omega (arith, e)) (sym is.0 ∙ named))
 run_by name words m (Replay given) asked found named is = absurd (longer (Some (codes "replay")) the_run (λ e. omega (arith, e)) (sym is ∙ named))
-run_by name words m (Draw at width file) asked found named is = absurd (apart (Some (codes "draw")) the_run (λ e. omega (arith, e)) (sym is ∙ named))
-run_by name words m (Compare first second) asked found named is = absurd (apart (Some (codes "compare")) the_run (λ e. omega (arith, e)) (sym is ∙ named))
+run_by name words m (Draw at width quiet file) asked found named is = absurd (apart (Some (codes "draw")) the_run (λ e. omega (arith, e)) (sym is ∙ named))
+run_by name words m (Compare given) asked found named is = absurd (apart (Some (codes "compare")) the_run (λ e. omega (arith, e)) (sym is ∙ named))
 run_by name words m (Threads queues turns explain) asked found named is = absurd (apart (Some (codes "threads")) the_run (λ e. omega (arith, e)) (sym is ∙ named))
 
 -- the word `run` alone runs the script of standard input
@@ -216,8 +216,8 @@ serve_by name words m (Serve json file) asked found named is =
     rw (plain, none) refl
 serve_by name words m (Run explain file) asked found named is = absurd (is.0 named)
 serve_by name words m (Replay given) asked found named is = absurd (apart (Some (codes "replay")) the_serve (λ e. omega (arith, e)) (sym is ∙ named))
-serve_by name words m (Draw at width file) asked found named is = absurd (apart (Some (codes "draw")) the_serve (λ e. omega (arith, e)) (sym is ∙ named))
-serve_by name words m (Compare first second) asked found named is = absurd (apart (Some (codes "compare")) the_serve (λ e. omega (arith, e)) (sym is ∙ named))
+serve_by name words m (Draw at width quiet file) asked found named is = absurd (apart (Some (codes "draw")) the_serve (λ e. omega (arith, e)) (sym is ∙ named))
+serve_by name words m (Compare given) asked found named is = absurd (apart (Some (codes "compare")) the_serve (λ e. omega (arith, e)) (sym is ∙ named))
 serve_by name words m (Threads queues turns explain) asked found named is = absurd (apart (Some (codes "threads")) the_serve (λ e. omega (arith, e)) (sym is ∙ named))
 
 -- and `serve` alone holds a dialogue in text

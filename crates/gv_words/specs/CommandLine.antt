@@ -43,6 +43,14 @@ list_rule name = record (new_rule name) { value_names = 1; required = true }
 abbrev pub format_rule : Rule
 format_rule = record (new_rule (codes "format")) { long = Some (codes "format"); value_names = 1; required = true }
 
+-- `--format FORMAT`, which may be left out
+abbrev pub log_format_rule : Rule
+log_format_rule = record (new_rule (codes "format")) { long = Some (codes "format"); value_names = 1 }
+
+-- `--space NAME`
+abbrev pub space_rule : Rule
+space_rule = record (new_rule (codes "space")) { long = Some (codes "space"); value_names = 1 }
+
 -- `--at ADDR`, any number of times
 abbrev pub addresses_rule : Rule
 addresses_rule = record (new_rule (codes "at")) { long = Some (codes "at"); value_names = 1; action = Some Append }
@@ -107,19 +115,31 @@ abbrev pub replay_asked : App
 replay_asked = with_rule (with_rule (new_app (codes "replay")) format_rule) addresses_rule
 
 abbrev pub replay_options : App
-replay_options = with_rule (with_rule replay_asked flags_rule) pid_rule
+replay_options = with_rule (with_rule (with_rule replay_asked flags_rule) pid_rule) space_rule
 
 abbrev pub replay_forms : App
 replay_forms = with_flag (with_flag (with_flag replay_options (codes "json")) (codes "script")) (codes "draw")
 
+abbrev pub replay_told : App
+replay_told = with_flag (with_flag replay_forms (codes "all")) (codes "quiet")
+
 abbrev pub replay_line : App
-replay_line = with_rule (with_rule (with_flag replay_forms (codes "all")) width_rule) file_rule
+replay_line = with_rule (with_rule replay_told width_rule) file_rule
+
+abbrev pub draw_options : App
+draw_options = with_rule (with_rule (new_app (codes "draw")) at_rule) width_rule
 
 abbrev pub draw_line : App
-draw_line = with_rule (with_rule (with_rule (new_app (codes "draw")) at_rule) width_rule) file_rule
+draw_line = with_rule (with_flag draw_options (codes "quiet")) file_rule
+
+abbrev pub compare_lists : App
+compare_lists = with_rule (with_rule (new_app (codes "compare")) (list_rule (codes "first"))) (list_rule (codes "second"))
+
+abbrev pub compare_log : App
+compare_log = with_rule (with_rule (with_rule compare_lists log_format_rule) flags_rule) pid_rule
 
 abbrev pub compare_line : App
-compare_line = with_rule (with_rule (new_app (codes "compare")) (list_rule (codes "first"))) (list_rule (codes "second"))
+compare_line = with_flag (with_rule compare_log space_rule) (codes "quiet")
 
 abbrev pub threads_line : App
 threads_line = with_flag (with_rule (with_rule (new_app (codes "threads")) queues_rule) turns_rule) (codes "explain")
@@ -145,8 +165,8 @@ abbrev pub IsTask : Task → Type 0
 IsTask (Run explain file) = Unit {0}
 IsTask (Serve json file) = Unit {0}
 IsTask (Replay words) = Unit {0}
-IsTask (Draw at width file) = Unit {0}
-IsTask (Compare first second) = Unit {0}
+IsTask (Draw at width quiet file) = Unit {0}
+IsTask (Compare words) = Unit {0}
 IsTask (Threads queues turns explain) = IsFromOneTo most_queues queues × IsFromOneTo most_turns turns
 
 -- the subcommand that clap enters on these words
@@ -158,8 +178,8 @@ abbrev pub IsEntered : Option (List ℕ) → Task → Type 0
 IsEntered name (Run explain file) = (name ≢ Some (codes "serve")) × (name ≢ Some (codes "threads"))
 IsEntered name (Serve json file) = name ≡ Some (codes "serve")
 IsEntered name (Replay words) = name ≡ Some (codes "replay")
-IsEntered name (Draw at width file) = name ≡ Some (codes "draw")
-IsEntered name (Compare first second) = name ≡ Some (codes "compare")
+IsEntered name (Draw at width quiet file) = name ≡ Some (codes "draw")
+IsEntered name (Compare words) = name ≡ Some (codes "compare")
 IsEntered name (Threads queues turns explain) = name ≡ Some (codes "threads")
 
 -- the command line refuses nothing of the words, and they enter this subcommand
@@ -201,11 +221,11 @@ IsReplay (Replay words) = Unit {0}
 IsReplay other = ⊥
 
 abbrev pub IsDraw : Task → Type 0
-IsDraw (Draw at width file) = Unit {0}
+IsDraw (Draw at width quiet file) = Unit {0}
 IsDraw other = ⊥
 
 abbrev pub IsCompare : Task → Type 0
-IsCompare (Compare first second) = Unit {0}
+IsCompare (Compare words) = Unit {0}
 IsCompare other = ⊥
 
 abbrev pub words_of : List (String Global) → List (List ℕ)
@@ -235,6 +255,6 @@ IsTaskOf m (Serve json file) =
     (subcommand_name_of m ≡ Some (codes "serve"))
     × ((rows : List Row) → rows_in m ≡ Some rows → IsServeOf rows (Serve json file))
 IsTaskOf m (Replay words) = subcommand_name_of m ≡ Some (codes "replay")
-IsTaskOf m (Draw at width file) = subcommand_name_of m ≡ Some (codes "draw")
-IsTaskOf m (Compare first second) = subcommand_name_of m ≡ Some (codes "compare")
+IsTaskOf m (Draw at width quiet file) = subcommand_name_of m ≡ Some (codes "draw")
+IsTaskOf m (Compare words) = subcommand_name_of m ≡ Some (codes "compare")
 IsTaskOf m (Threads queues turns explain) = subcommand_name_of m ≡ Some (codes "threads")

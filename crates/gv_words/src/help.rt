@@ -72,7 +72,7 @@ pub const REPLAY: &str =
 pub const REPLAY_STATUSES: &str = "\
 Exit statuses:
   0  the log was replayed, whatever was found in it, or help was asked for
-  1  no line of the log is of the format
+  1  no line of the log is of the format, or of the address space
   2  the words of the command line are refused
   3  standard input or standard output failed, or FILE can't be opened or read
   4  the system refused to give memory";
@@ -85,6 +85,15 @@ pub const ADDRESSES: &str = "An address whose past is told, in bytes";
 
 /// What `--flags` says.
 pub const FLAGS: &str = "What flags of amdgpu's events mean: entry or call";
+
+/// What `--format` of a comparison says.
+pub const LOG_FORMAT: &str = "Whose log B is: radv, amdgpu, xe, i915 or gpuvas";
+
+/// What `--space` says.
+pub const SPACE: &str = "The address space that is taken, as a report names it";
+
+/// What `--quiet` says.
+pub const QUIET: &str = "Tells nothing of how far it is";
 
 /// What `--pid` says.
 pub const PID: &str = "The process whose events count";
@@ -121,14 +130,14 @@ pub const AT: &str = "The address around which is drawn, in bytes";
 pub const WIDTH: &str = "How many pixels wide the picture is, 1 to 16384; less than 900 is 900";
 
 /// What `compare` does.
-pub const COMPARE: &str = "Compares two lists of mappings, page by page";
+pub const COMPARE: &str = "Compares two lists of mappings, or one and that of a log, page by page";
 
 /// How `compare` ends.
 pub const COMPARE_STATUSES: &str = "\
 Exit statuses:
   0  the lists are alike, or help was asked for
   1  the lists differ
-  2  the words of the command line are refused, or a list is none
+  2  the words of the command line are refused, a list is none, or a log gives none
   3  standard output failed, or a list can't be opened or read
   4  the system refused to give memory";
 
@@ -255,8 +264,8 @@ one space, and every line ends with a line end. The first bad line ends the run.
 
 Exit statuses:
   0  the script was run to its end, or help or the version was asked for
-  1  the script has a bad line, or is too long; 'vmbind replay' found no line of the format; the lists
-     of 'vmbind compare' differ
+  1  the script has a bad line, or is too long; 'vmbind replay' found no line of the format, or of the
+     address space; the lists of 'vmbind compare' differ
   2  the words of the command line are refused, or a list of 'vmbind compare'
   3  standard input or standard output failed, or a FILE can't be opened or read
   4  the system refused to give memory

@@ -5,9 +5,10 @@ ghost use Rattle.gv_words.specs.CommandLine.{IsEntered, IsFaultOf, IsTask, Names
 ghost use Rattle.gv_words.specs.CommandLine.{IsCompare, IsDraw, IsReplay, IsRunOf, IsServeOf, IsTaskOf, IsThreads};
 ghost use Rattle.gv_words.specs.declared.words.WordsFault.TheVariants as words;
 
+use crate::args::{MAX_QUEUES, MAX_TURNS, MAX_WIDTH};
 use crate::commands::{
-    MAX_QUEUES, MAX_TURNS, MAX_WIDTH, bare_command, compare_command, draw_command, replay_command,
-    run_command, serve_command, threads_command,
+    bare_command, compare_command, draw_command, replay_command, run_command, serve_command,
+    threads_command,
 };
 use clap::error::ErrorKind;
 use clap::{ArgMatches, Command, Error};
@@ -60,13 +61,11 @@ pub enum Task<'a> {
     Draw {
         at: Option<&'a str>,
         width: u64,
+        quiet: bool,
         file: Option<&'a str>,
     },
-    /// Two lists of mappings, in these files, are compared.
-    Compare {
-        first: &'a str,
-        second: &'a str,
-    },
+    /// Two lists of mappings are compared.
+    Compare(CompareWords<'a>),
     /// A threads script is run on so many queues, from 1 to 16. A request that waits is given up after so many turns,
     /// from 1 to 1,000,000,000.
     Threads {
@@ -84,13 +83,31 @@ pub struct ReplayWords<'a> {
     pub at: Vec<&'a str>,
     pub flags: Option<&'a str>,
     pub pid: Option<u64>,
+    /// The address space that is taken.
+    pub space: Option<&'a str>,
     pub all: bool,
+    /// Nothing is told of how far it is.
+    pub quiet: bool,
     pub json: bool,
     pub script: bool,
     pub draw: bool,
     /// How many pixels wide a picture is.
     pub width: u64,
     pub file: Option<&'a str>,
+}
+
+/// What is given behind `compare`: the files of two lists. With a format the second one is a log.
+#[derive(Clone, Copy, Drop)]
+pub struct CompareWords<'a> {
+    pub first: &'a str,
+    pub second: &'a str,
+    pub format: Option<&'a str>,
+    pub flags: Option<&'a str>,
+    pub pid: Option<u64>,
+    /// The address space that is taken.
+    pub space: Option<&'a str>,
+    /// Nothing is told of how far it is.
+    pub quiet: bool,
 }
 
 /// Reads the words, of which the first is the program's name: what they ask for.
@@ -193,7 +210,9 @@ fn replay_of<'a>(alloc: Global, given: &ArgMatches<'a>) -> Result<Task<'a>, Allo
         at,
         flags: given.get_str("flags"),
         pid: given.get_one::<u64>("pid"),
+        space: given.get_str("space"),
         all: given.get_flag("all"),
+        quiet: given.get_flag("quiet"),
         json: given.get_flag("json"),
         script: given.get_flag("script"),
         draw: given.get_flag("draw"),
@@ -209,6 +228,7 @@ fn draw_of<'a>(given: &ArgMatches<'a>) -> Task<'a>
     Task::Draw {
         at: given.get_str("at"),
         width: given.get_one::<u64>("width").unwrap_or(MAX_WIDTH),
+        quiet: given.get_flag("quiet"),
         file: given.get_str("file"),
     }
 }
@@ -217,10 +237,15 @@ fn draw_of<'a>(given: &ArgMatches<'a>) -> Task<'a>
 fn compare_of<'a>(given: &ArgMatches<'a>) -> Task<'a>
     ensures { IsCompare result }
 {
-    Task::Compare {
+    Task::Compare(CompareWords {
         first: given.get_str("first").unwrap_or(""),
         second: given.get_str("second").unwrap_or(""),
-    }
+        format: given.get_str("format"),
+        flags: given.get_str("flags"),
+        pid: given.get_one::<u64>("pid"),
+        space: given.get_str("space"),
+        quiet: given.get_flag("quiet"),
+    })
 }
 
 /// The command line with its first subcommands.

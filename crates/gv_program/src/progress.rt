@@ -1,0 +1,180 @@
+//! How far the reading of a file or of standard input is, told while it lasts.
+ghost use Rattle.std.specs.Prelude.{◌≡◌};
+
+use crate::fault::ProgramFault;
+use crate::files::read_all;
+use gv_text::{ReadFault, Source};
+use std::alloc::Global;
+use std::rt::{Clock, Files};
+use std::{fmt, fs};
+
+/// It is told from so many milliseconds on, and so many apart.
+const FIRST: u64 = 1_000;
+
+const APART: u64 = 500;
+
+/// What takes away a line of a terminal.
+const WIPE: &str = "\r\x1b[K";
+
+/// Who is told how far it is: whoever sits before standard error, if it is a terminal and quiet isn't asked for.
+#[derive(Drop)]
+pub struct Onlooker<'a, R> {
+    rt: &'a R,
+    is_there: bool,
+}
+
+impl<'a, R: Eprint + Clock> Onlooker<'a, R> {
+    pub fn new(rt: &'a R, is_there: bool) -> Onlooker<'a, R> {
+        Onlooker { rt, is_there }
+    }
+
+    /// How many bytes a file has, where it is told and known.
+    pub fn len_of<T: Files>(&self, files: &T, path: &str) -> Option<u64> {
+        if !self.is_there {
+            return None;
+        }
+        let len = fs::metadata(files, path).ok()?.len();
+        (len > 0).then_some(len)
+    }
+
+    /// The same source, of so many bytes where that is known, whose reads are told. It is to be finished.
+    pub fn watch<'s, S: Source>(
+        &self,
+        source: &'s mut S,
+        of: Option<u64>,
+    ) -> Watched<'a, 's, R, S> {
+        let began = if self.is_there {
+            time_of(self.rt)
+        } else {
+            None
+        };
+        Watched {
+            rt: self.rt,
+            source,
+            far: Far {
+                lines: 0,
+                bytes: 0,
+                of,
+                rate: 0,
+            },
+            began,
+            told: None,
+            has_failed: false,
+        }
+    }
+
+    /// All that a source gives, of so many bytes where that is known.
+    pub fn read_all<S: Source>(
+        &self,
+        alloc: Global,
+        source: &mut S,
+        of: Option<u64>,
+    ) -> Result<Vec<u8>, ProgramFault> {
+        let mut watched = self.watch(source, of);
+        let bytes = read_all(alloc, &mut watched);
+        watched.finish();
+        bytes
+    }
+}
+
+/// The milliseconds of a clock, where it can be read.
+fn time_of<R: Clock>(rt: &R) -> Option<u64> {
+    let time = rt.monotonic().ok()?;
+    let whole = time.as_secs().saturating_mul(1_000);
+    Some(whole.saturating_add(u64::from(time.subsec_millis())))
+}
+
+/// How far it is: the lines and bytes that were read, of how many bytes where that is known, and the lines a second.
+#[derive(Clone, Copy, Debug, Drop, PartialEq, Eq)]
+struct Far {
+    lines: u64,
+    bytes: u64,
+    of: Option<u64>,
+    rate: u64,
+}
+
+impl fmt::Display for Far {
+    fn fmt<W: fmt::Write>(&self, f: &mut fmt::Formatter<W>) -> fmt::Result {
+        let (lines, bytes, rate) = (self.lines, self.bytes, self.rate);
+        write!(f, "{WIPE}{lines} lines, {bytes} ")?;
+        if let Some(of) = self.of {
+            write!(f, "of {of} ")?;
+        }
+        write!(f, "bytes, {rate} lines a second")
+    }
+}
+
+/// A source whose reads are told. Where nobody is there, the clock isn't read.
+#[derive(Drop)]
+pub struct Watched<'a, 's, R, S> {
+    rt: &'a R,
+    source: &'s mut S,
+    far: Far,
+    /// When the first read began, if it is told, and when it was told last.
+    began: Option<u64>,
+    told: Option<u64>,
+    has_failed: bool,
+}
+
+impl<'a, 's, R: Eprint + Clock, S: Source> Watched<'a, 's, R, S> {
+    /// Takes away what was told.
+    pub fn finish(self) {
+        if self.told.is_some() {
+            let _ = self.rt.eprint(WIPE);
+        }
+    }
+
+    /// Counts what was read.
+    fn count(&mut self, bytes: &[u8])
+        ensures { self.new.has_failed ≡ self.old.has_failed }
+    {
+        let lines = bytes.iter().filter(|byte| **byte == b'\n').count() as u64;
+        self.far.lines = self.far.lines.saturating_add(lines);
+        self.far.bytes = self.far.bytes.saturating_add(bytes.len() as u64);
+    }
+
+    /// Tells how far it is, if it is time.
+    fn tell(&mut self, began: u64)
+        ensures { self.new.has_failed ≡ self.old.has_failed }
+    {
+        let Some(now) = time_of(self.rt) else {
+            return;
+        };
+        let passed = now.saturating_sub(began);
+        let is_early = match self.told {
+            Some(told) => now.saturating_sub(told) < APART,
+            None => passed < FIRST,
+        };
+        if is_early {
+            return;
+        }
+        let lines = self.far.lines.saturating_mul(1_000);
+        self.far.rate = lines.checked_div(passed).unwrap_or(0);
+        self.told = Some(now);
+        let _ = self.rt.eprint(self.far);
+    }
+}
+
+impl<'a, 's, R: Eprint + Clock, S: Source> Source for Watched<'a, 's, R, S> {
+    ghost use Rattle.std.specs.Prelude.{None, Unit};
+
+    ghost remaining = { λ _. None };
+
+    ghost failed = { λ source. source.has_failed };
+
+    ghost reads = { λ _. 0 };
+
+    ghost fails = { λ _ _. Unit {0} };
+
+    fn read(&mut self, buffer: &mut [u8]) -> Result<usize, ReadFault> {
+        let Ok(count) = self.source.read(buffer) else {
+            self.has_failed = true;
+            return Err(ReadFault);
+        };
+        if let Some(began) = self.began {
+            self.count(buffer.get(..count).unwrap_or(&[]));
+            self.tell(began);
+        }
+        Ok(count)
+    }
+}
