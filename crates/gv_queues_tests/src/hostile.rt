@@ -186,3 +186,49 @@ const TAKEN_BACK: Row = Row {
 fn driver_takes_entries_back_meanwhile(rt: HostRuntime) -> Result<(), Fail> {
     play(&rt, rt.alloc(), &TAKEN_BACK)
 }
+
+/// Two requests are told, and the driver lets their outcomes go under the lock of the workers once no entry holds them. The third is
+/// told its own number, and all three are counted at the end.
+const FORGOTTEN: Row = Row {
+    turns: 1,
+    holds: false,
+    setting: Setting {
+        limits: FULL,
+        count: 1,
+        depth: 2,
+        steps: &[
+            Step::Put(Put(0, NOUGHT, Ok(0))),
+            Step::Put(Put(0, FOUR, Ok(1))),
+            Step::AwaitTold { outcomes: 2 },
+            Step::Rewind { number: Ok(1) },
+            Step::Forget {
+                to: 2,
+                count: Err(Fault::Held { by: 0 }),
+            },
+            Step::Rewind { number: Ok(0) },
+            Step::Forget {
+                to: 3,
+                count: Err(Fault::NoOutcome),
+            },
+            Step::Forget {
+                to: 2,
+                count: Ok(2),
+            },
+            Step::Put(Put(0, TWO, Ok(2))),
+            Step::AwaitTold { outcomes: 3 },
+        ],
+    },
+    wanted: Wanted {
+        told: [&[Outcome::Accepted { entry: 0 }], &[]],
+        entries: &[Kept(0, 2, TWO)],
+        mappings: 1,
+        zeros: &[2 * PAGE_BYTES],
+        nowhere: &[0, 4 * PAGE_BYTES],
+        numbers: [0, 0],
+    },
+};
+
+#[test]
+fn driver_forgets_outcomes_meanwhile(rt: HostRuntime) -> Result<(), Fail> {
+    play(&rt, rt.alloc(), &FORGOTTEN)
+}

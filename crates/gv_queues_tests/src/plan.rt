@@ -182,6 +182,7 @@ impl Stage<'_> {
                 self.lock.lock(rt).withdraw(self.alloc, *entry) == *number
             }
             Step::Rewind { number } => self.lock.lock(rt).rewind() == *number,
+            Step::Forget { to, count } => self.lock.lock(rt).forget(0, *to) == *count,
             Step::Replace { told } => self.replace(rt, *told),
             Step::Look { addr, zeros } => { is_wanted(self.lock.lock(rt).translate(*addr), *zeros) }
             Step::Put(_) | Step::Raise { .. } => false,
@@ -201,9 +202,9 @@ impl Stage<'_> {
         true
     }
 
-    fn await_told<R: Wait>(&self, rt: &R, outcomes: usize) -> bool {
+    fn await_told<R: Wait>(&self, rt: &R, outcomes: u64) -> bool {
         for _ in 0..TURNS {
-            if self.lock.lock(rt).told(0).len() >= outcomes {
+            if self.lock.lock(rt).told_next(0) >= outcomes {
                 return true;
             }
             thread::yield_now();

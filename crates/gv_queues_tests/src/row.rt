@@ -59,9 +59,9 @@ pub enum Step {
     },
     /// Waits until the gate was asked for queue 0.
     AwaitAsked,
-    /// Waits until queue 0 was told so many outcomes.
+    /// Waits until queue 0 was told so many outcomes, forgotten or not.
     AwaitTold {
-        outcomes: usize,
+        outcomes: u64,
     },
     /// Withdraws an entry, under the lock.
     Withdraw {
@@ -71,6 +71,11 @@ pub enum Step {
     /// Takes the newest entry back, under the lock.
     Rewind {
         number: Result<u64, Fault>,
+    },
+    /// Lets the outcomes of queue 0 below a number go, under the lock.
+    Forget {
+        to: u64,
+        count: Result<u64, Fault>,
     },
     /// Puts a new address space in the place of the one under the lock. Each of its queues may be told so many outcomes.
     Replace {
@@ -99,7 +104,7 @@ pub struct Kept(pub u64, pub u64, pub Sent);
 
 /// What is wanted of the address space and of the timelines at the end.
 pub struct Wanted {
-    /// What queues 0 and 1 are told.
+    /// What queues 0 and 1 are told, but for what is forgotten.
     pub told: [&'static [Outcome]; 2],
     /// The entries, the oldest first.
     pub entries: &'static [Kept],

@@ -88,7 +88,7 @@ impl Ran<'_> {
         if queue >= QUEUES as u64 {
             return false;
         }
-        let told = self.vm.told(queue).len() as u64;
+        let told = self.vm.told_next(queue);
         let put = self.plan.count(queue);
         end.told == told
             && end.put == put
