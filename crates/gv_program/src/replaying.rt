@@ -196,7 +196,8 @@ impl<'a, 'r, R: Eprint + Clock> Telling<'a, 'r, R> {
 /// In which form a log is told, if it isn't drawn. No two forms go together.
 fn form_of(asked: &ReplayWords<'_>) -> Result<Form, ProgramFault> {
     match (asked.json, asked.script, asked.draw) {
-        (false, false, _) => Ok(Form::Report),
+        (false, false, false) => Ok(Form::Report),
+        (false, false, true) => Ok(Form::Watched),
         (true, false, false) => Ok(Form::Json),
         (false, true, false) => Ok(Form::Script),
         _ => Err(ProgramFault::TwoForms),

@@ -33,6 +33,16 @@ pub struct AmdgpuLine {
     pub event: AmdgpuEvent,
 }
 
+impl AmdgpuEvent {
+    /// Whether it tells of a mapping, and not of an object alone.
+    pub fn is_of_mapping(&self) -> bool {
+        match self {
+            AmdgpuEvent::Mapped { .. } | AmdgpuEvent::Unmapped { .. } => true,
+            AmdgpuEvent::Made { .. } => false,
+        }
+    }
+}
+
 impl AmdgpuLine {
     /// The event that a text is, if it is one of those that make, map or unmap.
     pub fn parse(text: &[u8]) -> Option<AmdgpuLine> {

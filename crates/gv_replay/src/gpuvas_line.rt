@@ -2,18 +2,21 @@
 
 use crate::cursor::Cursor;
 
+/// A mapping, in bytes. An object of 0 is none: the mapping is sparse.
+#[derive(Clone, Copy, Debug, PartialEq, Eq)]
+pub struct GpuvasRow {
+    pub start: u64,
+    pub len: u64,
+    pub object: u64,
+    pub offset: u64,
+}
+
 /// A line of the list.
 #[derive(Clone, Copy, Debug, PartialEq, Eq)]
 pub enum GpuvasLine {
     /// The head of an address space.
     Head,
-    /// A mapping, in bytes. An object of 0 is none: the mapping is sparse.
-    Mapping {
-        start: u64,
-        len: u64,
-        object: u64,
-        offset: u64,
-    },
+    Mapping(GpuvasRow),
 }
 
 impl GpuvasLine {
@@ -28,12 +31,15 @@ impl GpuvasLine {
         let end = cell(&mut cursor)?;
         let object = cell(&mut cursor)?;
         let offset = cell(&mut cursor)?;
-        (start.checked_add(len) == Some(end) && cursor.is_done()).then_some(GpuvasLine::Mapping {
+        let row = GpuvasRow {
             start,
             len,
             object,
             offset,
-        })
+        };
+        (start.checked_add(len) == Some(end) && cursor.is_done()).then_some(GpuvasLine::Mapping(
+            row,
+        ))
     }
 }
 

@@ -4,6 +4,7 @@ use crate::alive::Alive;
 use crate::json_place::JsonWriter;
 use crate::outcome::Outcome;
 use crate::past::{Before, Past};
+use crate::space_name::SpaceName;
 use crate::spaces::SpaceOutcome;
 use crate::tally::{Finding, Tally};
 use std::alloc::{AllocError, Global};
@@ -41,7 +42,7 @@ fn write_spaces(writer: &mut JsonWriter, spaces: &[SpaceOutcome]) -> Result<(), 
 /// What a space came to, behind its name.
 fn write_space(writer: &mut JsonWriter, space: &SpaceOutcome) -> Result<(), AllocError> {
     writer.json.open_object()?;
-    writer.json.address("space", space.number)?;
+    write_name(writer, space.name)?;
     write_outcome(writer, &space.outcome)?;
     writer.json.close_object()
 }
@@ -53,11 +54,21 @@ fn write_others(writer: &mut JsonWriter, spaces: &[SpaceOutcome]) -> Result<(), 
     for space in spaces {
         if !space.outcome.has_news() {
             writer.json.open_object()?;
-            writer.json.address("space", space.number)?;
+            write_name(writer, space.name)?;
             writer.json.close_object()?;
         }
     }
     writer.json.close_list()
+}
+
+/// The member that names a space: its word, and its number.
+fn write_name(writer: &mut JsonWriter, name: SpaceName) -> Result<(), AllocError> {
+    match name {
+        SpaceName::Numbered(number) => writer.json.address(name.word(), number),
+        SpaceName::Process(number) | SpaceName::Head(number) => {
+            writer.json.number(name.word(), number)
+        }
+    }
 }
 
 /// The members of an outcome.

@@ -32,10 +32,11 @@ impl Object {
     }
 }
 
-/// The objects that came up, by their pointers.
+/// The objects that came up in an address space, by their pointers, and the space's number where several are told apart.
 #[derive(Drop)]
 pub struct Mapper {
     objects: Objects<Object>,
+    space: Option<u64>,
 }
 
 /// What is to be mapped, in bytes.
@@ -49,9 +50,10 @@ pub struct Part {
 }
 
 impl Mapper {
-    pub fn new(alloc: Global) -> Mapper {
+    pub fn new(alloc: Global, space: Option<u64>) -> Mapper {
         Mapper {
             objects: Objects::new(alloc),
+            space,
         }
     }
 
@@ -226,7 +228,7 @@ impl Mapper {
         terms: &Terms<'_>,
     ) -> Result<usize, ReplayFault> {
         let pages = match terms.sizes {
-            Some(sizes) => sizes.pages(self.objects.len()),
+            Some(sizes) => sizes.pages(self.space, self.objects.len()),
             None => BUFFER_PAGES,
         };
         let object = Object {

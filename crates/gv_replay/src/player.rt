@@ -1,31 +1,23 @@
 //! The lines of a log, carried out one after another.
 
 use crate::amdgpu_line::AmdgpuLine;
-use crate::binder::Binder;
 use crate::chosen::Chosen;
 use crate::fault::ReplayFault;
 use crate::gpuvas_line::GpuvasLine;
 use crate::left::Left;
 use crate::line_reader::{Found, LineReader};
-use crate::mapper::{Mapper, Part};
-use crate::radv::Radv;
+use crate::playing::Playing;
 use crate::radv_line::RadvLine;
-use crate::replaying::Replay;
-use crate::row::Moment;
 use crate::terms::{Form, Format, Terms};
 use crate::vma_line::{VmaDriver, VmaLine};
 use crate::watcher::Watcher;
 use gv_text::Source;
-use gv_types::Flags;
 use std::alloc::Global;
 
-/// A replay, and what its format knows of the lines so far. It has to be ended: it isn't `Drop`.
+/// The replay of one address space, whose it is, and how many heads there were. It has to be ended: it isn't `Drop`.
 struct Player {
-    replay: Replay,
-    radv: Radv,
-    mapper: Mapper,
+    playing: Playing,
     chosen: Chosen,
-    binder: Binder,
     heads: u64,
 }
 
@@ -40,23 +32,17 @@ pub fn play<R: Source, V: Watcher>(
     let mut lines = LineReader::new(alloc)?;
     let chosen = Chosen::new(terms)?;
     let mut player = Player {
-        replay: Replay::new(alloc, terms.all)?,
-        radv: Radv::new(alloc),
-        mapper: Mapper::new(alloc),
+        playing: Playing::new(alloc, terms.all, None)?,
         chosen,
-        binder: Binder::new(alloc),
         heads: 0,
     };
     let played = player.take_all(alloc, reader, &mut lines, terms, watcher);
     let Player {
-        replay,
-        radv: _,
-        mapper: _,
+        playing,
         chosen,
-        binder: _,
         heads: _,
     } = player;
-    let left = replay.end();
+    let left = playing.end();
     match played {
         Ok(()) if left.tally.lines == 0 => Err(closed(left, ReplayFault::NoLine)),
         Ok(()) if chosen.is_missing() => Err(closed(left, ReplayFault::NoSpace)),
@@ -90,7 +76,7 @@ impl Player {
                 Found::End => return Ok(()),
             };
             if !is_done {
-                self.replay.tally.pass_over();
+                self.playing.replay.tally.pass_over();
             }
         }
         Ok(())
@@ -136,9 +122,8 @@ impl Player {
         let Some(line) = line else {
             return Ok(false);
         };
-        self.replay.tally.count_line();
-        self.radv
-            .take(alloc, &mut self.replay, (number, &line), watcher)?;
+        self.playing.replay.tally.count_line();
+        self.playing.take_radv(alloc, (number, &line), watcher)?;
         Ok(true)
     }
 
@@ -152,19 +137,15 @@ impl Player {
         let (number, Some(line)) = line else {
             return Ok(false);
         };
-        self.replay.tally.count_line();
+        self.playing.replay.tally.count_line();
         if !line.head.is_of(terms.pid) {
             return Ok(false);
         }
         if let Some(process) = line.head.process {
             self.chosen.meet(process);
         }
-        let moment = Moment {
-            line: number,
-            time: line.head.time,
-        };
-        self.mapper
-            .take(alloc, &mut self.replay, (moment, &line), terms, watcher)?;
+        self.playing
+            .take_event(alloc, (number, &line), terms, watcher)?;
         Ok(true)
     }
 
@@ -179,16 +160,11 @@ impl Player {
         let (number, Some(line)) = line else {
             return Ok(false);
         };
-        self.replay.tally.count_line();
+        self.playing.replay.tally.count_line();
         if !self.chosen.takes(&line, terms.pid) {
             return Ok(false);
         }
-        let moment = Moment {
-            line: number,
-            time: line.head.time,
-        };
-        self.binder
-            .take(alloc, &mut self.replay, (moment, &line.event), watcher)?;
+        self.playing.take_vma(alloc, (number, &line), watcher)?;
         Ok(true)
     }
 
@@ -203,33 +179,16 @@ impl Player {
         let (number, Some(line)) = line else {
             return Ok(false);
         };
-        self.replay.tally.count_line();
-        let GpuvasLine::Mapping {
-            start,
-            len,
-            object,
-            offset,
-        } = line
-        else {
+        self.playing.replay.tally.count_line();
+        let GpuvasLine::Mapping(row) = line else {
             self.heads = self.heads.saturating_add(1);
             return Ok(self.chosen.takes_head(self.heads));
         };
         if !self.chosen.takes_rows(self.heads.max(1)) {
             return Ok(false);
         }
-        let moment = Moment {
-            line: number,
-            time: None,
-        };
-        let part = Part {
-            start,
-            len,
-            object,
-            offset,
-            flags: Flags { read_only: false },
-        };
-        self.mapper
-            .map(alloc, &mut self.replay, (moment, part), terms, watcher)?;
+        self.playing
+            .take_row(alloc, (number, &row), terms, watcher)?;
         Ok(true)
     }
 }

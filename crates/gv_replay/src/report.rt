@@ -24,8 +24,10 @@ pub fn write_report(out: &mut String, spaces: &[SpaceOutcome]) -> Result<(), All
     }
     for space in spaces {
         if space.outcome.has_news() {
-            let number = space.number;
-            writeln!(out, "space 0x{number:x}:")?;
+            let word = space.name.word();
+            write!(out, "{word} ")?;
+            space.name.write(out)?;
+            out.push_str(":\n")?;
             write_outcome(out, &space.outcome)?;
         }
     }
@@ -34,15 +36,21 @@ pub fn write_report(out: &mut String, spaces: &[SpaceOutcome]) -> Result<(), All
 
 /// Writes the names of the spaces that have nothing to tell, if there are any.
 fn write_others(out: &mut String, spaces: &[SpaceOutcome]) -> Result<(), AllocError> {
-    let mut before = "nothing found in space ";
+    let mut is_first = true;
     for space in spaces {
-        if !space.outcome.has_news() {
-            let number = space.number;
-            write!(out, "{before}0x{number:x}")?;
-            before = ", ";
+        if space.outcome.has_news() {
+            continue;
         }
+        if is_first {
+            let word = space.name.word();
+            write!(out, "nothing found in {word} ")?;
+        } else {
+            out.push_str(", ")?;
+        }
+        space.name.write(out)?;
+        is_first = false;
     }
-    if before == ", " {
+    if !is_first {
         out.push_str("\n")?;
     }
     Ok(())

@@ -7,6 +7,7 @@ use crate::outcome::Outcome;
 use crate::player::play;
 use crate::report::write_report;
 use crate::script::ScriptWriter;
+use crate::space_name::SpaceName;
 use crate::spaces::{SpaceOutcome, play_each};
 use crate::terms::{Form, Terms};
 use crate::watcher::{Nobody, Watcher};
@@ -26,6 +27,7 @@ pub fn replay<R: Source, W: Sink>(
     let mut report = String::new(alloc);
     match terms.form {
         Form::Script => return write_script(alloc, reader, writer, terms),
+        Form::Watched => return watch(alloc, reader, terms, &mut Nobody),
         Form::Json => {
             let spaces = outcomes_of(alloc, reader, terms)?;
             write_json(alloc, &mut report, &spaces)?;
@@ -46,13 +48,14 @@ fn outcomes_of<R: Source>(
     reader: &mut R,
     terms: &Terms<'_>,
 ) -> Result<Vec<SpaceOutcome>, ReplayFault> {
-    if let Some(driver) = terms.driver_of_each() {
-        return play_each(alloc, reader, driver, terms);
+    if terms.tells_each() {
+        return play_each(alloc, reader, terms);
     }
     let left = play(alloc, reader, terms, &mut Nobody)?;
     let outcome = Outcome::of(alloc, left, terms)?;
     let mut spaces = Vec::new(alloc);
-    spaces.push(SpaceOutcome { number: 0, outcome })?;
+    let name = SpaceName::of(terms.format, 0);
+    spaces.push(SpaceOutcome { name, outcome })?;
     Ok(spaces)
 }
 

@@ -10,18 +10,39 @@ use crate::terms::{Format, Terms};
 use gv_text::Source;
 use gv_types::{BUFFER_PAGES, PAGE_BYTES};
 use std::alloc::{AllocError, Global};
+use std::collections::HashMap;
 
 /// How many pages each object of a log has, in the order in which they come up: what the line says that makes it, and else the
-/// greatest end of its mappings.
+/// greatest end of its mappings. Where the address spaces of a log are told apart, those of each.
 #[derive(Drop)]
 pub struct Sizes {
-    pages: Vec<u64>,
+    one: Vec<u64>,
+    places: HashMap<u64, usize>,
+    each: Vec<Vec<u64>>,
 }
 
 impl Sizes {
-    /// How many pages the object at a place has. A log that was changed meanwhile may have more of them.
-    pub fn pages(&self, index: usize) -> u64 {
-        self.pages.get(index).copied().unwrap_or(BUFFER_PAGES)
+    /// How many pages the object at a place has, in the address space of this number, or in the only one. A log that was changed
+    /// meanwhile may have more of them.
+    pub fn pages(&self, space: Option<u64>, index: usize) -> u64 {
+        let known = match space {
+            Some(number) => self.of_space(number),
+            None => Some(&self.one),
+        };
+        match known {
+            Some(pages) => pages.get(index).copied().unwrap_or(BUFFER_PAGES),
+            None => BUFFER_PAGES,
+        }
+    }
+
+    fn of_space(&self, number: u64) -> Option<&Vec<u64>> {
+        let place = self.places.get(&number).copied()?;
+        self.each.get(place)
+    }
+
+    /// Whether the address spaces of the log are told apart.
+    pub fn are_of_each(&self) -> bool {
+        !self.each.is_empty()
     }
 }
 
@@ -32,12 +53,16 @@ struct Size {
     is_said: bool,
 }
 
-/// Objects so far, how many heads there were, and whose rows are taken.
+/// Objects so far, of all address spaces and of each, how many heads there were, whose rows are taken, and whether each line so far tells
+/// its address space.
 #[derive(Drop)]
 struct Measured {
-    objects: Objects<Size>,
+    one: Objects<Size>,
+    places: HashMap<u64, usize>,
+    each: Vec<Objects<Size>>,
     heads: u64,
     chosen: Chosen,
+    are_apart: bool,
 }
 
 /// Reads a log for the sizes of its objects. It is to be read again for the replay.
@@ -48,72 +73,132 @@ pub fn measure<R: Source>(
 ) -> Result<Sizes, ReplayFault> {
     let mut lines = LineReader::new(alloc)?;
     let mut measured = Measured {
-        objects: Objects::new(alloc),
+        one: Objects::new(alloc),
+        places: HashMap::new(alloc),
+        each: Vec::new(alloc),
         heads: 0,
         chosen: Chosen::new(terms)?,
+        are_apart: terms.takes_each(),
     };
     for _lines in 0..u64::MAX {
         match lines.find_next(reader)? {
-            Found::Line => measured.take(lines.line(), terms)?,
+            Found::Line => measured.take(alloc, lines.line(), terms)?,
             Found::TooLong => {}
             Found::End => break,
         }
     }
-    let Measured {
-        objects,
-        heads: _,
-        chosen: _,
-    } = measured;
+    Ok(measured.end(alloc)?)
+}
+
+/// The pages of objects.
+fn pages_of(alloc: Global, objects: Objects<Size>) -> Result<Vec<u64>, AllocError> {
     let mut pages = Vec::new(alloc);
     for size in objects.into_known() {
         pages.push(size.pages)?;
     }
-    Ok(Sizes { pages })
+    Ok(pages)
 }
 
 impl Measured {
-    fn take(&mut self, line: &[u8], terms: &Terms<'_>) -> Result<(), AllocError> {
+    fn take(&mut self, alloc: Global, line: &[u8], terms: &Terms<'_>) -> Result<(), AllocError> {
         match terms.format {
             Format::Radv | Format::Xe | Format::I915 => Ok(()),
             Format::Amdgpu => match AmdgpuLine::parse(line) {
-                Some(line) if line.head.is_of(terms.pid) => self.take_event(&line),
+                Some(line) if line.head.is_of(terms.pid) => self.take_event(alloc, &line),
                 _ => Ok(()),
             },
-            Format::Gpuvas => self.take_row(GpuvasLine::parse(line)),
+            Format::Gpuvas => self.take_row(alloc, GpuvasLine::parse(line)),
         }
     }
 
-    fn take_event(&mut self, line: &AmdgpuLine) -> Result<(), AllocError> {
+    /// An event, which is of one space if it doesn't tell its process: then all are.
+    fn take_event(&mut self, alloc: Global, line: &AmdgpuLine) -> Result<(), AllocError> {
+        self.one.take(line)?;
+        let Some(process) = line.head.process else {
+            self.are_apart = false;
+            return Ok(());
+        };
+        if !self.are_apart {
+            return Ok(());
+        }
+        let place = self.place_of(alloc, process)?;
+        match self.each.get_mut(place) {
+            Some(objects) => objects.take(line),
+            None => Ok(()),
+        }
+    }
+
+    /// A row of an address space that is taken.
+    fn take_row(&mut self, alloc: Global, line: Option<GpuvasLine>) -> Result<(), AllocError> {
+        let row = match line {
+            Some(GpuvasLine::Mapping(row)) => row,
+            Some(GpuvasLine::Head) => {
+                self.heads = self.heads.saturating_add(1);
+                return Ok(());
+            }
+            None => return Ok(()),
+        };
+        let number = self.heads.max(1);
+        if self.are_apart {
+            let place = self.place_of(alloc, number)?;
+            if let Some(objects) = self.each.get_mut(place) {
+                return objects.reach(row.object, row.offset, row.len);
+            }
+        } else if self.chosen.takes_rows(number) {
+            return self.one.reach(row.object, row.offset, row.len);
+        }
+        Ok(())
+    }
+
+    /// The place of an address space, which comes up where it isn't known.
+    fn place_of(&mut self, alloc: Global, number: u64) -> Result<usize, AllocError> {
+        if let Some(place) = self.places.get(&number).copied() {
+            return Ok(place);
+        }
+        let place = self.each.len();
+        self.each.reserve(1)?;
+        let _none = self.places.insert(number, place)?;
+        self.each.push_reserved(Objects::new(alloc));
+        Ok(place)
+    }
+
+    fn end(self, alloc: Global) -> Result<Sizes, AllocError> {
+        let Measured {
+            one,
+            places,
+            each,
+            heads: _,
+            chosen: _,
+            are_apart,
+        } = self;
+        let mut pages = Vec::new(alloc);
+        if are_apart {
+            for objects in each {
+                pages.push(pages_of(alloc, objects)?)?;
+            }
+        }
+        Ok(Sizes {
+            one: pages_of(alloc, one)?,
+            places,
+            each: pages,
+        })
+    }
+}
+
+impl Objects<Size> {
+    /// An event of an object.
+    fn take(&mut self, line: &AmdgpuLine) -> Result<(), AllocError> {
         match line.event {
             AmdgpuEvent::Made { pages } => {
                 let size = Size {
                     pages,
                     is_said: true,
                 };
-                let _index = self.objects.add(line.object, size)?;
+                let _index = self.add(line.object, size)?;
                 Ok(())
             }
             AmdgpuEvent::Mapped { len, offset, .. } => self.reach(line.object, offset, len),
             AmdgpuEvent::Unmapped { .. } => Ok(()),
-        }
-    }
-
-    /// A row of the address space that is taken.
-    fn take_row(&mut self, line: Option<GpuvasLine>) -> Result<(), AllocError> {
-        match line {
-            Some(GpuvasLine::Head) => {
-                self.heads = self.heads.saturating_add(1);
-                Ok(())
-            }
-            Some(
-                GpuvasLine::Mapping {
-                    len,
-                    object,
-                    offset,
-                    ..
-                },
-            ) if self.chosen.takes_rows(self.heads.max(1)) => self.reach(object, offset, len),
-            _ => Ok(()),
         }
     }
 
@@ -124,17 +209,17 @@ impl Measured {
         }
         let end = offset.saturating_add(len).div_ceil(PAGE_BYTES);
         let pages = end.min(BUFFER_PAGES);
-        let Some(index) = self.objects.index_of(pointer) else {
+        let Some(index) = self.index_of(pointer) else {
             let size = Size {
                 pages,
                 is_said: false,
             };
-            let _index = self.objects.add(pointer, size)?;
+            let _index = self.add(pointer, size)?;
             return Ok(());
         };
-        match self.objects.get(index).copied() {
+        match self.get(index).copied() {
             Some(size) if !size.is_said && size.pages < pages => {
-                self.objects.set(
+                self.set(
                     index,
                     Size {
                         pages,

@@ -1,50 +1,51 @@
 //! The lines of a log of several address spaces, each of which has a replay of its own.
 
-use crate::binder::Binder;
+use crate::amdgpu_line::AmdgpuLine;
 use crate::fault::ReplayFault;
+use crate::gpuvas_line::GpuvasLine;
 use crate::left::Left;
 use crate::line_reader::{Found, LineReader};
 use crate::outcome::Outcome;
-use crate::replaying::Replay;
-use crate::row::Moment;
-use crate::terms::Terms;
+use crate::playing::Playing;
+use crate::space_name::SpaceName;
+use crate::terms::{Format, Terms};
 use crate::vma_line::{VmaDriver, VmaLine};
 use crate::watcher::Nobody;
 use gv_text::Source;
-use std::alloc::{AllocError, Global};
+use std::alloc::Global;
 use std::collections::HashMap;
 
-/// An address space: its number, its replay, the VMAs that are bound in it, and how many lines are of it. It has to be ended: it isn't
-/// `Drop`.
+/// An address space: its name, its replay, how many lines are of it, and whether one of them tells what is mapped. It has to be ended:
+/// it isn't `Drop`.
 struct OneSpace {
-    number: u64,
-    replay: Replay,
-    binder: Binder,
+    name: SpaceName,
+    playing: Playing,
     taken: u64,
+    has_begun: bool,
 }
 
-/// The address spaces of a log in the order in which a VMA of them came up, and where each stands. They have to be ended.
+/// The address spaces of a log in the order in which they came up, and where each stands. They have to be ended.
 struct Spaces {
     places: HashMap<u64, usize>,
     all: Vec<OneSpace>,
-    /// Lines of the format, and all lines.
+    /// Lines of the format, heads of a list, and all lines.
     lines: u64,
+    heads: u64,
     read: u64,
 }
 
-/// What an address space came to, by its number.
+/// What an address space came to.
 #[derive(Drop)]
 pub struct SpaceOutcome {
-    pub number: u64,
+    pub name: SpaceName,
     pub outcome: Outcome,
 }
 
-/// Carries out all lines of a log, each in its own address space: what each of these came to, at least one, in the order in
-/// which a VMA of them came up. `NoLine` where no line is of the format.
+/// Carries out all lines of a log, each in its own address space: what each came to in which a line tells what is mapped, at least one, in
+/// the order in which they came up. `NoLine` where no line is of the format.
 pub fn play_each<R: Source>(
     alloc: Global,
     reader: &mut R,
-    driver: VmaDriver,
     terms: &Terms<'_>,
 ) -> Result<Vec<SpaceOutcome>, ReplayFault> {
     let mut lines = LineReader::new(alloc)?;
@@ -52,9 +53,10 @@ pub fn play_each<R: Source>(
         places: HashMap::new(alloc),
         all: Vec::new(alloc),
         lines: 0,
+        heads: 0,
         read: 0,
     };
-    let played = spaces.take_all(alloc, reader, &mut lines, driver, terms);
+    let played = spaces.take_all(alloc, reader, &mut lines, terms);
     spaces.end(alloc, terms, played)
 }
 
@@ -64,15 +66,11 @@ impl Spaces {
         alloc: Global,
         reader: &mut R,
         lines: &mut LineReader,
-        driver: VmaDriver,
         terms: &Terms<'_>,
     ) -> Result<(), ReplayFault> {
         for number in 1..u64::MAX {
             match lines.find_next(reader)? {
-                Found::Line => {
-                    let line = VmaLine::parse(lines.line(), driver);
-                    self.take(alloc, (number, line), terms)?;
-                }
+                Found::Line => self.take(alloc, (number, lines.line()), terms)?,
                 Found::TooLong => {}
                 Found::End => break,
             }
@@ -87,8 +85,31 @@ impl Spaces {
         Ok(())
     }
 
-    /// Carries out a line in its space. Before a VMA of a space came up its lines do nothing.
+    /// Carries out a line in its space.
     fn take(
+        &mut self,
+        alloc: Global,
+        line: (u64, &[u8]),
+        terms: &Terms<'_>,
+    ) -> Result<(), ReplayFault> {
+        let (number, text) = line;
+        match terms.format {
+            Format::Radv => Ok(()),
+            Format::Xe => {
+                let event = (number, VmaLine::parse(text, VmaDriver::Xe));
+                self.take_vma(alloc, event, terms)
+            }
+            Format::I915 => {
+                let event = (number, VmaLine::parse(text, VmaDriver::I915));
+                self.take_vma(alloc, event, terms)
+            }
+            Format::Amdgpu => self.take_event(alloc, (number, AmdgpuLine::parse(text)), terms),
+            Format::Gpuvas => self.take_row(alloc, (number, GpuvasLine::parse(text)), terms),
+        }
+    }
+
+    /// Before a VMA of a space came up its lines do nothing.
+    fn take_vma(
         &mut self,
         alloc: Global,
         line: (u64, Option<VmaLine>),
@@ -98,23 +119,80 @@ impl Spaces {
             return Ok(());
         };
         self.lines = self.lines.saturating_add(1);
-        let place = match self.places.get(&line.space).copied() {
-            Some(place) => place,
-            None if line.event.is_of_vma() => self.add(alloc, line.space, terms)?,
-            None => return Ok(()),
-        };
+        if !line.event.is_of_vma() && !self.places.contains_key(&line.space) {
+            return Ok(());
+        }
+        let place = self.place_of(alloc, line.space, terms)?;
         let Some(space) = self.all.get_mut(place) else {
             return Ok(());
         };
-        space.taken = space.taken.saturating_add(1);
-        let moment = Moment {
-            line: number,
-            time: line.head.time,
+        space.count_line(true);
+        space.playing.take_vma(alloc, (number, &line), &mut Nobody)
+    }
+
+    /// An event of a process, whose space begins with the first one of a mapping: those before tell sizes alone.
+    fn take_event(
+        &mut self,
+        alloc: Global,
+        line: (u64, Option<AmdgpuLine>),
+        terms: &Terms<'_>,
+    ) -> Result<(), ReplayFault> {
+        let (number, Some(line)) = line else {
+            return Ok(());
         };
-        let event = (moment, &line.event);
+        self.lines = self.lines.saturating_add(1);
+        let process = line.head.process.unwrap_or(0);
+        let place = self.place_of(alloc, process, terms)?;
+        let Some(space) = self.all.get_mut(place) else {
+            return Ok(());
+        };
+        space.count_line(line.event.is_of_mapping());
         space
-            .binder
-            .take(alloc, &mut space.replay, event, &mut Nobody)
+            .playing
+            .take_event(alloc, (number, &line), terms, &mut Nobody)
+    }
+
+    /// A row is of the head before it, which counts as a line of the space.
+    fn take_row(
+        &mut self,
+        alloc: Global,
+        line: (u64, Option<GpuvasLine>),
+        terms: &Terms<'_>,
+    ) -> Result<(), ReplayFault> {
+        let (number, Some(line)) = line else {
+            return Ok(());
+        };
+        self.lines = self.lines.saturating_add(1);
+        let GpuvasLine::Mapping(row) = line else {
+            self.heads = self.heads.saturating_add(1);
+            return Ok(());
+        };
+        let head = self.heads.max(1);
+        let is_new = !self.places.contains_key(&head);
+        let place = self.place_of(alloc, head, terms)?;
+        let Some(space) = self.all.get_mut(place) else {
+            return Ok(());
+        };
+        if is_new && self.heads > 0 {
+            space.count_line(true);
+        }
+        space.count_line(true);
+        space
+            .playing
+            .take_row(alloc, (number, &row), terms, &mut Nobody)
+    }
+
+    /// The place of a space, which comes up where it isn't known.
+    fn place_of(
+        &mut self,
+        alloc: Global,
+        number: u64,
+        terms: &Terms<'_>,
+    ) -> Result<usize, ReplayFault> {
+        match self.places.get(&number).copied() {
+            Some(place) => Ok(place),
+            None => self.add(alloc, number, terms),
+        }
     }
 
     /// A space comes up. Its place.
@@ -123,10 +201,10 @@ impl Spaces {
         self.all.reserve(1)?;
         let _none = self.places.insert(number, place)?;
         self.all.push_reserved(OneSpace {
-            number,
-            replay: Replay::new(alloc, terms.all)?,
-            binder: Binder::new(alloc),
+            name: SpaceName::of(terms.format, number),
+            playing: Playing::new(alloc, terms.all, Some(number))?,
             taken: 0,
+            has_begun: false,
         });
         Ok(place)
     }
@@ -142,15 +220,17 @@ impl Spaces {
             places: _,
             mut all,
             lines: _,
+            heads: _,
             read,
         } = self;
         let mut outcomes = Vec::new(alloc);
         let mut ended = played;
         while let Some(space) = all.pop() {
-            let (number, left) = space.end(read);
+            let is_told = space.has_begun || all.is_empty() && outcomes.is_empty();
+            let (name, left) = space.end(read);
             match ended {
-                Ok(()) => ended = add_outcome(alloc, &mut outcomes, (number, left), terms),
-                Err(_) => left.close(),
+                Ok(()) if is_told => ended = add_outcome(alloc, &mut outcomes, (name, left), terms),
+                _ => left.close(),
             }
         }
         all.destroy_empty();
@@ -161,17 +241,23 @@ impl Spaces {
 }
 
 impl OneSpace {
-    /// Its number, and what its replay left, of a log of so many lines: those that aren't of the space did nothing.
-    fn end(self, read: u64) -> (u64, Left) {
+    /// A line is of the space, and may be one of a mapping.
+    fn count_line(&mut self, begins: bool) {
+        self.taken = self.taken.saturating_add(1);
+        self.has_begun = self.has_begun || begins;
+    }
+
+    /// Its name, and what its replay left, of a log of so many lines: those that aren't of the space did nothing.
+    fn end(self, read: u64) -> (SpaceName, Left) {
         let OneSpace {
-            number,
-            replay,
-            binder: _,
+            name,
+            playing,
             taken,
+            has_begun: _,
         } = self;
-        let mut left = replay.end();
+        let mut left = playing.end();
         left.tally.passed_over = read.saturating_sub(taken);
-        (number, left)
+        (name, left)
     }
 }
 
@@ -179,11 +265,11 @@ impl OneSpace {
 fn add_outcome(
     alloc: Global,
     outcomes: &mut Vec<SpaceOutcome>,
-    left: (u64, Left),
+    left: (SpaceName, Left),
     terms: &Terms<'_>,
 ) -> Result<(), ReplayFault> {
-    let (number, left) = left;
+    let (name, left) = left;
     let outcome = Outcome::of(alloc, left, terms)?;
-    outcomes.push(SpaceOutcome { number, outcome })?;
+    outcomes.push(SpaceOutcome { name, outcome })?;
     Ok(())
 }

@@ -2,7 +2,6 @@
 
 use crate::radv_line::cut;
 use crate::sizes::Sizes;
-use crate::vma_line::VmaDriver;
 
 /// Who wrote the log.
 #[derive(Clone, Copy, Debug, PartialEq, Eq)]
@@ -70,6 +69,8 @@ pub enum Form {
     Script,
     /// The mappings at the end, as a script's line `map` tells them, in place of the report.
     Mappings,
+    /// Nothing: a watcher tells it, as in a picture.
+    Watched,
 }
 
 /// What is asked of a replay.
@@ -93,13 +94,24 @@ pub struct Terms<'a> {
 }
 
 impl<'a> Terms<'a> {
-    /// Whose events tell address spaces apart, where each space of the log is told.
-    pub fn driver_of_each(&self) -> Option<VmaDriver> {
-        match (self.format, self.pid, self.space) {
-            (Format::Xe, None, None) => Some(VmaDriver::Xe),
-            (Format::I915, None, None) => Some(VmaDriver::I915),
-            _ => None,
-        }
+    /// Whether each address space of the log is taken, where the log tells them apart: none is asked, and all can be told.
+    pub fn takes_each(&self) -> bool {
+        let are_told = match self.form {
+            Form::Report | Form::Json => true,
+            Form::Script | Form::Mappings | Form::Watched => false,
+        };
+        are_told && self.pid.is_none() && self.space.is_none()
+    }
+
+    /// Whether each address space of the log is told by itself. Whether amdgpu's processes are, and the spaces of a list, `measure` tells.
+    pub fn tells_each(&self) -> bool {
+        let are_apart = match (self.format, self.sizes) {
+            (Format::Radv, _) => false,
+            (Format::Xe | Format::I915, _) => true,
+            (Format::Amdgpu | Format::Gpuvas, Some(sizes)) => sizes.are_of_each(),
+            (Format::Amdgpu | Format::Gpuvas, None) => false,
+        };
+        are_apart && self.takes_each()
     }
 
     /// The report of a log of this format, and nothing else.

@@ -43,6 +43,35 @@ fn log_of(alloc: Global, seed: u64) -> Result<String, AllocError> {
     Ok(log)
 }
 
+/// A log by chance of processes 0x20 on, whose pointers and ranges are the same, and some of whose objects are larger in one.
+fn events_of(alloc: Global, seed: u64) -> Result<String, AllocError> {
+    let mut random = Random::new(seed);
+    let mut log = String::new(alloc);
+    for _line in 0..LINES {
+        let process = 0x20 + random.below(SPACES);
+        let pointer = random.below(POINTERS);
+        let first = random.below(PAGES);
+        let last = first + random.below(2);
+        let name = match random.below(8) {
+            0 => {
+                writeln!(
+                    log,
+                    "game-1 ({process:>6}) [000] 1.0: amdgpu_bo_create: bo=0xf{pointer}, pages={last}, type=1"
+                )?;
+                continue;
+            }
+            1 => "no_event",
+            2..=5 => "map",
+            _ => "unmap",
+        };
+        writeln!(
+            log,
+            "game-1 ({process:>6}) [000] 1.0: amdgpu_vm_bo_{name}: bo=0xf{pointer}, start={first:x}, last={last:x}, offset=0000000000, flags=40"
+        )?;
+    }
+    Ok(log)
+}
+
 /// What is told of a log.
 fn told(alloc: Global, log: &str, terms: &Terms<'_>) -> Result<String, Fail> {
     let mut sink = MemorySink::new(alloc);
@@ -67,6 +96,33 @@ fn each_space_is_told_as_alone(rt: HostRuntime) -> Result<(), Fail> {
             };
             let alone = told(rt.alloc(), log.as_str(), &terms)?;
             let section = format!(in rt.alloc(); "space {name}:\n{alone}")?;
+            if whole.as_str().contains(section.as_str()) {
+                found = found.wrapping_add(1);
+            } else {
+                let others = whole.as_str().lines().next_back().unwrap_or("");
+                assert!(rt; others.contains(name.as_str()), "{seed} {name} {whole}");
+            }
+        }
+    }
+    assert!(rt; found > 20, "{found}");
+    Ok(())
+}
+
+/// Below its name each process of a log is told as it is told where it alone is asked.
+#[test]
+fn each_process_is_told_as_alone(rt: HostRuntime) -> Result<(), Fail> {
+    let mut found = 0u64;
+    for seed in 0..12 {
+        let log = events_of(rt.alloc(), seed)?;
+        let whole = told(rt.alloc(), log.as_str(), &AMDGPU)?;
+        for process in 0x20..0x20 + SPACES {
+            let terms = Terms {
+                pid: Some(process),
+                ..AMDGPU
+            };
+            let alone = told(rt.alloc(), log.as_str(), &terms)?;
+            let section = format!(in rt.alloc(); "process {process}:\n{alone}")?;
+            let name = format!(in rt.alloc(); "{process}")?;
             if whole.as_str().contains(section.as_str()) {
                 found = found.wrapping_add(1);
             } else {

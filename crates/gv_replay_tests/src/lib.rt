@@ -27,6 +27,8 @@ mod pasts;
 #[cfg(test)]
 mod play;
 #[cfg(test)]
+mod process_rows;
+#[cfg(test)]
 mod rewound;
 #[cfg(test)]
 mod rows;

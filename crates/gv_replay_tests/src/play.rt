@@ -192,4 +192,7 @@ fn rows_of_spaces_have_their_lines(rt: HostRuntime) {
     for row in &crate::space_rows::ROWS {
         expect(&rt, row);
     }
+    for row in &crate::process_rows::ROWS {
+        expect(&rt, row);
+    }
 }

@@ -1,14 +1,7 @@
 //! Rows of logs of several address spaces. The lines that are wanted are written from the rules.
 
-use crate::play::{Asked, OF_GPUVAS, OF_I915, OF_XE, Row};
+use crate::play::{Asked, OF_I915, OF_XE, Row};
 use gv_replay::Form;
-
-/// Lists of two spaces: objects of one are none of the other's.
-const LISTS: &str = "DRM GPU VA space (vm) [0x0;0x1]\n\
-    | 0x3000 | 0x4000 | 0x7000 | 0xf0 | 0x8000\n\
-    DRM GPU VA space (vm) [0x0;0x1]\n\
-    | 0x1000 | 0x1000 | 0x2000 | 0xf1 | 0x0\n\
-    | 0x3000 | 0x1000 | 0x4000 | 0xf0 | 0x0\n";
 
 /// Two spaces of xe, in each of which one pointer is bound at one range; the second unbinds another.
 const TWO: &str = "xe_vma_bind: vma=f0, asid=0x00021, start=0x200000, end=0x200fff, userptr=0x0,\n\
@@ -16,7 +9,7 @@ const TWO: &str = "xe_vma_bind: vma=f0, asid=0x00021, start=0x200000, end=0x200f
     no event\n\
     xe_vma_unbind: vma=f1, asid=0x00022, start=0x300000, end=0x300fff, userptr=0x0,\n";
 
-pub static ROWS: [Row; 13] = [
+pub static ROWS: [Row; 11] = [
     Row {
         name: "pointers and ranges of one space are none of another's",
         asked: OF_XE,
@@ -157,33 +150,6 @@ pub static ROWS: [Row; 13] = [
         wanted: &[
             "0000000000300000 0000000000301000 b1 0000000000000000 rw",
             "0000000000302000 0000000000303000 b1 0000000000002000 rw",
-        ],
-    },
-    Row {
-        name: "a list that is asked by the number of its head",
-        asked: Asked {
-            addresses: &[0x3000],
-            space: Some("2"),
-            ..OF_GPUVAS
-        },
-        log: LISTS,
-        wanted: &[
-            "     2 binds of 2 buffers, 2 lines passed over",
-            "     2 mappings alive at the end, of 2 buffers, 8 KiB; tables 1 1 1 1 1",
-            "0x3000: b2 0x0",
-        ],
-    },
-    Row {
-        name: "and the first",
-        asked: Asked {
-            addresses: &[0x3000],
-            space: Some("1"),
-            ..OF_GPUVAS
-        },
-        log: LISTS,
-        wanted: &[
-            "     1 binds of 1 buffers, 3 lines passed over",
-            "0x3000: b1 0x8000",
         ],
     },
 ];
