@@ -32,7 +32,7 @@ try:
 	@RT="$(RT)" tools/try $(WORDS) < "$(SCRIPT)"
 
 # The gate: the proofs, the must-fail edits, the tests and the programs; of the first two only what changed since a run on this
-# machine passed, and what stands above it, from nothing. Before it, what no contract can say: that the functions of the
+# machine passed, and what stands above it, from nothing (by kit 13b all, each time). Before it, what no contract can say: that the functions of the
 # timelines wait for nobody (a function may wait only under a bound of that name), that an undo value can't be let go, and that the
 # documents name what there is.
 # Behind it, a dialogue over two pipes with the program that was built, which says nothing where all is well.
