@@ -156,7 +156,7 @@ impl<'a, 's, R: Eprint + Clock, S: Source> Watched<'a, 's, R, S> {
 }
 
 impl<'a, 's, R: Eprint + Clock, S: Source> Source for Watched<'a, 's, R, S> {
-    ghost use Rattle.std.specs.Prelude.{None, Unit};
+    ghost use Rattle.std.specs.Prelude.{None};
 
     ghost remaining = { λ _. None };
 

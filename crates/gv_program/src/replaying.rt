@@ -53,28 +53,24 @@ fn replayed<R: Eprint + Clock, T: Files, S: Source, K: Sink>(
     reader: &mut S,
     writer: &mut K,
 ) -> Result<(), ProgramFault> {
-    let addresses = addresses_of(alloc, asked)?;
     let format = format_of(asked.format)?;
-    let form = form_of(asked)?;
-    let picture = picture_of(asked, format, addresses.as_slice());
-    let terms = Terms {
+    let log = Asked {
         format,
         flag_bits: flags_of(asked.flags)?,
         pid: asked.pid,
-        space: asked.space,
-        addresses: addresses.as_slice(),
+        space: kept(alloc, asked.space)?,
+        addresses: addresses_of(alloc, asked)?,
         all: asked.all,
-        form,
-        sizes: None,
+        form: form_of(asked)?,
     };
     let telling = Telling {
         alloc,
         onlooker,
-        picture,
+        picture: picture_of(asked, format, log.addresses.as_slice()),
     };
     match asked.file {
-        Some(path) => telling.tell_file(files, path, &terms, writer),
-        None => telling.tell_input(reader, &terms, writer),
+        Some(path) => telling.tell_file(files, path, &log.terms(), writer),
+        None => telling.tell_input(reader, &log.terms(), writer),
     }
 }
 
@@ -87,22 +83,60 @@ pub fn list_log<R: Eprint + Clock, T: Files, K: Sink>(
     format: &str,
     writer: &mut K,
 ) -> Result<(), ProgramFault> {
-    let terms = Terms {
+    let log = Asked {
         format: format_of(format)?,
         flag_bits: flags_of(asked.flags)?,
         pid: asked.pid,
-        space: asked.space,
-        addresses: &[],
+        space: kept(alloc, asked.space)?,
+        addresses: Vec::new(alloc),
         all: false,
         form: Form::Mappings,
-        sizes: None,
     };
     let telling = Telling {
         alloc,
         onlooker,
         picture: None,
     };
-    telling.tell_file(files, asked.second, &terms, writer)
+    telling.tell_file(files, asked.second, &log.terms(), writer)
+}
+
+/// What is asked of a log, apart from the words that ask it.
+#[derive(Drop)]
+struct Asked {
+    format: Format,
+    flag_bits: FlagBits,
+    pid: Option<u64>,
+    space: Option<String>,
+    addresses: Vec<u64>,
+    all: bool,
+    form: Form,
+}
+
+impl Asked {
+    fn terms(&self) -> Terms<'_> {
+        let space = match &self.space {
+            Some(name) => Some(name.as_str()),
+            None => None,
+        };
+        Terms {
+            format: self.format,
+            flag_bits: self.flag_bits,
+            pid: self.pid,
+            space,
+            addresses: self.addresses.as_slice(),
+            all: self.all,
+            form: self.form,
+            sizes: None,
+        }
+    }
+}
+
+/// A name by itself.
+fn kept(alloc: Global, name: Option<&str>) -> Result<Option<String>, ProgramFault> {
+    match name {
+        Some(name) => Ok(Some(String::from_str(alloc, name)?)),
+        None => Ok(None),
+    }
 }
 
 /// How a log is told: as a picture, or in the form that its terms say, and before whom.
@@ -129,7 +163,8 @@ impl<'a, 'r, R: Eprint + Clock> Telling<'a, 'r, R> {
         }
         let sizes = self.measured(&mut log, of, terms)?;
         let mut again = opened(files, path)?;
-        self.tell_sized(&mut again, of, writer, terms, &sizes)
+        let sized = terms.sized(&sizes);
+        self.tell(&mut again, of, writer, &sized)
     }
 
     /// Tells the log of standard input, which is kept where it has to be read twice.
@@ -146,7 +181,8 @@ impl<'a, 'r, R: Eprint + Clock> Telling<'a, 'r, R> {
         let of = Some(log.len() as u64);
         let sizes = self.measured(&mut MemorySource::new(&log), of, terms)?;
         let mut again = MemorySource::new(&log);
-        self.tell_sized(&mut again, of, writer, terms, &sizes)
+        let sized = terms.sized(&sizes);
+        self.tell(&mut again, of, writer, &sized)
     }
 
     /// How large the objects of a log are.
@@ -160,19 +196,6 @@ impl<'a, 'r, R: Eprint + Clock> Telling<'a, 'r, R> {
         let sizes = measure(self.alloc, &mut watched, terms);
         watched.finish();
         Ok(sizes?)
-    }
-
-    /// Tells a log whose objects have these sizes.
-    fn tell_sized<'t, S: Source, K: Sink>(
-        &self,
-        log: &mut S,
-        of: Option<u64>,
-        writer: &mut K,
-        terms: &Terms<'t>,
-        sizes: &'t Sizes,
-    ) -> Result<(), ProgramFault> {
-        let sized = terms.sized(sizes);
-        self.tell(log, of, writer, &sized)
     }
 
     /// Draws a log, or writes it in its form.
