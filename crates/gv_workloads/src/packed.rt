@@ -46,7 +46,7 @@ pub fn replay_all(alloc: Global, seed: u64, size: u64) -> Result<Done, Failure> 
     for plan in &PLANS {
         let lines = plan.lines.wrapping_mul(size / 10);
         let log = log::compose(alloc, number, &cut(plan, size, lines))?;
-        replay_one(alloc, &log, &terms_of(Format::Radv), &[], &mut done)?;
+        replay_one(alloc, &log, &terms_of(Format::Radv, &[]), &mut done)?;
         number = number.wrapping_add(1);
     }
     for plan in &PLANS {
@@ -70,7 +70,7 @@ fn cut(plan: &LogPlan, slots: u64, lines: u64) -> LogPlan {
 
 /// Holds a log's steps as a dialogue, which then asks the page table for addresses and the list for all.
 fn hold(alloc: Global, log: &Text, done: &mut Done) -> Result<(), Failure> {
-    let terms = terms_of(Format::Radv);
+    let terms = terms_of(Format::Radv, &[]);
     let steps = Terms {
         format: terms.format,
         flag_bits: terms.flag_bits,

@@ -47,53 +47,41 @@ pub fn replay_all(alloc: Global, seed: u64, size: u64) -> Result<Done, Failure> 
             lines: plan.lines.wrapping_mul(part),
         };
         let log = log::compose(alloc, number, &cut)?;
-        let terms = terms_of(Format::Radv);
         let addresses = [tile_address(1, 1), cut.memory_address(2)];
-        replay_one(alloc, &log, &terms, &addresses, &mut done)?;
+        replay_one(alloc, &log, &terms_of(Format::Radv, &addresses), &mut done)?;
         number = number.wrapping_add(1);
     }
     trace_one(alloc, number, part, &mut done)?;
     Ok(done)
 }
 
-/// The report.
-pub fn terms_of<'a>(format: Format) -> Terms<'a> {
+/// The report, with what some addresses reached.
+pub fn terms_of(format: Format, addresses: &[u64]) -> Terms<'_> {
     Terms {
         format,
         flag_bits: FlagBits::Entry,
         pid: None,
         space: None,
-        addresses: &[],
+        addresses,
         all: false,
         form: Form::Report,
         sizes: None,
     }
 }
 
-/// Replays a log, with what some addresses reached.
+/// Replays a log.
 pub fn replay_one(
     alloc: Global,
     log: &Text,
     terms: &Terms<'_>,
-    addresses: &[u64],
     done: &mut Done,
 ) -> Result<(), Failure> {
-    let asked = Terms {
-        format: terms.format,
-        flag_bits: terms.flag_bits,
-        pid: terms.pid,
-        space: None,
-        addresses,
-        all: terms.all,
-        form: terms.form,
-        sizes: terms.sizes,
-    };
     let mut report = MemorySink::new(alloc);
     replay(
         alloc,
         &mut MemorySource::new(log.bytes()),
         &mut report,
-        &asked,
+        terms,
     )?;
     done.count(true, log.bytes().len() as u64);
     done.take_text(report.bytes());
@@ -103,8 +91,8 @@ pub fn replay_one(
 /// A trace, which is read for its objects' sizes first.
 fn trace_one(alloc: Global, seed: u64, lines: u64, done: &mut Done) -> Result<(), Failure> {
     let trace = tracing::compose(alloc, seed, lines)?;
-    let terms = terms_of(Format::Amdgpu);
-    let sizes = measure(alloc, &mut MemorySource::new(trace.bytes()), &terms)?;
     let addresses = [tile_address(1, 1), tracing::HOME << 12];
-    replay_one(alloc, &trace, &terms.sized(&sizes), &addresses, done)
+    let terms = terms_of(Format::Amdgpu, &addresses);
+    let sizes = measure(alloc, &mut MemorySource::new(trace.bytes()), &terms)?;
+    replay_one(alloc, &trace, &terms.sized(&sizes), done)
 }
