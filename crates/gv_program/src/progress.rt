@@ -117,9 +117,18 @@ pub struct Watched<'a, 's, R, S> {
 }
 
 impl<'a, 's, R: Eprint + Clock, S: Source> Watched<'a, 's, R, S> {
-    /// Takes away what was told.
+    /// Takes away what was told, where it isn't yet.
     pub fn finish(self) {
-        if self.told.is_some() {
+        let mut watched = self;
+        watched.end();
+    }
+
+    /// Takes away what was told, so that what comes to be written stands alone, and tells no more.
+    fn end(&mut self)
+        ensures { self.new.has_failed ≡ self.old.has_failed }
+    {
+        self.began = None;
+        if self.told.take().is_some() {
             let _ = self.rt.eprint(WIPE);
         }
     }
@@ -171,7 +180,9 @@ impl<'a, 's, R: Eprint + Clock, S: Source> Source for Watched<'a, 's, R, S> {
             self.has_failed = true;
             return Err(ReadFault);
         };
-        if let Some(began) = self.began {
+        if count == 0 {
+            self.end();
+        } else if let Some(began) = self.began {
             self.count(buffer.get(..count).unwrap_or(&[]));
             self.tell(began);
         }

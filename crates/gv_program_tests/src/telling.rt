@@ -14,39 +14,48 @@ const DRAW: [&[u8]; 2] = [b"vmbind", b"draw"];
 
 const SCRIPT: &[u8] = b"buffer b 4\nbind map 0x0 0x4000 b 0x0\n";
 
-/// From the second second on, twice a second, and wiped at the end.
+/// Read by three reads of at most 8,192 bytes.
+const LINES: &[u8] = &[b'\n'; 20_000];
+
+/// From the second second on, and wiped at the end of what is read, before anything is written.
 #[test]
 fn tells_how_far_it_is(rt: HostRuntime) {
-    // The log is read by one read, at 0.6 seconds, and its end by another, at 1.2.
-    let fake = Fake::new(rt.alloc(), &REPLAY, Stream::Text(LOG)).with_clock(Pace(600));
+    // The log is read by one read, at 1.0 seconds.
+    let fake = Fake::new(rt.alloc(), &REPLAY, Stream::Text(LOG)).with_clock(Pace(1_000));
     let got = ended_at_terminal(&rt, fake);
     assert_eq!(rt; got.status, 0);
-    let told: &[u8] = b"\r\x1b[K3 lines, 232 bytes, 2 lines a second\r\x1b[K";
+    let told: &[u8] = b"\r\x1b[K3 lines, 232 bytes, 3 lines a second\r\x1b[K";
     assert_eq!(rt; got.errors.as_slice(), told);
-    // Two reads at 1.0 and 2.0 seconds.
-    let fake = Fake::new(rt.alloc(), &DRAW, Stream::Text(SCRIPT)).with_clock(Pace(1_000));
+    // The reads are at 0.6, 1.2 and 1.8 seconds.
+    let fake = Fake::new(rt.alloc(), &DRAW, Stream::Text(LINES)).with_clock(Pace(600));
     let got = ended_at_terminal(&rt, fake);
     assert_eq!(rt; got.status, 0);
     let told: &[u8] =
-        b"\r\x1b[K2 lines, 37 bytes, 2 lines a second\r\x1b[K2 lines, 37 bytes, 1 lines a second\r\x1b[K";
+        b"\r\x1b[K16384 lines, 16384 bytes, 13653 lines a second\r\x1b[K20000 lines, 20000 bytes, 11111 lines a second\r\x1b[K";
+    assert_eq!(rt; got.errors.as_slice(), told);
+    // The reads are at 0.4, 0.8 and 1.2 seconds: one is told.
+    let fake = Fake::new(rt.alloc(), &DRAW, Stream::Text(LINES)).with_clock(Pace(400));
+    let got = ended_at_terminal(&rt, fake);
+    assert_eq!(rt; got.status, 0);
+    let told: &[u8] = b"\r\x1b[K20000 lines, 20000 bytes, 16666 lines a second\r\x1b[K";
     assert_eq!(rt; got.errors.as_slice(), told);
 }
 
 /// It isn't told before the second second, where it isn't wanted, and where nobody sits.
 #[test]
 fn tells_nobody(rt: HostRuntime) {
-    let fake = Fake::new(rt.alloc(), &REPLAY, Stream::Text(LOG)).with_clock(Pace(400));
+    let fake = Fake::new(rt.alloc(), &REPLAY, Stream::Text(LOG)).with_clock(Pace(999));
     let got = ended_at_terminal(&rt, fake);
     assert!(rt; got.status == 0 && got.errors.is_empty());
     let quiet: [&[u8]; 5] = [b"vmbind", b"replay", b"--format", b"radv", b"--quiet"];
-    let fake = Fake::new(rt.alloc(), &quiet, Stream::Text(LOG)).with_clock(Pace(600));
+    let fake = Fake::new(rt.alloc(), &quiet, Stream::Text(LOG)).with_clock(Pace(1_000));
     let got = ended_at_terminal(&rt, fake);
     assert!(rt; got.status == 0 && got.errors.is_empty());
     let quiet: [&[u8]; 3] = [b"vmbind", b"draw", b"--quiet"];
-    let fake = Fake::new(rt.alloc(), &quiet, Stream::Text(SCRIPT)).with_clock(Pace(600));
+    let fake = Fake::new(rt.alloc(), &quiet, Stream::Text(SCRIPT)).with_clock(Pace(1_000));
     let got = ended_at_terminal(&rt, fake);
     assert!(rt; got.status == 0 && got.errors.is_empty());
-    let fake = Fake::new(rt.alloc(), &REPLAY, Stream::Text(LOG)).with_clock(Pace(600));
+    let fake = Fake::new(rt.alloc(), &REPLAY, Stream::Text(LOG)).with_clock(Pace(1_000));
     let got = ended(&rt, fake);
     assert!(rt; got.status == 0 && got.errors.is_empty());
 }
@@ -54,11 +63,11 @@ fn tells_nobody(rt: HostRuntime) {
 /// A fault comes behind what is wiped.
 #[test]
 fn a_fault_stands_alone(rt: HostRuntime) {
-    let fake = Fake::new(rt.alloc(), &REPLAY, Stream::Text(b"none\n")).with_clock(Pace(600));
+    let fake = Fake::new(rt.alloc(), &REPLAY, Stream::Text(b"none\n")).with_clock(Pace(1_000));
     let got = ended_at_terminal(&rt, fake);
     assert_eq!(rt; got.status, 1);
     let told: &[u8] =
-        b"\r\x1b[K1 lines, 5 bytes, 0 lines a second\r\x1b[Kvmbind: no line of this format\n";
+        b"\r\x1b[K1 lines, 5 bytes, 1 lines a second\r\x1b[Kvmbind: no line of this format\n";
     assert_eq!(rt; got.errors.as_slice(), told);
 }
 
