@@ -1,10 +1,10 @@
 -- What the program does with a task.
-use Rattle.std.specs.Prelude.{◌≡◌, ℕ, List, Bool, true, false, Option, Some, None, Result}
+use Rattle.std.specs.Prelude.{◌≡◌, ℕ, List, Bool, false, Option, Some, None, Result}
 use Rattle.gv_text.specs.declared.fault.ScriptFault.{ScriptFault}
 use Rattle.gv_serve.specs.declared.fault.ServeFault.{ServeFault}
 use Rattle.gv_threads.specs.declared.fault.ThreadsFault.{ThreadsFault}
 use Rattle.gv_words.specs.declared.words.Task.{Task}
-use Rattle.gv_words.specs.declared.words.Task.TheVariants.{Run, Serve, Replay, Draw, Compare, Threads}
+use Rattle.gv_words.specs.declared.words.Task.TheVariants.{Run, Serve, Threads}
 use Rattle.gv_program.specs.Run.{HasRun, HasRunSome, HasRunThreads, exit_status, threads_status}
 use Rattle.gv_program.specs.Serving.{HasServed, serve_status}
 use Rattle.gv_program.specs.Status.{IsStatus}
