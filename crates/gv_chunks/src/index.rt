@@ -1,5 +1,5 @@
 //! Where the chunks of a list begin.
-ghost use Rattle.std.specs.Prelude.{◌≡◌, ◌+◌, ◌<◌, ◌≤◌, ◌^◌, ◌%◌, ℕ, length, max, take, slice_index_or, OnOk};
+ghost use Rattle.std.specs.Prelude.{◌≡◌, ◌+◌, ◌<◌, ◌≤◌, ◌^◌, ◌%◌, ℕ, length, max, take, slice_index_or, OnOk, IfSome};
 ghost use Rattle.gv_chunks.specs.Chunks.{chunks_joined, AreFilled, AreStarts, AreFirsts};
 
 use crate::starts::Starts;
@@ -42,22 +42,29 @@ pub fn last_at_most(starts: &Starts, standing: usize, index: usize) -> usize
     low
 }
 
-/// The same, given a guess, which may be any number: the others are looked at only where it isn't that one.
-pub fn last_at_most_near(starts: &Starts, standing: usize, index: usize, guess: usize) -> usize
-    requires some { 0 < standing }
+/// Where the chunk `near` begins, if it is the last of the first `standing` that begin at `index` or before it. `near` may be any
+/// number. Mostly it is that chunk, so this is tried where it is asked for.
+#[inline(always)]
+pub(crate) fn start_of_near(
+    starts: &Starts,
+    standing: usize,
+    index: usize,
+    near: usize,
+) -> Option<usize>
     requires within { standing ≤ length starts.now }
-    requires first { (d : ℕ) → slice_index_or starts.now 0 d ≤ index }
-    ensures within { result < standing }
-    ensures begun { (d : ℕ) → slice_index_or starts.now result d ≤ index }
-    ensures next { (d : ℕ) → result + 1 < standing → index < slice_index_or starts.now (result + 1) d }
+    ensures within { IfSome result (λ _. near < standing) }
+    ensures start { IfSome result (λ start. (d : ℕ) → start ≡ slice_index_or starts.now near d) }
+    ensures begun { IfSome result (λ start. start ≤ index) }
+    ensures next { IfSome result (λ _. (d : ℕ) → near + 1 < standing → index < slice_index_or starts.now (near + 1) d) }
 {
-    if guess >= standing || index < starts.get(guess) {
-        return last_at_most(starts, standing, index);
+    if near >= standing {
+        return None;
     }
-    if guess + 1 < standing && starts.get(guess + 1) <= index {
-        return last_at_most(starts, standing, index);
+    let start = starts.get(near);
+    if index < start || (near + 1 < standing && starts.get(near + 1) <= index) {
+        return None;
     }
-    guess
+    Some(start)
 }
 
 /// Adds a number to those from `from` up to `to`. The sums wrap.

@@ -11,7 +11,7 @@ ghost use Rattle.gv_chunks.specs.declared.TheConstants.{CHUNK};
 use crate::CHUNK;
 use crate::gap::{close, open};
 use crate::grow::{add_chunks, chunks_for};
-use crate::index::{last_at_most_near, pad, write_index};
+use crate::index::{last_at_most, pad, start_of_near, write_index};
 use crate::replace::replace_run;
 use crate::row::{put_entry, take_entry};
 use crate::run::replace_anywhere;
@@ -130,7 +130,22 @@ impl Parts {
     }
 
     /// The chunk of an index, and how many mappings stand before that chunk.
+    #[inline(always)]
     pub fn spot(&self, index: usize) -> (usize, usize)
+        requires parts { AreParts self.now }
+        requires within { index ≤ length (items_of self.now) }
+        ensures { IsSpot self.now index result.0 result.1 }
+    {
+        match start_of_near(&self.starts, self.standing, index, self.near) {
+            Some(start) => (self.near, start),
+            None => self.spot_elsewhere(index),
+        }
+    }
+
+    /// The same, looked for in all chunks.
+    #[cold]
+    #[inline(never)]
+    fn spot_elsewhere(&self, index: usize) -> (usize, usize)
         requires parts { AreParts self.now }
         requires within { index ≤ length (items_of self.now) }
         ensures { IsSpot self.now index result.0 result.1 }
@@ -138,7 +153,7 @@ impl Parts {
         if self.standing == 0 {
             return (0, 0);
         }
-        let chunk = last_at_most_near(&self.starts, self.standing, index, self.near);
+        let chunk = last_at_most(&self.starts, self.standing, index);
         (chunk, self.starts.get(chunk))
     }
 
