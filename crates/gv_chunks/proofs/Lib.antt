@@ -5,6 +5,7 @@ pub mod JoinLemmas
 pub mod PackedLemmas
 pub mod HeldLemmas
 pub mod PutLemmas
+pub mod RaisedLemmas
 pub mod RunLemmas
 pub mod SumLemmas
 pub mod IndexLemmas

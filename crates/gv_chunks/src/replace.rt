@@ -1,5 +1,5 @@
 //! A run of a list replaced in place.
-ghost use Rattle.std.specs.Prelude.{◌≡◌, ◌+◌, ◌≤◌, length, take, drop, ◌++◌};
+ghost use Rattle.std.specs.Prelude.{◌≡◌, ◌+◌, ◌-◌, ◌≤◌, length, take, drop, ◌++◌};
 ghost use Rattle.std.specs.Prelude.{vec_len, vec_capacity};
 ghost use Rattle.std.specs.List.{splice};
 
@@ -17,6 +17,57 @@ pub fn append(items: &mut Vec<Mapping>, pieces: &[Mapping])
     }
 }
 
+/// Moves all but the last `BY` mappings up by `BY`.
+fn raise<const BY: usize>(items: &mut [Mapping])
+    requires { BY ≤ length items.old }
+    ensures len { length items.new ≡ length items.old }
+    ensures behind { drop BY items.new ≡ take (length items.old - BY) items.old }
+{
+    let end = items.len() - BY;
+    items.copy_within(..end, BY);
+}
+
+/// Moves all but the first `BY` mappings down by `BY`.
+fn lower<const BY: usize>(items: &mut [Mapping])
+    requires { BY ≤ length items.old }
+    ensures len { length items.new ≡ length items.old }
+    ensures before { take (length items.old - BY) items.new ≡ drop BY items.old }
+{
+    items.copy_within(BY.., 0);
+}
+
+/// Moves all but the last `by` mappings up by `by`, mostly one or two. A copy by a number that stands in the code becomes a call of
+/// memmove, though only where this is no part of another function; any other goes one by one.
+#[inline(never)]
+fn raise_by(items: &mut [Mapping], by: usize)
+    requires { by ≤ length items.old }
+    ensures len { length items.new ≡ length items.old }
+    ensures behind { drop by items.new ≡ take (length items.old - by) items.old }
+{
+    match by {
+        1 => raise::<1>(items),
+        2 => raise::<2>(items),
+        _ => {
+            let end = items.len() - by;
+            items.copy_within(..end, by);
+        }
+    }
+}
+
+/// Moves all but the first `by` mappings down by `by`, as in `raise_by`.
+#[inline(never)]
+fn lower_by(items: &mut [Mapping], by: usize)
+    requires { by ≤ length items.old }
+    ensures len { length items.new ≡ length items.old }
+    ensures before { take (length items.old - by) items.new ≡ drop by items.old }
+{
+    match by {
+        1 => lower::<1>(items),
+        2 => lower::<2>(items),
+        _ => items.copy_within(by.., 0),
+    }
+}
+
 /// Puts `pieces` in before `index`.
 fn put_in(items: &mut Vec<Mapping>, index: usize, pieces: &[Mapping])
     requires within { index ≤ vec_len items.old }
@@ -24,15 +75,8 @@ fn put_in(items: &mut Vec<Mapping>, index: usize, pieces: &[Mapping])
     ensures items { items.new.items ≡ splice items.old.items index index pieces.now }
     ensures room { vec_capacity items.new ≡ vec_capacity items.old }
 {
-    let behind = items.len();
     append(items, pieces);
-    // A turn by one moves the others as a block. A turn by more goes through a room on the stack that is cleared first: that
-    // takes longer than to copy what stands behind, and the pieces once more.
-    if pieces.len() <= 1 {
-        items[index..].rotate_right(pieces.len());
-        return;
-    }
-    items.copy_within(index..behind, index + pieces.len());
+    raise_by(&mut items[index..], pieces.len());
     overwrite(items, index, pieces);
 }
 
@@ -43,12 +87,7 @@ fn take_out(items: &mut Vec<Mapping>, index: usize, count: usize)
         ≡ take index items.old.items ++ drop (index + count) items.old.items }
     ensures room { vec_capacity items.new ≡ vec_capacity items.old }
 {
-    // As in `put_in`, but nothing that is turned to the end is needed.
-    if count <= 1 {
-        items[index..].rotate_left(count);
-    } else {
-        items.copy_within(index + count.., index);
-    }
+    lower_by(&mut items[index..], count);
     items.truncate(items.len() - count);
 }
 
@@ -60,7 +99,12 @@ fn overwrite(items: &mut Vec<Mapping>, index: usize, pieces: &[Mapping])
     ensures len { vec_len items.new ≡ vec_len items.old }
     ensures room { vec_capacity items.new ≡ vec_capacity items.old }
 {
-    items[index..index + pieces.len()].copy_from_slice(pieces);
+    // Mostly it is one, which is written with no call, or none.
+    match pieces {
+        [] => {}
+        [piece] => items[index] = *piece,
+        _ => items[index..index + pieces.len()].copy_from_slice(pieces),
+    }
 }
 
 /// Replaces `count` mappings from `index` on by `pieces`.
@@ -75,7 +119,7 @@ pub fn replace_run(items: &mut Vec<Mapping>, index: usize, count: usize, pieces:
     let rest = index + common;
     if common < count {
         take_out(items, rest, count - common);
-    } else {
+    } else if common < pieces.len() {
         put_in(items, rest, &pieces[common..]);
     }
 }
