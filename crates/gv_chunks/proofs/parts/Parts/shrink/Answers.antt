@@ -1,4 +1,4 @@
-use Rattle.std.proofs.Common.{◌≡◌, ◌∙◌, ap, take}
+use Rattle.std.proofs.Common.{◌∙◌, ap}
 use Rattle.gv_chunks.specs.Chunks.{chunks_joined}
 use Rattle.gv_chunks.proofs.ShrinkLemmas.{shrunk_items, shrunk_list, shrunk_index}
 use Rattle.gv_chunks.proofs.parts.Parts.shrink.Goals as goal
