@@ -213,8 +213,7 @@ impl Parts {
     {
         replace_run(&mut self.chunks[chunk], index - start, out_count, pieces);
         self.len = self.len - out_count + pieces.len();
-        self.standing = self.standing.max(1);
-        self.starts.set(chunk, start);
+        self.standing = self.starts.stand(self.standing, chunk, start);
         self.firsts[chunk] = self.chunks[chunk][0].range.first();
         self.starts
             .shift(chunk + 1, self.standing, out_count, pieces.len());

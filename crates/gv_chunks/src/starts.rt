@@ -1,5 +1,5 @@
 //! How many mappings stand before each chunk.
-ghost use Rattle.std.specs.Prelude.{◌≡◌, ◌≢◌, ◌+◌, ◌-◌, ◌<◌, ◌≤◌, ◌^◌, ℕ, [], length, min, slice_index_or, OnOk};
+ghost use Rattle.std.specs.Prelude.{◌≡◌, ◌≢◌, ◌+◌, ◌-◌, ◌<◌, ◌≤◌, ◌^◌, ℕ, [], length, max, min, slice_index_or, OnOk};
 
 use crate::BLOCK;
 use crate::index::{add, pad};
@@ -76,6 +76,22 @@ impl Starts {
         ensures others { (k d : ℕ) → k < length self.old → k ≢ chunk → slice_index_or self.new k d ≡ slice_index_or self.old k d }
     {
         self.numbers[chunk] = start.wrapping_sub(self.bases[chunk / BLOCK]);
+    }
+
+    /// Writes where a chunk begins if none stands yet: else it is written already. Answers how many stand now, with that chunk.
+    pub(crate) fn stand(&mut self, standing: usize, chunk: usize, start: usize) -> usize
+        requires within { chunk < length self.old }
+        requires was { (d : ℕ) → 0 < standing → slice_index_or self.old chunk d ≡ start }
+        ensures standing { result ≡ max standing 1 }
+        ensures len { length self.new ≡ length self.old }
+        ensures here { (d : ℕ) → slice_index_or self.new chunk d ≡ start }
+        ensures others { (k d : ℕ) → k < length self.old → k ≢ chunk → slice_index_or self.new k d ≡ slice_index_or self.old k d }
+    {
+        if standing > 0 {
+            return standing;
+        }
+        self.set(chunk, start);
+        1
     }
 
     /// Moves the numbers from `from` up to `to` by what went out and what came in. What those behind them are is left open.

@@ -1,9 +1,9 @@
-use Rattle.std.proofs.Common.{◌≡◌, ◌+◌, ◌-◌, ◌<◌, ◌≤◌, ◌∙◌, ap, length, vec_len, vec_capacity, slice_index_or, max, arith, ℕ}
+use Rattle.std.proofs.Common.{◌≡◌, ◌+◌, ◌-◌, ◌<◌, ◌≤◌, ◌∙◌, ap, sym, length, vec_len, vec_capacity, slice_index_or, max, arith, ℕ}
 use Rattle.std.proofs.lemmas.List.{get_or-set_same, get_or_default}
 use Rattle.std.specs.Global.{Vec}
 use Rattle.std.specs.List.{splice}
 use Rattle.gv_types.specs.declared.mapping.Mapping.{Mapping}
-use Rattle.gv_chunks.proofs.PartsLemmas.{edited_items, edited_list, edited_index, edited_len, chunk_within, start_later}
+use Rattle.gv_chunks.proofs.PartsLemmas.{edited_items, edited_list, edited_index, edited_len, chunk_within, start_later, start_told}
 use Rattle.gv_chunks.proofs.parts.Parts.edit.Goals as goal
 
 pub index_mut-requires : goal.index_mut-requires
@@ -15,8 +15,13 @@ overflow_sub-self c =
     let inside : c.args.chunk < length p.chunks.items = omega (arith, c.requires.editable.standing, c.requires.editable.some, c.requires.parts.list.within) in
     omega (arith, chunk_within p.chunks.items c.args.chunk c.index_mut.result.now inside, c.requires.editable.within c.index_mut.result.now, c.requires.editable.begun, c.requires.parts.list.held)
 
-pub set-requires : goal.set-requires
-set-requires c = omega (arith, c.requires.editable.standing, c.requires.editable.some, c.requires.parts.list.within, c.requires.parts.index.starts_within)
+pub stand-self-requires-clause-within : goal.stand-self-requires-clause-within
+stand-self-requires-clause-within c = omega (arith, c.requires.editable.standing, c.requires.editable.some, c.requires.parts.list.within, c.requires.parts.index.starts_within)
+
+pub stand-self-requires-clause-was : goal.stand-self-requires-clause-was
+stand-self-requires-clause-was c = λ d some.
+    let p = c.args.self.now in
+    start_told p.chunks.items p.standing c.args.chunk d p.starts c.requires.parts.list.within (omega (arith, some, c.requires.editable.standing)) c.requires.parts.index.are_starts ∙ sym c.requires.editable.start_is
 
 pub index-requires : goal.index-requires
 index-requires c = omega (arith, c.requires.editable.standing, c.requires.editable.some, c.requires.parts.list.within, c.args.self.now.chunks.ok)
@@ -29,29 +34,29 @@ pub shift-requires-clause-within : goal.shift-requires-clause-within
 shift-requires-clause-within c =
     omega (
       arith,
-      c.max-self.ensures,
-      c.set.ensures.len,
+      c.stand-self.ensures.standing,
+      c.stand-self.ensures.len,
       c.requires.editable.some,
       c.requires.parts.list.within,
       c.requires.parts.index.starts_within,
     )
 
 -- the numbers behind the chunk are those that were
-pub later : (c : goal.After-shift-arg-1) (k e : ℕ) → c.args.chunk + 1 ≤ k → k < c.args.self.now.standing → slice_index_or c.set.new.self k e ≡ slice_index_or c.args.self.now.starts k e
+pub later : (c : goal.After-shift-arg-1) (k e : ℕ) → c.args.chunk + 1 ≤ k → k < c.args.self.now.standing → slice_index_or c.stand-self.new.self k e ≡ slice_index_or c.args.self.now.starts k e
 later c k e behind stood =
-    c.set.ensures.others k e (omega (arith, stood, c.requires.parts.list.within, c.requires.parts.index.starts_within)) (λ p. omega (arith, p, behind))
+    c.stand-self.ensures.others k e (omega (arith, stood, c.requires.parts.list.within, c.requires.parts.index.starts_within)) (λ p. omega (arith, p, behind))
 
 pub shift-requires-clause-out : goal.shift-requires-clause-out
 shift-requires-clause-out c = λ k e behind below.
     let p = c.args.self.now in
-    let stood : k < p.standing = omega (arith, behind, below, c.max-self.ensures) in
+    let stood : k < p.standing = omega (arith, behind, below, c.stand-self.ensures.standing) in
     let ends = start_later p.chunks.items p.standing c.args.chunk k e c.index_mut.result.now p.starts c.requires.parts.list.within (omega arith) stood c.requires.parts.index.are_starts in
     omega (arith, later c k e behind stood, ends.0, c.requires.editable.within c.index_mut.result.now, c.requires.editable.begun, c.requires.editable.start_is)
 
 pub shift-requires-clause-fits : goal.shift-requires-clause-fits
 shift-requires-clause-fits c = λ k e behind below.
     let p = c.args.self.now in
-    let stood : k < p.standing = omega (arith, behind, below, c.max-self.ensures) in
+    let stood : k < p.standing = omega (arith, behind, below, c.stand-self.ensures.standing) in
     let ends = start_later p.chunks.items p.standing c.args.chunk k e c.index_mut.result.now p.starts c.requires.parts.list.within (omega arith) stood c.requires.parts.index.are_starts in
     omega (arith, later c k e behind stood, ends.1, c.requires.parts.list.held, c.requires.room, c.fits-self)
 
@@ -84,21 +89,21 @@ returns-clause-parts c =
     let full : 0 < length w.items = omega (arith, grown, w.ok, e.holds v) in
     let again : c.index.result.now ≡ w = c.index.ensures ∙ get_or-set_same p.chunks.items c.args.chunk w c.index.result.now inside in
     let first : x ≡ slice_index_or w.items 0 x = c.index-2.ensures ∙ ap (λ (u : Vec Mapping). slice_index_or u.items 0 x) again in
-    let size : length c.shift.new.self ≡ length p.starts = c.shift.ensures.len ∙ c.set.ensures.len in
+    let size : length c.shift.new.self ≡ length p.starts = c.shift.ensures.len ∙ c.stand-self.ensures.len in
     let before : (k d : ℕ) → k < c.args.chunk → slice_index_or c.shift.new.self k d ≡ slice_index_or p.starts k d =
-    λ k d below. c.shift.ensures.before k d (omega arith) (omega (arith, below, room, c.set.ensures.len)) ∙ c.set.ensures.others k d (omega (arith, below, room)) (λ q. omega (arith, q, below)) in
+    λ k d below. c.shift.ensures.before k d (omega arith) (omega (arith, below, room, c.stand-self.ensures.len)) ∙ c.stand-self.ensures.others k d (omega (arith, below, room)) (λ q. omega (arith, q, below)) in
     let at : (d : ℕ) → slice_index_or c.shift.new.self c.args.chunk d ≡ c.args.start =
-    λ d. c.shift.ensures.before c.args.chunk d (omega arith) (omega (arith, room, c.set.ensures.len)) ∙ c.set.ensures.here d in
+    λ d. c.shift.ensures.before c.args.chunk d (omega arith) (omega (arith, room, c.stand-self.ensures.len)) ∙ c.stand-self.ensures.here d in
     let behind : (k d : ℕ) → c.args.chunk < k → k < max p.standing 1 → slice_index_or c.shift.new.self k d + c.args.out_count ≡ slice_index_or p.starts k d + length c.args.pieces.now =
     λ k d past below. omega (
       arith,
-      c.shift.ensures.moved k d (omega arith) (omega (arith, below, c.max-self.ensures)),
-      c.set.ensures.others k d (omega (arith, below, past, within, c.requires.parts.index.starts_within)) (λ q. omega (arith, q, past)),
+      c.shift.ensures.moved k d (omega arith) (omega (arith, below, c.stand-self.ensures.standing)),
+      c.stand-self.ensures.others k d (omega (arith, below, past, within, c.requires.parts.index.starts_within)) (λ q. omega (arith, q, past)),
     ) in
     record {
-      list = rw c.max-self.ensures (edited_list p.chunks.items p.standing c.args.chunk c.args.start c.args.index c.args.out_count v w c.args.pieces.now e.some e.standing within e.start_is e.begun (e.within v) (now_holds c)
+      list = rw c.stand-self.ensures.standing (edited_list p.chunks.items p.standing c.args.chunk c.args.start c.args.index c.args.out_count v w c.args.pieces.now e.some e.standing within e.start_is e.begun (e.within v) (now_holds c)
           p.len p.room c.requires.parts.list kept (e.holds v) e.few c.requires.room);
-      index = rw c.max-self.ensures (edited_index p.chunks.items p.standing c.args.chunk c.args.start c.args.index c.args.out_count v w c.args.pieces.now e.some e.standing within e.start_is e.begun (e.within v) (now_holds c)
+      index = rw c.stand-self.ensures.standing (edited_index p.chunks.items p.standing c.args.chunk c.args.start c.args.index c.args.out_count v w c.args.pieces.now e.some e.standing within e.start_is e.begun (e.within v) (now_holds c)
           p.starts p.firsts.items c.shift.new.self c.first.result c.requires.parts.index size before at behind
           (λ m. c.first.ensures.value ∙ (ap (λ (n : Mapping). n.range.first) first ∙ ap (λ (n : Mapping). n.range.first) (get_or_default w.items 0 x m full))));
     }
