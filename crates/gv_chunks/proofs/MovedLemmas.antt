@@ -1,12 +1,15 @@
 -- An index of chunks where a chunk came in or went: those behind it stand at other places, and hold what they held.
-use Rattle.std.proofs.Common.{◌≡◌, ℕ, zero, suc, ◌+◌, ◌-◌, ◌<◌, ◌≤◌, List, ◌++◌, length, take, drop, slice_index_or, vec_len, inl, inr, arith, refl, ◌∙◌, ap, sym}
+use Rattle.std.proofs.Common.{◌≡◌, ℕ, zero, suc, ◌+◌, ◌-◌, ◌<◌, ◌≤◌, List, [], ◌++◌, length, take, drop, slice_index_or, vec_len, inl, inr, arith, refl, ◌∙◌, ap, sym}
 use Rattle.std.proofs.lemmas.Bool.{cases_lt}
 use Rattle.std.proofs.lemmas.List.{length-take, length-take-le, length-drop, get_or-take, get_or-drop, get_or_default, get_or_append_left, get_or-append_right}
 use Rattle.std.specs.Global.{Vec}
+use Rattle.std.specs.List.{splice}
 use Rattle.gv_types.specs.declared.mapping.Mapping.{Mapping}
 use Rattle.gv_chunks.specs.Chunks.{chunks_joined, AreStarts, AreFirsts}
 use Rattle.gv_chunks.proofs.IndexLemmas.{start_among}
-use Rattle.gv_chunks.proofs.PartsLemmas.{some_of, chunk_end, start_told}
+use Rattle.gv_chunks.proofs.PackedLemmas.{joined_front}
+use Rattle.gv_chunks.proofs.PartsLemmas.{some_of, chunk_end, chunk_within, start_told}
+use Rattle.gv_chunks.proofs.PutLemmas.{nothing_from}
 
 -- chunks that stand at other places: what stands before them is more or less by one number for all
 pub start_moved : (xs zs : List (Vec Mapping)) (i j a b n p q : ℕ) → p ≡ i + n → q ≡ j + n → p ≤ length zs → q ≤ length xs →
@@ -30,6 +33,20 @@ first_told : (xs : List (Vec Mapping)) (standing k d : ℕ) (v : Vec Mapping) (m
     slice_index_or firsts k d ≡ (slice_index_or (slice_index_or xs k v).items 0 m).range.first
 first_told xs standing k d v m firsts within below are =
     (are k d v m (omega (arith, length-take-le standing xs within))).1 ∙ ap (λ (w : Vec Mapping). (slice_index_or w.items 0 m).range.first) (get_or-take standing xs k v below)
+
+-- where mappings behind the first one of a chunk are replaced, its first page stays
+pub first_stays : (xs : List (Vec Mapping)) (s chunk start index out : ℕ) (v w : Vec Mapping) (m : Mapping) (pieces : List Mapping) (firsts : List ℕ) → s ≤ length xs → chunk < length xs →
+    chunks_joined (drop s xs) ≡ [] → AreFirsts firsts (take s xs) → start ≡ length (chunks_joined (take chunk xs)) → start < index → index + out ≤ start + vec_len (slice_index_or xs chunk v) →
+    w.items ≡ splice (slice_index_or xs chunk v).items (index - start) (index - start + out) pieces → slice_index_or firsts chunk 0 ≡ (slice_index_or w.items 0 m).range.first
+first_stays xs s chunk start index out v w m pieces firsts within inside spare are is_start past fits is =
+    let held = (slice_index_or xs chunk v).items in
+    let front : length (take (index - start) held) ≡ index - start = length-take-le (index - start) held (omega (arith, fits, (slice_index_or xs chunk v).ok)) in
+    let first : slice_index_or w.items 0 m ≡ slice_index_or held 0 m =
+    ap (λ ms. slice_index_or ms 0 m) is ∙ (get_or_append_left (take (index - start) held) (pieces ++ drop (index - start + out) held) m 0 (omega (arith, front, past)) ∙ get_or-take (index - start) held 0 m (omega (arith, past))) in
+    elim (cases_lt chunk s) [
+      | inl stood ↦ first_told xs s chunk 0 v m firsts within stood are ∙ ap (λ (n : Mapping). n.range.first) (sym first)
+      | inr beyond ↦ absurd (omega (arith, ap length (joined_front xs chunk (nothing_from xs s chunk beyond spare)), chunk_within xs chunk v inside, fits, past, is_start))
+    ]
 
 -- the first page of a chunk that holds something, read
 pub first_of : (xs : List (Vec Mapping)) (k : ℕ) (c v : Vec Mapping) (x m : Mapping) (page : ℕ) → k < length xs → 0 < length c.items → c ≡ slice_index_or xs k c → x ≡ slice_index_or c.items 0 x →

@@ -1,5 +1,6 @@
 //! Where the chunks of a list begin.
-ghost use Rattle.std.specs.Prelude.{◌≡◌, ◌+◌, ◌<◌, ◌≤◌, ◌^◌, ◌%◌, ℕ, length, max, take, slice_index_or, OnOk, IfSome};
+ghost use Rattle.std.specs.Prelude.{◌≡◌, ◌+◌, ◌<◌, ◌≤◌, ◌^◌, ◌%◌, ℕ, length, max, take, slice_index_or, slice_set, vec_len, OnOk, IfSome};
+ghost use Rattle.gv_types.specs.declared.mapping.Mapping.{Mapping};
 ghost use Rattle.gv_chunks.specs.Chunks.{chunks_joined, AreFilled, AreStarts, AreFirsts};
 
 use crate::starts::Starts;
@@ -78,6 +79,20 @@ pub fn add(numbers: &mut [usize], from: usize, to: usize, more: usize)
     for k in from..to {
         numbers[k] = numbers[k].wrapping_add(more);
     }
+}
+
+/// Writes the page at which a chunk begins, of which the first `left` mappings stayed: where one did, the page is written already,
+/// and the chunk isn't read.
+pub(crate) fn write_first(firsts: &mut Vec<u64>, chunk: usize, held: &Vec<Mapping>, left: usize)
+    requires chunk { chunk < vec_len firsts.old }
+    requires some { 0 < vec_len held.now }
+    requires was { (m : Mapping) → 0 < left → slice_index_or firsts.old.items chunk 0 ≡ (slice_index_or held.now.items 0 m).range.first }
+    ensures { (m : Mapping) → firsts.new.items ≡ slice_set firsts.old.items chunk (slice_index_or held.now.items 0 m).range.first }
+{
+    if left > 0 {
+        return;
+    }
+    firsts[chunk] = held[0].range.first();
 }
 
 /// Writes where the chunks begin, from the chunk `from` on. Where those before it begin is written already.

@@ -11,7 +11,7 @@ ghost use Rattle.gv_chunks.specs.declared.TheConstants.{CHUNK};
 use crate::CHUNK;
 use crate::gap::{close, open};
 use crate::grow::{add_chunks, chunks_for};
-use crate::index::{last_at_most, pad, start_of_near, write_index};
+use crate::index::{last_at_most, pad, start_of_near, write_first, write_index};
 use crate::replace::replace_run;
 use crate::row::{put_entry, take_entry};
 use crate::run::replace_anywhere;
@@ -211,10 +211,11 @@ impl Parts {
         ensures room { self.new.room ≡ self.old.room }
         ensures parts { AreParts self.new }
     {
-        replace_run(&mut self.chunks[chunk], index - start, out_count, pieces);
+        let left = index - start;
+        replace_run(&mut self.chunks[chunk], left, out_count, pieces);
         self.len = self.len - out_count + pieces.len();
         self.standing = self.starts.stand(self.standing, chunk, start);
-        self.firsts[chunk] = self.chunks[chunk][0].range.first();
+        write_first(&mut self.firsts, chunk, &self.chunks[chunk], left);
         self.starts
             .shift(chunk + 1, self.standing, out_count, pieces.len());
     }

@@ -3,6 +3,8 @@ use Rattle.std.proofs.lemmas.List.{get_or-set_same, get_or_default}
 use Rattle.std.specs.Global.{Vec}
 use Rattle.std.specs.List.{splice}
 use Rattle.gv_types.specs.declared.mapping.Mapping.{Mapping}
+use Rattle.gv_types.specs.Mapping.{one_page_of_zeros}
+use Rattle.gv_chunks.proofs.MovedLemmas.{first_stays}
 use Rattle.gv_chunks.proofs.PartsLemmas.{edited_items, edited_list, edited_index, edited_len, chunk_within, start_later, start_told}
 use Rattle.gv_chunks.proofs.parts.Parts.edit.Goals as goal
 
@@ -26,9 +28,40 @@ stand-self-requires-clause-was c = λ d some.
 pub index-requires : goal.index-requires
 index-requires c = omega (arith, c.requires.editable.standing, c.requires.editable.some, c.requires.parts.list.within, c.args.self.now.chunks.ok)
 
-pub index_mut-requires-2 : goal.index_mut-requires-2
-index_mut-requires-2 c =
+-- what the chunk holds now
+pub held_now : (c : goal.After-index) → c.replace_run.new.items.items
+    ≡ splice (slice_index_or c.args.self.now.chunks.items c.args.chunk c.index_mut.result.now).items (c.args.index - c.args.start) (c.args.index - c.args.start + c.args.out_count) c.args.pieces.now
+held_now c =
+    c.replace_run.ensures.items ∙ ap (λ (v : Vec Mapping). splice v.items (c.args.index - c.args.start) (c.args.index - c.args.start + c.args.out_count) c.args.pieces.now) c.index_mut.ensures.value
+
+pub write_first-requires-clause-chunk : goal.write_first-requires-clause-chunk
+write_first-requires-clause-chunk c =
     omega (arith, c.requires.editable.standing, c.requires.editable.some, c.requires.parts.list.within, c.requires.parts.index.firsts_within, c.args.self.now.firsts.ok)
+
+pub write_first-requires-clause-some : goal.write_first-requires-clause-some
+write_first-requires-clause-some c =
+    let p = c.args.self.now in
+    let e = c.requires.editable in
+    let v = c.index_mut.result.now in
+    let w = c.replace_run.new.items in
+    let within : p.standing ≤ length p.chunks.items = c.requires.parts.list.within in
+    let inside : c.args.chunk < length p.chunks.items = omega (arith, e.standing, e.some, within) in
+    let grown : vec_len w + c.args.out_count ≡ vec_len (slice_index_or p.chunks.items c.args.chunk v) + length c.args.pieces.now =
+    edited_len p.chunks.items p.standing c.args.chunk c.args.start c.args.index c.args.out_count v w c.args.pieces.now e.some e.standing within e.start_is e.begun (e.within v) (held_now c) in
+    let again : c.index.result.now ≡ w = c.index.ensures ∙ get_or-set_same p.chunks.items c.args.chunk w c.index.result.now inside in
+    rw again (omega (arith, grown, e.holds v))
+
+pub write_first-requires-clause-was : goal.write_first-requires-clause-was
+write_first-requires-clause-was c = λ m past.
+    let p = c.args.self.now in
+    let e = c.requires.editable in
+    let v = c.index_mut.result.now in
+    let w = c.replace_run.new.items in
+    let within : p.standing ≤ length p.chunks.items = c.requires.parts.list.within in
+    let inside : c.args.chunk < length p.chunks.items = omega (arith, e.standing, e.some, within) in
+    let again : c.index.result.now ≡ w = c.index.ensures ∙ get_or-set_same p.chunks.items c.args.chunk w c.index.result.now inside in
+    rw again (first_stays p.chunks.items p.standing c.args.chunk c.args.start c.args.index c.args.out_count v w m c.args.pieces.now p.firsts.items within inside c.requires.parts.list.spare c.requires.parts.index.are_firsts
+    e.start_is (omega (arith, past)) (e.within v) (held_now c))
 
 pub shift-requires-clause-within : goal.shift-requires-clause-within
 shift-requires-clause-within c =
@@ -60,7 +93,7 @@ shift-requires-clause-fits c = λ k e behind below.
     let ends = start_later p.chunks.items p.standing c.args.chunk k e c.index_mut.result.now p.starts c.requires.parts.list.within (omega arith) stood c.requires.parts.index.are_starts in
     omega (arith, later c k e behind stood, ends.1, c.requires.parts.list.held, c.requires.room, c.fits-self)
 
--- what the chunk holds now
+-- and at the end
 pub now_holds : (c : goal.After-shift) → c.replace_run.new.items.items
     ≡ splice (slice_index_or c.args.self.now.chunks.items c.args.chunk c.index_mut.result.now).items (c.args.index - c.args.start) (c.args.index - c.args.start + c.args.out_count) c.args.pieces.now
 now_holds c =
@@ -79,7 +112,7 @@ returns-clause-parts c =
     let e = c.requires.editable in
     let w = c.replace_run.new.items in
     let v = c.index_mut.result.now in
-    let x = c.index-2.result.now in
+    let page = (slice_index_or c.index.result.now.items 0 one_page_of_zeros).range.first in
     let within : p.standing ≤ length p.chunks.items = c.requires.parts.list.within in
     let inside : c.args.chunk < length p.chunks.items = omega (arith, e.standing, e.some, within) in
     let room : c.args.chunk < length p.starts = omega (arith, inside, c.requires.parts.index.starts_within) in
@@ -88,7 +121,6 @@ returns-clause-parts c =
     edited_len p.chunks.items p.standing c.args.chunk c.args.start c.args.index c.args.out_count v w c.args.pieces.now e.some e.standing within e.start_is e.begun (e.within v) (now_holds c) in
     let full : 0 < length w.items = omega (arith, grown, w.ok, e.holds v) in
     let again : c.index.result.now ≡ w = c.index.ensures ∙ get_or-set_same p.chunks.items c.args.chunk w c.index.result.now inside in
-    let first : x ≡ slice_index_or w.items 0 x = c.index-2.ensures ∙ ap (λ (u : Vec Mapping). slice_index_or u.items 0 x) again in
     let size : length c.shift.new.self ≡ length p.starts = c.shift.ensures.len ∙ c.stand-self.ensures.len in
     let before : (k d : ℕ) → k < c.args.chunk → slice_index_or c.shift.new.self k d ≡ slice_index_or p.starts k d =
     λ k d below. c.shift.ensures.before k d (omega arith) (omega (arith, below, room, c.stand-self.ensures.len)) ∙ c.stand-self.ensures.others k d (omega (arith, below, room)) (λ q. omega (arith, q, below)) in
@@ -103,7 +135,7 @@ returns-clause-parts c =
     record {
       list = rw c.stand-self.ensures.standing (edited_list p.chunks.items p.standing c.args.chunk c.args.start c.args.index c.args.out_count v w c.args.pieces.now e.some e.standing within e.start_is e.begun (e.within v) (now_holds c)
           p.len p.room c.requires.parts.list kept (e.holds v) e.few c.requires.room);
-      index = rw c.stand-self.ensures.standing (edited_index p.chunks.items p.standing c.args.chunk c.args.start c.args.index c.args.out_count v w c.args.pieces.now e.some e.standing within e.start_is e.begun (e.within v) (now_holds c)
-          p.starts p.firsts.items c.shift.new.self c.first.result c.requires.parts.index size before at behind
-          (λ m. c.first.ensures.value ∙ (ap (λ (n : Mapping). n.range.first) first ∙ ap (λ (n : Mapping). n.range.first) (get_or_default w.items 0 x m full))));
+      index = rw (c.stand-self.ensures.standing, c.write_first.ensures one_page_of_zeros) (edited_index p.chunks.items p.standing c.args.chunk c.args.start c.args.index c.args.out_count v w c.args.pieces.now e.some e.standing within e.start_is e.begun (e.within v) (now_holds c)
+          p.starts p.firsts.items c.shift.new.self page c.requires.parts.index size before at behind
+          (λ m. ap (λ (u : Vec Mapping). (slice_index_or u.items 0 one_page_of_zeros).range.first) again ∙ ap (λ (n : Mapping). n.range.first) (get_or_default w.items 0 one_page_of_zeros m full)));
     }
