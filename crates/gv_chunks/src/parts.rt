@@ -158,6 +158,7 @@ impl Parts {
     }
 
     /// How the run of `out_count` mappings from an index on is replaced by `in_count`.
+    #[inline(always)]
     pub(crate) fn way(
         &self,
         chunk: usize,
@@ -196,6 +197,7 @@ impl Parts {
     }
 
     /// Replaces `out_count` mappings from `index` on, which lie in the chunk, by pieces that fit into it.
+    #[inline(always)]
     pub(crate) fn edit(
         &mut self,
         chunk: usize,
