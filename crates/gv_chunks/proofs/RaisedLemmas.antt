@@ -1,6 +1,7 @@
 -- The rest of a run moved up or down as a block, and a single piece written.
 use Rattle.std.proofs.Common.{◌≡◌, ℕ, ◌+◌, ◌-◌, ◌<◌, ◌≤◌, List, [], ◌∷◌, ◌++◌, length, take, drop, slice_index_or, slice_set, arith, refl, sym, ap, ◌∙◌}
-use Rattle.std.proofs.lemmas.List.{take_at, drop_all, take-append-le, drop-append-le, take-append-drop, take-set, drop-set, drop-drop, append-nil, length-append, length-drop, length-take-le}
+use Rattle.std.proofs.lemmas.List.{take_at, drop_all, take-append-le, drop-append-le, take-append-drop, take-set, drop-set, drop-set-lt, take_more_set, append_assoc, drop-drop, append-nil, length-append, length-drop, length-take-le}
+use Rattle.std.proofs.Math.ListN.{length-set}
 use Rattle.std.proofs.Math.Seq.{take-append-add, drop-append-add}
 use Rattle.std.specs.List.{splice}
 
@@ -36,6 +37,12 @@ raised_then_filled xs pieces ys index within moved =
     let rest : drop (index + length pieces) (take index whole ++ ys) ≡ drop index xs = rw at (drop-append-add (take index whole) ys (length pieces) ∙ behind) in
     rw (before, rest) refl
 
+-- all pieces, where there is one
+pub one_piece : {X : Type 0} (ys : List X) (y : X) → 1 ≤ length ys → length ys < 2 → y ≡ slice_index_or ys 0 y → (y ∷ []) ≡ ys
+one_piece [] y one few is = absurd (omega arith)
+one_piece (x ∷ []) y one few is = ap (λ z. z ∷ []) is
+one_piece (x ∷ z ∷ zs) y one few is = absurd (omega arith)
+
 -- one piece written over another
 pub one_written : {X : Type 0} (xs ys : List X) (i : ℕ) (y : X) → i < length xs → 1 ≤ length ys → length ys < 2 → y ≡ slice_index_or ys 0 y →
     slice_set xs i y ≡ splice xs i (i + length ys) ys
@@ -43,3 +50,18 @@ one_written xs [] i y within some one is = absurd (omega arith)
 one_written xs (x ∷ []) i y within some one is =
     sym (take-append-drop i (slice_set xs i y)) ∙ (rw (take-set xs i y, drop-set xs i y within) (ap (λ z. take i xs ++ (z ∷ drop (i + 1) xs)) is))
 one_written xs (x ∷ z ∷ zs) i y within some one is = absurd (omega arith)
+
+-- two pieces written over others
+pub two_written : {X : Type 0} (xs ys : List X) (i : ℕ) (y z : X) → i + 1 < length xs → 2 ≤ length ys → length ys < 3 → y ≡ slice_index_or ys 0 y → z ≡ slice_index_or ys 1 z →
+    slice_set (slice_set xs i y) (i + 1) z ≡ splice xs i (i + length ys) ys
+two_written xs [] i y z within two few first second = absurd (omega arith)
+two_written xs (x ∷ []) i y z within two few first second = absurd (omega arith)
+two_written xs (x ∷ w ∷ []) i y z within two few first second =
+    let more : i + 1 < length (slice_set xs i y) = omega (arith, within, length-set xs i y) in
+    let front : take (i + 1) (slice_set xs i y) ≡ take i xs ++ (y ∷ []) = take_more_set xs i y (omega arith) in
+    let back : drop (i + 1 + 1) (slice_set xs i y) ≡ drop (i + 1 + 1) xs = drop-set-lt (i + 1 + 1) xs i y (omega arith) in
+    let at : i + 1 + 1 ≡ i + 2 = omega arith in
+    sym (take-append-drop (i + 1) (slice_set (slice_set xs i y) (i + 1) z))
+    ∙ (rw (take-set (slice_set xs i y) (i + 1) z, drop-set (slice_set xs i y) (i + 1) z more, front, back, append_assoc (take i xs) (y ∷ []) (z ∷ drop (i + 1 + 1) xs), at)
+    (ap (λ v. take i xs ++ (v ∷ z ∷ drop (i + 2) xs)) first ∙ ap (λ v. take i xs ++ (x ∷ v ∷ drop (i + 2) xs)) second))
+two_written xs (x ∷ w ∷ v ∷ vs) i y z within two few first second = absurd (omega arith)

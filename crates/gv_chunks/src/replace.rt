@@ -12,6 +12,11 @@ pub fn append(items: &mut Vec<Mapping>, pieces: &[Mapping])
     ensures len { vec_len items.new ≡ vec_len items.old + length pieces.now }
     ensures room { vec_capacity items.new ≡ vec_capacity items.old }
 {
+    // Mostly it is one.
+    if let [piece] = pieces {
+        items.push_reserved(*piece);
+        return;
+    }
     for piece in pieces {
         items.push_reserved(*piece);
     }
@@ -99,10 +104,14 @@ fn overwrite(items: &mut Vec<Mapping>, index: usize, pieces: &[Mapping])
     ensures len { vec_len items.new ≡ vec_len items.old }
     ensures room { vec_capacity items.new ≡ vec_capacity items.old }
 {
-    // Mostly it is one, which is written with no call, or none.
+    // Mostly they are few, which are written with no call.
     match pieces {
         [] => {}
         [piece] => items[index] = *piece,
+        [first, second] => {
+            items[index] = *first;
+            items[index + 1] = *second;
+        }
         _ => items[index..index + pieces.len()].copy_from_slice(pieces),
     }
 }
