@@ -1,5 +1,5 @@
 -- Indices found step by step.
-use Rattle.std.proofs.Common.{◌≡◌, ℕ, [], ◌∷◌, None, Bool, true, false, leb, refl, ◌+◌, ◌-◌, ◌/◌, ◌^◌, ◌%◌, ◌∙◌, ◌≤◌, ◌<◌, ◌⊎◌, inl, inr, length, get_or, take, drop, List, arith, sym, subst}
+use Rattle.std.proofs.Common.{◌≡◌, ℕ, [], ◌∷◌, None, Bool, true, false, leb, refl, ◌+◌, ◌-◌, ◌/◌, ◌^◌, ◌%◌, ◌*◌, ◌∙◌, ◌≤◌, ◌<◌, ◌⊎◌, inl, inr, length, get_or, take, drop, List, arith, sym, subst}
 use Rattle.std.specs.Prelude.{if◌then◌else◌}
 use Rattle.std.proofs.lemmas.Bool.{leb-true, leb-false, lt-leb, le-leb, cases_lt}
 use Rattle.std.proofs.lemmas.List.{length-drop, get_or_default, take_all}
@@ -113,6 +113,83 @@ halved ms page index left half next first step m laid within some middle ended p
             subst (λ (n : ℕ). AreEnded ms page n) (sym high.1) ended,
             begun-from ms page (index + half) laid inside (next + (left - half)) (omega (arith, high.1)) (omega (arith, high.1)) (λ d. rw (same d) h'),
           ))
+    ]
+
+-- where a mapping that was looked at begins
+first_at : (ms : List Mapping) (i first : ℕ) (m : Mapping) → i < length ms → m ≡ get_or ms i m → first ≡ m.range.first →
+    (d : Mapping) → (get_or ms i d).range.first ≡ first
+first_at ms i first m inside here first_is d = rw (get_or_default ms i d m inside ∙ sym here) (sym first_is)
+
+-- three looks at firsts that rise: how many of them are at most the page
+pub counted : (page index next quarter f1 f2 f3 s1 s2 s3 : ℕ) → f1 ≤ f2 → f2 ≤ f3 → s1 ≡ (if leb f1 page then quarter else 0) →
+    s2 ≡ (if leb f2 page then quarter else 0) → s3 ≡ (if leb f3 page then quarter else 0) → next ≡ index + (s1 + s2 + s3) →
+    ((f3 ≤ page) × (next ≡ index + 3 * quarter)) ⊎ (((f2 ≤ page) × (page < f3) × (next ≡ index + 2 * quarter)) ⊎
+    (((f1 ≤ page) × (page < f2) × (next ≡ index + quarter)) ⊎ ((page < f1) × (next ≡ index))))
+counted page index next quarter f1 f2 f3 s1 s2 s3 up up' s1_is s2_is s3_is is =
+    elim (cases_lt page f3) [
+      | inr low ↦ (
+          let e1 = rw (le-leb f1 page (omega arith)) at s1_is in
+          let e2 = rw (le-leb f2 page (omega arith)) at s2_is in
+          let e3 = rw (le-leb f3 page low) at s3_is in
+          inl (low, omega arith))
+      | inl high ↦ inr (
+          let e3 = rw (lt-leb f3 page high) at s3_is in
+          elim (cases_lt page f2) [
+            | inr low ↦ (
+                let e1 = rw (le-leb f1 page (omega arith)) at s1_is in
+                let e2 = rw (le-leb f2 page low) at s2_is in
+                inl (low, high, omega arith))
+            | inl high' ↦ inr (
+                let e2 = rw (lt-leb f2 page high') at s2_is in
+                elim (cases_lt page f1) [
+                  | inr low ↦ (let e1 = rw (le-leb f1 page low) at s1_is in inl (low, high', omega arith))
+                  | inl high'' ↦ (let e1 = rw (lt-leb f1 page high'') at s1_is in inr (high'', omega arith))
+                ])
+          ])
+    ]
+
+-- a step of a search: a quarter is left by looks at three mappings
+pub quartered : (ms : List Mapping) (page index left quarter next f1 f2 f3 s1 s2 s3 : ℕ) (m1 m2 m3 : Mapping) → IsLaidOut ms → index + left ≤ length ms →
+    3 < left → quarter ≡ left / 4 → AreEnded ms page index → All (λ m. page < m.range.first) (drop (index + left) ms) →
+    m1 ≡ get_or ms (index + quarter) m1 → m2 ≡ get_or ms (index + 2 * quarter) m2 → m3 ≡ get_or ms (index + 3 * quarter) m3 →
+    f1 ≡ m1.range.first → f2 ≡ m2.range.first → f3 ≡ m3.range.first → s1 ≡ (if leb f1 page then quarter else 0) →
+    s2 ≡ (if leb f2 page then quarter else 0) → s3 ≡ (if leb f3 page then quarter else 0) → next ≡ index + (s1 + s2 + s3) →
+    (next + (left - 3 * quarter) ≤ length ms) × AreEnded ms page next × All (λ m. page < m.range.first) (drop (next + (left - 3 * quarter)) ms)
+quartered ms page index left quarter next f1 f2 f3 s1 s2 s3 m1 m2 m3 laid within some quarter_is ended past here1 here2 here3 f1_is f2_is f3_is s1_is s2_is s3_is is =
+    let i1 : index + quarter < length ms = omega arith in
+    let i2 : index + 2 * quarter < length ms = omega arith in
+    let i3 : index + 3 * quarter < length ms = omega arith in
+    let at1 : (d : Mapping) → (get_or ms (index + quarter) d).range.first ≡ f1 = first_at ms (index + quarter) f1 m1 i1 here1 f1_is in
+    let at2 : (d : Mapping) → (get_or ms (index + 2 * quarter) d).range.first ≡ f2 = first_at ms (index + 2 * quarter) f2 m2 i2 here2 f2_is in
+    let at3 : (d : Mapping) → (get_or ms (index + 3 * quarter) d).range.first ≡ f3 = first_at ms (index + 3 * quarter) f3 m3 i3 here3 f3_is in
+    let up : f1 ≤ f2 = omega (arith, at1 m1, at2 m1, firsts_rise ms 0 laid (index + quarter) (index + 2 * quarter) m1 (omega arith) i2) in
+    let up' : f2 ≤ f3 = omega (arith, at2 m1, at3 m1, firsts_rise ms 0 laid (index + 2 * quarter) (index + 3 * quarter) m1 (omega arith) i3) in
+    elim (counted page index next quarter f1 f2 f3 s1 s2 s3 up up' s1_is s2_is s3_is is) [
+      | inl all ↦ (
+          let rest : next + (left - 3 * quarter) ≡ index + left = omega (arith, all.1) in (
+            omega (arith, rest),
+            subst (λ (n : ℕ). AreEnded ms page n) (sym all.1) (ended-before ms page (index + 3 * quarter) laid i3 (λ d. rw (at3 d) all.0)),
+            rw rest past,
+          ))
+      | inr fewer ↦ elim fewer [
+        | inl two ↦ (
+          omega (arith, two.2),
+          subst (λ (n : ℕ). AreEnded ms page n) (sym two.2) (ended-before ms page (index + 2 * quarter) laid i2 (λ d. rw (at2 d) two.0)),
+          begun-from ms page (index + 3 * quarter) laid i3 (next + (left - 3 * quarter)) (omega (arith, two.2)) (omega (arith, two.2)) (λ d. rw (at3 d) two.1),
+        )
+        | inr fewer' ↦ elim fewer' [
+          | inl one ↦ (
+            omega (arith, one.2),
+            subst (λ (n : ℕ). AreEnded ms page n) (sym one.2) (ended-before ms page (index + quarter) laid i1 (λ d. rw (at1 d) one.0)),
+            begun-from ms page (index + 2 * quarter) laid i2 (next + (left - 3 * quarter)) (omega (arith, one.2)) (omega (arith, one.2)) (λ d. rw (at2 d) one.1),
+          )
+          | inr none ↦ (
+            omega (arith, none.1),
+            subst (λ (n : ℕ). AreEnded ms page n) (sym none.1) ended,
+            begun-from ms page (index + quarter) laid i1 (next + (left - 3 * quarter)) (omega (arith, none.1)) (omega (arith, none.1)) (λ d. rw (at1 d) none.0),
+          )
+        ]
+      ]
     ]
 
 -- where the last mapping that begins at the page or before it ends past the page, it is the first that does; else the next one is
