@@ -1,5 +1,5 @@
 -- The pages at which the chunks of a list in order begin, and a search for a chunk by them.
-use Rattle.std.proofs.Common.{◌≡◌, ℕ, [], ◌∷◌, ◌+◌, ◌-◌, ◌/◌, ◌∙◌, ◌≤◌, ◌<◌, inl, inr, leb, refl, length, get_or, take, drop, List, slice_index_or, arith, sym, subst, ap}
+use Rattle.std.proofs.Common.{◌≡◌, ℕ, [], ◌∷◌, ◌+◌, ◌-◌, ◌/◌, ◌*◌, ◌∙◌, ◌≤◌, ◌<◌, inl, inr, leb, refl, length, get_or, take, drop, List, slice_index_or, arith, sym, subst, ap}
 use Rattle.std.specs.Prelude.{if◌then◌else◌}
 use Rattle.std.proofs.lemmas.Bool.{leb-true, leb-false}
 use Rattle.std.specs.List.{All}
@@ -10,8 +10,8 @@ use Rattle.gv_types.specs.declared.mapping.Mapping.{Mapping}
 use Rattle.gv_chunks.specs.Chunks.{chunks_joined, AreFilled, AreFirsts}
 use Rattle.gv_chunks.proofs.StartLemmas.{take_start, drop_start, start_within, start_rises, end_of_chunk, at_in_chunk}
 use Rattle.gv_ranges.specs.List.{IsLaidOut}
-use Rattle.gv_ranges.proofs.LookupLemmas.{is_mapping}
-use Rattle.gv_ranges.proofs.Indices.{chosen, ended-before, begun-from, not_begun-from}
+use Rattle.gv_ranges.proofs.LookupLemmas.{is_mapping, firsts_rise}
+use Rattle.gv_ranges.proofs.Indices.{chosen, counted, ended-before, begun-from, not_begun-from}
 
 -- a chunk that holds something begins within the list
 begins_within : (xs : List (Vec Mapping)) (i : ℕ) → AreFilled xs → i < length xs → length (chunks_joined (take i xs)) < length (chunks_joined xs)
@@ -52,6 +52,14 @@ module _ (xs : List (Vec Mapping)) (firsts : List ℕ) (i d : ℕ) (filled : Are
       let m : Mapping = mapping_of (chunks_joined xs) _ begins in
       let is = is_mapping (chunks_joined xs) 0 (length (chunks_joined (take i xs))) m laid begins in
       omega (arith, is.0, begins_at xs firsts i filled are within d m)
+
+  -- a later chunk begins no sooner
+  pub first_rises : (j : ℕ) → i ≤ j → j < length xs → slice_index_or firsts i d ≤ slice_index_or firsts j d
+  first_rises j up within' =
+      let m : Mapping = mapping_of (chunks_joined xs) _ (begins_within xs i filled within) in
+      let rise = firsts_rise (chunks_joined xs) 0 laid (length (chunks_joined (take i xs))) (length (chunks_joined (take j xs))) m
+      (start_rises xs i j up) (begins_within xs j filled within') in
+      omega (arith, rise, begins_at xs firsts i filled are within d m, begins_at xs firsts j filled are within' d m)
 
   -- the chunks before one that begins at a page or before it end there
   pub chunks_ended : (page : ℕ) → slice_index_or firsts i d ≤ page → All (λ m. end_of m.range ≤ page) (chunks_joined (take i xs))
@@ -99,3 +107,47 @@ halved_chunks xs firsts page chunk left half next step filled are laid within mo
         chunks_later xs firsts (chunk + half) 0 filled are laid inside page (next + (left - half)) (omega (arith, high.1)) (leb-false _ page high.0),
       )
     ]
+
+-- a quarter is left by looks at where three chunks begin
+module _ (xs : List (Vec Mapping)) (firsts : List ℕ) (page chunk left quarter next s1 s2 s3 : ℕ) (filled : AreFilled xs) (are : AreFirsts firsts xs)
+    (laid : IsLaidOut (chunks_joined xs)) (within : chunk + left ≤ length xs) (some : 3 < left) (quarter_is : quarter ≡ left / 4)
+    (ended : All (λ m. end_of m.range ≤ page) (chunks_joined (take chunk xs)))
+    (past : All (λ m. page < m.range.first) (chunks_joined (drop (chunk + left) xs)))
+    (s1_is : s1 ≡ (if leb (slice_index_or firsts (chunk + quarter) 0) page then quarter else 0))
+    (s2_is : s2 ≡ (if leb (slice_index_or firsts (chunk + 2 * quarter) 0) page then quarter else 0))
+    (s3_is : s3 ≡ (if leb (slice_index_or firsts (chunk + 3 * quarter) 0) page then quarter else 0)) (is : next ≡ chunk + (s1 + s2 + s3)) where
+  pub quartered_chunks : (next + (left - 3 * quarter) ≤ length xs) × All (λ m. end_of m.range ≤ page) (chunks_joined (take next xs)) ×
+      All (λ m. page < m.range.first) (chunks_joined (drop (next + (left - 3 * quarter)) xs))
+  quartered_chunks =
+      let i1 : chunk + quarter < length xs = omega arith in
+      let i2 : chunk + 2 * quarter < length xs = omega arith in
+      let i3 : chunk + 3 * quarter < length xs = omega arith in
+      let up = first_rises xs firsts (chunk + quarter) 0 filled are laid i1 (chunk + 2 * quarter) (omega arith) i2 in
+      let up' = first_rises xs firsts (chunk + 2 * quarter) 0 filled are laid i2 (chunk + 3 * quarter) (omega arith) i3 in
+      elim (counted page chunk next quarter _ _ _ s1 s2 s3 up up' s1_is s2_is s3_is is) [
+        | inl all ↦ (
+            let rest : next + (left - 3 * quarter) ≡ chunk + left = omega (arith, all.1) in (
+              omega (arith, rest),
+              rw all.1 (chunks_ended xs firsts (chunk + 3 * quarter) 0 filled are laid i3 page all.0),
+              rw rest past,
+            ))
+        | inr fewer ↦ elim fewer [
+          | inl two ↦ (
+            omega (arith, two.2),
+            rw two.2 (chunks_ended xs firsts (chunk + 2 * quarter) 0 filled are laid i2 page two.0),
+            chunks_later xs firsts (chunk + 3 * quarter) 0 filled are laid i3 page (next + (left - 3 * quarter)) (omega (arith, two.2)) two.1,
+          )
+          | inr fewer' ↦ elim fewer' [
+            | inl one ↦ (
+              omega (arith, one.2),
+              rw one.2 (chunks_ended xs firsts (chunk + quarter) 0 filled are laid i1 page one.0),
+              chunks_later xs firsts (chunk + 2 * quarter) 0 filled are laid i2 page (next + (left - 3 * quarter)) (omega (arith, one.2)) one.1,
+            )
+            | inr none ↦ (
+              omega (arith, none.1),
+              rw none.1 ended,
+              chunks_later xs firsts (chunk + quarter) 0 filled are laid i1 page (next + (left - 3 * quarter)) (omega (arith, none.1)) none.0,
+            )
+          ]
+        ]
+      ]

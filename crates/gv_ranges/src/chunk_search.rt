@@ -1,4 +1,4 @@
-//! Indices in a list in order that stands in chunks: the chunk by halving, and the index in it as in one slice.
+//! Indices in a list in order that stands in chunks: the chunk by quarters and halves, and the index in it as in one slice.
 ghost use Rattle.std.specs.Prelude.{◌≡◌, ◌<◌, ◌≤◌, ◌+◌, length, take, drop, slice_index_or, vec_len, IsTrue, MatchOption, None, Some};
 ghost use Rattle.std.specs.List.{All};
 ghost use Rattle.std.specs.Global.{Vec};
@@ -12,8 +12,35 @@ use crate::search::{count_begun, count_ended, entry_at, first_behind_in, step_pa
 use gv_chunks::chunk_list::Standing;
 use gv_types::{Entry, Mapping, PageRange, SPACE_PAGES};
 
-/// The last chunk whose first mapping begins at `page` or before it, or the first chunk. Each step halves what is left,
-/// whatever it finds.
+/// Where to look for the last chunk whose first mapping begins at `page` or before it: from a chunk on, at three chunks at most. Each
+/// step leaves a quarter, whatever it finds, and its three looks don't wait for one another.
+fn near_chunk_of_page(chunks: &[Vec<Mapping>], firsts: &[u64], page: u64) -> (usize, usize)
+    requires filled { AreFilled chunks.now }
+    requires firsts { AreFirsts firsts.now chunks.now }
+    requires laid_out { IsLaidOut (chunks_joined chunks.now) }
+    requires some { 0 < length chunks.now }
+    requires page { page ≤ PAGES }
+    ensures some { 0 < result.1 }
+    ensures few { result.1 ≤ 3 }
+    ensures within { result.0 + result.1 ≤ length chunks.now }
+    ensures ended { All (λ m. end_of m.range ≤ page) (chunks_joined (take result.0 chunks.now)) }
+    ensures later { All (λ m. page < m.range.first) (chunks_joined (drop (result.0 + result.1) chunks.now)) }
+{
+    let mut chunk = 0;
+    let mut left = chunks.len();
+    while left > 3 {
+        let quarter = left / 4;
+        let low = step_past(quarter, firsts[chunk + quarter], page);
+        let middle = step_past(quarter, firsts[chunk + 2 * quarter], page);
+        let high = step_past(quarter, firsts[chunk + 3 * quarter], page);
+        chunk += low + middle + high;
+        left -= 3 * quarter;
+    }
+    (chunk, left)
+}
+
+/// The last chunk whose first mapping begins at `page` or before it, or the first chunk. The last steps halve what is left,
+/// whatever they find.
 fn chunk_of_page(chunks: &[Vec<Mapping>], firsts: &[u64], page: u64) -> usize
     requires filled { AreFilled chunks.now }
     requires firsts { AreFirsts firsts.now chunks.now }
@@ -24,8 +51,7 @@ fn chunk_of_page(chunks: &[Vec<Mapping>], firsts: &[u64], page: u64) -> usize
     ensures ended { All (λ m. end_of m.range ≤ page) (chunks_joined (take result chunks.now)) }
     ensures later { All (λ m. page < m.range.first) (chunks_joined (drop (result + 1) chunks.now)) }
 {
-    let mut chunk = 0;
-    let mut left = chunks.len();
+    let (mut chunk, mut left) = near_chunk_of_page(chunks, firsts, page);
     while left > 1 {
         let half = left / 2;
         let first = firsts[chunk + half];
