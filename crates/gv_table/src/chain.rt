@@ -26,10 +26,13 @@ impl Model for Chain {
 
 impl Drop for Chain {
     fn drop(mut self) {
-        while !self.is_empty() {
-            give_back(self.take());
+        if !self.is_empty() {
+            self.give_all_back();
         }
-        let Chain { first: _ } = self;
+        let Chain { first } = self;
+        if let Some(slots) = first {
+            give_back(slots);
+        }
     }
 }
 
@@ -67,6 +70,17 @@ impl Chain {
         ensures { IsTrue result ↔ (self.now ≡ 0) }
     {
         self.first.is_none()
+    }
+
+    /// Gives all tables back to the system, one after another. Mostly there is none, and a table needs a frame as large as it.
+    #[cold]
+    #[inline(never)]
+    fn give_all_back(&mut self)
+        ensures { self.new ≡ 0 }
+    {
+        while !self.is_empty() {
+            give_back(self.take());
+        }
     }
 
     /// Takes `count` tables off, as a chain of their own. It takes no memory.

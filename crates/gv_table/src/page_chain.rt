@@ -4,7 +4,7 @@ ghost use Rattle.gv_table.specs.PageChain.{ArePagesEmpty, IsPageChain, pages_lin
 
 use crate::levels::SLOTS;
 use crate::page_slot::{NO_PAGE, Pages};
-use crate::slot::{Slot, overwrite};
+use crate::slot::{Slot, give_pages_back, overwrite};
 use std::alloc::{AllocError, Global};
 use std::marker::Model;
 use std::mem;
@@ -27,10 +27,13 @@ impl Model for PageChain {
 
 impl Drop for PageChain {
     fn drop(mut self) {
-        while !self.is_empty() {
-            drop(self.take());
+        if !self.is_empty() {
+            self.give_all_back();
         }
-        let PageChain { first: _ } = self;
+        let PageChain { first } = self;
+        if let Some(table) = first {
+            give_pages_back(table);
+        }
     }
 }
 
@@ -69,6 +72,17 @@ impl PageChain {
         ensures { IsTrue result ↔ (self.now ≡ 0) }
     {
         self.first.is_none()
+    }
+
+    /// Gives all tables back to the system, one after another, as `Chain` does.
+    #[cold]
+    #[inline(never)]
+    fn give_all_back(&mut self)
+        ensures { self.new ≡ 0 }
+    {
+        while !self.is_empty() {
+            give_pages_back(self.take());
+        }
     }
 
     /// Takes `count` tables off, as a chain of their own. It takes no memory.

@@ -75,10 +75,17 @@ pub fn overwrite(slot: &mut Slot, new: Slot)
     ensures { slot.new ≡ new }
 {
     match mem::replace(slot, new) {
-        Slot::Pages(pages) => drop(pages),
+        Slot::Pages(table) => give_pages_back(table),
         Slot::Table(slots) => give_back(slots),
         Slot::Empty | Slot::Zero { .. } | Slot::Buffer { .. } => {}
     }
+}
+
+/// Gives the memory of a table of pages back.
+#[cold]
+#[inline(never)]
+pub fn give_pages_back(table: Box<Pages>) {
+    drop(table);
 }
 
 /// Gives a table's memory back.
