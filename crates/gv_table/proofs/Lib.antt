@@ -30,3 +30,5 @@ pub mod EditLemmas
 pub mod LikenessLemmas
 pub mod Fewness
 pub mod Counting
+mod Patched
+mod BothWays

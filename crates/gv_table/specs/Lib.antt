@@ -3,6 +3,7 @@ pub mod Names
 pub mod Named
 pub mod Kinds
 pub mod Reads
+pub mod Patch
 pub mod Wanted
 pub mod Sums
 pub mod Tree
@@ -12,4 +13,5 @@ pub mod PageChain
 pub mod Shape
 pub mod Pool
 pub mod Table
+pub mod PatchOf
 pub mod Laws

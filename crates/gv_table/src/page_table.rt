@@ -1,5 +1,5 @@
 //! The tree of tables.
-ghost use Rattle.std.specs.Prelude.{◌≡◌, ◌≢◌, ◌⊎◌, ◌≤◌, ◌<◌, ◌+◌, ◌-◌, ℕ, List, [], Some, length, slice_get, IfOk, IfErr, OnOk, OnErr};
+ghost use Rattle.std.specs.Prelude.{◌≡◌, ◌≢◌, ◌⊎◌, ◌≤◌, ◌<◌, ◌+◌, ◌-◌, ℕ, List, [], Some, false, length, slice_get, IsTrue, IfOk, IfErr, OnOk, OnErr};
 ghost use Rattle.gv_types.specs.declared.mapping.BufferId.{BufferId};
 ghost use Rattle.gv_types.specs.declared.fault.Fault.TheVariants.{OutOfMemory};
 ghost use Rattle.gv_types.specs.declared.mapping.Mapping.{Mapping};
@@ -9,11 +9,13 @@ ghost use Rattle.gv_ranges.specs.Edit.{clipped};
 ghost use Rattle.gv_table.specs.Kinds.{Kind, of, none, AreEnough};
 ghost use Rattle.gv_table.specs.Names.{most_names, AreNamed};
 
+use crate::levels::TOP_LEVEL;
 use crate::names::reach;
 use crate::outline::Outline;
 use crate::paint::paint_tree;
-use crate::place::Excerpt;
+use crate::place::{Excerpt, Place};
 use crate::pool::Pool;
+use crate::short::paint_in_slot;
 use crate::slot::Slot;
 use crate::spare::needed_in_tree;
 use crate::spares::Spares;
@@ -53,6 +55,8 @@ impl Model for PageTable {
 impl PageTable {
     ghost use Rattle.gv_table.specs.Table.{IsTree, IsHeldAt, FitsOutside, gained_by, lost_by, needed_for};
     ghost use Rattle.gv_table.specs.Table.{tables_by_level, tables_of, tables_standing};
+    ghost use Rattle.gv_table.specs.Patch.{IsPatched};
+    ghost use Rattle.gv_table.specs.PatchOf.{IsPatchOf};
 
     /// The tree of no mapping: it has no table, and takes no memory.
     pub fn new(alloc: Global) -> PageTable
@@ -170,6 +174,35 @@ impl PageTable {
     {
         let pieces = Outline::of(Reader::of_slice(pieces));
         Ok(pool.take(alloc, needed_in_tree(&self.root, &pieces, range))?)
+    }
+
+    /// Paints a range that lies in one table of pages, where that table stands and is to stay: whether it did, and if not, nothing changed.
+    /// Of the list, which need not be the one that the tree is to be of yet, the pieces tell what it says of the range, and `some` where
+    /// one of its mappings lies. No table is gained or lost, and it takes no memory.
+    pub fn paint_within(&mut self, range: PageRange, pieces: &[Mapping], some: PageRange) -> bool
+        requires laid_out { IsLaidOut pieces.now }
+        requires named { AreNamed self.old.names pieces.now }
+        requires list { IsPatchOf self.old range pieces.now some }
+        ensures not { result ≡ false → self.new ≡ self.old }
+        ensures names { self.new.names ≡ self.old.names }
+        ensures standing { tables_standing self.new ≡ tables_standing self.old }
+        ensures tree { IsTrue result → (ms : List Mapping) → IsPatched ms pieces.now range some → AreNamed self.old.names ms
+            → FitsOutside ms range self.old → IsTree ms self.new }
+        ensures none { IsTrue result → (ms : List Mapping) → IsLaidOut ms → IsTree ms self.old → gained_by ms self.new ≡ none }
+    {
+        // Tells that the range lies in the space.
+        let _first = range.first();
+        let pieces = Outline::of(Reader::of_slice(pieces));
+        let excerpt = Excerpt {
+            mappings: &pieces,
+            range,
+            position: 0,
+        };
+        let place = Place {
+            level: TOP_LEVEL,
+            first: 0,
+        };
+        paint_in_slot(&mut self.root, place, &excerpt, some)
     }
 
     /// Makes the tree that of the list, where it fits the list outside the range. It takes from the

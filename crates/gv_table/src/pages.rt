@@ -1,5 +1,5 @@
 //! The slots of single pages made those of a list's tree, inside a range.
-ghost use Rattle.std.specs.Prelude.{◌≡◌, ◌+◌, ◌*◌, ◌<◌, ◌≤◌, ℕ, IsTrue, slice_index_or};
+ghost use Rattle.std.specs.Prelude.{◌≡◌, ◌+◌, ◌*◌, ◌<◌, ◌≤◌, ℕ, false, IsTrue, slice_index_or};
 ghost use Rattle.gv_types.specs.Page.{PAGES};
 ghost use Rattle.gv_types.specs.PageRange.{span, meets, end_of};
 ghost use Rattle.gv_ranges.specs.List.{IsLaidOut, IsIndexOfPage, AreEnded};
@@ -59,19 +59,18 @@ fn paint_run(
     end
 }
 
-/// Makes the slots of a table of pages those of the list's tree, given that they fit outside the range. Those are visited
-/// that meet it; none is or becomes a table, so nothing is counted.
+/// Makes the slots of a table of pages that meet the range what the mappings say of them. None is or becomes a table, so nothing is
+/// counted, and the others stay.
 pub fn paint_pages(slots: &mut [PageSlot; SLOTS], first: u64, excerpt: &Excerpt<'_, '_>)
     requires in_space { first + slots_per_table * pages_of 0 ≤ PAGES }
     requires laid_out { IsLaidOut excerpt.now.mappings.now }
     requires told { AreTold excerpt.now.mappings.now }
     requires position { AreEnded excerpt.now.mappings.now (first_within excerpt.now.range first) excerpt.now.position }
     requires met { IsTrue (meets (span first (slots_per_table * pages_of 0)) excerpt.now.range) }
-    requires outside { (k : ℕ) → k < slots_per_table
-        → IsToldOutside excerpt.now.mappings.now excerpt.now.range 0 (first + k * pages_of 0)
-        (slot_of (slice_index_or slots.old k no_page)) }
-    ensures { (k : ℕ) → k < slots_per_table → IsTreeOf excerpt.now.mappings.now 0
-        (first + k * pages_of 0) (slot_of (slice_index_or slots.new k no_page)) }
+    ensures inside { (k : ℕ) → k < slots_per_table → IsTrue (meets (slot_pages 0 (first + k * pages_of 0)) excerpt.now.range)
+        → IsTreeOf excerpt.now.mappings.now 0 (first + k * pages_of 0) (slot_of (slice_index_or slots.new k no_page)) }
+    ensures outside { (k : ℕ) → k < slots_per_table → meets (slot_pages 0 (first + k * pages_of 0)) excerpt.now.range ≡ false
+        → slice_index_or slots.new k no_page ≡ slice_index_or slots.old k no_page }
 {
     let Excerpt {
         mappings,
@@ -86,7 +85,8 @@ pub fn paint_pages(slots: &mut [PageSlot; SLOTS], first: u64, excerpt: &Excerpt<
     }
 }
 
-/// The same, with the mappings looked up anew where they are not at hand.
+/// Makes the slots of a table of pages those of the list's tree, given that they fit outside the range. The mappings are looked up anew
+/// where they are not at hand.
 pub fn paint_near(slots: &mut [PageSlot; SLOTS], first: u64, excerpt: &Excerpt<'_, '_>)
     requires in_space { first + slots_per_table * pages_of 0 ≤ PAGES }
     requires laid_out { IsLaidOut excerpt.now.mappings.now }

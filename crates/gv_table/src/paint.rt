@@ -23,7 +23,6 @@ use crate::pages::paint_near;
 use crate::place::{Excerpt, Place};
 use crate::position::advance;
 use crate::release::clear_unwanted;
-use crate::short::paint_in_slot;
 use crate::slot::Slot;
 use crate::spares::Spares;
 use crate::table_counts::TableCounts;
@@ -67,9 +66,7 @@ pub fn paint_tree(
         range,
         position: advance(mappings, position, range.first()),
     };
-    if !paint_in_slot(root, place, &excerpt) {
-        paint_slot(root, place, &excerpt, spares, left, counts);
-    }
+    paint_slot(root, place, &excerpt, spares, left, counts);
 }
 
 /// Makes a slot that meets the range that of the list's tree, given that it fits outside the range. Tables that it gains are spare

@@ -1,15 +1,19 @@
-//! The short road of a paint: the range lies in one table of pages, which stands and is to stay.
-ghost use Rattle.std.specs.Prelude.{◌≡◌, ◌+◌, ◌*◌, ◌<◌, ◌≤◌, ℕ, false, IsTrue, slice_index_or};
+//! The short road of a paint: the range lies in one table of pages, which stands and is to stay, and pieces tell what the list is to say of
+//! it. No list is read.
+ghost use Rattle.std.specs.Prelude.{◌≡◌, ◌+◌, ◌*◌, ◌<◌, ◌≤◌, ℕ, false, true, IsTrue, List, slice_index_or};
 ghost use Rattle.gv_types.specs.Page.{PAGES};
-ghost use Rattle.gv_types.specs.PageRange.{span, meets, end_of};
-ghost use Rattle.gv_ranges.specs.List.{IsLaidOut, IsIndexOfPage};
+ghost use Rattle.gv_types.specs.PageRange.{span, meets, lies_in, end_of};
+ghost use Rattle.gv_types.specs.declared.mapping.Mapping.{Mapping};
+ghost use Rattle.gv_ranges.specs.List.{IsLaidOut, AreEnded};
 ghost use Rattle.gv_table.specs.declared.slot.Slot.TheVariants.{Empty};
 ghost use Rattle.gv_table.specs.Kinds.{Kind};
 ghost use Rattle.gv_table.specs.Names.{AreTold};
-ghost use Rattle.gv_table.specs.Levels.{root_level, top_level, slots_per_table, pages_of, slot_pages, first_within};
+ghost use Rattle.gv_table.specs.Levels.{root_level, top_level, slots_per_table, pages_of, slot_pages};
+ghost use Rattle.gv_table.specs.Patch.{IsPatched};
 ghost use Rattle.gv_table.specs.Shape.{IsShaped};
 ghost use Rattle.gv_table.specs.Tree.{IsTreeOf, IsToldOutside, slot_of, no_page};
-ghost use Rattle.gv_table.specs.Counts.{gained, lost, row_gained, row_lost, tables_at, row_tables_at};
+ghost use Rattle.gv_table.specs.Counts.{lost, row_lost, tables_at, row_tables_at};
+ghost use Rattle.gv_table.specs.declared.wanted.Wanted.{Wanted};
 ghost use Rattle.gv_table.specs.Wanted.{wanted};
 
 use crate::levels::{SLOTS, pages_of, part_around};
@@ -17,28 +21,33 @@ use crate::page_slot::PageSlot;
 use crate::pages::paint_pages;
 use crate::place::{Excerpt, Place};
 use crate::slot::Slot;
-use crate::wanted::{Wanted, slot_wanted};
+use gv_types::PageRange;
 
 /// Paints a range that lies in one table of pages below this slot, where that table stands and is to stay: whether it did. Then all
-/// tables above it stay too, so none is gained, lost or counted, and no other slot is looked at.
+/// tables above it stay too, so none is gained, lost or counted, and no other slot is looked at. Of the list the pieces tell what it says
+/// of the range, and `some` where one of its mappings lies.
 #[cycle(short)]
-pub fn paint_in_slot(slot: &mut Slot, place: Place, excerpt: &Excerpt<'_, '_>) -> bool
+pub fn paint_in_slot(
+    slot: &mut Slot,
+    place: Place,
+    excerpt: &Excerpt<'_, '_>,
+    some: PageRange,
+) -> bool
     requires some { 0 < place.level }
     requires known { place.level ≤ top_level }
     requires in_space { end_of (slot_pages place.level place.first) ≤ PAGES }
     requires laid_out { IsLaidOut excerpt.now.mappings.now }
     requires told { AreTold excerpt.now.mappings.now }
-    requires position { IsIndexOfPage excerpt.now.mappings.now (first_within excerpt.now.range place.first)
-        excerpt.now.position }
+    requires position { AreEnded excerpt.now.mappings.now excerpt.now.range.first excerpt.now.position }
     requires met { IsTrue (meets (slot_pages place.level place.first) excerpt.now.range) }
-    requires outside { IsToldOutside excerpt.now.mappings.now excerpt.now.range place.level place.first slot.old }
     ensures not { result ≡ false → slot.new ≡ slot.old }
-    ensures stays { IsTrue result → wanted excerpt.now.mappings.now place.level place.first ≡ Wanted.Table }
-    ensures tree { IsTrue result → IsTreeOf excerpt.now.mappings.now place.level place.first slot.new }
-    ensures gained { IsTrue result
-        → (kind : Kind) → gained kind excerpt.now.mappings.now place.level place.first slot.old ≡ 0 }
-    ensures lost { IsTrue result
-        → (kind : Kind) → lost kind excerpt.now.mappings.now place.level place.first slot.old ≡ 0 }
+    ensures stays { IsTrue result → (ms : List Mapping) → IsPatched ms excerpt.now.mappings.now excerpt.now.range some
+        → wanted ms place.level place.first ≡ Wanted.Table }
+    ensures tree { IsTrue result → (ms : List Mapping) → IsPatched ms excerpt.now.mappings.now excerpt.now.range some
+        → IsToldOutside ms excerpt.now.range place.level place.first slot.old → IsTreeOf ms place.level place.first slot.new }
+    ensures lost { IsTrue result → (ms : List Mapping) → IsPatched ms excerpt.now.mappings.now excerpt.now.range some
+        → IsToldOutside ms excerpt.now.range place.level place.first slot.old
+        → (kind : Kind) → lost kind ms place.level place.first slot.old ≡ 0 }
     ensures counted { (target : ℕ) → tables_at target place.level slot.new ≡ tables_at target place.level slot.old }
     ensures shaped { IsShaped place.level slot.old → IsShaped place.level slot.new }
 {
@@ -47,35 +56,41 @@ pub fn paint_in_slot(slot: &mut Slot, place: Place, excerpt: &Excerpt<'_, '_>) -
         first: place.first,
     };
     match slot {
-        Slot::Pages(table) => place.level == 1 && paint_last(&mut table.0, place.first, excerpt),
-        Slot::Table(slots) => place.level > 1 && paint_in_row(slots, below, excerpt),
+        Slot::Pages(table) => {
+            place.level == 1 && paint_last(&mut table.0, place.first, excerpt, some)
+        }
+        Slot::Table(slots) => place.level > 1 && paint_in_row(slots, below, excerpt, some),
         Slot::Empty | Slot::Zero { .. } | Slot::Buffer { .. } => false,
     }
 }
 
 /// The same for the slots of a table.
 #[cycle(short)]
-fn paint_in_row(slots: &mut [Slot; SLOTS], place: Place, excerpt: &Excerpt<'_, '_>) -> bool
+fn paint_in_row(
+    slots: &mut [Slot; SLOTS],
+    place: Place,
+    excerpt: &Excerpt<'_, '_>,
+    some: PageRange,
+) -> bool
     requires some { 0 < place.level }
     requires known { place.level ≤ root_level }
     requires in_space { place.first + slots_per_table * pages_of place.level ≤ PAGES }
     requires laid_out { IsLaidOut excerpt.now.mappings.now }
     requires told { AreTold excerpt.now.mappings.now }
-    requires position { IsIndexOfPage excerpt.now.mappings.now (first_within excerpt.now.range place.first)
-        excerpt.now.position }
+    requires position { AreEnded excerpt.now.mappings.now excerpt.now.range.first excerpt.now.position }
     requires met { IsTrue (meets (span place.first (slots_per_table * pages_of place.level)) excerpt.now.range) }
-    requires outside { (k : ℕ) → k < slots_per_table
-        → IsToldOutside excerpt.now.mappings.now excerpt.now.range place.level
-        (place.first + k * pages_of place.level) (slice_index_or slots.old k Empty) }
     ensures not { result ≡ false → slots.new ≡ slots.old }
-    ensures stays { IsTrue result
-        → wanted excerpt.now.mappings.now (place.level + 1) place.first ≡ Wanted.Table }
-    ensures tree { IsTrue result → (k : ℕ) → k < slots_per_table → IsTreeOf excerpt.now.mappings.now place.level
+    ensures stays { IsTrue result → (ms : List Mapping) → IsPatched ms excerpt.now.mappings.now excerpt.now.range some
+        → wanted ms (place.level + 1) place.first ≡ Wanted.Table }
+    ensures tree { IsTrue result → (ms : List Mapping) → IsPatched ms excerpt.now.mappings.now excerpt.now.range some
+        → ((k : ℕ) → k < slots_per_table → IsToldOutside ms excerpt.now.range place.level
+        (place.first + k * pages_of place.level) (slice_index_or slots.old k Empty))
+        → (k : ℕ) → k < slots_per_table → IsTreeOf ms place.level
         (place.first + k * pages_of place.level) (slice_index_or slots.new k Empty) }
-    ensures gained { IsTrue result
-        → (kind : Kind) → row_gained kind excerpt.now.mappings.now place.level place.first slots.old ≡ 0 }
-    ensures lost { IsTrue result
-        → (kind : Kind) → row_lost kind excerpt.now.mappings.now place.level place.first slots.old ≡ 0 }
+    ensures lost { IsTrue result → (ms : List Mapping) → IsPatched ms excerpt.now.mappings.now excerpt.now.range some
+        → ((k : ℕ) → k < slots_per_table → IsToldOutside ms excerpt.now.range place.level
+        (place.first + k * pages_of place.level) (slice_index_or slots.old k Empty))
+        → (kind : Kind) → row_lost kind ms place.level place.first slots.old ≡ 0 }
     ensures counted { (target : ℕ) → row_tables_at target place.level slots.new
         ≡ row_tables_at target place.level slots.old }
     ensures shaped { ((k : ℕ) → k < slots_per_table → IsShaped place.level (slice_index_or slots.old k Empty))
@@ -89,31 +104,49 @@ fn paint_in_row(slots: &mut [Slot; SLOTS], place: Place, excerpt: &Excerpt<'_, '
         level,
         first: first + index as u64 * pages_of(level),
     };
-    paint_in_slot(&mut slots[index], part, excerpt)
+    paint_in_slot(&mut slots[index], part, excerpt, some)
 }
 
 /// The same, where the slots are those of the table of pages.
-fn paint_last(slots: &mut [PageSlot; SLOTS], first: u64, excerpt: &Excerpt<'_, '_>) -> bool
+fn paint_last(
+    slots: &mut [PageSlot; SLOTS],
+    first: u64,
+    excerpt: &Excerpt<'_, '_>,
+    some: PageRange,
+) -> bool
     requires in_space { first + slots_per_table * pages_of 0 ≤ PAGES }
     requires laid_out { IsLaidOut excerpt.now.mappings.now }
     requires told { AreTold excerpt.now.mappings.now }
-    requires position { IsIndexOfPage excerpt.now.mappings.now (first_within excerpt.now.range first)
-        excerpt.now.position }
+    requires position { AreEnded excerpt.now.mappings.now excerpt.now.range.first excerpt.now.position }
     requires met { IsTrue (meets (span first (slots_per_table * pages_of 0)) excerpt.now.range) }
-    requires outside { (k : ℕ) → k < slots_per_table
-        → IsToldOutside excerpt.now.mappings.now excerpt.now.range 0 (first + k * pages_of 0)
-        (slot_of (slice_index_or slots.old k no_page)) }
     ensures not { result ≡ false → slots.new ≡ slots.old }
-    ensures stays { IsTrue result → wanted excerpt.now.mappings.now 1 first ≡ Wanted.Table }
-    ensures tree { IsTrue result → (k : ℕ) → k < slots_per_table → IsTreeOf excerpt.now.mappings.now 0
+    ensures stays { IsTrue result → (ms : List Mapping) → IsPatched ms excerpt.now.mappings.now excerpt.now.range some
+        → wanted ms 1 first ≡ Wanted.Table }
+    ensures tree { IsTrue result → (ms : List Mapping) → IsPatched ms excerpt.now.mappings.now excerpt.now.range some
+        → ((k : ℕ) → k < slots_per_table → IsToldOutside ms excerpt.now.range 0 (first + k * pages_of 0)
+        (slot_of (slice_index_or slots.old k no_page)))
+        → (k : ℕ) → k < slots_per_table → IsTreeOf ms 0
         (first + k * pages_of 0) (slot_of (slice_index_or slots.new k no_page)) }
 {
-    let place = Place { level: 1, first };
-    match slot_wanted(excerpt, place) {
-        Wanted::Table => {
-            paint_pages(slots, first, excerpt);
-            true
-        }
-        Wanted::Nothing | Wanted::Entry(_) => false,
+    if !divides(some, first) {
+        return false;
     }
+    paint_pages(slots, first, excerpt);
+    true
+}
+
+/// Whether a mapping at these pages holds some of those of a table of pages, and not all: then the table is wanted.
+fn divides(some: PageRange, first: u64) -> bool
+    requires { first + slots_per_table * pages_of 0 ≤ PAGES }
+    ensures met { IsTrue result → IsTrue (meets some (slot_pages 1 first)) }
+    ensures not_whole { IsTrue result → lies_in (slot_pages 1 first) some ≡ false }
+{
+    let end = first + SLOTS as u64;
+    if end <= some.first() || some.end() <= first {
+        return false;
+    }
+    if first < some.first() {
+        return true;
+    }
+    some.end() < end
 }

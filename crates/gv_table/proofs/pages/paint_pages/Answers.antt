@@ -1,12 +1,11 @@
-use Rattle.std.proofs.Common.{arith, ◌≡◌, ◌+◌, ◌*◌, ◌≤◌, ℕ, slice_index_or, refl, sym, ◌∙◌, subst, inl, inr}
+use Rattle.std.proofs.Common.{arith, ◌≡◌, ◌+◌, ◌*◌, ◌≤◌, ℕ, true, false, slice_index_or, refl, sym, ◌∙◌, subst, inl, inr}
 use Rattle.std.proofs.lemmas.Bool.{cases_lt}
 use Rattle.gv_table.specs.Names.{PageSlot}
 use Rattle.gv_table.specs.Levels.{pages_of, slot_pages, first_within}
 use Rattle.gv_table.specs.Tree.{IsTreeOf, slot_of, no_page}
-use Rattle.gv_table.proofs.PagesOf.{pages_of-zero, part-within, slots-of-one-page}
+use Rattle.gv_table.proofs.PagesOf.{pages_of-zero, slots-of-one-page}
 use Rattle.gv_table.proofs.Positions.{ended-later, position-ended}
-use Rattle.gv_table.proofs.Spans.{meets-before, meets-after, meets-bounds}
-use Rattle.gv_table.proofs.Trees.{outside-apart}
+use Rattle.gv_table.proofs.Spans.{meets-bounds}
 use Rattle.gv_table.proofs.pages.paint_pages.Goals as goal
 
 pub loop-index-init : goal.loop-index-init
@@ -14,12 +13,8 @@ loop-index-init c = record {
   from = omega arith;
   upto = c.slots_met-low.ensures.ordered;
   position = ended-later c.args.excerpt.now.mappings.now (first_within c.args.excerpt.now.range c.args.first) _ c.args.excerpt.now.position (omega (arith, pages_of-zero)) c.requires.position;
-  painted = λ k below.
-      let fits = part-within k (512 * pages_of 0) (pages_of 0) (omega (arith, c.slots_met-low.ensures.ordered, c.slots_met-low.ensures.within)) refl in
-      let apart = meets-before (slot_pages 0 (c.args.first + k * pages_of 0)) c.args.excerpt.now.range (c.slots_met-low.ensures.before k below) in
-      outside-apart c.args.excerpt.now.mappings.now c.args.excerpt.now.range 0 (c.args.first + k * pages_of 0) (slot_of (slice_index_or c.args.slots.now k no_page))
-      c.requires.laid_out (c.requires.outside k (omega (arith, c.slots_met-low.ensures.ordered, c.slots_met-low.ensures.within)))
-      (omega (arith, fits, c.requires.in_space)) apart;
+  painted = λ k up below. absurd (omega (arith, up, below));
+  before = λ k less. refl;
   untouched = λ k above. refl;
 }
 
@@ -44,25 +39,38 @@ loop-index-preserved c =
       from = omega (arith, inv.from, run.further);
       upto = run.within;
       position = position-ended ms (first + i) _ c.advance-position.result (omega (arith, run.further, slots-of-one-page c.paint_run-index.result)) c.advance-position.ensures;
-      painted = λ k below. elim (cases_lt k i) [
-        | inl less ↦ subst (λ (s : PageSlot). IsTreeOf ms 0 (first + k * pages_of 0) (slot_of s)) (sym (run.before k less)) (inv.painted k less)
+      painted = λ k low below. elim (cases_lt k i) [
+        | inl less ↦ subst (λ (s : PageSlot). IsTreeOf ms 0 (first + k * pages_of 0) (slot_of s)) (sym (run.before k less)) (inv.painted k low less)
         | inr up ↦ (
             let page : first + k ≡ first + k * pages_of 0 = omega (arith, slots-of-one-page k) in
             subst (λ (n : ℕ). IsTreeOf ms 0 n (slot_of (slice_index_or row k no_page))) page (run.painted k up below))
       ];
+      before = λ k less. run.before k (omega (arith, less, inv.from)) ∙ inv.before k less;
       untouched = λ k up. run.behind k up ∙ inv.untouched k (omega (arith, run.further, up));
     }
 
-pub returns : goal.returns
-returns c = λ k below.
-    let ms = c.args.excerpt.now.mappings.now in
+pub returns-clause-inside : goal.returns-clause-inside
+returns-clause-inside c = λ k below met.
     let page : ℕ = c.args.first + k * pages_of 0 in
-    elim (cases_lt k c.loop-index.index) [
-      | inl less ↦ c.loop-index.invariant.painted k less
-      | inr from ↦ (
-          let fits = part-within k (512 * pages_of 0) (pages_of 0) below refl in
-          let behind = c.slots_met-low.ensures.beyond k (omega (arith, c.loop-index-test.false, from)) below in
-          let apart = meets-after (slot_pages 0 page) c.args.excerpt.now.range behind in
-          subst (λ (s : PageSlot). IsTreeOf ms 0 page (slot_of s)) (sym (c.loop-index.invariant.untouched k from))
-          (outside-apart ms c.args.excerpt.now.range 0 page (slot_of (slice_index_or c.args.slots.now k no_page)) c.requires.laid_out (c.requires.outside k below) (omega (arith, fits, c.requires.in_space)) apart))
+    let bounds = meets-bounds (slot_pages 0 page) c.args.excerpt.now.range met in
+    elim (cases_lt k c.slots_met-low.result.0) [
+      | inl less ↦ absurd (omega (arith, bounds, c.slots_met-low.ensures.before k less))
+      | inr low ↦ elim (cases_lt k c.loop-index.index) [
+        | inl less ↦ c.loop-index.invariant.painted k low less
+        | inr from ↦ (
+            let behind = c.slots_met-low.ensures.beyond k (omega (arith, c.loop-index-test.false, from)) below in
+            absurd (omega (arith, bounds, behind)))
+      ]
+    ]
+
+pub returns-clause-outside : goal.returns-clause-outside
+returns-clause-outside c = λ k below apart.
+    elim (cases_lt k c.slots_met-low.result.0) [
+      | inl less ↦ c.loop-index.invariant.before k less
+      | inr low ↦ elim (cases_lt k c.loop-index.index) [
+        | inl less ↦ (
+            let met = c.slots_met-low.ensures.met k low (omega (arith, less, c.loop-index.invariant.upto)) in
+            let bad : true ≡ false = sym met ∙ apart in cc)
+        | inr from ↦ c.loop-index.invariant.untouched k from
+      ]
     ]

@@ -9,7 +9,8 @@ invariant-loop-index l = record {
   from : l.initial.index ≤ l.index;
   upto : l.index ≤ l.high;
   position : AreEnded l.mappings (first_within l.excerpt.range (l.first + l.index * pages_of 0)) l.position;
-  painted : (k : ℕ) → k < l.index → IsTreeOf l.mappings 0 (l.first + k * pages_of 0) (slot_of (slice_index_or l.slots k no_page));
+  painted : (k : ℕ) → l.initial.index ≤ k → k < l.index → IsTreeOf l.mappings 0 (l.first + k * pages_of 0) (slot_of (slice_index_or l.slots k no_page));
+  before : (k : ℕ) → k < l.initial.index → slice_index_or l.slots k no_page ≡ slice_index_or l.initial.slots k no_page;
   untouched : (k : ℕ) → l.index ≤ k → slice_index_or l.slots k no_page ≡ slice_index_or l.initial.slots k no_page;
 }
 

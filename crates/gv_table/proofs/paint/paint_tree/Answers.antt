@@ -4,15 +4,6 @@ use Rattle.gv_table.proofs.PagesOf.{pages_of-top}
 use Rattle.gv_table.proofs.Spans.{meets-from}
 use Rattle.gv_table.proofs.paint.paint_tree.Goals as goal
 
-pub paint_in_slot-requires-clause-in_space : goal.paint_in_slot-requires-clause-in_space
-paint_in_slot-requires-clause-in_space c = let all = pages_of-top in omega (arith, all)
-
-pub paint_in_slot-requires-clause-met : goal.paint_in_slot-requires-clause-met
-paint_in_slot-requires-clause-met c =
-    let all = pages_of-top in
-    let some = c.first.ensures.in_space in
-    meets-from (slot_pages 5 0) c.args.excerpt.now.range (omega (arith, some)) (omega (arith, all, some))
-
 pub paint_slot-requires-clause-in_space : goal.paint_slot-requires-clause-in_space
 paint_slot-requires-clause-in_space c = let all = pages_of-top in omega (arith, all)
 

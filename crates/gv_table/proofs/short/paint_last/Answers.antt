@@ -1,10 +1,44 @@
-use Rattle.std.proofs.Common.{◌≡◌, ℕ, true, arith, sym, subst}
-use Rattle.gv_types.specs.PageRange.{span, meets}
-use Rattle.gv_table.proofs.InOne.{row-pages}
+use Rattle.std.proofs.Common.{◌≡◌, ◌+◌, ◌*◌, ℕ, true, false, slice_index_or, get_or, arith, refl, sym, subst, inl, inr}
+use Rattle.gv_types.specs.PageRange.{PageRangeState, meets, lies_in}
+use Rattle.gv_types.specs.declared.mapping.Backing.TheVariants.{Zero}
+use Rattle.gv_types.specs.declared.mapping.Mapping.{Mapping}
+use Rattle.gv_ranges.specs.List.{at}
+use Rattle.gv_table.specs.Names.{PageSlot}
+use Rattle.gv_table.specs.Levels.{pages_of, slot_pages, first_within}
+use Rattle.gv_table.specs.Tree.{IsTreeOf, slot_of, no_page}
+use Rattle.gv_table.proofs.Covered.{true-or-false, met-at}
+use Rattle.gv_table.proofs.PagesOf.{part-within, pages_of-some, pages_of-zero}
+use Rattle.gv_table.proofs.Positions.{ended-later}
+use Rattle.gv_table.proofs.Spans.{meets-bounds, covers-from}
+use Rattle.gv_table.proofs.Trees.{outside-apart, page-of, IsTreeOf-page}
+use Rattle.gv_table.proofs.Wants.{wanted-table}
 use Rattle.gv_table.proofs.short.paint_last.Goals as goal
 
-pub slot_wanted-requires-clause-in_space : goal.slot_wanted-requires-clause-in_space
-slot_wanted-requires-clause-in_space c = let pages = row-pages 0 in omega (arith, pages, c.requires.in_space)
+pub paint_pages-requires-clause-position : goal.paint_pages-requires-clause-position
+paint_pages-requires-clause-position c =
+    ended-later c.args.excerpt.now.mappings.now c.args.excerpt.now.range.first (first_within c.args.excerpt.now.range c.args.first) c.args.excerpt.now.position (omega arith) c.requires.position
 
-pub slot_wanted-requires-clause-met : goal.slot_wanted-requires-clause-met
-slot_wanted-requires-clause-met c = subst (λ (n : ℕ). meets (span c.args.first n) c.args.excerpt.now.range ≡ true) (sym (row-pages 0)) c.requires.met
+pub returns-clause-stays : goal.returns-clause-stays
+returns-clause-stays c = λ done ms is.
+    let slot = slot_pages 1 c.args.first in
+    let d : Mapping = record { range = c.args.some; backing = Zero; flags = record { read_only = false } } in
+    let met = subst (λ (r : PageRangeState). meets r slot ≡ true) (sym (is.held.here d)) (c.if-not-divides.ensures.met refl) in
+    let other = subst (λ (r : PageRangeState). lies_in slot r ≡ false) (sym (is.held.here d)) (c.if-not-divides.ensures.not_whole refl) in
+    wanted-table ms 1 c.args.first (get_or ms is.held.index d) (met-at ms 0 is.held.index d slot is.laid_out is.held.within (pages_of-some 1) met) other
+
+pub returns-clause-tree : goal.returns-clause-tree
+returns-clause-tree c = λ done ms is outside k below.
+    let range = c.args.excerpt.now.range in
+    let pieces = c.args.excerpt.now.mappings.now in
+    let page : ℕ = c.args.first + k * pages_of 0 in
+    let now = slot_of (slice_index_or c.paint_pages.new.slots k no_page) in
+    elim (true-or-false (meets (slot_pages 0 page) range)) [
+      | inl met ↦ (
+          let bounds = meets-bounds (slot_pages 0 page) range met in
+          let here = is.inside page (covers-from range page (omega (arith, bounds, pages_of-zero)) (omega (arith, bounds))) in
+          IsTreeOf-page ms page (at pieces page) now here (page-of pieces page now (c.paint_pages.ensures.inside k below met)))
+      | inr apart ↦ (
+          let fits = part-within k (512 * pages_of 0) (pages_of 0) below refl in
+          subst (λ (s : PageSlot). IsTreeOf ms 0 page (slot_of s)) (sym (c.paint_pages.ensures.outside k below apart))
+          (outside-apart ms range 0 page (slot_of (slice_index_or c.args.slots.now k no_page)) is.laid_out (outside k below) (omega (arith, fits, c.requires.in_space)) apart))
+    ]
