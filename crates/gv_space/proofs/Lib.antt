@@ -26,3 +26,4 @@ pub mod ReleasedLemmas
 pub mod BufferRanges
 pub mod Found
 pub mod Walked
+mod HeldAt

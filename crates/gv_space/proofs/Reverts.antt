@@ -1,8 +1,10 @@
 -- A change taken back.
-use Rattle.std.proofs.Common.{◌≡◌, ℕ, ◌+◌, ◌-◌, ◌≤◌, List, length, arith, refl, sym, subst, ap, ◌∙◌}
+use Rattle.std.proofs.Common.{◌≡◌, ℕ, ◌+◌, ◌-◌, ◌≤◌, List, length, IsTrue, arith, refl, sym, subst, ap, ◌∙◌}
 use Rattle.std.specs.List.{All, splice}
 use Rattle.gv_types.specs.declared.mapping.Mapping.{Mapping}
-use Rattle.gv_ranges.specs.List.{AreEnded, run}
+use Rattle.gv_types.specs.PageRange.{covers}
+use Rattle.gv_ranges.specs.List.{at, AreEnded, run}
+use Rattle.gv_ranges.proofs.OverlappingLemmas.{at_run}
 use Rattle.gv_ranges.proofs.IndexLemmas.{ended-unspliced}
 use Rattle.gv_ranges.specs.Edit.{replaced, undone}
 use Rattle.gv_ranges.proofs.ReplacedLemmas.{replaced_run_in_place, undone-replaced}
@@ -76,10 +78,15 @@ module _ (s : SpaceState) (u : OpUndoState) (space : IsSpace s) (fits : CanRever
       alike-mutual old s.mappings u.range
       (subst (λ (ms : List Mapping). AreAlikeOutside u.range old ms) (sym fits.undo.made) (replaced-alike old fits.undo.pieces u.range fits.undo.laid_out fits.undo.lie))
 
+  -- what was taken out says of the range's pages what the list before the change says
+  pub says_what_was : (page : ℕ) → IsTrue (covers u.range page) → at old page ≡ at u.change.taken page
+  says_what_was page here =
+      sym (at_run old u.range u.change.index (length u.change.taken) page fits.undo.met here) ∙ sym (ap (λ (ms : List Mapping). at ms page) fits.undo.taken)
+
   pub tables_are_enough : (table : PageTable) → IsTree s.mappings table → AreEnough u.tables (gained_by old table)
   tables_are_enough table tree = enough-same (fits.undo.tables table tree)
 
-  taken_placed : All (IsPlaced s.area s.buffers) u.change.taken
+  pub taken_placed : All (IsPlaced s.area s.buffers) u.change.taken
   taken_placed = All-front (IsPlaced s.area s.buffers) u.change.taken fits.kept.others fits.kept.are_kept.placed
 
   pub taken_live : All (λ m. IsLiveBacking s.buffers m.backing) u.change.taken

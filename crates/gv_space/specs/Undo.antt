@@ -17,6 +17,10 @@ pub record OpUndoState : Type 0 where
   pub range : PageRangeState
   pub tables : Tables
 
+-- an undo value with these
+abbrev pub undo_with : ℕ → ℕ → List Mapping → PageRangeState → Tables → OpUndoState
+undo_with index put_in taken range tables = record { change = record { index = index; put_in = put_in; taken = taken }; range = range; tables = tables }
+
 -- Some pieces were put in the range of the old list, which made it the new one. The undo value has just the run of the
 -- old list that met the range, at its index, and how many mappings stand for it now; and just the tables that the tree
 -- of the old list has more than that of the new one.

@@ -15,6 +15,8 @@ ghost use Rattle.gv_table.specs.Kinds.{AreEnough};
 ghost use Rattle.gv_table.specs.Table.{IsTree, IsHeldAt, FitsOutside, gained_by, tables_of, tables_standing};
 ghost use Rattle.gv_table.specs.declared.page_table.PageTable.{PageTable};
 
+mod edits;
+
 use gv_ranges::RangeList;
 use gv_table::{PageTable, Pool, Spares};
 use gv_types::{BufferId, Entry, Fault, Mapping, OutOfMemory, PageRange};
@@ -152,105 +154,4 @@ impl ListWithTable {
     {
         self.table.name(id);
     }
-
-    /// Replaces `out_count` mappings from `index` on by `pieces`, and paints the range. The mappings before the index have to
-    /// end before the range, and the list to stay as it is outside the range, and to have the pieces `inside` in it: nothing is searched.
-    /// It answers the tables that left the tree: just those that the old list needs to be painted back. It takes memory for the
-    /// tables that the tree may need, and before the first change. Those that are kept serve before any is made. `OutOfMemory`
-    /// where the system refuses it.
-    pub fn edit(
-        &mut self,
-        alloc: Global,
-        range: PageRange,
-        index: usize,
-        out_count: usize,
-        pieces: &[Mapping],
-        inside: &[Mapping],
-    ) -> Result<Spares, Fault>
-        requires within { index + out_count ≤ length self.old.mappings }
-        requires ended { AreEnded self.old.mappings range.first index }
-        requires room { length self.old.mappings + length pieces.now ≤ self.old.room + out_count }
-        requires laid_out { IsLaidOut
-            (splice self.old.mappings index (index + out_count) pieces.now) }
-        requires alike { AreAlikeOutside range self.old.mappings
-            (splice self.old.mappings index (index + out_count) pieces.now) }
-        requires inside { clipped range.first (end_of range)
-            (splice self.old.mappings index (index + out_count) pieces.now) ≡ inside.now }
-        requires sorted { IsLaidOut inside.now }
-        requires named { AreNamed self.old.names (splice self.old.mappings index (index + out_count) pieces.now) }
-        ensures mappings { OnOk result (self.new.mappings
-            ≡ splice self.old.mappings index (index + out_count) pieces.now) }
-        ensures tables { IfOk result (λ tables. (table : PageTable) → IsTree self.new.mappings table
-            → gained_by self.old.mappings table ≡ tables) }
-        ensures err { IsOkUnless result Fault.OutOfMemory }
-        ensures unchanged { OnErr result (self.new ≡ self.old) }
-        ensures room { self.new.room ≡ self.old.room }
-        ensures names { self.new.names ≡ self.old.names }
-    {
-        // Tells that the list is laid out.
-        let _len = self.list.len();
-        let spares = self.table.spare_from(alloc, range, inside, &mut self.pool)?;
-        self.list.splice(index, out_count, pieces);
-        let (table, pool) = (&mut self.table, &mut self.pool);
-        Ok(paint(table, pool, &self.list, range, index, spares))
-    }
-
-    /// Replaces `out_count` mappings from `index` on by `pieces`, and paints the range, as `edit` does, with tables that are enough for
-    /// it. Those that leave the tree are kept for later. It takes no memory.
-    pub fn put_back(
-        &mut self,
-        range: PageRange,
-        index: usize,
-        out_count: usize,
-        pieces: &[Mapping],
-        spares: Spares,
-    )
-        requires within { index + out_count ≤ length self.old.mappings }
-        requires ended { AreEnded self.old.mappings range.first index }
-        requires room { length self.old.mappings + length pieces.now ≤ self.old.room + out_count }
-        requires laid_out { IsLaidOut
-            (splice self.old.mappings index (index + out_count) pieces.now) }
-        requires alike { AreAlikeOutside range self.old.mappings
-            (splice self.old.mappings index (index + out_count) pieces.now) }
-        requires named { AreNamed self.old.names (splice self.old.mappings index (index + out_count) pieces.now) }
-        requires enough { (table : PageTable) → IsTree self.old.mappings table
-            → AreEnough spares (gained_by (splice self.old.mappings index (index + out_count) pieces.now) table) }
-        ensures mappings { self.new.mappings
-            ≡ splice self.old.mappings index (index + out_count) pieces.now }
-        ensures room { self.new.room ≡ self.old.room }
-        ensures names { self.new.names ≡ self.old.names }
-    {
-        // Tells that the list is laid out.
-        let _len = self.list.len();
-        self.list.splice(index, out_count, pieces);
-        let (table, pool) = (&mut self.table, &mut self.pool);
-        let left = paint(table, pool, &self.list, range, index, spares);
-        pool.put(left, table);
-    }
-}
-
-/// Makes the table that of the list by these tables, those that are left over go to the pool. It answers the tables that left the tree.
-fn paint(
-    table: &mut PageTable,
-    pool: &mut Pool,
-    list: &RangeList,
-    range: PageRange,
-    position: usize,
-    spares: Spares,
-) -> Spares
-    requires ended { AreEnded list.now.mappings range.first position }
-    requires fitted { FitsOutside list.now.mappings range table.old }
-    requires named { AreNamed table.old.names list.now.mappings }
-    requires enough { AreEnough spares (gained_by list.now.mappings table.old) }
-    ensures tree { IsTree list.now.mappings table.new }
-    ensures names { table.new.names ≡ table.old.names }
-    ensures few { pool.new ≤ (tables_standing table.new).pages }
-    ensures back { (ms : List Mapping) → IsLaidOut ms → IsTree ms table.old
-        → gained_by ms table.new ≡ result }
-{
-    let mut spares = spares;
-    let mut left = Spares::new();
-    table.paint(list, range, position, &mut spares, &mut left);
-    pool.put(spares, table);
-    left
 }

@@ -1,6 +1,7 @@
 //! What comes to stand where a range meets a list.
 ghost use Rattle.std.specs.Prelude.{◌≡◌, ◌+◌, ◌-◌, ◌<◌, ◌≤◌, ◌++◌, [], length, take, drop, IfOk, OnOk};
 ghost use Rattle.std.specs.List.{All};
+ghost use Rattle.std.specs.Option.{option_to_list};
 ghost use Rattle.gv_types.specs.PageRange.{end_of, IsInSpace};
 ghost use Rattle.gv_ranges.specs.List.{run, IsLaidOut};
 ghost use Rattle.gv_ranges.specs.Edit.{clipped, restored};
@@ -9,11 +10,12 @@ ghost use Rattle.gv_space.specs.Refusal.{count_met};
 use gv_ranges::{RangeList, next_rest, prev_rest};
 use gv_types::{Mapping, OutOfMemory, PageRange};
 use smallvec::SmallVec;
+use std::array::from_ref;
 
-/// How many mappings an undo value keeps in itself: most operations meet one or two.
-const INLINE: usize = 2;
+/// How many mappings an undo value keeps in itself: most operations meet one to three.
+const INLINE: usize = 3;
 
-/// A few mappings, in the value itself where they are at most two.
+/// A few mappings, in the value itself where they are at most three.
 pub type Pieces = SmallVec<Mapping, INLINE>;
 
 /// How many mappings come in without memory: most operations put in one, with a rest on each side.
@@ -21,6 +23,17 @@ const INCOMING: usize = 3;
 
 /// The mappings that come in, in the value itself where they are at most three.
 pub type Incoming = SmallVec<Mapping, INCOMING>;
+
+/// The mapping, if there is one, as pieces.
+#[inline(always)]
+pub fn as_pieces(mapping: &Option<Mapping>) -> &[Mapping]
+    ensures { result.now ≡ option_to_list mapping.now }
+{
+    match mapping {
+        Some(mapping) => from_ref(mapping),
+        None => &[],
+    }
+}
 
 /// Copies the `count` mappings of a list from an index on to where they stay, which asks for just their room. Mostly they stand in one
 /// block of memory.

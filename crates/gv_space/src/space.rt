@@ -9,8 +9,7 @@ ghost use Rattle.gv_types.specs.Operation.{has_range, in_pages, own_mapping, ran
 ghost use Rattle.gv_types.specs.declared.mapping.Mapping.{Mapping};
 
 use crate::list_with_table::ListWithTable;
-use crate::undo::OpUndo;
-use crate::{counts, ranges};
+use crate::ranges;
 use gv_buffers::{Buffers, Usage};
 use gv_ranges::RangeList;
 use gv_split::Step;
@@ -21,6 +20,7 @@ use std::marker::Model;
 
 mod buffers;
 mod change;
+mod operations;
 mod refusal;
 
 /// One GPU address space: a list of mappings as a `drm_gpuvm` of DRM GPUVM keeps it, the page table that is always the
@@ -155,117 +155,6 @@ impl Space {
         gv_split::plan(alloc, self.mapped.list(), &op)
     }
 
-    /// Applies an operation, given in bytes, that names its pages: an unmap of a whole buffer is applied as an unmap of
-    /// each of `buffer_ranges`. It is `check`, and then `apply_pages`: the faults are the first of `check`, then `NoBuffer`,
-    /// `OutOfBuffer` (the offset plus the length is past the buffer's end), then those of `apply_pages`.
-    pub fn apply(&mut self, alloc: Global, op: &Op) -> Result<OpUndo, Fault>
-        requires { IsTrue (has_range op.now) }
-        ensures fault { MatchOption (apply_fault self.old op.now)
-            (IsOkUnless result Fault.OutOfMemory) (λ fault. result ≡ Err fault) }
-        ensures changed { IfOk result (λ undo.
-            IsChanged self.old self.new (edited self.old.mappings (in_pages op.now)) undo) }
-        ensures range { IfOk result (λ undo. undo.range ≡ range_of (in_pages op.now)) }
-        ensures says { IfOk result (λ _. (page : ℕ) → IsPage page
-            → at self.new.mappings page ≡ after (in_pages op.now) (at self.old.mappings) page) }
-        ensures taken { IfOk result (TookWhatWas self.old.mappings) }
-        ensures undone { IfOk result (λ undo. undone self.new.mappings undo.change ≡ self.old.mappings) }
-        ensures unchanged { OnErr result (IsUnchanged self.old self.new) }
-        ensures room { GrowsJustFor (edited self.old.mappings (in_pages op.now)) self.old self.new }
-    {
-        let op = match self.check(op) {
-            Ok(op) => op,
-            Err(fault) => return Err(fault),
-        };
-        self.apply_pages(alloc, &op)
-    }
-
-    /// Applies an operation in pages that names them, and that `check` let through. The mappings that meet its range give way
-    /// to their rests, and a map's mapping is added; nothing is joined. `TooManyMappings` where the list would pass its limit,
-    /// or undo values would hold over 2^62 mappings, then `OutOfMemory`. All growth comes before the first change.
-    pub fn apply_pages(&mut self, alloc: Global, op: &PageOp) -> Result<OpUndo, Fault>
-        requires pages { IsPageOp op.now }
-        requires placed { All (IsPlaced self.old.area self.old.buffers) (own_mapping op.now) }
-        ensures fault { MatchOption (limit_fault self.old (range_of op.now) (edited self.old.mappings op.now))
-            (IsOkUnless result Fault.OutOfMemory) (λ fault. result ≡ Err fault) }
-        ensures changed { IfOk result (λ undo.
-            IsChanged self.old self.new (edited self.old.mappings op.now) undo) }
-        ensures range { IfOk result (λ undo. undo.range ≡ range_of op.now) }
-        ensures says { IfOk result (λ _. (page : ℕ) → IsPage page
-            → at self.new.mappings page ≡ after op.now (at self.old.mappings) page) }
-        ensures taken { IfOk result (TookWhatWas self.old.mappings) }
-        ensures undone { IfOk result (λ undo. undone self.new.mappings undo.change ≡ self.old.mappings) }
-        ensures unchanged { OnErr result (IsUnchanged self.old self.new) }
-        ensures room { GrowsJustFor (edited self.old.mappings op.now) self.old self.new }
-    {
-        match op.own_mapping() {
-            Some(own) => self.change(alloc, op.range(), &[own]),
-            None => self.change(alloc, op.range(), &[]),
-        }
-    }
-
-    /// Puts back what older changes took out in a range: cuts the range out, as an unmap does, and puts in the undo value's
-    /// mappings, clipped to the range and not joined. `TooManyMappings` as for `apply`, then `OutOfMemory`. All growth comes
-    /// before the first change.
-    pub fn restore(
-        &mut self,
-        alloc: Global,
-        range: PageRange,
-        saved: &OpUndo,
-    ) -> Result<OpUndo, Fault>
-        requires { AreAmongKept self.old saved.now.change.taken }
-        ensures fault { MatchOption (limit_fault self.old range (restored self.old.mappings range saved.now.change.taken))
-            (IsOkUnless result Fault.OutOfMemory) (λ fault. result ≡ Err fault) }
-        ensures changed { IfOk result (λ undo. IsChanged self.old self.new
-            (restored self.old.mappings range saved.now.change.taken) undo) }
-        ensures range { IfOk result (λ undo. undo.range ≡ range) }
-        ensures says { IfOk result (λ _. (page : ℕ) → IsPage page → at self.new.mappings page
-            ≡ (if covers range page then at saved.now.change.taken page else at self.old.mappings page)) }
-        ensures taken { IfOk result (TookWhatWas self.old.mappings) }
-        ensures undone { IfOk result (λ undo. undone self.new.mappings undo.change ≡ self.old.mappings) }
-        ensures unchanged { OnErr result (IsUnchanged self.old self.new) }
-        ensures room { GrowsJustFor (restored self.old.mappings range saved.now.change.taken) self.old self.new }
-    {
-        self.change(alloc, range, saved.taken.as_slice())
-    }
-
-    /// Takes a change back: the run that it put in gives way to the mappings that it took out, and the list is what it was,
-    /// boundaries included, as are the page table and the counts. It takes no memory. The list has to be the one that the
-    /// change left.
-    pub fn revert(&mut self, undo: OpUndo)
-        requires { CanRevert self.old undo }
-        ensures state { self.new ≡ reverted self.old undo }
-        ensures undone { (before : List Mapping)
-            → IsUndoOf before self.old.mappings undo → self.new.mappings ≡ before }
-        ensures kept { (others : List Mapping)
-            → AreKept self.old (undo.change.taken ++ others) → AreKept self.new others }
-    {
-        self.mapped.seek(undo.range.first());
-        self.revert_near(undo);
-    }
-
-    /// The same, where the list was told what comes.
-    fn revert_near(&mut self, undo: OpUndo)
-        requires { CanRevert self.old undo }
-        ensures state { self.new ≡ reverted self.old undo }
-        ensures undone { (before : List Mapping)
-            → IsUndoOf before self.old.mappings undo → self.new.mappings ≡ before }
-        ensures kept { (others : List Mapping)
-            → AreKept self.old (undo.change.taken ++ others) → AreKept self.new others }
-    {
-        let OpUndo {
-            index,
-            put_in,
-            range,
-            taken,
-            tables,
-        } = undo;
-        let pieces = self.mapped.list().run(index, put_in);
-        counts::move_counts_back(&mut self.buffers, pieces, taken.as_slice());
-        self.mapped
-            .put_back(range, index, put_in, taken.as_slice(), tables);
-        self.kept_count -= taken.len() as u64;
-    }
-
     /// Gives room back that nothing held needs: list, tables, ids and buffers. An undo value that is kept may not fit then, since its room may
     /// be gone.
     pub fn trim(&mut self)
@@ -274,24 +163,5 @@ impl Space {
     {
         self.mapped.shrink();
         self.buffers.shrink();
-    }
-
-    /// Gives up the mappings that an undo value keeps: the change stays. It takes no memory.
-    pub fn release(&mut self, undo: OpUndo)
-        requires { AreAmongKept self.old undo.change.taken }
-        ensures state { self.new ≡ released self.old undo.change.taken }
-        ensures kept { (others : List Mapping)
-            → AreKept self.old (undo.change.taken ++ others) → AreKept self.new others }
-    {
-        let OpUndo {
-            index: _,
-            put_in: _,
-            range: _,
-            taken,
-            tables,
-        } = undo;
-        counts::unkeep(&mut self.buffers, taken.as_slice());
-        self.mapped.keep(tables);
-        self.kept_count -= taken.len() as u64;
     }
 }

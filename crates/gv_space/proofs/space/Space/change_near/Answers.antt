@@ -1,6 +1,5 @@
 use Rattle.std.proofs.Common.{◌+◌, List, length, arith, refl, sym, subst, ◌∙◌}
 use Rattle.std.specs.List.{splice}
-use Rattle.std.proofs.lemmas.Result.{IfOk-weaker}
 use Rattle.gv_types.specs.declared.mapping.Mapping.{Mapping}
 use Rattle.gv_ranges.specs.List.{IsLaidOut}
 use Rattle.gv_ranges.specs.Edit.{restored}
@@ -8,6 +7,7 @@ use Rattle.gv_ranges.proofs.RestLemmas.{run_is_laid_out}
 use Rattle.gv_space.specs.Mapped.{MappedState}
 use Rattle.gv_space.specs.State.{SpaceState}
 use Rattle.gv_space.specs.Change.{IsChanged}
+use Rattle.gv_space.specs.Undo.{OpUndoState, undo_with}
 use Rattle.gv_space.specs.Ready.{IsReady}
 use Rattle.gv_space.specs.Inside.{space_of}
 use Rattle.gv_space.proofs.FaultLemmas.{no_fault}
@@ -37,11 +37,17 @@ returns-clause-room c =
     c.overlapping-index.result.0 c.overlapping-index.result.1 c.saturating_sub.result c.self.invariant.space c.self.view_is (rw c.list.ensures.value at c.overlapping-index.ensures) (rw c.list-2.ensures.value at c.in_ok-copy_run.ensures)
     (c.as_slice-pieces.ensures ∙ (rw c.as_slice.ensures at c.in_ok-start.ensures.pieces)) (omega (arith, c.len.ensures.value, c.saturating_sub.ensures)) c.reserve.ensures.enough c.reserve.ensures.double_or_need c.commit.ensures.room
 
+pub returns-in_err-tables-clause-room : goal.returns-in_err-tables-clause-room
+returns-in_err-tables-clause-room c =
+    grown_just_for c.self.inside c.args.self.now _ c.args.range c.args.saved.now c.copy_run.new.pieces.items c.as_slice-pieces.result.now c.reserve.new.self
+    c.overlapping-index.result.0 c.overlapping-index.result.1 c.saturating_sub.result c.self.invariant.space c.self.view_is (rw c.list.ensures.value at c.overlapping-index.ensures) (rw c.list-2.ensures.value at c.in_ok-copy_run.ensures)
+    (c.as_slice-pieces.ensures ∙ (rw c.as_slice.ensures at c.in_ok-start.ensures.pieces)) (omega (arith, c.len.ensures.value, c.saturating_sub.ensures)) c.reserve.ensures.enough c.reserve.ensures.double_or_need c.commit.ensures.room
+
 pub commit-requires : goal.commit-requires
 commit-requires c =
     let between = between_rests c.as_slice-pieces.result.now c.as_slice.result.now c.args.saved.now c.args.range c.in_ok-start.start c.in_ok-start.end
     (c.as_slice-pieces.ensures ∙ c.in_ok-start.ensures.pieces) c.in_ok-start.ensures.start c.in_ok-start.ensures.end in
-    rw (c.make_places.ensures, between)
+    rw (c.make_places.ensures, between, c.as_slice-2.ensures)
     (made_ready c.self.inside c.args.self.now c.args.range c.args.saved.now c.self.invariant.space c.requires.laid_out c.reserve.new.self
     c.overlapping-index.result.0 c.overlapping-index.result.1 c.copy_run.new.pieces.items c.as_slice-pieces.result.now c.saturating_sub.result
     c.self.view_is (rw c.list.ensures.value at c.overlapping-index.ensures) (rw c.list-2.ensures.value at c.in_ok-copy_run.ensures) (c.as_slice-pieces.ensures ∙ (rw c.as_slice.ensures at c.in_ok-start.ensures.pieces))
@@ -61,10 +67,13 @@ returns-clause-changed c =
     c.requires.placed (no_fault _ c.check_limits.result _ c.check_limits.ensures c.in_ok-check_limits.was)
     c.reserve.ensures.unchanged.mappings c.in_ok-reserve.ensures.ok (omega (arith, c.len.ensures.value, c.saturating_sub.ensures)) in
     let after : List Mapping = splice list.mappings c.overlapping-index.result.0 (c.overlapping-index.result.0 + length c.copy_run.new.pieces.items) c.as_slice-pieces.result.now in
-    IfOk-weaker c.commit.result (λ undo. IsChanged before c.commit.new.self after undo)
-    (λ undo. IsChanged c.args.self.now c.commit.new.self (restored c.args.self.now.mappings c.args.range c.args.saved.now) undo)
-    (λ undo is.
+    let undo : OpUndoState = undo_with c.overlapping-index.result.0 (length c.as_slice-pieces.result.now) c.copy_run.new.pieces.items c.args.range c.in_ok-tables.tables in
+    let is : IsChanged before c.commit.new.self after undo = rw (c.make_places.ensures, c.as_slice-2.ensures) at c.in_ok-tables.ensures.changed in
     subst (λ (t : SpaceState). IsChanged t c.commit.new.self (restored t.mappings c.args.range c.args.saved.now) undo) c.self.view_is
     (changed_before s list c.commit.new.self within c.args.range c.overlapping-index.result.0 c.copy_run.new.pieces.items c.as_slice-pieces.result.now undo
-    c.self.invariant.space c.reserve.ensures.unchanged.mappings c.reserve.ensures.unchanged.room ready is))
-    (rw c.make_places.ensures at c.commit.ensures.changed)
+    c.self.invariant.space c.reserve.ensures.unchanged.mappings c.reserve.ensures.unchanged.room ready is)
+
+pub returns-clause-taken : goal.returns-clause-taken
+returns-clause-taken c =
+    subst IsLaidOut (sym (rw c.list-2.ensures.value at c.in_ok-copy_run.ensures))
+    (run_is_laid_out c.args.self.now.mappings c.overlapping-index.result.0 c.overlapping-index.result.1 c.list-2.ensures.space.laid_out)

@@ -1,7 +1,7 @@
 use Rattle.std.proofs.Common.{arith, ap, ◌∙◌}
 use Rattle.gv_table.specs.Kinds.{of}
 use Rattle.gv_table.proofs.KindLemmas.{none-is, sums-same}
-use Rattle.gv_space.proofs.list_with_table.paint.Goals as goal
+use Rattle.gv_space.proofs.list_with_table.edits.paint.Goals as goal
 
 pub returns-clause-back : goal.returns-clause-back
 returns-clause-back c =

@@ -1,0 +1,260 @@
+//! The list with its page table, edited.
+ghost use Rattle.std.specs.Prelude.{◌≡◌, ◌+◌, ◌<◌, ◌≤◌, ℕ, List, length, false, IsTrue, IfOk, IfSome, IsOkUnless, OnOk, OnErr};
+ghost use Rattle.std.specs.List.{splice};
+ghost use Rattle.gv_types.specs.PageRange.{covers, end_of};
+ghost use Rattle.gv_types.specs.declared.mapping.Mapping.{Mapping};
+ghost use Rattle.gv_ranges.specs.List.{at, AreEnded, IsLaidOut};
+ghost use Rattle.gv_ranges.specs.Edit.{clipped};
+ghost use Rattle.gv_table.specs.Kinds.{none, AreEnough};
+ghost use Rattle.gv_table.specs.Names.{AreNamed};
+ghost use Rattle.gv_table.specs.Patch.{HasMappingAt};
+ghost use Rattle.gv_table.specs.Reads.{AreAlikeOutside};
+ghost use Rattle.gv_table.specs.Table.{IsTree, FitsOutside, gained_by, tables_standing};
+ghost use Rattle.gv_table.specs.declared.page_table.PageTable.{PageTable};
+
+use super::ListWithTable;
+use gv_ranges::RangeList;
+use gv_table::{PageTable, Pool, Spares};
+use gv_types::{Fault, Mapping, PageRange};
+use std::alloc::Global;
+
+impl ListWithTable {
+    /// Replaces `out_count` mappings from `index` on by `pieces`, and paints the range. The mappings before the index have to
+    /// end before the range, and the list to stay as it is outside the range, and to have the pieces `inside` in it: nothing is searched.
+    /// It answers the tables that left the tree: just those that the old list needs to be painted back. It takes memory for the
+    /// tables that the tree may need, and before the first change. Those that are kept serve before any is made. `OutOfMemory`
+    /// where the system refuses it.
+    pub fn edit(
+        &mut self,
+        alloc: Global,
+        range: PageRange,
+        index: usize,
+        out_count: usize,
+        pieces: &[Mapping],
+        inside: &[Mapping],
+    ) -> Result<Spares, Fault>
+        requires within { index + out_count ≤ length self.old.mappings }
+        requires ended { AreEnded self.old.mappings range.first index }
+        requires room { length self.old.mappings + length pieces.now ≤ self.old.room + out_count }
+        requires laid_out { IsLaidOut
+            (splice self.old.mappings index (index + out_count) pieces.now) }
+        requires alike { AreAlikeOutside range self.old.mappings
+            (splice self.old.mappings index (index + out_count) pieces.now) }
+        requires inside { clipped range.first (end_of range)
+            (splice self.old.mappings index (index + out_count) pieces.now) ≡ inside.now }
+        requires sorted { IsLaidOut inside.now }
+        requires named_inside { AreNamed self.old.names inside.now }
+        requires named { AreNamed self.old.names (splice self.old.mappings index (index + out_count) pieces.now) }
+        ensures mappings { OnOk result (self.new.mappings
+            ≡ splice self.old.mappings index (index + out_count) pieces.now) }
+        ensures tables { IfOk result (λ tables. (table : PageTable) → IsTree self.new.mappings table
+            → gained_by self.old.mappings table ≡ tables) }
+        ensures err { IsOkUnless result Fault.OutOfMemory }
+        ensures unchanged { OnErr result (self.new ≡ self.old) }
+        ensures room { self.new.room ≡ self.old.room }
+        ensures names { self.new.names ≡ self.old.names }
+    {
+        if self.edit_ahead(range, index, out_count, pieces, inside) {
+            return Ok(Spares::new());
+        }
+        self.edit_anywhere(alloc, range, index, out_count, pieces, inside)
+    }
+
+    /// The same, where the range lies in one table of pages that stands and is to stay, and takes no memory: whether it did, and if not,
+    /// nothing changed. The table is painted ahead of the list.
+    #[inline(always)]
+    fn edit_ahead(
+        &mut self,
+        range: PageRange,
+        index: usize,
+        out_count: usize,
+        pieces: &[Mapping],
+        inside: &[Mapping],
+    ) -> bool
+        requires within { index + out_count ≤ length self.old.mappings }
+        requires room { length self.old.mappings + length pieces.now ≤ self.old.room + out_count }
+        requires laid_out { IsLaidOut
+            (splice self.old.mappings index (index + out_count) pieces.now) }
+        requires alike { AreAlikeOutside range self.old.mappings
+            (splice self.old.mappings index (index + out_count) pieces.now) }
+        requires says { (page : ℕ) → IsTrue (covers range page)
+            → at (splice self.old.mappings index (index + out_count) pieces.now) page ≡ at inside.now page }
+        requires sorted { IsLaidOut inside.now }
+        requires named_inside { AreNamed self.old.names inside.now }
+        requires named { AreNamed self.old.names (splice self.old.mappings index (index + out_count) pieces.now) }
+        ensures not { result ≡ false → self.new ≡ self.old }
+        ensures mappings { IsTrue result → self.new.mappings
+            ≡ splice self.old.mappings index (index + out_count) pieces.now }
+        ensures tables { IsTrue result → (table : PageTable) → IsTree self.new.mappings table
+            → gained_by self.old.mappings table ≡ none }
+        ensures room { self.new.room ≡ self.old.room }
+        ensures names { self.new.names ≡ self.old.names }
+    {
+        // Tells that the list is laid out.
+        let _len = self.list.len();
+        let Some(some) = pages_of_one(&self.list, index, out_count, pieces) else {
+            return false;
+        };
+        if !self.table.paint_within(range, inside, some) {
+            return false;
+        }
+        self.list.splice(index, out_count, pieces);
+        true
+    }
+
+    /// The same, wherever the range lies. Not inlined, since it has a table on its stack.
+    #[inline(never)]
+    fn edit_anywhere(
+        &mut self,
+        alloc: Global,
+        range: PageRange,
+        index: usize,
+        out_count: usize,
+        pieces: &[Mapping],
+        inside: &[Mapping],
+    ) -> Result<Spares, Fault>
+        requires within { index + out_count ≤ length self.old.mappings }
+        requires ended { AreEnded self.old.mappings range.first index }
+        requires room { length self.old.mappings + length pieces.now ≤ self.old.room + out_count }
+        requires laid_out { IsLaidOut
+            (splice self.old.mappings index (index + out_count) pieces.now) }
+        requires alike { AreAlikeOutside range self.old.mappings
+            (splice self.old.mappings index (index + out_count) pieces.now) }
+        requires inside { clipped range.first (end_of range)
+            (splice self.old.mappings index (index + out_count) pieces.now) ≡ inside.now }
+        requires sorted { IsLaidOut inside.now }
+        requires named { AreNamed self.old.names (splice self.old.mappings index (index + out_count) pieces.now) }
+        ensures mappings { OnOk result (self.new.mappings
+            ≡ splice self.old.mappings index (index + out_count) pieces.now) }
+        ensures tables { IfOk result (λ tables. (table : PageTable) → IsTree self.new.mappings table
+            → gained_by self.old.mappings table ≡ tables) }
+        ensures err { IsOkUnless result Fault.OutOfMemory }
+        ensures unchanged { OnErr result (self.new ≡ self.old) }
+        ensures room { self.new.room ≡ self.old.room }
+        ensures names { self.new.names ≡ self.old.names }
+    {
+        // Tells that the list is laid out.
+        let _len = self.list.len();
+        let spares = self.table.spare_from(alloc, range, inside, &mut self.pool)?;
+        self.list.splice(index, out_count, pieces);
+        let (table, pool) = (&mut self.table, &mut self.pool);
+        Ok(paint(table, pool, &self.list, range, index, spares))
+    }
+
+    /// Replaces `out_count` mappings from `index` on by `pieces`, and paints the range, as `edit` does, with tables that are enough for
+    /// it. Those that leave the tree are kept for later. It takes no memory.
+    pub fn put_back(
+        &mut self,
+        range: PageRange,
+        index: usize,
+        out_count: usize,
+        pieces: &[Mapping],
+        spares: Spares,
+    )
+        requires within { index + out_count ≤ length self.old.mappings }
+        requires ended { AreEnded self.old.mappings range.first index }
+        requires room { length self.old.mappings + length pieces.now ≤ self.old.room + out_count }
+        requires laid_out { IsLaidOut
+            (splice self.old.mappings index (index + out_count) pieces.now) }
+        requires alike { AreAlikeOutside range self.old.mappings
+            (splice self.old.mappings index (index + out_count) pieces.now) }
+        requires says { (page : ℕ) → IsTrue (covers range page)
+            → at (splice self.old.mappings index (index + out_count) pieces.now) page ≡ at pieces.now page }
+        requires sorted { IsLaidOut pieces.now }
+        requires named_pieces { AreNamed self.old.names pieces.now }
+        requires named { AreNamed self.old.names (splice self.old.mappings index (index + out_count) pieces.now) }
+        requires enough { (table : PageTable) → IsTree self.old.mappings table
+            → AreEnough spares (gained_by (splice self.old.mappings index (index + out_count) pieces.now) table) }
+        ensures mappings { self.new.mappings
+            ≡ splice self.old.mappings index (index + out_count) pieces.now }
+        ensures room { self.new.room ≡ self.old.room }
+        ensures names { self.new.names ≡ self.old.names }
+    {
+        if self.edit_ahead(range, index, out_count, pieces, pieces) {
+            self.keep(spares);
+            return;
+        }
+        self.put_back_anywhere(range, index, out_count, pieces, spares);
+    }
+
+    /// The same, wherever the range lies. Not inlined, since it has a table on its stack.
+    #[inline(never)]
+    fn put_back_anywhere(
+        &mut self,
+        range: PageRange,
+        index: usize,
+        out_count: usize,
+        pieces: &[Mapping],
+        spares: Spares,
+    )
+        requires within { index + out_count ≤ length self.old.mappings }
+        requires ended { AreEnded self.old.mappings range.first index }
+        requires room { length self.old.mappings + length pieces.now ≤ self.old.room + out_count }
+        requires laid_out { IsLaidOut
+            (splice self.old.mappings index (index + out_count) pieces.now) }
+        requires alike { AreAlikeOutside range self.old.mappings
+            (splice self.old.mappings index (index + out_count) pieces.now) }
+        requires named { AreNamed self.old.names (splice self.old.mappings index (index + out_count) pieces.now) }
+        requires enough { (table : PageTable) → IsTree self.old.mappings table
+            → AreEnough spares (gained_by (splice self.old.mappings index (index + out_count) pieces.now) table) }
+        ensures mappings { self.new.mappings
+            ≡ splice self.old.mappings index (index + out_count) pieces.now }
+        ensures room { self.new.room ≡ self.old.room }
+        ensures names { self.new.names ≡ self.old.names }
+    {
+        // Tells that the list is laid out.
+        let _len = self.list.len();
+        self.list.splice(index, out_count, pieces);
+        let (table, pool) = (&mut self.table, &mut self.pool);
+        let left = paint(table, pool, &self.list, range, index, spares);
+        pool.put(left, table);
+    }
+}
+
+/// Where one of the mappings lies that the list has once the pieces stand in a run's place, if it has any there or beside it.
+fn pages_of_one(
+    list: &RangeList,
+    index: usize,
+    out_count: usize,
+    pieces: &[Mapping],
+) -> Option<PageRange>
+    requires { index + out_count ≤ length list.now.mappings }
+    ensures { IfSome result (HasMappingAt (splice list.now.mappings index (index + out_count) pieces.now)) }
+{
+    if !pieces.is_empty() {
+        return Some(pieces[0].range);
+    }
+    if index > 0 {
+        return Some(list.get(index - 1).range);
+    }
+    if out_count < list.len() {
+        return Some(list.get(out_count).range);
+    }
+    None
+}
+
+/// Makes the table that of the list by these tables, those that are left over go to the pool. It answers the tables that left the tree.
+fn paint(
+    table: &mut PageTable,
+    pool: &mut Pool,
+    list: &RangeList,
+    range: PageRange,
+    position: usize,
+    spares: Spares,
+) -> Spares
+    requires ended { AreEnded list.now.mappings range.first position }
+    requires fitted { FitsOutside list.now.mappings range table.old }
+    requires named { AreNamed table.old.names list.now.mappings }
+    requires enough { AreEnough spares (gained_by list.now.mappings table.old) }
+    ensures tree { IsTree list.now.mappings table.new }
+    ensures names { table.new.names ≡ table.old.names }
+    ensures few { pool.new ≤ (tables_standing table.new).pages }
+    ensures back { (ms : List Mapping) → IsLaidOut ms → IsTree ms table.old
+        → gained_by ms table.new ≡ result }
+{
+    let mut spares = spares;
+    let mut left = Spares::new();
+    table.paint(list, range, position, &mut spares, &mut left);
+    pool.put(spares, table);
+    left
+}
