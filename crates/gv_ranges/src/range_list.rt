@@ -99,7 +99,7 @@ impl RangeList {
         self.list.reserve(more)
     }
 
-    /// What the page holds, if anything. One search, which halves what is left at each step.
+    /// What the page holds, if anything. One search, whose steps leave a quarter of what there is, and at last a half.
     pub fn at(&self, page: u64) -> Option<Entry>
         ensures { result ≡ at self.now.mappings page }
     {
