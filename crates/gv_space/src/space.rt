@@ -101,7 +101,7 @@ impl Space {
         self.mapped.list()
     }
 
-    /// What the page holds, by the list: one binary search. None past the end of the address space.
+    /// What the page holds, by the list: one search. None past the end of the address space.
     pub fn find(&self, page: u64) -> Option<Entry>
         ensures { result ≡ at self.now.mappings page }
     {
