@@ -102,7 +102,7 @@ impl ListWithTable {
         true
     }
 
-    /// The same, wherever the range lies. Not inlined, since it has a table on its stack.
+    /// The same, wherever the range lies. Not inlined: nearly every edit takes the short road, whose frame stays small so.
     #[inline(never)]
     fn edit_anywhere(
         &mut self,
@@ -177,7 +177,7 @@ impl ListWithTable {
         self.put_back_anywhere(range, index, out_count, pieces, spares);
     }
 
-    /// The same, wherever the range lies. Not inlined, since it has a table on its stack.
+    /// The same, wherever the range lies. Not inlined: nearly every edit takes the short road, whose frame stays small so.
     #[inline(never)]
     fn put_back_anywhere(
         &mut self,
