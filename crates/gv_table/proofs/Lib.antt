@@ -30,5 +30,6 @@ pub mod EditLemmas
 pub mod LikenessLemmas
 pub mod Fewness
 pub mod Counting
-mod Patched
+pub mod Patched
+mod LeafRows
 mod BothWays

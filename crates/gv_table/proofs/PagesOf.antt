@@ -86,3 +86,15 @@ whole-part distance k p some below =
     let h = index-within distance p some in
     let up = rows-rise k (distance / p) p below in
     omega (arith, h, up)
+
+-- and one does in no fewer than its own
+pub whole-some : (distance p : ℕ) → 0 < p → p ≤ distance → 0 < distance / p
+whole-some distance p some enough =
+    elim (cases_lt 0 (distance / p)) [
+      | inl more ↦ more
+      | inr none ↦ (
+          let h = index-within distance p some in
+          let zero : distance / p ≡ 0 = omega arith in
+          let gone : distance / p * p ≡ 0 = ap (λ (n : ℕ). n * p) zero ∙ omega arith in
+          absurd (omega (arith, h, gone)))
+    ]

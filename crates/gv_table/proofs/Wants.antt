@@ -1,7 +1,7 @@
 -- What is wanted of a slot, by what the list says of its pages.
-use Rattle.std.proofs.Common.{◌≡◌, ℕ, zero, suc, ◌+◌, ◌-◌, ◌*◌, ◌<◌, ◌≤◌, Bool, true, false, List, length, get_or, Option, Some, None, nat_le, refl, arith, sym, ap, ◌∙◌, if◌then◌else◌}
-use Rattle.std.proofs.lemmas.Bool.{lt-leb, le-leb}
-use Rattle.gv_types.specs.PageRange.{span, lies_in}
+use Rattle.std.proofs.Common.{◌≡◌, ℕ, zero, suc, ◌+◌, ◌-◌, ◌*◌, ◌<◌, ◌≤◌, inl, inr, Bool, true, false, List, length, get_or, Option, Some, None, nat_le, refl, arith, sym, ap, ◌∙◌, if◌then◌else◌}
+use Rattle.std.proofs.lemmas.Bool.{lt-leb, le-leb, cases_lt}
+use Rattle.gv_types.specs.PageRange.{span, end_of, lies_in}
 use Rattle.gv_types.specs.Mapping.{part}
 use Rattle.gv_types.specs.declared.mapping.Entry.{Entry}
 use Rattle.gv_types.specs.declared.mapping.Mapping.{Mapping}
@@ -14,7 +14,7 @@ use Rattle.gv_types.specs.Mapping.{entry_advanced}
 use Rattle.gv_table.specs.Wanted.{wanted, leaf_or_table, is_divided}
 use Rattle.gv_table.proofs.Spans.{le-true, lies-bounds, meets-from}
 use Rattle.gv_table.proofs.Clips.{SayAlike}
-use Rattle.gv_table.proofs.Covered.{any_meets-part, covering-part, covering-meets, page-covered, met-at}
+use Rattle.gv_table.proofs.Covered.{true-or-false, any_meets-part, covering-part, covering-meets, page-covered, met-at}
 use Rattle.gv_table.proofs.PagesOf.{pages_of-zero, pages_of-some, pages_of-more, part-within}
 
 pub wanted-nothing : (ms : List Mapping) (level first : ℕ) → any_meets ms (slot_pages level first) ≡ false → wanted ms level first ≡ variant.Nothing
@@ -163,3 +163,20 @@ table-around ms level first k laid below want =
     let more : level + 1 ≡ suc level = omega arith in
     rw more (divided-by (wanted ms (suc level) first) (λ whole.
     let bad : true ≡ false = sym (ap is_divided want) ∙ undivided-part ms level first k laid below whole in cc))
+
+-- a mapping that meets a slot which is to be no table holds it whole
+pub held-whole : (ms : List Mapping) (level first position : ℕ) (d : Mapping) → IsLaidOut ms → position < length ms → is_divided (wanted ms level first) ≡ false →
+    (get_or ms position d).range.first < first + pages_of level → first < end_of (get_or ms position d).range →
+    (level ≤ 2) × ((get_or ms position d).range.first ≤ first) × (first + pages_of level ≤ end_of (get_or ms position d).range)
+held-whole ms level first position d laid inside whole begun past =
+    let read = met-at ms 0 position d (slot_pages level first) laid inside (pages_of-some level) (meets-from (get_or ms position d).range (slot_pages level first) begun past) in
+    elim (true-or-false (lies_in (slot_pages level first) (get_or ms position d).range)) [
+      | inl all ↦ (
+          let bounds = lies-bounds (slot_pages level first) (get_or ms position d).range all in
+          elim (cases_lt 2 level) [
+            | inl high ↦ (let bad : true ≡ false = sym (ap is_divided (wanted-high ms level first read.0 high)) ∙ whole in cc)
+            | inr low ↦ (low, bounds.0, bounds.1)
+          ])
+      | inr other ↦ (
+          let bad : true ≡ false = sym (ap is_divided (wanted-table ms level first (get_or ms position d) read other)) ∙ whole in cc)
+    ]

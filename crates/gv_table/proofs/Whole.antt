@@ -1,7 +1,8 @@
 -- Slots that one mapping holds whole, or that no mapping meets.
-use Rattle.std.proofs.Common.{◌≡◌, ℕ, ◌+◌, ◌<◌, ◌≤◌, inl, inr, false, List, length, get_or, Option, Some, None, MatchOption, Bor, IfSome, arith, ap, sym, subst, ◌∙◌}
+use Rattle.std.proofs.Common.{◌≡◌, ℕ, ◌+◌, ◌-◌, ◌*◌, ◌<◌, ◌≤◌, inl, inr, false, List, length, get_or, Option, Some, None, MatchOption, Bor, IfSome, arith, ap, sym, subst, ◌∙◌}
 use Rattle.std.specs.Option.{option_copied}
 use Rattle.std.proofs.lemmas.Bool.{cases_lt}
+use Rattle.std.proofs.Math.Nat.{add-mul}
 use Rattle.gv_types.specs.PageRange.{end_of}
 use Rattle.gv_types.specs.Mapping.{part}
 use Rattle.gv_types.specs.declared.mapping.Mapping.{Mapping}
@@ -37,6 +38,12 @@ gap-wanted ms level first page position laid is up next =
     ]))
 
 module _ (ms : List Mapping) (level first : ℕ) where
+  pub held-undivided : (held : Option Mapping) →
+      MatchOption held (wanted ms level first ≡ variant.Nothing) (λ m. wanted ms level first ≡ variant.Entry (part m first)) →
+      is_divided (wanted ms level first) ≡ false
+  held-undivided None is = ap is_divided is
+  held-undivided (Some m) is = ap is_divided is
+
   -- such a slot is no table
   pub alike-undivided : (held : Option (Bor Mapping)) →
       MatchOption held (wanted ms level first ≡ variant.Nothing) (λ m. wanted ms level first ≡ variant.Entry (part m.now first)) →
@@ -68,3 +75,11 @@ copied-some None None B e is = tt
 copied-some None (Some x) B e is = cc
 copied-some (Some m) None B e is = cc
 copied-some (Some m) (Some x) B e is = let same : m.now ≡ x = cc in subst B (sym same) is
+
+-- the page of a slot of a row, counted from another of its slots
+pub slot-from : (first start i k pages p : ℕ) → start ≡ first + i * pages → pages ≡ p → i ≤ k → start + (k - i) * p ≡ first + k * p
+slot-from first start i k pages p at same from =
+    let product = add-mul i (k - i) p in
+    let all : (i + (k - i)) * p ≡ k * p = ap (λ (m : ℕ). m * p) (omega (arith, from)) in
+    let begin : first + i * pages ≡ first + i * p = ap (λ (m : ℕ). first + i * m) same in
+    omega (arith, at, begin, product, all)

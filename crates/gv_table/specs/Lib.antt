@@ -7,6 +7,7 @@ pub mod Patch
 pub mod Wanted
 pub mod Sums
 pub mod Tree
+pub mod Leaves
 pub mod Counts
 pub mod Chain
 pub mod PageChain

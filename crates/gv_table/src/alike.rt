@@ -1,11 +1,11 @@
 //! Slots in a row that are to hold what one mapping says, or nothing.
-ghost use Rattle.std.specs.Prelude.{◌≡◌, ◌≤◌, ◌<◌, ◌+◌, ◌*◌, ℕ, IsTrue, IfSome, MatchOption};
+ghost use Rattle.std.specs.Prelude.{◌≡◌, ◌≤◌, ◌<◌, ◌+◌, ◌*◌, ℕ, false, IsTrue, IfSome, MatchOption};
 ghost use Rattle.gv_types.specs.Page.{PAGES};
 ghost use Rattle.gv_types.specs.PageRange.{covers, lies_in};
 ghost use Rattle.gv_types.specs.Mapping.{part, IsMapping};
 ghost use Rattle.gv_ranges.specs.List.{IsLaidOut, IsIndexOfPage};
 ghost use Rattle.gv_table.specs.Levels.{top_level, pages_of, slot_pages, first_within};
-ghost use Rattle.gv_table.specs.Wanted.{wanted};
+ghost use Rattle.gv_table.specs.Wanted.{wanted, is_divided};
 
 use crate::levels::{GREATEST_LEAF_LEVEL, slots_in};
 use crate::place::{Excerpt, Place};
@@ -37,6 +37,8 @@ pub fn alike_from(excerpt: &Excerpt<'_, '_>, place: Place) -> Alike
     ensures within { (k : ℕ) → k < result.count
         → IsTrue (lies_in (slot_pages place.level (place.first + k * pages_of place.level)) excerpt.now.range) }
     ensures few { result.count ≤ PAGES }
+    ensures some { IsTrue (lies_in (slot_pages place.level place.first) excerpt.now.range)
+        → is_divided (wanted excerpt.now.mappings.now place.level place.first) ≡ false → 0 < result.count }
 {
     let Place { level, first } = place;
     let mut end = excerpt.range.end();

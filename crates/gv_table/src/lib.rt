@@ -21,6 +21,7 @@ mod pool;
 mod position;
 mod release;
 mod short;
+mod short_row;
 mod slot;
 mod spare;
 mod spares;

@@ -176,7 +176,8 @@ impl PageTable {
         Ok(pool.take(alloc, needed_in_tree(&self.root, &pieces, range))?)
     }
 
-    /// Paints a range that lies in one table of pages, where that table stands and is to stay: whether it did, and if not, nothing changed.
+    /// Paints a range that lies in one table of pages, or one of whole slots of another table, none of which is a table, and each of which
+    /// one mapping is to hold whole or none to meet. That table has to stand and to stay: whether it did, and if not, nothing changed.
     /// Of the list, which need not be the one that the tree is to be of yet, the pieces tell what it says of the range, and `some` where
     /// one of its mappings lies. No table is gained or lost, and it takes no memory.
     pub fn paint_within(&mut self, range: PageRange, pieces: &[Mapping], some: PageRange) -> bool

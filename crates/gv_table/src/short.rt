@@ -1,5 +1,5 @@
-//! The short road of a paint: the range lies in one table of pages, which stands and is to stay, and pieces tell what the list is to say of
-//! it. No list is read.
+//! The short road of a paint: the range lies in one table of pages, or is whole slots of another table. That table stands and is to stay, and
+//! pieces tell what the list is to say of the range. No list is read.
 ghost use Rattle.std.specs.Prelude.{◌≡◌, ◌+◌, ◌*◌, ◌<◌, ◌≤◌, ℕ, false, true, IsTrue, List, slice_index_or};
 ghost use Rattle.gv_types.specs.Page.{PAGES};
 ghost use Rattle.gv_types.specs.PageRange.{span, meets, lies_in, end_of};
@@ -16,16 +16,17 @@ ghost use Rattle.gv_table.specs.Counts.{lost, row_lost, tables_at, row_tables_at
 ghost use Rattle.gv_table.specs.declared.wanted.Wanted.{Wanted};
 ghost use Rattle.gv_table.specs.Wanted.{wanted};
 
-use crate::levels::{SLOTS, pages_of, part_around};
+use crate::levels::{SLOTS, pages_of};
 use crate::page_slot::PageSlot;
 use crate::pages::paint_pages;
 use crate::place::{Excerpt, Place};
+use crate::short_row::{paint_leaves, table_around};
 use crate::slot::Slot;
 use gv_types::PageRange;
 
-/// Paints a range that lies in one table of pages below this slot, where that table stands and is to stay: whether it did. Then all
-/// tables above it stay too, so none is gained, lost or counted, and no other slot is looked at. Of the list the pieces tell what it says
-/// of the range, and `some` where one of its mappings lies.
+/// Paints a range that lies in one table of pages below this slot, or is whole slots of another table, where that table stands and is to
+/// stay: whether it did. Then all tables above it stay too, so none is gained, lost or counted, and no slot beside the range is looked at.
+/// Of the list the pieces tell what it says of the range, and `some` where one of its mappings lies.
 #[cycle(short)]
 pub fn paint_in_slot(
     slot: &mut Slot,
@@ -64,7 +65,7 @@ pub fn paint_in_slot(
     }
 }
 
-/// The same for the slots of a table.
+/// The same for the slots of a table: down to the one that is a table round the range, or else for the slots that the range is made of.
 #[cycle(short)]
 fn paint_in_row(
     slots: &mut [Slot; SLOTS],
@@ -97,8 +98,8 @@ fn paint_in_row(
         → (k : ℕ) → k < slots_per_table → IsShaped place.level (slice_index_or slots.new k Empty) }
 {
     let Place { level, first } = place;
-    let Some(index) = part_around(level + 1, first, excerpt.range) else {
-        return false;
+    let Some(index) = table_around(slots, place, excerpt.range) else {
+        return divides(some, level + 1, first) && paint_leaves(slots, place, excerpt);
     };
     let part = Place {
         level,
@@ -128,20 +129,22 @@ fn paint_last(
         → (k : ℕ) → k < slots_per_table → IsTreeOf ms 0
         (first + k * pages_of 0) (slot_of (slice_index_or slots.new k no_page)) }
 {
-    if !divides(some, first) {
+    if !divides(some, 1, first) {
         return false;
     }
     paint_pages(slots, first, excerpt);
     true
 }
 
-/// Whether a mapping at these pages holds some of those of a table of pages, and not all: then the table is wanted.
-fn divides(some: PageRange, first: u64) -> bool
-    requires { first + slots_per_table * pages_of 0 ≤ PAGES }
-    ensures met { IsTrue result → IsTrue (meets some (slot_pages 1 first)) }
-    ensures not_whole { IsTrue result → lies_in (slot_pages 1 first) some ≡ false }
+/// Whether a mapping at these pages holds some of those of a slot, and not all: then the slot is to be a table.
+#[inline(always)]
+fn divides(some: PageRange, level: usize, first: u64) -> bool
+    requires known { level ≤ top_level }
+    requires in_space { end_of (slot_pages level first) ≤ PAGES }
+    ensures met { IsTrue result → IsTrue (meets some (slot_pages level first)) }
+    ensures not_whole { IsTrue result → lies_in (slot_pages level first) some ≡ false }
 {
-    let end = first + SLOTS as u64;
+    let end = first + pages_of(level);
     if end <= some.first() || some.end() <= first {
         return false;
     }

@@ -1,4 +1,4 @@
-use Rattle.std.proofs.Common.{rules, arith, inl, ◌≡◌, ◌+◌, ◌*◌, ◌<◌, ◌-◌, ℕ, true, length, slice_set, slice_index_or, List, Box, Global, sym, ap, ◌∙◌, subst}
+use Rattle.std.proofs.Common.{rules, arith, inl, inr, refl, ◌≡◌, ◌+◌, ◌*◌, ◌<◌, ◌-◌, ℕ, true, length, slice_set, slice_index_or, List, Box, Global, sym, ap, ◌∙◌, subst}
 use Rattle.std.proofs.lemmas.List.{get_or_default}
 use borrow.Enum.Total.{values_o_at}
 use Rattle.gv_types.specs.PageRange.{PageRangeState, span, meets}
@@ -14,10 +14,13 @@ use Rattle.gv_table.specs.Shape.{IsShaped}
 use Rattle.gv_table.specs.Tree.{IsTreeOf, IsToldOutside, is_table, child, slot_of, no_page}
 use Rattle.gv_table.specs.Counts.{row_tables_at}
 use Rattle.gv_table.proofs.Counts.{lost-parts, tables_at-pages}
+use Rattle.gv_table.proofs.Covered.{true-or-false}
 use Rattle.gv_table.proofs.Kept.{kept-counted, kept-row}
 use Rattle.gv_table.proofs.InOne.{row-pages, in-row, one-tree, one-lost}
+use Rattle.gv_table.proofs.LeafRows.{leaves-tree, leaves-lost, leaves-counted, leaves-shaped}
 use Rattle.gv_table.proofs.PagesOf.{pages_of-below}
 use Rattle.gv_table.proofs.Painted.{table-row, lost-divided, pages-lost}
+use Rattle.gv_table.proofs.Patched.{patched-divided}
 use Rattle.gv_table.proofs.Shapes.{shaped-Pages, shaped-Table, shaped-written, table-parts}
 use Rattle.gv_table.proofs.Slots.{is_table-Pages, is_table-Table, child-Pages}
 use Rattle.gv_table.proofs.Trees.{IsTreeOf-pages, IsTreeOf-table, read-parts}
@@ -49,13 +52,6 @@ outside-parts ms range level first slot some table outside k below = record {
   alike = outside.alike;
   tree = read-parts outside.earlier level first slot some outside.tree table k below;
 }
-
-pub paint_in_row-part_around-requires-clause-in_space : goal.paint_in_row-part_around-requires-clause-in_space
-paint_in_row-part_around-requires-clause-in_space t c = let pages = row-pages c.args.place.level in omega (arith, pages, c.requires.in_space)
-
-pub paint_in_row-part_around-requires-clause-met : goal.paint_in_row-part_around-requires-clause-met
-paint_in_row-part_around-requires-clause-met t c =
-    subst (λ (n : ℕ). meets (span c.args.place.first n) c.args.excerpt.now.range ≡ true) (sym (row-pages c.args.place.level)) c.requires.met
 
 pub paint_in_row-returns-clause-stays : goal.paint_in_row-returns-clause-stays
 paint_in_row-returns-clause-stays t c = λ done ms is.
@@ -99,6 +95,40 @@ pub paint_in_row-returns-clause-counted : goal.paint_in_row-returns-clause-count
 paint_in_row-returns-clause-counted t c = λ target.
     let within : c.in-Some.index < length c.args.slots.now = search rules in
     kept-row target c.args.place.level c.in-Some.index c.args.slots.now c.index-slots-index.result c.paint_in_slot.new.slot within (c.paint_in_slot.ensures.counted target)
+
+-- the slots of a row that become leaves, or empty
+pub paint_in_row-divides-requires-clause-in_space : goal.paint_in_row-divides-requires-clause-in_space
+paint_in_row-divides-requires-clause-in_space t c = let pages = row-pages c.args.place.level in omega (arith, pages, c.requires.in_space)
+
+pub paint_in_row-returns-then-divides-clause-stays : goal.paint_in_row-returns-then-divides-clause-stays
+paint_in_row-returns-then-divides-clause-stays t c = λ done ms is.
+    patched-divided ms c.args.excerpt.now.mappings.now c.args.excerpt.now.range c.args.some is (c.args.place.level + 1) c.args.place.first (c.if-divides.ensures.met refl) (c.if-divides.ensures.not_whole refl)
+
+pub paint_in_row-returns-then-divides-clause-tree : goal.paint_in_row-returns-then-divides-clause-tree
+paint_in_row-returns-then-divides-clause-tree t c = λ done ms is outside.
+    leaves-tree c.args.excerpt.now.mappings.now c.args.excerpt.now.range c.args.place.level c.args.place.first c.args.slots.now c.paint_leaves.new.slots
+    (c.paint_leaves.ensures.inside done) c.paint_leaves.ensures.outside ms c.args.some is c.requires.laid_out c.requires.some c.requires.in_space outside
+
+pub paint_in_row-returns-then-divides-clause-lost : goal.paint_in_row-returns-then-divides-clause-lost
+paint_in_row-returns-then-divides-clause-lost t c = λ done ms is outside.
+    leaves-lost c.args.excerpt.now.mappings.now c.args.excerpt.now.range c.args.place.level c.args.place.first c.args.slots.now c.paint_leaves.new.slots
+    (c.paint_leaves.ensures.inside done) c.paint_leaves.ensures.outside ms c.args.some is c.requires.laid_out c.requires.some c.requires.in_space outside
+
+pub paint_in_row-returns-then-divides-clause-counted : goal.paint_in_row-returns-then-divides-clause-counted
+paint_in_row-returns-then-divides-clause-counted t c = λ target.
+    elim (true-or-false c.paint_leaves.result) [
+      | inl done ↦ leaves-counted c.args.excerpt.now.mappings.now c.args.excerpt.now.range c.args.place.level c.args.place.first c.args.slots.now c.paint_leaves.new.slots
+          (c.paint_leaves.ensures.inside done) c.paint_leaves.ensures.outside target
+      | inr not ↦ ap (λ (r : List Slot). row_tables_at target c.args.place.level r) (c.paint_leaves.ensures.not not)
+    ]
+
+pub paint_in_row-returns-then-divides-clause-shaped : goal.paint_in_row-returns-then-divides-clause-shaped
+paint_in_row-returns-then-divides-clause-shaped t c = λ all.
+    elim (true-or-false c.paint_leaves.result) [
+      | inl done ↦ leaves-shaped c.args.excerpt.now.mappings.now c.args.excerpt.now.range c.args.place.level c.args.place.first c.args.slots.now c.paint_leaves.new.slots
+          (c.paint_leaves.ensures.inside done) c.paint_leaves.ensures.outside all
+      | inr not ↦ λ k below. subst (λ (r : List Slot). IsShaped c.args.place.level (slice_index_or r k Empty)) (sym (c.paint_leaves.ensures.not not)) (all k below)
+    ]
 
 pub paint_in_slot-paint_in_row-requires : goal.paint_in_slot-paint_in_row-requires
 paint_in_slot-paint_in_row-requires t c =

@@ -1,25 +1,18 @@
-use Rattle.std.proofs.Common.{◌+◌, arith}
+use Rattle.std.proofs.Common.{arith}
 use Rattle.gv_table.specs.Levels.{slot_pages}
-use Rattle.gv_table.proofs.InOne.{row-pages}
-use Rattle.gv_table.proofs.PagesOf.{pages_of-zero}
 use Rattle.gv_table.proofs.Spans.{lt-true, meets-from, lies-not-low, lies-not-high}
 use Rattle.gv_table.proofs.short.divides.Goals as goal
 
 pub returns-then-first-clause-met : goal.returns-then-first-clause-met
-returns-then-first-clause-met c = λ done.
-    let pages = row-pages 0 in
-    meets-from c.args.some (slot_pages 1 c.args.first) (omega (arith, pages, pages_of-zero)) (omega arith)
+returns-then-first-clause-met c = λ done. meets-from c.args.some (slot_pages c.args.level c.args.first) (omega arith) (omega arith)
 
 pub returns-then-first-clause-not_whole : goal.returns-then-first-clause-not_whole
-returns-then-first-clause-not_whole c = λ done. lies-not-low (slot_pages 1 c.args.first) c.args.some (omega arith)
+returns-then-first-clause-not_whole c = λ done. lies-not-low (slot_pages c.args.level c.args.first) c.args.some (omega arith)
 
 pub returns-clause-met : goal.returns-clause-met
-returns-clause-met c = λ done.
-    let pages = row-pages 0 in
-    meets-from c.args.some (slot_pages 1 c.args.first) (omega (arith, pages, pages_of-zero)) (omega arith)
+returns-clause-met c = λ done. meets-from c.args.some (slot_pages c.args.level c.args.first) (omega arith) (omega arith)
 
 pub returns-clause-not_whole : goal.returns-clause-not_whole
 returns-clause-not_whole c = λ done.
-    let pages = row-pages 0 in
-    let less = lt-true c.end-2.result (c.args.first + 512) done in
-    lies-not-high (slot_pages 1 c.args.first) c.args.some (omega (arith, pages, pages_of-zero, less))
+    let less = lt-true _ _ done in
+    lies-not-high (slot_pages c.args.level c.args.first) c.args.some (omega (arith, less))

@@ -1,30 +1,28 @@
-use Rattle.std.proofs.Common.{◌≡◌, ◌+◌, ◌*◌, ℕ, true, false, slice_index_or, get_or, arith, refl, sym, subst, inl, inr}
-use Rattle.gv_types.specs.PageRange.{PageRangeState, meets, lies_in}
-use Rattle.gv_types.specs.declared.mapping.Backing.TheVariants.{Zero}
-use Rattle.gv_types.specs.declared.mapping.Mapping.{Mapping}
+use Rattle.std.proofs.Common.{◌+◌, ◌*◌, ℕ, slice_index_or, arith, refl, sym, subst, inl, inr}
+use Rattle.gv_types.specs.PageRange.{meets}
 use Rattle.gv_ranges.specs.List.{at}
 use Rattle.gv_table.specs.Names.{PageSlot}
 use Rattle.gv_table.specs.Levels.{pages_of, slot_pages, first_within}
 use Rattle.gv_table.specs.Tree.{IsTreeOf, slot_of, no_page}
-use Rattle.gv_table.proofs.Covered.{true-or-false, met-at}
-use Rattle.gv_table.proofs.PagesOf.{part-within, pages_of-some, pages_of-zero}
+use Rattle.gv_table.proofs.Covered.{true-or-false}
+use Rattle.gv_table.proofs.PagesOf.{part-within, pages_of-zero}
+use Rattle.gv_table.proofs.InOne.{row-pages}
+use Rattle.gv_table.proofs.Patched.{patched-at, patched-divided}
 use Rattle.gv_table.proofs.Positions.{ended-later}
 use Rattle.gv_table.proofs.Spans.{meets-bounds, covers-from}
 use Rattle.gv_table.proofs.Trees.{outside-apart, page-of, IsTreeOf-page}
-use Rattle.gv_table.proofs.Wants.{wanted-table}
 use Rattle.gv_table.proofs.short.paint_last.Goals as goal
 
 pub paint_pages-requires-clause-position : goal.paint_pages-requires-clause-position
 paint_pages-requires-clause-position c =
     ended-later c.args.excerpt.now.mappings.now c.args.excerpt.now.range.first (first_within c.args.excerpt.now.range c.args.first) c.args.excerpt.now.position (omega arith) c.requires.position
 
+pub divides-requires-clause-in_space : goal.divides-requires-clause-in_space
+divides-requires-clause-in_space c = let pages = row-pages 0 in omega (arith, pages, c.requires.in_space)
+
 pub returns-clause-stays : goal.returns-clause-stays
 returns-clause-stays c = λ done ms is.
-    let slot = slot_pages 1 c.args.first in
-    let d : Mapping = record { range = c.args.some; backing = Zero; flags = record { read_only = false } } in
-    let met = subst (λ (r : PageRangeState). meets r slot ≡ true) (sym (is.held.here d)) (c.if-not-divides.ensures.met refl) in
-    let other = subst (λ (r : PageRangeState). lies_in slot r ≡ false) (sym (is.held.here d)) (c.if-not-divides.ensures.not_whole refl) in
-    wanted-table ms 1 c.args.first (get_or ms is.held.index d) (met-at ms 0 is.held.index d slot is.laid_out is.held.within (pages_of-some 1) met) other
+    patched-divided ms c.args.excerpt.now.mappings.now c.args.excerpt.now.range c.args.some is 1 c.args.first (c.if-not-divides.ensures.met refl) (c.if-not-divides.ensures.not_whole refl)
 
 pub returns-clause-tree : goal.returns-clause-tree
 returns-clause-tree c = λ done ms is outside k below.
@@ -35,7 +33,7 @@ returns-clause-tree c = λ done ms is outside k below.
     elim (true-or-false (meets (slot_pages 0 page) range)) [
       | inl met ↦ (
           let bounds = meets-bounds (slot_pages 0 page) range met in
-          let here = is.inside page (covers-from range page (omega (arith, bounds, pages_of-zero)) (omega (arith, bounds))) in
+          let here = patched-at ms pieces range c.args.some is page (covers-from range page (omega (arith, bounds, pages_of-zero)) (omega (arith, bounds))) in
           IsTreeOf-page ms page (at pieces page) now here (page-of pieces page now (c.paint_pages.ensures.inside k below met)))
       | inr apart ↦ (
           let fits = part-within k (512 * pages_of 0) (pages_of 0) below refl in
