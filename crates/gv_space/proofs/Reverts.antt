@@ -1,12 +1,12 @@
 -- A change taken back.
-use Rattle.std.proofs.Common.{◌≡◌, ℕ, ◌+◌, ◌-◌, ◌≤◌, List, length, IsTrue, arith, refl, sym, subst, ap, ◌∙◌}
+use Rattle.std.proofs.Common.{◌≡◌, ℕ, ◌+◌, ◌-◌, ◌≤◌, List, length, arith, refl, sym, subst, ap, ◌∙◌}
 use Rattle.std.specs.List.{All, splice}
 use Rattle.gv_types.specs.declared.mapping.Mapping.{Mapping}
-use Rattle.gv_types.specs.PageRange.{covers}
-use Rattle.gv_ranges.specs.List.{at, AreEnded, run}
-use Rattle.gv_ranges.proofs.OverlappingLemmas.{at_run}
+use Rattle.gv_types.specs.PageRange.{end_of}
+use Rattle.gv_ranges.specs.List.{AreEnded, run}
+use Rattle.gv_ranges.proofs.OverlapLemmas.{clipped_run}
 use Rattle.gv_ranges.proofs.IndexLemmas.{ended-unspliced}
-use Rattle.gv_ranges.specs.Edit.{replaced, undone}
+use Rattle.gv_ranges.specs.Edit.{clipped, replaced, undone}
 use Rattle.gv_ranges.proofs.ReplacedLemmas.{replaced_run_in_place, undone-replaced}
 use Rattle.gv_table.specs.Reads.{AreAlikeOutside}
 use Rattle.gv_table.specs.Kinds.{AreEnough}
@@ -78,10 +78,10 @@ module _ (s : SpaceState) (u : OpUndoState) (space : IsSpace s) (fits : CanRever
       alike-mutual old s.mappings u.range
       (subst (λ (ms : List Mapping). AreAlikeOutside u.range old ms) (sym fits.undo.made) (replaced-alike old fits.undo.pieces u.range fits.undo.laid_out fits.undo.lie))
 
-  -- what was taken out says of the range's pages what the list before the change says
-  pub says_what_was : (page : ℕ) → IsTrue (covers u.range page) → at old page ≡ at u.change.taken page
-  says_what_was page here =
-      sym (at_run old u.range u.change.index (length u.change.taken) page fits.undo.met here) ∙ sym (ap (λ (ms : List Mapping). at ms page) fits.undo.taken)
+  -- what was taken out is in the range what the list before the change is there
+  pub had_what_was : clipped u.range.first (end_of u.range) old ≡ clipped u.range.first (end_of u.range) u.change.taken
+  had_what_was =
+      clipped_run old u.range u.change.index (length u.change.taken) fits.undo.met ∙ sym (ap (clipped u.range.first (end_of u.range)) fits.undo.taken)
 
   pub tables_are_enough : (table : PageTable) → IsTree s.mappings table → AreEnough u.tables (gained_by old table)
   tables_are_enough table tree = enough-same (fits.undo.tables table tree)

@@ -1,9 +1,9 @@
 //! The list with its page table, edited.
 ghost use Rattle.std.specs.Prelude.{◌≡◌, ◌+◌, ◌<◌, ◌≤◌, ℕ, List, length, false, IsTrue, IfOk, IfSome, IsOkUnless, OnOk, OnErr};
 ghost use Rattle.std.specs.List.{splice};
-ghost use Rattle.gv_types.specs.PageRange.{covers, end_of};
+ghost use Rattle.gv_types.specs.PageRange.{end_of};
 ghost use Rattle.gv_types.specs.declared.mapping.Mapping.{Mapping};
-ghost use Rattle.gv_ranges.specs.List.{at, AreEnded, IsLaidOut};
+ghost use Rattle.gv_ranges.specs.List.{AreEnded, IsLaidOut};
 ghost use Rattle.gv_ranges.specs.Edit.{clipped};
 ghost use Rattle.gv_table.specs.Kinds.{none, AreEnough};
 ghost use Rattle.gv_table.specs.Names.{AreNamed};
@@ -60,8 +60,8 @@ impl ListWithTable {
         self.edit_anywhere(alloc, range, index, out_count, pieces, inside)
     }
 
-    /// The same, where the range lies in one table of pages that stands and is to stay, and takes no memory: whether it did, and if not,
-    /// nothing changed. The table is painted ahead of the list.
+    /// The same, where the range lies in one table that stands and is to stay, and no table is gained or lost: whether it did, and if not,
+    /// nothing changed. It takes no memory. The page table is painted ahead of the list.
     #[inline(always)]
     fn edit_ahead(
         &mut self,
@@ -77,8 +77,9 @@ impl ListWithTable {
             (splice self.old.mappings index (index + out_count) pieces.now) }
         requires alike { AreAlikeOutside range self.old.mappings
             (splice self.old.mappings index (index + out_count) pieces.now) }
-        requires says { (page : ℕ) → IsTrue (covers range page)
-            → at (splice self.old.mappings index (index + out_count) pieces.now) page ≡ at inside.now page }
+        requires inside { clipped range.first (end_of range)
+            (splice self.old.mappings index (index + out_count) pieces.now)
+            ≡ clipped range.first (end_of range) inside.now }
         requires sorted { IsLaidOut inside.now }
         requires named_inside { AreNamed self.old.names inside.now }
         requires named { AreNamed self.old.names (splice self.old.mappings index (index + out_count) pieces.now) }
@@ -158,8 +159,9 @@ impl ListWithTable {
             (splice self.old.mappings index (index + out_count) pieces.now) }
         requires alike { AreAlikeOutside range self.old.mappings
             (splice self.old.mappings index (index + out_count) pieces.now) }
-        requires says { (page : ℕ) → IsTrue (covers range page)
-            → at (splice self.old.mappings index (index + out_count) pieces.now) page ≡ at pieces.now page }
+        requires inside { clipped range.first (end_of range)
+            (splice self.old.mappings index (index + out_count) pieces.now)
+            ≡ clipped range.first (end_of range) pieces.now }
         requires sorted { IsLaidOut pieces.now }
         requires named_pieces { AreNamed self.old.names pieces.now }
         requires named { AreNamed self.old.names (splice self.old.mappings index (index + out_count) pieces.now) }

@@ -1,15 +1,17 @@
-use Rattle.std.proofs.Common.{◌+◌, ◌≤◌, ◌<◌, List, arith, sym, ap, ◌∙◌}
-use Rattle.std.proofs.lemmas.Bool.Decides.{nat_tests}
+use Rattle.std.proofs.Common.{◌+◌, get_or, sym, ◌∙◌, subst}
 use Rattle.gv_types.specs.PageRange.{end_of}
-use Rattle.gv_types.specs.declared.mapping.Mapping.{Mapping}
-use Rattle.gv_ranges.specs.List.{at}
-use Rattle.gv_ranges.proofs.ClipLemmas.{at-clipped}
 use Rattle.std.specs.List.{splice}
+use Rattle.gv_ranges.specs.Edit.{LieIn}
+use Rattle.gv_ranges.proofs.OrderLemmas.{lie_in-clipped}
+use Rattle.gv_ranges.proofs.ReplacedLemmas.{all_mappings, clipped_whole, lies_in_bounds}
 use Rattle.gv_space.proofs.list_with_table.ListWithTable.edit.Goals as goal
 
-pub edit_ahead-requires-clause-says : goal.edit_ahead-requires-clause-says
-edit_ahead-requires-clause-says c = λ page here.
+pub edit_ahead-requires-clause-inside : goal.edit_ahead-requires-clause-inside
+edit_ahead-requires-clause-inside c =
+    let range = c.args.range in
+    let inside = c.args.inside.now in
     let now = splice c.args.self.now.mappings c.args.index (c.args.index + c.args.out_count) c.args.pieces.now in
-    let low : c.args.range.first ≤ page = grind (arith, nat_tests, here) in
-    let high : page < end_of c.args.range = grind (arith, nat_tests, here) in
-    sym (at-clipped c.args.range.first (end_of c.args.range) now page low high) ∙ ap (λ (ms : List Mapping). at ms page) c.requires.inside
+    let lie : LieIn range inside = subst (LieIn range) c.requires.inside (lie_in-clipped range now) in
+    c.requires.inside ∙
+    sym (clipped_whole range.first (end_of range) inside
+    (λ k d below. let bounds = lies_in_bounds (get_or inside k d).range range (lie k d below) in (all_mappings inside 0 c.requires.sorted k d below, bounds.0, bounds.1)))

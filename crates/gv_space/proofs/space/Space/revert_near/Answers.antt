@@ -7,7 +7,7 @@ use Rattle.gv_space.specs.State.{SpaceState, IsSpace, AreKept}
 use Rattle.gv_space.specs.Undo.{OpUndoState, CanRevert, reverted}
 use Rattle.gv_space.specs.Inside.{space_of}
 use Rattle.gv_space.proofs.LiveNames.{named_placed}
-use Rattle.gv_space.proofs.Reverts.{undo_of, fits_inside, state_made, old, old_placed, taken_placed, says_what_was, lived_before, ended, within, room_to_undo, old_alike, taken_live, gone_live, taken_kept, room_for_taken, gone_counted, space_before, undone_is}
+use Rattle.gv_space.proofs.Reverts.{undo_of, fits_inside, state_made, old, old_placed, taken_placed, had_what_was, lived_before, ended, within, room_to_undo, old_alike, taken_live, gone_live, taken_kept, room_for_taken, gone_counted, space_before, undone_is}
 use Rattle.gv_space.proofs.KeptLemmas.{AreKept-reverted}
 use Rattle.gv_space.proofs.space.Space.revert_near.Goals as goal
 
@@ -83,12 +83,12 @@ put_back-requires-clause-alike c =
     let fits : CanRevert s u = fits_inside c.self.inside c.undo.inside c.args.self.now c.args.undo c.self.view_is c.undo.view_is c.requires in
     rw c.as_slice-2.ensures (old_alike s u c.self.invariant.space fits)
 
-pub put_back-requires-clause-says : goal.put_back-requires-clause-says
-put_back-requires-clause-says c =
+pub put_back-requires-clause-inside : goal.put_back-requires-clause-inside
+put_back-requires-clause-inside c =
     let s : SpaceState = space_of c.self.inside in
     let u : OpUndoState = undo_of c.undo.inside in
     let fits : CanRevert s u = fits_inside c.self.inside c.undo.inside c.args.self.now c.args.undo c.self.view_is c.undo.view_is c.requires in
-    rw c.as_slice-2.ensures (says_what_was s u c.self.invariant.space fits)
+    rw c.as_slice-2.ensures (had_what_was s u c.self.invariant.space fits)
 
 pub put_back-requires-clause-named_pieces : goal.put_back-requires-clause-named_pieces
 put_back-requires-clause-named_pieces c =
