@@ -181,10 +181,10 @@ module _ (xs : List (Vec Mapping)) (s chunk start index out : ℕ) (d w : Vec Ma
       }
 
 -- the chunk that begins at an index or before it, and before whose next one the index lies, is the chunk of the index
-module _ (p : Parts) (are : AreParts p) (index chunk start : ℕ) (below : chunk < p.standing) (told : (d : ℕ) → slice_index_or p.starts chunk d ≤ index)
-    (next : (d : ℕ) → chunk + 1 < p.standing → index < slice_index_or p.starts (chunk + 1) d) (is : start ≡ slice_index_or p.starts chunk start) (within : index ≤ length (items_of p)) where
+module _ (p : Parts) (are : AreParts p) (index chunk start : ℕ) (below : chunk < p.standing) (told : (d : ℕ) → slice_index_or p.starts.numbers chunk d ≤ index)
+    (next : (d : ℕ) → chunk + 1 < p.standing → index < slice_index_or p.starts.numbers (chunk + 1) d) (is : start ≡ slice_index_or p.starts.numbers chunk start) (within : index ≤ length (items_of p)) where
   spot_start : start ≡ length (chunks_joined (take chunk p.chunks.items))
-  spot_start = is ∙ start_told p.chunks.items p.standing chunk start p.starts are.list.within below are.index.are_starts
+  spot_start = is ∙ start_told p.chunks.items p.standing chunk start p.starts.numbers are.list.within below are.index.are_starts
 
   spot_end : (d : Vec Mapping) → (index < start + vec_len (slice_index_or p.chunks.items chunk d)) ⊎ (length (items_of p) ≡ start + vec_len (slice_index_or p.chunks.items chunk d))
   spot_end d =
@@ -194,7 +194,7 @@ module _ (p : Parts) (are : AreParts p) (index chunk start : ℕ) (below : chunk
             inl (omega (
               arith,
               next 0 more,
-              start_told p.chunks.items p.standing (chunk + 1) 0 p.starts are.list.within more are.index.are_starts,
+              start_told p.chunks.items p.standing (chunk + 1) 0 p.starts.numbers are.list.within more are.index.are_starts,
               chunk_end p.chunks.items chunk d inside,
               spot_start,
             ))

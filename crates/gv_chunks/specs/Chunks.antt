@@ -35,10 +35,12 @@ PackedFrom low chunks = (k : ℕ) (d : Vec Mapping) → low ≤ k → k + 1 < le
 abbrev pub Packed : List (Vec Mapping) → Type 0
 Packed = PackedFrom 0
 
--- what contracts see of a list in chunks: its mappings, and for how many it has room
+-- what contracts see of a list in chunks: its mappings, for how many it has room, and what its vectors really have room for, how many chunks
+-- it has among it
 pub record ChunkListState : Type 0 where
   pub items : List Mapping
   pub room : ℕ
+  pub capacities : List ℕ
 
 -- the same mappings, and no less room
 pub record IsKept (old new : ChunkListState) : Type 0 where

@@ -1,5 +1,5 @@
 -- What a list in chunks keeps of its parts. No public clause cites it but those of `Parts`.
-use Rattle.std.specs.Prelude.{◌≡◌, ◌<◌, ◌≤◌, ◌+◌, ◌-◌, ◌*◌, ℕ, List, [], length, take, drop, max, slice_index_or, vec_len}
+use Rattle.std.specs.Prelude.{◌≡◌, ◌<◌, ◌≤◌, ◌+◌, ◌-◌, ◌*◌, ℕ, List, [], ◌∷◌, length, take, drop, max, slice_index_or, vec_len, vec_capacity}
 use Rattle.std.specs.Global.{Vec}
 use Rattle.gv_types.specs.declared.mapping.Mapping.{Mapping}
 use Rattle.gv_chunks.specs.Chunks.{chunks_joined, AreChunks, AreFilled, AreStarts, AreFirsts}
@@ -31,10 +31,14 @@ pub record IsIndexOf (chunks : List (Vec Mapping)) (standing : ℕ) (starts firs
 abbrev pub items_of : Parts → List Mapping
 items_of p = chunks_joined p.chunks.items
 
+-- for how much each of their vectors has room: the row of chunks, the firsts, and the two of the starts; a chunk more is memory too
+abbrev pub capacities_of : Parts → List ℕ
+capacities_of p = vec_capacity p.chunks ∷ vec_len p.chunks ∷ vec_capacity p.firsts ∷ p.starts.capacities
+
 -- the parts are those of a list
 pub record AreParts (p : Parts) : Type 0 where
   pub list : IsChunkList p.chunks.items p.standing p.len p.room
-  pub index : IsIndexOf p.chunks.items p.standing p.starts p.firsts.items
+  pub index : IsIndexOf p.chunks.items p.standing p.starts.numbers p.firsts.items
 
 -- the index lies in the chunk or at its end, and only at its end where the list ends; where no chunk stands, it is the start of the first
 pub record IsSpot (p : Parts) (index chunk start : ℕ) : Type 0 where

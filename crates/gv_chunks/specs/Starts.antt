@@ -10,3 +10,8 @@ sum_at bases k number = (number + slice_index_or bases (k / BLOCK) 0) % 2 ^ 64
 -- the numbers
 abbrev pub sums : List ℕ → List ℕ → List ℕ
 sums numbers bases = map (λ p. sum_at bases p.0 p.1) (enumerate_from 0 numbers)
+
+-- what contracts see of them: the numbers, and for how many each of their two vectors has room
+pub record StartsState : Type 0 where
+  pub numbers : List ℕ
+  pub capacities : List ℕ

@@ -29,11 +29,11 @@ pub struct ChunkList {
 
 impl Model for ChunkList {
     ghost use Rattle.gv_chunks.specs.Chunks.{ChunkListState};
-    ghost use Rattle.gv_chunks.specs.Inside.{AreParts, items_of};
+    ghost use Rattle.gv_chunks.specs.Inside.{AreParts, items_of, capacities_of};
 
     ghost Value = { ChunkListState };
 
-    ghost view = { λ l. record { items = items_of l.parts; room = l.parts.room } };
+    ghost view = { λ l. record { items = items_of l.parts; room = l.parts.room; capacities = capacities_of l.parts } };
 
     ghost invariant = { λ l. AreParts l.parts };
 }
@@ -72,7 +72,7 @@ impl ChunkList {
     pub fn chunks(&self) -> Standing<'_>
         ensures items { chunks_joined result.chunks.now ≡ self.now.items }
         ensures filled { AreFilled result.chunks.now }
-        ensures starts { AreStarts result.starts.now result.chunks.now }
+        ensures starts { AreStarts result.starts.now.numbers result.chunks.now }
         ensures firsts { AreFirsts result.firsts.now result.chunks.now }
     {
         Standing {
@@ -152,6 +152,7 @@ impl ChunkList {
         ensures items { self.new.items
             ≡ splice self.old.items index (index + out_count) pieces.now }
         ensures room { self.new.room ≡ self.old.room }
+        ensures capacities { self.new.capacities ≡ self.old.capacities }
     {
         if out_count == 0 && pieces.is_empty() {
             return;

@@ -1,5 +1,5 @@
 //! Where the chunks of a list begin.
-ghost use Rattle.std.specs.Prelude.{◌≡◌, ◌+◌, ◌<◌, ◌≤◌, ◌^◌, ◌%◌, ℕ, length, max, take, slice_index_or, slice_set, vec_len, OnOk, IfSome};
+ghost use Rattle.std.specs.Prelude.{◌≡◌, ◌+◌, ◌<◌, ◌≤◌, ◌^◌, ◌%◌, ℕ, length, max, take, slice_index_or, slice_set, vec_len, vec_capacity, OnOk, IfSome};
 ghost use Rattle.gv_types.specs.declared.mapping.Mapping.{Mapping};
 ghost use Rattle.gv_chunks.specs.Chunks.{chunks_joined, AreFilled, AreStarts, AreFirsts};
 
@@ -23,11 +23,11 @@ pub fn pad<T: Copy>(items: &mut Vec<T>, count: usize, value: T) -> Result<(), Ou
 /// The last of the first `standing` numbers that is at most `index`. Each step halves what is left.
 pub fn last_at_most(starts: &Starts, standing: usize, index: usize) -> usize
     requires some { 0 < standing }
-    requires within { standing ≤ length starts.now }
-    requires first { (d : ℕ) → slice_index_or starts.now 0 d ≤ index }
+    requires within { standing ≤ length starts.now.numbers }
+    requires first { (d : ℕ) → slice_index_or starts.now.numbers 0 d ≤ index }
     ensures within { result < standing }
-    ensures begun { (d : ℕ) → slice_index_or starts.now result d ≤ index }
-    ensures next { (d : ℕ) → result + 1 < standing → index < slice_index_or starts.now (result + 1) d }
+    ensures begun { (d : ℕ) → slice_index_or starts.now.numbers result d ≤ index }
+    ensures next { (d : ℕ) → result + 1 < standing → index < slice_index_or starts.now.numbers (result + 1) d }
 {
     let mut low = 0;
     let mut left = standing;
@@ -52,11 +52,11 @@ pub(crate) fn start_of_near(
     index: usize,
     near: usize,
 ) -> Option<usize>
-    requires within { standing ≤ length starts.now }
+    requires within { standing ≤ length starts.now.numbers }
     ensures within { IfSome result (λ _. near < standing) }
-    ensures start { IfSome result (λ start. (d : ℕ) → start ≡ slice_index_or starts.now near d) }
+    ensures start { IfSome result (λ start. (d : ℕ) → start ≡ slice_index_or starts.now.numbers near d) }
     ensures begun { IfSome result (λ start. start ≤ index) }
-    ensures next { IfSome result (λ _. (d : ℕ) → near + 1 < standing → index < slice_index_or starts.now (near + 1) d) }
+    ensures next { IfSome result (λ _. (d : ℕ) → near + 1 < standing → index < slice_index_or starts.now.numbers (near + 1) d) }
 {
     if near >= standing {
         return None;
@@ -87,7 +87,8 @@ pub(crate) fn write_first(firsts: &mut Vec<u64>, chunk: usize, held: &Vec<Mappin
     requires chunk { chunk < vec_len firsts.old }
     requires some { 0 < vec_len held.now }
     requires was { (m : Mapping) → 0 < left → slice_index_or firsts.old.items chunk 0 ≡ (slice_index_or held.now.items 0 m).range.first }
-    ensures { (m : Mapping) → firsts.new.items ≡ slice_set firsts.old.items chunk (slice_index_or held.now.items 0 m).range.first }
+    ensures items { (m : Mapping) → firsts.new.items ≡ slice_set firsts.old.items chunk (slice_index_or held.now.items 0 m).range.first }
+    ensures capacity { vec_capacity firsts.new ≡ vec_capacity firsts.old }
 {
     if left > 0 {
         return;
@@ -100,14 +101,15 @@ pub fn write_index(chunks: &[Vec<Mapping>], starts: &mut Starts, firsts: &mut [u
     requires from { from ≤ length chunks.now }
     requires filled { AreFilled chunks.now }
     requires few { length (chunks_joined chunks.now) < 2 ^ 64 }
-    requires starts { AreStarts starts.old (take from chunks.now) }
+    requires starts { AreStarts starts.old.numbers (take from chunks.now) }
     requires firsts { AreFirsts firsts.old (take from chunks.now) }
-    requires starts_within { length chunks.now ≤ length starts.old }
+    requires starts_within { length chunks.now ≤ length starts.old.numbers }
     requires firsts_within { length chunks.now ≤ length firsts.old }
-    ensures starts { AreStarts starts.new chunks.now }
+    ensures starts { AreStarts starts.new.numbers chunks.now }
     ensures firsts { AreFirsts firsts.new chunks.now }
-    ensures starts_len { length starts.new ≡ length starts.old }
+    ensures starts_len { length starts.new.numbers ≡ length starts.old.numbers }
     ensures firsts_len { length firsts.new ≡ length firsts.old }
+    ensures capacities { starts.new.capacities ≡ starts.old.capacities }
 {
     let mut start = end_of(chunks, starts, from);
     for k in from..chunks.len() {
@@ -121,7 +123,7 @@ pub fn write_index(chunks: &[Vec<Mapping>], starts: &mut Starts, firsts: &mut [u
 fn end_of(chunks: &[Vec<Mapping>], starts: &Starts, chunk: usize) -> usize
     requires within { chunk ≤ length chunks.now }
     requires few { length (chunks_joined chunks.now) < 2 ^ 64 }
-    requires starts { AreStarts starts.now (take chunk chunks.now) }
+    requires starts { AreStarts starts.now.numbers (take chunk chunks.now) }
     ensures { result ≡ length (chunks_joined (take chunk chunks.now)) }
 {
     if chunk == 0 {

@@ -4,7 +4,7 @@ ghost use Rattle.std.specs.List.{splice};
 ghost use Rattle.std.specs.Global.{Vec};
 ghost use Rattle.gv_types.specs.declared.mapping.Mapping.{Mapping};
 ghost use Rattle.gv_chunks.specs.Chunks.{chunks_joined};
-ghost use Rattle.gv_chunks.specs.Inside.{AreParts, IsDivisible, IsSpot, IsEditable, IsEmptied, items_of};
+ghost use Rattle.gv_chunks.specs.Inside.{AreParts, IsDivisible, IsSpot, IsEditable, IsEmptied, items_of, capacities_of};
 ghost use Rattle.gv_chunks.specs.declared.parts.Way.TheVariants.{Within, Emptied, Elsewhere};
 ghost use Rattle.gv_chunks.specs.declared.TheConstants.{CHUNK};
 
@@ -211,6 +211,7 @@ impl Parts {
         requires room { self.old.len + length pieces.now ≤ self.old.room + out_count }
         ensures items { items_of self.new ≡ splice (items_of self.old) index (index + out_count) pieces.now }
         ensures room { self.new.room ≡ self.old.room }
+        ensures capacities { capacities_of self.new ≡ capacities_of self.old }
         ensures parts { AreParts self.new }
     {
         let left = index - start;
@@ -228,6 +229,7 @@ impl Parts {
         requires emptied { IsEmptied self.old chunk start index out_count 0 }
         ensures items { items_of self.new ≡ splice (items_of self.old) index (index + out_count) [] }
         ensures room { self.new.room ≡ self.old.room }
+        ensures capacities { capacities_of self.new ≡ capacities_of self.old }
         ensures parts { AreParts self.new }
     {
         // Tells that the list's length is a number of a machine.
@@ -251,6 +253,7 @@ impl Parts {
         requires room { self.old.len + length pieces.now ≤ self.old.room + out_count }
         ensures items { items_of self.new ≡ splice (items_of self.old) index (index + out_count) pieces.now }
         ensures room { self.new.room ≡ self.old.room }
+        ensures capacities { capacities_of self.new ≡ capacities_of self.old }
         ensures parts { AreParts self.new }
     {
         let used = replace_anywhere(&mut self.chunks, self.standing, index, out_count, pieces);
@@ -271,6 +274,7 @@ impl Parts {
         ensures items { items_of self.new ≡ items_of self.old }
         ensures len { self.new.len ≡ self.old.len }
         ensures room { self.new.room ≡ self.old.room }
+        ensures capacities { capacities_of self.new ≡ capacities_of self.old }
         ensures parts { AreParts self.new }
     {
         // Tells that the list's length is a number of a machine.

@@ -1,7 +1,7 @@
 //! A run of a list in chunks replaced: within a chunk, over two, or over many.
 ghost use Rattle.std.specs.Prelude.{◌≡◌, ◌+◌, ◌<◌, ◌≤◌, length};
 ghost use Rattle.std.specs.List.{splice};
-ghost use Rattle.gv_chunks.specs.Inside.{AreParts, items_of};
+ghost use Rattle.gv_chunks.specs.Inside.{AreParts, items_of, capacities_of};
 ghost use Rattle.gv_chunks.specs.declared.TheConstants.{CHUNK};
 
 use crate::CHUNK;
@@ -17,6 +17,7 @@ impl Parts {
         requires change { 0 < out_count + length pieces.now }
         ensures items { items_of self.new ≡ splice (items_of self.old) index (index + out_count) pieces.now }
         ensures room { self.new.room ≡ self.old.room }
+        ensures capacities { capacities_of self.new ≡ capacities_of self.old }
         ensures parts { AreParts self.new }
     {
         let (chunk, start) = self.spot(index);
@@ -36,6 +37,7 @@ impl Parts {
         requires room { self.old.len + length pieces.now ≤ self.old.room + out_count }
         ensures items { items_of self.new ≡ splice (items_of self.old) index (index + out_count) pieces.now }
         ensures room { self.new.room ≡ self.old.room }
+        ensures capacities { capacities_of self.new ≡ capacities_of self.old }
         ensures parts { AreParts self.new }
     {
         let here = out_count - beyond;
@@ -50,6 +52,7 @@ impl Parts {
         ensures items { items_of self.new ≡ items_of self.old }
         ensures len { self.new.len ≡ self.old.len }
         ensures room { self.new.room ≡ self.old.room }
+        ensures capacities { capacities_of self.new ≡ capacities_of self.old }
         ensures parts { AreParts self.new }
     {
         if more <= CHUNK / 2
@@ -79,6 +82,7 @@ impl Parts {
         requires change { 0 < out_count + length pieces.now }
         ensures items { items_of self.new ≡ splice (items_of self.old) index (index + out_count) pieces.now }
         ensures room { self.new.room ≡ self.old.room }
+        ensures capacities { capacities_of self.new ≡ capacities_of self.old }
         ensures parts { AreParts self.new }
     {
         let beyond = out_count.saturating_sub(end.saturating_sub(index));
@@ -99,6 +103,7 @@ impl Parts {
         requires change { 0 < out_count + length pieces.now }
         ensures items { items_of self.new ≡ splice (items_of self.old) index (index + out_count) pieces.now }
         ensures room { self.new.room ≡ self.old.room }
+        ensures capacities { capacities_of self.new ≡ capacities_of self.old }
         ensures parts { AreParts self.new }
     {
         let (chunk, start) = self.spot(index);

@@ -16,13 +16,16 @@ pub struct Starts {
 }
 
 impl Model for Starts {
-    ghost use Rattle.std.specs.Prelude.{ℕ, List, ◌*◌, ◌≤◌, length};
+    ghost use Rattle.std.specs.Prelude.{◌*◌, ◌≤◌, [], ◌∷◌, length, vec_capacity};
     ghost use Rattle.gv_chunks.specs.declared.TheConstants.{BLOCK};
-    ghost use Rattle.gv_chunks.specs.Starts.{sums};
+    ghost use Rattle.gv_chunks.specs.Starts.{StartsState, sums};
 
-    ghost Value = { List ℕ };
+    ghost Value = { StartsState };
 
-    ghost view = { λ s. sums s.numbers.items s.bases.items };
+    ghost view = { λ s. record {
+      numbers = sums s.numbers.items s.bases.items;
+      capacities = vec_capacity s.numbers ∷ vec_capacity s.bases ∷ [];
+    } };
 
     ghost invariant = { λ s. length s.numbers.items ≤ BLOCK * length s.bases.items };
 }
@@ -30,7 +33,7 @@ impl Model for Starts {
 impl Starts {
     /// None. It takes no memory.
     pub fn new(alloc: Global) -> Starts
-        ensures { result ≡ [] }
+        ensures { result.numbers ≡ [] }
     {
         Starts {
             numbers: Vec::new(alloc),
@@ -40,9 +43,9 @@ impl Starts {
 
     /// Puts numbers behind those that there are, until there are `count`. Where the system refuses the memory nothing changes.
     pub fn pad(&mut self, count: usize) -> Result<(), OutOfMemory>
-        ensures more { length self.old ≤ length self.new }
-        ensures kept { (k d : ℕ) → k < length self.old → slice_index_or self.new k d ≡ slice_index_or self.old k d }
-        ensures ok { OnOk result (count ≤ length self.new) }
+        ensures more { length self.old.numbers ≤ length self.new.numbers }
+        ensures kept { (k d : ℕ) → k < length self.old.numbers → slice_index_or self.new.numbers k d ≡ slice_index_or self.old.numbers k d }
+        ensures ok { OnOk result (count ≤ length self.new.numbers) }
     {
         pad(&mut self.bases, count.div_ceil(BLOCK), 0)?;
         pad(&mut self.numbers, count, 0)
@@ -50,8 +53,8 @@ impl Starts {
 
     /// Lets all but the first `count` numbers go, and gives their room back.
     pub fn shorten(&mut self, count: usize)
-        ensures len { length self.new ≡ min count (length self.old) }
-        ensures kept { (k d : ℕ) → k < count → k < length self.old → slice_index_or self.new k d ≡ slice_index_or self.old k d }
+        ensures len { length self.new.numbers ≡ min count (length self.old.numbers) }
+        ensures kept { (k d : ℕ) → k < count → k < length self.old.numbers → slice_index_or self.new.numbers k d ≡ slice_index_or self.old.numbers k d }
     {
         self.bases.truncate(count.div_ceil(BLOCK));
         self.bases.shrink_to_fit();
@@ -62,30 +65,32 @@ impl Starts {
     /// How many mappings stand before a chunk.
     #[inline(always)]
     pub fn get(&self, chunk: usize) -> usize
-        requires { chunk < length self.now }
-        ensures { (d : ℕ) → result ≡ slice_index_or self.now chunk d }
+        requires { chunk < length self.now.numbers }
+        ensures { (d : ℕ) → result ≡ slice_index_or self.now.numbers chunk d }
     {
         self.numbers[chunk].wrapping_add(self.bases[chunk / BLOCK])
     }
 
     /// Writes how many mappings stand before a chunk.
     pub fn set(&mut self, chunk: usize, start: usize)
-        requires { chunk < length self.old }
-        ensures len { length self.new ≡ length self.old }
-        ensures here { (d : ℕ) → slice_index_or self.new chunk d ≡ start }
-        ensures others { (k d : ℕ) → k < length self.old → k ≢ chunk → slice_index_or self.new k d ≡ slice_index_or self.old k d }
+        requires { chunk < length self.old.numbers }
+        ensures len { length self.new.numbers ≡ length self.old.numbers }
+        ensures here { (d : ℕ) → slice_index_or self.new.numbers chunk d ≡ start }
+        ensures others { (k d : ℕ) → k < length self.old.numbers → k ≢ chunk → slice_index_or self.new.numbers k d ≡ slice_index_or self.old.numbers k d }
+        ensures capacities { self.new.capacities ≡ self.old.capacities }
     {
         self.numbers[chunk] = start.wrapping_sub(self.bases[chunk / BLOCK]);
     }
 
     /// Writes where a chunk begins if none stands yet: else it is written already. Answers how many stand now, with that chunk.
     pub(crate) fn stand(&mut self, standing: usize, chunk: usize, start: usize) -> usize
-        requires within { chunk < length self.old }
-        requires was { (d : ℕ) → 0 < standing → slice_index_or self.old chunk d ≡ start }
+        requires within { chunk < length self.old.numbers }
+        requires was { (d : ℕ) → 0 < standing → slice_index_or self.old.numbers chunk d ≡ start }
         ensures standing { result ≡ max standing 1 }
-        ensures len { length self.new ≡ length self.old }
-        ensures here { (d : ℕ) → slice_index_or self.new chunk d ≡ start }
-        ensures others { (k d : ℕ) → k < length self.old → k ≢ chunk → slice_index_or self.new k d ≡ slice_index_or self.old k d }
+        ensures len { length self.new.numbers ≡ length self.old.numbers }
+        ensures here { (d : ℕ) → slice_index_or self.new.numbers chunk d ≡ start }
+        ensures others { (k d : ℕ) → k < length self.old.numbers → k ≢ chunk → slice_index_or self.new.numbers k d ≡ slice_index_or self.old.numbers k d }
+        ensures capacities { self.new.capacities ≡ self.old.capacities }
     {
         if standing > 0 {
             return standing;
@@ -96,13 +101,14 @@ impl Starts {
 
     /// Moves the numbers from `from` up to `to` by what went out and what came in. What those behind them are is left open.
     pub fn shift(&mut self, from: usize, to: usize, out_count: usize, in_count: usize)
-        requires within { to ≤ length self.old }
-        requires out { (k d : ℕ) → from ≤ k → k < to → out_count ≤ slice_index_or self.old k d }
-        requires fits { (k d : ℕ) → from ≤ k → k < to → slice_index_or self.old k d + in_count < out_count + 2 ^ 64 }
-        ensures len { length self.new ≡ length self.old }
+        requires within { to ≤ length self.old.numbers }
+        requires out { (k d : ℕ) → from ≤ k → k < to → out_count ≤ slice_index_or self.old.numbers k d }
+        requires fits { (k d : ℕ) → from ≤ k → k < to → slice_index_or self.old.numbers k d + in_count < out_count + 2 ^ 64 }
+        ensures len { length self.new.numbers ≡ length self.old.numbers }
         ensures moved { (k d : ℕ) → from ≤ k → k < to
-            → slice_index_or self.new k d + out_count ≡ slice_index_or self.old k d + in_count }
-        ensures before { (k d : ℕ) → k < from → k < length self.old → slice_index_or self.new k d ≡ slice_index_or self.old k d }
+            → slice_index_or self.new.numbers k d + out_count ≡ slice_index_or self.old.numbers k d + in_count }
+        ensures before { (k d : ℕ) → k < from → k < length self.old.numbers → slice_index_or self.new.numbers k d ≡ slice_index_or self.old.numbers k d }
+        ensures capacities { self.new.capacities ≡ self.old.capacities }
     {
         // Where as many came in as went out no number moves, and none is read.
         if out_count == in_count || to <= from {
@@ -117,11 +123,12 @@ impl Starts {
     /// Puts a number in at `at`: what stands from there up to `count` moves up by one, and what stood at `count` is gone.
     pub fn put(&mut self, at: usize, count: usize, start: usize)
         requires at { at ≤ count }
-        requires within { count < length self.old }
-        ensures len { length self.new ≡ length self.old }
-        ensures before { (k d : ℕ) → k < at → slice_index_or self.new k d ≡ slice_index_or self.old k d }
-        ensures value { (d : ℕ) → slice_index_or self.new at d ≡ start }
-        ensures behind { (k d : ℕ) → at < k → k ≤ count → slice_index_or self.new k d ≡ slice_index_or self.old (k - 1) d }
+        requires within { count < length self.old.numbers }
+        ensures len { length self.new.numbers ≡ length self.old.numbers }
+        ensures before { (k d : ℕ) → k < at → slice_index_or self.new.numbers k d ≡ slice_index_or self.old.numbers k d }
+        ensures value { (d : ℕ) → slice_index_or self.new.numbers at d ≡ start }
+        ensures behind { (k d : ℕ) → at < k → k ≤ count → slice_index_or self.new.numbers k d ≡ slice_index_or self.old.numbers (k - 1) d }
+        ensures capacities { self.new.capacities ≡ self.old.capacities }
     {
         let mut next = start;
         for k in at..count {
@@ -135,10 +142,11 @@ impl Starts {
     /// Takes the number at `at` out: what stands behind it up to `count` moves down by one.
     pub fn take(&mut self, at: usize, count: usize)
         requires at { at < count }
-        requires within { count ≤ length self.old }
-        ensures len { length self.new ≡ length self.old }
-        ensures before { (k d : ℕ) → k < at → slice_index_or self.new k d ≡ slice_index_or self.old k d }
-        ensures behind { (k d : ℕ) → at ≤ k → k + 1 < count → slice_index_or self.new k d ≡ slice_index_or self.old (k + 1) d }
+        requires within { count ≤ length self.old.numbers }
+        ensures len { length self.new.numbers ≡ length self.old.numbers }
+        ensures before { (k d : ℕ) → k < at → slice_index_or self.new.numbers k d ≡ slice_index_or self.old.numbers k d }
+        ensures behind { (k d : ℕ) → at ≤ k → k + 1 < count → slice_index_or self.new.numbers k d ≡ slice_index_or self.old.numbers (k + 1) d }
+        ensures capacities { self.new.capacities ≡ self.old.capacities }
     {
         for k in at..count - 1 {
             let next = self.get(k + 1);

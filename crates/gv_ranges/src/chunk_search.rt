@@ -156,7 +156,7 @@ fn last_begun_chunk(chunks: &[Vec<Mapping>], firsts: &[u64], chunk: usize, page:
 /// the chunks before it.
 fn count_begun_in(standing: Standing<'_>, chunk: usize, from: usize, page: u64) -> usize
     requires filled { AreFilled standing.chunks.now }
-    requires starts { AreStarts standing.starts.now standing.chunks.now }
+    requires starts { AreStarts standing.starts.now.numbers standing.chunks.now }
     requires firsts { AreFirsts standing.firsts.now standing.chunks.now }
     requires laid_out { IsLaidOut (chunks_joined standing.chunks.now) }
     requires chunk { chunk < length standing.chunks.now }
@@ -182,7 +182,7 @@ pub(crate) fn overlapping_in(
     range: PageRange,
 ) -> (usize, usize)
     requires filled { AreFilled standing.chunks.now }
-    requires starts { AreStarts standing.starts.now standing.chunks.now }
+    requires starts { AreStarts standing.starts.now.numbers standing.chunks.now }
     requires firsts { AreFirsts standing.firsts.now standing.chunks.now }
     requires laid_out { IsLaidOut (chunks_joined standing.chunks.now) }
     ensures { IsOverlappingRun (chunks_joined standing.entry.chunks.now) range result.0 result.1 }

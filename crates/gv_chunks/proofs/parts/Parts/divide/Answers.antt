@@ -17,7 +17,7 @@ overflow_add-start c =
     let d : Vec Mapping = some_of xs (omega (arith, e.standing, list.within)) in
     let chunk : vec_len c.index.result.now ≡ vec_len (slice_index_or xs c.args.chunk d) = ap vec_len (c.index.ensures ∙ get_or_default xs c.args.chunk c.index.result.now d (omega (arith, e.standing, list.within))) in
     let begins : c.get.result ≡ length (chunks_joined (take c.args.chunk xs)) =
-    c.get.ensures c.get.result ∙ start_told xs p.standing c.args.chunk c.get.result p.starts list.within e.standing c.requires.parts.index.are_starts in
+    c.get.ensures c.get.result ∙ start_told xs p.standing c.args.chunk c.get.result p.starts.numbers list.within e.standing c.requires.parts.index.are_starts in
     omega (arith, begins, c.len.ensures, chunk, e.holds d, chunk_within xs c.args.chunk d (omega (arith, e.standing, list.within)), list.held)
 
 pub index-requires-3 : goal.index-requires-3
@@ -68,13 +68,13 @@ returns-clause-parts c =
     let now : IsChunkList zs (s + 1) p.len p.room =
     opened_list xs zs s c.args.chunk left p.len p.room list e.standing more same front (c.open.ensures.items ∙ ap chunks_joined c.deref_mut.ensures.value) first second later c.open.ensures.spare (omega arith) some_rest c.open.ensures.chunks
     e.few e.long in
-    let starts = c.put.new.self in
+    let starts = c.put.new.self.numbers in
     let firsts = c.put_entry.new.row in
-    let starts_size : length starts ≡ length p.starts = c.put.ensures.len in
+    let starts_size : length starts ≡ length p.starts.numbers = c.put.ensures.len in
     let firsts_size : length firsts ≡ length p.firsts.items = c.put_entry.ensures.len ∙ ap length c.deref_mut-2.ensures.value in
     let back : take p.chunks.len (zs ++ drop (length zs) xs) ≡ zs = take_at zs (drop (length zs) xs) p.chunks.len (omega (arith, same, p.chunks.ok)) in
     let firsts_back : take p.firsts.len (firsts ++ drop (length firsts) p.firsts.items) ≡ firsts = take_at firsts (drop (length firsts) p.firsts.items) p.firsts.len (omega (arith, firsts_size, p.firsts.ok)) in
-    let begins : c.get.result ≡ length (chunks_joined (take c.args.chunk xs)) = c.get.ensures c.get.result ∙ start_told xs s c.args.chunk c.get.result p.starts list.within e.standing index.are_starts in
+    let begins : c.get.result ≡ length (chunks_joined (take c.args.chunk xs)) = c.get.ensures c.get.result ∙ start_told xs s c.args.chunk c.get.result p.starts.numbers list.within e.standing index.are_starts in
     let begun : c.get.result + left ≡ length (chunks_joined (take c.args.chunk xs)) + left = ap (λ n. n + left) begins in
     let read : c.index-2.result.now ≡ slice_index_or zs (c.args.chunk + 1) c.index-2.result.now = c.index-2.ensures ∙ ap (λ ys. slice_index_or ys (c.args.chunk + 1) c.index-2.result.now) back in
     let seen : Vec Mapping = c.index-2.result.now in
@@ -93,7 +93,7 @@ returns-clause-parts c =
       list = rw back now;
       index = rw (back, firsts_back) (record {
         are_starts =
-            divided_starts xs zs s c.args.chunk left e.standing more same front first second later (omega arith) some_rest p.starts starts (c.get.result + left) index.are_starts index.starts_within starts_size begun
+            divided_starts xs zs s c.args.chunk left e.standing more same front first second later (omega arith) some_rest p.starts.numbers starts (c.get.result + left) index.are_starts index.starts_within starts_size begun
             c.put.ensures.before c.put.ensures.value c.put.ensures.behind;
         are_firsts =
             divided_firsts xs zs s c.args.chunk left e.standing more same front first second later (omega arith) some_rest p.firsts.items firsts c.first-first.result index.are_firsts index.firsts_within firsts_size reads

@@ -23,7 +23,7 @@ stand-self-requires-clause-within c = omega (arith, c.requires.editable.standing
 pub stand-self-requires-clause-was : goal.stand-self-requires-clause-was
 stand-self-requires-clause-was c = λ d some.
     let p = c.args.self.now in
-    start_told p.chunks.items p.standing c.args.chunk d p.starts c.requires.parts.list.within (omega (arith, some, c.requires.editable.standing)) c.requires.parts.index.are_starts ∙ sym c.requires.editable.start_is
+    start_told p.chunks.items p.standing c.args.chunk d p.starts.numbers c.requires.parts.list.within (omega (arith, some, c.requires.editable.standing)) c.requires.parts.index.are_starts ∙ sym c.requires.editable.start_is
 
 pub index-requires : goal.index-requires
 index-requires c = omega (arith, c.requires.editable.standing, c.requires.editable.some, c.requires.parts.list.within, c.args.self.now.chunks.ok)
@@ -75,7 +75,7 @@ shift-requires-clause-within c =
     )
 
 -- the numbers behind the chunk are those that were
-pub later : (c : goal.After-shift-arg-1) (k e : ℕ) → c.args.chunk + 1 ≤ k → k < c.args.self.now.standing → slice_index_or c.stand-self.new.self k e ≡ slice_index_or c.args.self.now.starts k e
+pub later : (c : goal.After-shift-arg-1) (k e : ℕ) → c.args.chunk + 1 ≤ k → k < c.args.self.now.standing → slice_index_or c.stand-self.new.self.numbers k e ≡ slice_index_or c.args.self.now.starts.numbers k e
 later c k e behind stood =
     c.stand-self.ensures.others k e (omega (arith, stood, c.requires.parts.list.within, c.requires.parts.index.starts_within)) (λ p. omega (arith, p, behind))
 
@@ -83,14 +83,14 @@ pub shift-requires-clause-out : goal.shift-requires-clause-out
 shift-requires-clause-out c = λ k e behind below.
     let p = c.args.self.now in
     let stood : k < p.standing = omega (arith, behind, below, c.stand-self.ensures.standing) in
-    let ends = start_later p.chunks.items p.standing c.args.chunk k e c.index_mut.result.now p.starts c.requires.parts.list.within (omega arith) stood c.requires.parts.index.are_starts in
+    let ends = start_later p.chunks.items p.standing c.args.chunk k e c.index_mut.result.now p.starts.numbers c.requires.parts.list.within (omega arith) stood c.requires.parts.index.are_starts in
     omega (arith, later c k e behind stood, ends.0, c.requires.editable.within c.index_mut.result.now, c.requires.editable.begun, c.requires.editable.start_is)
 
 pub shift-requires-clause-fits : goal.shift-requires-clause-fits
 shift-requires-clause-fits c = λ k e behind below.
     let p = c.args.self.now in
     let stood : k < p.standing = omega (arith, behind, below, c.stand-self.ensures.standing) in
-    let ends = start_later p.chunks.items p.standing c.args.chunk k e c.index_mut.result.now p.starts c.requires.parts.list.within (omega arith) stood c.requires.parts.index.are_starts in
+    let ends = start_later p.chunks.items p.standing c.args.chunk k e c.index_mut.result.now p.starts.numbers c.requires.parts.list.within (omega arith) stood c.requires.parts.index.are_starts in
     omega (arith, later c k e behind stood, ends.1, c.requires.parts.list.held, c.requires.room, c.fits-self)
 
 -- and at the end
@@ -115,18 +115,18 @@ returns-clause-parts c =
     let page = (slice_index_or c.index.result.now.items 0 one_page_of_zeros).range.first in
     let within : p.standing ≤ length p.chunks.items = c.requires.parts.list.within in
     let inside : c.args.chunk < length p.chunks.items = omega (arith, e.standing, e.some, within) in
-    let room : c.args.chunk < length p.starts = omega (arith, inside, c.requires.parts.index.starts_within) in
+    let room : c.args.chunk < length p.starts.numbers = omega (arith, inside, c.requires.parts.index.starts_within) in
     let kept : vec_capacity w ≡ vec_capacity (slice_index_or p.chunks.items c.args.chunk v) = c.replace_run.ensures.room ∙ ap vec_capacity c.index_mut.ensures.value in
     let grown : vec_len w + c.args.out_count ≡ vec_len (slice_index_or p.chunks.items c.args.chunk v) + length c.args.pieces.now =
     edited_len p.chunks.items p.standing c.args.chunk c.args.start c.args.index c.args.out_count v w c.args.pieces.now e.some e.standing within e.start_is e.begun (e.within v) (now_holds c) in
     let full : 0 < length w.items = omega (arith, grown, w.ok, e.holds v) in
     let again : c.index.result.now ≡ w = c.index.ensures ∙ get_or-set_same p.chunks.items c.args.chunk w c.index.result.now inside in
-    let size : length c.shift.new.self ≡ length p.starts = c.shift.ensures.len ∙ c.stand-self.ensures.len in
-    let before : (k d : ℕ) → k < c.args.chunk → slice_index_or c.shift.new.self k d ≡ slice_index_or p.starts k d =
+    let size : length c.shift.new.self.numbers ≡ length p.starts.numbers = c.shift.ensures.len ∙ c.stand-self.ensures.len in
+    let before : (k d : ℕ) → k < c.args.chunk → slice_index_or c.shift.new.self.numbers k d ≡ slice_index_or p.starts.numbers k d =
     λ k d below. c.shift.ensures.before k d (omega arith) (omega (arith, below, room, c.stand-self.ensures.len)) ∙ c.stand-self.ensures.others k d (omega (arith, below, room)) (λ q. omega (arith, q, below)) in
-    let at : (d : ℕ) → slice_index_or c.shift.new.self c.args.chunk d ≡ c.args.start =
+    let at : (d : ℕ) → slice_index_or c.shift.new.self.numbers c.args.chunk d ≡ c.args.start =
     λ d. c.shift.ensures.before c.args.chunk d (omega arith) (omega (arith, room, c.stand-self.ensures.len)) ∙ c.stand-self.ensures.here d in
-    let behind : (k d : ℕ) → c.args.chunk < k → k < max p.standing 1 → slice_index_or c.shift.new.self k d + c.args.out_count ≡ slice_index_or p.starts k d + length c.args.pieces.now =
+    let behind : (k d : ℕ) → c.args.chunk < k → k < max p.standing 1 → slice_index_or c.shift.new.self.numbers k d + c.args.out_count ≡ slice_index_or p.starts.numbers k d + length c.args.pieces.now =
     λ k d past below. omega (
       arith,
       c.shift.ensures.moved k d (omega arith) (omega (arith, below, c.stand-self.ensures.standing)),
@@ -135,7 +135,7 @@ returns-clause-parts c =
     record {
       list = rw c.stand-self.ensures.standing (edited_list p.chunks.items p.standing c.args.chunk c.args.start c.args.index c.args.out_count v w c.args.pieces.now e.some e.standing within e.start_is e.begun (e.within v) (now_holds c)
           p.len p.room c.requires.parts.list kept (e.holds v) e.few c.requires.room);
-      index = rw (c.stand-self.ensures.standing, c.write_first.ensures one_page_of_zeros) (edited_index p.chunks.items p.standing c.args.chunk c.args.start c.args.index c.args.out_count v w c.args.pieces.now e.some e.standing within e.start_is e.begun (e.within v) (now_holds c)
-          p.starts p.firsts.items c.shift.new.self page c.requires.parts.index size before at behind
+      index = rw (c.stand-self.ensures.standing, c.write_first.ensures.items one_page_of_zeros) (edited_index p.chunks.items p.standing c.args.chunk c.args.start c.args.index c.args.out_count v w c.args.pieces.now e.some e.standing within e.start_is e.begun (e.within v) (now_holds c)
+          p.starts.numbers p.firsts.items c.shift.new.self.numbers page c.requires.parts.index size before at behind
           (λ m. ap (λ (u : Vec Mapping). (slice_index_or u.items 0 one_page_of_zeros).range.first) again ∙ ap (λ (n : Mapping). n.range.first) (get_or_default w.items 0 one_page_of_zeros m full)));
     }

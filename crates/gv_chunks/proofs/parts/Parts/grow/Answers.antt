@@ -11,7 +11,7 @@ returns-in_err-add_chunks-clause-parts c =
     let p = c.args.self.now in
     record {
       list = still_list p.chunks.items c.add_chunks.new.chunks.items p.standing p.len p.room c.add_chunks.ensures.kept c.add_chunks.ensures.spare c.add_chunks.ensures.chunks c.requires.parts.list;
-      index = index_kept p.chunks.items c.add_chunks.new.chunks.items p.standing p.starts p.firsts.items c.pad.new.self c.pad-2.new.items.items c.requires.parts.list.within c.add_chunks.ensures.kept
+      index = index_kept p.chunks.items c.add_chunks.new.chunks.items p.standing p.starts.numbers p.firsts.items c.pad.new.self.numbers c.pad-2.new.items.items c.requires.parts.list.within c.add_chunks.ensures.kept
           c.requires.parts.index c.pad.ensures.more c.pad.ensures.kept c.pad-2.ensures.kept
           (omega (arith, c.add_chunks.ensures.at_most, c.in_ok-pad.ensures.ok, c.pad.ensures.more, c.requires.parts.index.starts_within))
           (omega (arith, c.add_chunks.ensures.at_most, c.in_ok-pad-2.ensures.ok, more_numbers p.firsts.items c.pad-2.new.items.items c.pad-2.ensures.kept, c.requires.parts.index.firsts_within));
@@ -27,7 +27,7 @@ returns-clause-parts c =
     record {
       list = added_to p.chunks.items c.add_chunks.new.chunks.items p.standing p.len p.room c.args.room c.add_chunks.ensures.kept c.add_chunks.ensures.spare c.add_chunks.ensures.chunks c.requires.parts.list c.requires.more
           (λ _. omega (arith, made, c.chunks_for-count.ensures.some)) (λ long. omega (arith, made, c.chunks_for-count.ensures.enough long));
-      index = index_kept p.chunks.items c.add_chunks.new.chunks.items p.standing p.starts p.firsts.items c.pad.new.self c.pad-2.new.items.items c.requires.parts.list.within c.add_chunks.ensures.kept
+      index = index_kept p.chunks.items c.add_chunks.new.chunks.items p.standing p.starts.numbers p.firsts.items c.pad.new.self.numbers c.pad-2.new.items.items c.requires.parts.list.within c.add_chunks.ensures.kept
           c.requires.parts.index c.pad.ensures.more c.pad.ensures.kept c.pad-2.ensures.kept
           (omega (arith, c.add_chunks.ensures.at_most, c.in_ok-pad.ensures.ok, c.pad.ensures.more, c.requires.parts.index.starts_within))
           (omega (arith, c.add_chunks.ensures.at_most, c.in_ok-pad-2.ensures.ok, more_numbers p.firsts.items c.pad-2.new.items.items c.pad-2.ensures.kept, c.requires.parts.index.firsts_within));

@@ -22,8 +22,8 @@ shift-requires-clause-out c = λ k d from low.
     let list = c.requires.parts.list in
     let xs = p.chunks.items in
     let v : Vec Mapping = some_of xs (omega (arith, e.standing, list.within)) in
-    let moved : slice_index_or c.take.new.self k d ≡ slice_index_or p.starts (k + 1) d = c.take.ensures.behind k d from (omega arith) in
-    rw moved (omega (arith, e.all v, (start_later xs p.standing c.args.chunk (k + 1) d v p.starts list.within (omega arith) (omega arith) c.requires.parts.index.are_starts).0))
+    let moved : slice_index_or c.take.new.self.numbers k d ≡ slice_index_or p.starts.numbers (k + 1) d = c.take.ensures.behind k d from (omega arith) in
+    rw moved (omega (arith, e.all v, (start_later xs p.standing c.args.chunk (k + 1) d v p.starts.numbers list.within (omega arith) (omega arith) c.requires.parts.index.are_starts).0))
 
 pub shift-requires-clause-fits : goal.shift-requires-clause-fits
 shift-requires-clause-fits c = λ k d from low.
@@ -32,8 +32,8 @@ shift-requires-clause-fits c = λ k d from low.
     let list = c.requires.parts.list in
     let xs = p.chunks.items in
     let v : Vec Mapping = some_of xs (omega (arith, e.standing, list.within)) in
-    let moved : slice_index_or c.take.new.self k d ≡ slice_index_or p.starts (k + 1) d = c.take.ensures.behind k d from (omega arith) in
-    rw moved (omega (arith, list.held, (start_later xs p.standing c.args.chunk (k + 1) d v p.starts list.within (omega arith) (omega arith) c.requires.parts.index.are_starts).1))
+    let moved : slice_index_or c.take.new.self.numbers k d ≡ slice_index_or p.starts.numbers (k + 1) d = c.take.ensures.behind k d from (omega arith) in
+    rw moved (omega (arith, list.held, (start_later xs p.standing c.args.chunk (k + 1) d v p.starts.numbers list.within (omega arith) (omega arith) c.requires.parts.index.are_starts).1))
 
 pub returns-clause-items : goal.returns-clause-items
 returns-clause-items c =
@@ -66,14 +66,14 @@ returns-clause-parts c =
     c.close.ensures.standing ∙ ap (λ ys. take c.args.chunk (take s ys) ++ drop (c.args.chunk + 1) (take s ys)) c.deref_mut.ensures.value in
     let none : chunks_joined (drop (s - 1) zs) ≡ [] = c.close.ensures.spare in
     let back : take p.chunks.len (zs ++ drop (length zs) xs) ≡ zs = take_at zs (drop (length zs) xs) p.chunks.len (omega (arith, same, p.chunks.ok)) in
-    let starts = c.shift.new.self in
+    let starts = c.shift.new.self.numbers in
     let firsts = c.take_entry.new.row in
-    let starts_size : length starts ≡ length p.starts = c.shift.ensures.len ∙ c.take.ensures.len in
+    let starts_size : length starts ≡ length p.starts.numbers = c.shift.ensures.len ∙ c.take.ensures.len in
     let firsts_size : length firsts ≡ length p.firsts.items = c.take_entry.ensures.len ∙ ap length c.deref_mut-2.ensures.value in
     let firsts_back : take p.firsts.len (firsts ++ drop (length firsts) p.firsts.items) ≡ firsts = take_at firsts (drop (length firsts) p.firsts.items) p.firsts.len (omega (arith, firsts_size, p.firsts.ok)) in
-    let before : (k x : ℕ) → k < c.args.chunk → slice_index_or starts k x ≡ slice_index_or p.starts k x =
+    let before : (k x : ℕ) → k < c.args.chunk → slice_index_or starts k x ≡ slice_index_or p.starts.numbers k x =
     λ k x low. c.shift.ensures.before k x low (omega (arith, low, e.standing, list.within, index.starts_within, c.take.ensures.len)) ∙ c.take.ensures.before k x low in
-    let behind : (k e : ℕ) → c.args.chunk ≤ k → k + 1 < s → slice_index_or starts k e + c.args.out_count ≡ slice_index_or p.starts (k + 1) e =
+    let behind : (k e : ℕ) → c.args.chunk ≤ k → k + 1 < s → slice_index_or starts k e + c.args.out_count ≡ slice_index_or p.starts.numbers (k + 1) e =
     λ k e from low.
     omega (
       arith,
@@ -83,7 +83,7 @@ returns-clause-parts c =
     record {
       list = rw back (closed_list xs zs s c.args.chunk c.args.start c.args.out_count p.len p.room d list e.standing same front none e.start_is (e.all d) c.close.ensures.chunks e.few);
       index = rw (back, firsts_back) (record {
-        are_starts = removed_starts xs zs s c.args.chunk c.args.out_count list.within e.standing same front e.all p.starts starts index.are_starts index.starts_within starts_size before behind;
+        are_starts = removed_starts xs zs s c.args.chunk c.args.out_count list.within e.standing same front e.all p.starts.numbers starts index.are_starts index.starts_within starts_size before behind;
         are_firsts =
             removed_firsts xs zs s c.args.chunk c.args.out_count list.within e.standing same front e.all p.firsts.items firsts index.are_firsts index.firsts_within firsts_size
             (rw c.deref_mut-2.ensures.value at c.take_entry.ensures.before) (rw c.deref_mut-2.ensures.value at c.take_entry.ensures.behind);

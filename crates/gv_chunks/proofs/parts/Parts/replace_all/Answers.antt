@@ -64,9 +64,9 @@ returns-clause-parts c =
     replaced_list xs zs p.standing c.replace_anywhere-used.result c.if-self-eq0.self p.len p.room c.args.index c.args.out_count c.args.pieces.now c.requires.parts.list c.requires.long c.requires.within c.requires.room
     same (c.replace_anywhere-used.ensures.items ∙ ap (λ ys. splice (chunks_joined ys) c.args.index (c.args.index + c.args.out_count) c.args.pieces.now) c.deref_mut.ensures.value) c.replace_anywhere-used.ensures.within
     c.replace_anywhere-used.ensures.spare c.replace_anywhere-used.ensures.chunks c.replace_anywhere-used.ensures.packed c.replace_anywhere-used.ensures.few which in
-    let starts = c.write_index.new.starts in
+    let starts = c.write_index.new.starts.numbers in
     let firsts = c.write_index.new.firsts in
-    let starts_size : length starts ≡ length p.starts = c.write_index.ensures.starts_len in
+    let starts_size : length starts ≡ length p.starts.numbers = c.write_index.ensures.starts_len in
     let firsts_size : length firsts ≡ length p.firsts.items = c.write_index.ensures.firsts_len ∙ ap length c.deref_mut-2.ensures.value in
     let firsts_back : take p.firsts.len (firsts ++ drop (length firsts) p.firsts.items) ≡ firsts = take_at firsts (drop (length firsts) p.firsts.items) p.firsts.len (omega (arith, firsts_size, p.firsts.ok)) in
     record {

@@ -19,5 +19,5 @@ returns-clause-parts c =
     let firsts = c.shrink_to_fit-2.ensures.items ∙ c.truncate-2.ensures.items in
     record {
       list = rw chunks (shrunk_list p.chunks.items p.standing n.result p.len p.room r.result c.requires.parts.list n.ensures.standing r.ensures.fits r.ensures.within r.ensures.short n.ensures.some n.ensures.enough);
-      index = rw (chunks, firsts) (shrunk_index p.chunks.items p.standing n.result p.len p.room r.result c.requires.parts.list n.ensures.standing p.starts p.firsts.items c.shorten.new.self c.shorten.ensures.len c.shorten.ensures.kept c.requires.parts.index);
+      index = rw (chunks, firsts) (shrunk_index p.chunks.items p.standing n.result p.len p.room r.result c.requires.parts.list n.ensures.standing p.starts.numbers p.firsts.items c.shorten.new.self.numbers c.shorten.ensures.len c.shorten.ensures.kept c.requires.parts.index);
     }
