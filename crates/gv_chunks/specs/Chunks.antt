@@ -35,8 +35,8 @@ PackedFrom low chunks = (k : ℕ) (d : Vec Mapping) → low ≤ k → k + 1 < le
 abbrev pub Packed : List (Vec Mapping) → Type 0
 Packed = PackedFrom 0
 
--- what contracts see of a list in chunks: its mappings, for how many it has room, and what its vectors really have room for, how many chunks
--- it has among it
+-- what contracts see of a list in chunks: its mappings, for how many it has room, and for how much each of its vectors has, with how many chunks
+-- there are
 pub record ChunkListState : Type 0 where
   pub items : List Mapping
   pub room : ℕ

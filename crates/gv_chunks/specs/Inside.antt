@@ -31,7 +31,8 @@ pub record IsIndexOf (chunks : List (Vec Mapping)) (standing : ℕ) (starts firs
 abbrev pub items_of : Parts → List Mapping
 items_of p = chunks_joined p.chunks.items
 
--- for how much each of their vectors has room: the row of chunks, the firsts, and the two of the starts; a chunk more is memory too
+-- for how much each vector of the parts has room: the row of chunks, then how many chunks there are, since each is memory too; the firsts; the two
+-- of the starts
 abbrev pub capacities_of : Parts → List ℕ
 capacities_of p = vec_capacity p.chunks ∷ vec_len p.chunks ∷ vec_capacity p.firsts ∷ p.starts.capacities
 

@@ -1,5 +1,5 @@
 //! A list of mappings in chunks.
-ghost use Rattle.std.specs.Prelude.{◌≡◌, ◌+◌, ◌*◌, ◌<◌, ◌≤◌, [], length, take, drop, max, slice_index_or, OnOk, OnErr};
+ghost use Rattle.std.specs.Prelude.{◌≡◌, ◌+◌, ◌*◌, ◌<◌, ◌≤◌, [], ◌∷◌, length, take, drop, max, slice_index_or, OnOk, OnErr};
 ghost use Rattle.gv_types.specs.declared.mapping.Mapping.{Mapping};
 ghost use Rattle.gv_chunks.specs.declared.TheConstants.{CHUNK};
 
@@ -46,6 +46,7 @@ impl ChunkList {
     pub fn new(alloc: Global) -> ChunkList
         ensures items { result.items ≡ [] }
         ensures room { result.room ≡ 0 }
+        ensures capacities { result.capacities ≡ 0 ∷ 0 ∷ 0 ∷ 0 ∷ 0 ∷ [] }
     {
         ChunkList {
             parts: Parts::new(alloc),
@@ -145,7 +146,7 @@ impl ChunkList {
     }
 
     /// Replaces `out_count` mappings from `index` on by `pieces`. It takes no memory: the room has
-    /// to be there, and stays as it is.
+    /// to be there, and stays as it is, and so does that of each vector.
     pub fn splice(&mut self, index: usize, out_count: usize, pieces: &[Mapping])
         requires within { index + out_count ≤ length self.old.items }
         requires room { length self.old.items + length pieces.now ≤ self.old.room + out_count }

@@ -1,5 +1,5 @@
 //! The parts of a list in chunks.
-ghost use Rattle.std.specs.Prelude.{◌≡◌, ◌+◌, ◌-◌, ◌*◌, ◌<◌, ◌≤◌, true, [], length, take, drop, max, slice_index_or, vec_len, OnOk, OnErr};
+ghost use Rattle.std.specs.Prelude.{◌≡◌, ◌+◌, ◌-◌, ◌*◌, ◌<◌, ◌≤◌, true, [], ◌∷◌, length, take, drop, max, slice_index_or, vec_len, OnOk, OnErr};
 ghost use Rattle.std.specs.List.{splice};
 ghost use Rattle.std.specs.Global.{Vec};
 ghost use Rattle.gv_types.specs.declared.mapping.Mapping.{Mapping};
@@ -53,6 +53,7 @@ impl Parts {
     pub fn new(alloc: Global) -> Parts
         ensures items { items_of result ≡ [] }
         ensures room { result.room ≡ 0 }
+        ensures capacities { capacities_of result ≡ 0 ∷ 0 ∷ 0 ∷ 0 ∷ 0 ∷ [] }
         ensures parts { AreParts result }
     {
         Parts {

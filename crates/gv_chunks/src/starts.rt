@@ -1,5 +1,5 @@
 //! How many mappings stand before each chunk.
-ghost use Rattle.std.specs.Prelude.{◌≡◌, ◌≢◌, ◌+◌, ◌-◌, ◌<◌, ◌≤◌, ◌^◌, ℕ, [], length, max, min, slice_index_or, OnOk};
+ghost use Rattle.std.specs.Prelude.{◌≡◌, ◌≢◌, ◌+◌, ◌-◌, ◌<◌, ◌≤◌, ◌^◌, ℕ, [], ◌∷◌, length, max, min, slice_index_or, OnOk};
 
 use crate::BLOCK;
 use crate::index::{add, pad};
@@ -33,7 +33,8 @@ impl Model for Starts {
 impl Starts {
     /// None. It takes no memory.
     pub fn new(alloc: Global) -> Starts
-        ensures { result.numbers ≡ [] }
+        ensures numbers { result.numbers ≡ [] }
+        ensures capacities { result.capacities ≡ 0 ∷ 0 ∷ [] }
     {
         Starts {
             numbers: Vec::new(alloc),
