@@ -15,8 +15,9 @@ use crate::outline::Outline;
 use crate::paint::paint_tree;
 use crate::place::{Excerpt, Place};
 use crate::pool::Pool;
+use crate::release::clear;
 use crate::short::paint_in_slot;
-use crate::slot::Slot;
+use crate::slot::{Slot, give_back, give_pages_back};
 use crate::spare::needed_in_tree;
 use crate::spares::Spares;
 use crate::table_counts::TableCounts;
@@ -29,7 +30,6 @@ use std::marker::Model;
 
 /// The tree of tables of a list of mappings: what a GPU's page table would be, with leaves of one
 /// page, 512 pages and 262,144 pages. Its slots tell a buffer by its index alone; the table keeps the id that stands for each.
-#[derive(Drop)]
 pub struct PageTable {
     root: Slot,
     counts: TableCounts,
@@ -52,6 +52,23 @@ impl Model for PageTable {
     ghost invariant = { λ t. IsKept t.root t.counts t.names.items };
 }
 
+impl Drop for PageTable {
+    // A table that drops those below it needs a frame as large as itself for each level, so the tree is taken down first.
+    fn drop(mut self) {
+        self.take_down();
+        let PageTable {
+            root,
+            counts: _,
+            names: _,
+        } = self;
+        match root {
+            Slot::Pages(table) => give_pages_back(table),
+            Slot::Table(slots) => give_back(slots),
+            Slot::Empty | Slot::Zero { .. } | Slot::Buffer { .. } => {}
+        }
+    }
+}
+
 impl PageTable {
     ghost use Rattle.gv_table.specs.Table.{IsTree, IsHeldAt, FitsOutside, gained_by, lost_by, needed_for};
     ghost use Rattle.gv_table.specs.Table.{tables_by_level, tables_of, tables_standing};
@@ -67,6 +84,15 @@ impl PageTable {
             counts: TableCounts::new(),
             names: Vec::new(alloc),
         }
+    }
+
+    /// Makes it the tree of no mapping. The tables go back to the system one after another.
+    #[inline(never)]
+    fn take_down(&mut self)
+        ensures { IsTree [] self.new }
+    {
+        let mut left = Spares::new();
+        clear(&mut self.root, TOP_LEVEL, &mut left, &mut self.counts);
     }
 
     /// Makes room for the name of a buffer's index. `OutOfMemory` where the system refuses it, and only where that room was missing.
