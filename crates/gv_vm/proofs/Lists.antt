@@ -1,6 +1,6 @@
 -- What the queues were told, with one of them changed.
-use Rattle.std.proofs.Common.{◌≡◌, ℕ, zero, suc, ◌+◌, ◌-◌, ◌<◌, ◌≤◌, List, [], ◌∷◌, ◌++◌, length, map, drop, replicate, get_or, set, arith, sym, ◌∙◌, ap, subst}
-use Rattle.std.proofs.lemmas.List.{map-set, get_or-map, get_or-set_same, drop-drop}
+use Rattle.std.proofs.Common.{◌≡◌, ℕ, zero, suc, ◌+◌, ◌-◌, ◌<◌, ◌≤◌, List, [], ◌∷◌, ◌++◌, min, length, map, take, drop, replicate, get_or, set, arith, refl, sym, ◌∙◌, ap, subst}
+use Rattle.std.proofs.lemmas.List.{map-set, get_or-map, get_or-set_same, drop-drop, take_min}
 use Rattle.std.proofs.Math.Seq.{map-set_same}
 use Rattle.gv_vm.specs.Outcomes.{with_outcome, told_to, forgotten_outcome}
 use Rattle.gv_vm.specs.Telling.{ToldState, HasSlot}
@@ -55,3 +55,28 @@ pub gone_more : (first gone to : ℕ) (xs : List Outcome) → first ≤ to →
 gone_more first gone to xs low =
     ap (λ (ys : List Outcome). replicate to forgotten_outcome ++ ys)
     (sym (drop-drop (to - first) gone xs) ∙ sym (drop_blanks first to (drop gone xs) low))
+
+-- those below a number: the forgotten ones, and the first of the others
+pub take_blanks : (first to : ℕ) (xs : List Outcome) → take to (replicate first forgotten_outcome ++ xs) ≡ replicate (min to first) forgotten_outcome ++ take (to - first) xs
+take_blanks zero to xs =
+    let none : min to 0 ≡ 0 = omega arith in
+    let less : to - 0 ≡ to = omega arith in
+    rw (none, less) refl
+take_blanks (suc first) zero xs =
+    let none : min 0 (suc first) ≡ 0 = omega arith in
+    let less : 0 - suc first ≡ 0 = omega arith in
+    rw (none, less) refl
+take_blanks (suc first) (suc to) xs =
+    let more : min (suc to) (suc first) ≡ suc (min to first) = omega arith in
+    let less : suc to - suc first ≡ to - first = omega arith in
+    rw (more, less) (ap (λ (ys : List Outcome). forgotten_outcome ∷ ys) (take_blanks first to xs))
+
+pub blanks_then_rest : (first to count : ℕ) (list rest xs : List Outcome) → list ≡ replicate first forgotten_outcome ++ xs → rest ≡ drop first list → count ≡ min (to - first) (length rest) →
+    take to list ≡ replicate (min to first) forgotten_outcome ++ take count rest
+blanks_then_rest first to count list rest xs list_is rest_is count_is =
+    let none : first - first ≡ 0 = omega arith in
+    let same : first ≤ first = omega arith in
+    let own : rest ≡ xs = rest_is ∙ ap (λ (ys : List Outcome). drop first ys) list_is ∙ drop_blanks first first xs same ∙ ap (λ (k : ℕ). drop k xs) none in
+    ap (λ (ys : List Outcome). take to ys) list_is ∙ take_blanks first to xs
+    ∙ ap (λ (ys : List Outcome). replicate (min to first) forgotten_outcome ++ ys)
+    (ap (λ (ys : List Outcome). take (to - first) ys) (sym own) ∙ sym (take_min (to - first) rest) ∙ ap (λ (k : ℕ). take k rest) (sym count_is))

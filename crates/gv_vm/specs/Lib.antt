@@ -6,6 +6,7 @@ pub mod Outcomes
 pub mod Telling
 pub mod State
 pub mod Forgetting
+pub mod HeldInside
 pub mod Trimming
 pub mod VmInside
 pub mod Told

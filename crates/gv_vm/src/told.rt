@@ -1,5 +1,5 @@
 //! The outcomes that each queue was told.
-ghost use Rattle.std.specs.Prelude.{◌≡◌, ◌<◌, ◌≤◌, ◌++◌, ◌∷◌, replicate, length, drop, [], IfOk, IsOkUnless, OnOk, MatchOption};
+ghost use Rattle.std.specs.Prelude.{◌≡◌, ◌<◌, ◌≤◌, ◌++◌, ◌∷◌, min, replicate, length, take, drop, [], IfOk, IsOkUnless, OnOk, MatchOption};
 ghost use Rattle.gv_vm.specs.Outcomes.{queues, with_outcome, tell_fault, forgotten_outcome, most_told};
 ghost use Rattle.gv_vm.specs.Telling.{lists_of, forgotten_in, HasRoomToTell, HaveQueue};
 
@@ -69,6 +69,15 @@ impl Told {
         ensures { result.now ≡ drop self.now.forgotten self.now.list }
     {
         &self.outcomes[self.gone..]
+    }
+
+    /// Those of them with numbers below this one.
+    pub fn rest_below(&self, to: u64) -> &[Outcome]
+        ensures { take to self.now.list ≡ replicate (min to self.now.forgotten) forgotten_outcome ++ result.now }
+    {
+        let rest = self.rest();
+        let count = to.saturating_sub(self.first).min(rest.len() as u64);
+        &rest[..count as usize]
     }
 
     /// Makes room for one outcome more.

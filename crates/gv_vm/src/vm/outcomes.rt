@@ -1,13 +1,15 @@
 //! What the queues were told, and outcomes let go.
-ghost use Rattle.std.specs.Prelude.{◌≡◌, ◌+◌, ◌<◌, ◌≤◌, length, drop, position, IfOk, IsOk, OnOk, OnErr, MatchOption};
-ghost use Rattle.gv_vm.specs.Outcomes.{queues, most_told, told_to};
+ghost use Rattle.std.specs.Prelude.{◌≡◌, ◌+◌, ◌<◌, ◌≤◌, ◌++◌, min, length, take, drop, replicate, position, None, IfOk, IsOk, OnOk, OnErr, MatchOption};
+ghost use Rattle.gv_journal.specs.Notes.{lesser};
+ghost use Rattle.gv_vm.specs.Outcomes.{queues, most_told, told_to, forgotten_outcome};
 ghost use Rattle.gv_vm.specs.Forgetting.{forget_fault, held_below, is_told_below, with_forgotten};
+ghost use Rattle.gv_vm.specs.HeldInside.{held_by, least_held};
 ghost use Rattle.gv_vm.specs.State.{forgotten_of, told_limit};
 
 use super::Vm;
 use crate::outcome::Outcome;
 use crate::told::{MOST_TOLD, QUEUES};
-use gv_journal::{Item, ItemKind};
+use gv_journal::{HeldItem, Item, ItemKind};
 use gv_types::Fault;
 
 impl Vm {
@@ -70,8 +72,66 @@ impl Vm {
         Ok(to - first)
     }
 
-    /// The least held entry of a queue whose number there is below this one.
+    /// The least held entry of a queue whose number there is below this one. It looks at the outcomes below that number or at the
+    /// entries held, whichever are fewer: so whoever keeps many entries and forgets a few outcomes at a time pays for the few.
     fn held_below(&self, queue: u64, to: u64) -> Option<u64>
+        ensures { result ≡ held_below self.now.journal queue to }
+    {
+        // For the prover: what always holds of the machine.
+        let _space = self.space();
+        if queue >= QUEUES as u64 {
+            return None;
+        }
+        let told = self.told_below(queue, to);
+        if told.len() < self.items().len() {
+            self.least_held(told, queue, to)
+        } else {
+            self.first_held_below(queue, to)
+        }
+    }
+
+    /// What a queue was told below a number, but for what is forgotten.
+    fn told_below(&self, queue: u64, to: u64) -> &[Outcome]
+        requires { queue < queues }
+        ensures { take to (told_to self.now.told queue)
+            ≡ replicate (min to (forgotten_of self.now queue)) forgotten_outcome ++ result.now }
+    {
+        self.told[queue as usize].rest_below(to)
+    }
+
+    /// The least of the held entries that outcomes tell of. They stand in the order of the numbers, and the entries need not: after
+    /// a rewind an entry's number is given out again.
+    fn least_held(&self, told: &[Outcome], queue: u64, to: u64) -> Option<u64>
+        ensures { result ≡ least_held self.now.journal queue to None told.now }
+    {
+        let mut least = None;
+        for outcome in told {
+            least = lesser(least, self.held_by(outcome, queue, to));
+        }
+        least
+    }
+
+    /// The entry that an outcome tells of, if it is held still. What is held by that number may be another entry by now, of another
+    /// queue or with a later number.
+    fn held_by(&self, outcome: &Outcome, queue: u64, to: u64) -> Option<u64>
+        ensures { result ≡ held_by self.now.journal queue to outcome.now }
+    {
+        let Outcome::Accepted { entry } = *outcome else {
+            return None;
+        };
+        let HeldItem {
+            item,
+            is_withdrawn: _,
+        } = self.entry(entry)?;
+        if is_told_below(&item.kind, queue, to) {
+            Some(entry)
+        } else {
+            None
+        }
+    }
+
+    /// The same as `held_below`, by the entries: the first such one is the least.
+    fn first_held_below(&self, queue: u64, to: u64) -> Option<u64>
         ensures { result ≡ held_below self.now.journal queue to }
     {
         let first = self.journal.first();
@@ -79,6 +139,17 @@ impl Vm {
         let _next = self.journal.next();
         let index = first_told_below(self.journal.items(), queue, to)?;
         Some(first + index as u64)
+    }
+}
+
+/// The lesser of two numbers that there may be.
+fn lesser(least: Option<u64>, other: Option<u64>) -> Option<u64>
+    ensures { result ≡ lesser least other }
+{
+    match (least, other) {
+        (Some(least), Some(other)) => Some(least.min(other)),
+        (Some(least), None) => Some(least),
+        (None, other) => other,
     }
 }
 
