@@ -1,5 +1,5 @@
 //! The ids that stand for the indexes of buffers.
-ghost use Rattle.std.specs.Prelude.{◌≡◌, ◌<◌, ◌≤◌, ℕ, Some, length, slice_get, OnOk, OnErr};
+ghost use Rattle.std.specs.Prelude.{◌≡◌, ◌+◌, ◌<◌, ◌≤◌, ℕ, Some, length, max, slice_get, OnOk, OnErr};
 ghost use Rattle.gv_types.specs.declared.mapping.BufferId.{BufferId};
 ghost use Rattle.gv_table.specs.Names.{most_names, AreNames};
 ghost use Rattle.gv_table.specs.Named.{named_id, named_entry};
@@ -42,6 +42,7 @@ pub fn reach(names: &mut Vec<BufferId>, index: u32) -> Result<(), OutOfMemory>
     ensures same { (k : ℕ) (id : BufferId) → slice_get names.old.items k ≡ Some id → slice_get names.new.items k ≡ Some id }
     ensures unchanged { OnErr result (names.new.items ≡ names.old.items) }
     ensures needed { OnErr result (length names.old.items ≤ index) }
+    ensures length { OnOk result (length names.new.items ≡ max (length names.old.items) (index + 1)) }
 {
     let count = names.len();
     let end = index as usize + 1;

@@ -1,5 +1,5 @@
 //! The tree of tables.
-ghost use Rattle.std.specs.Prelude.{◌≡◌, ◌≢◌, ◌⊎◌, ◌≤◌, ◌<◌, ◌+◌, ◌-◌, ℕ, List, [], Some, false, length, slice_get, IsTrue, IfOk, IfErr, OnOk, OnErr};
+ghost use Rattle.std.specs.Prelude.{◌≡◌, ◌≢◌, ◌⊎◌, ◌≤◌, ◌<◌, ◌+◌, ◌-◌, ℕ, List, [], Some, false, length, max, slice_get, IsTrue, IfOk, IfErr, OnOk, OnErr};
 ghost use Rattle.gv_types.specs.declared.mapping.BufferId.{BufferId};
 ghost use Rattle.gv_types.specs.declared.fault.Fault.TheVariants.{OutOfMemory};
 ghost use Rattle.gv_types.specs.declared.mapping.Mapping.{Mapping};
@@ -95,11 +95,13 @@ impl PageTable {
         clear(&mut self.root, TOP_LEVEL, &mut left, &mut self.counts);
     }
 
-    /// Makes room for the name of a buffer's index. `OutOfMemory` where the system refuses it, and only where that room was missing.
+    /// Makes room for the name of a buffer's index, where it is missing, and for none behind it. `OutOfMemory` where the system refuses
+    /// it, and only where that room was missing.
     pub fn reserve_name(&mut self, index: u32) -> Result<(), Fault>
         requires { index < most_names }
         ensures needed { OnErr result (length self.old.names ≤ index) }
         ensures ok { OnOk result (index < length self.new.names) }
+        ensures length { OnOk result (length self.new.names ≡ max (length self.old.names) (index + 1)) }
         ensures same { (k : ℕ) (id : BufferId) → slice_get self.old.names k ≡ Some id → slice_get self.new.names k ≡ Some id }
         ensures tree { (ms : List Mapping) → IsTree ms self.old → AreNamed self.new.names ms → IsTree ms self.new }
         ensures standing { tables_standing self.new ≡ tables_standing self.old }
@@ -112,6 +114,7 @@ impl PageTable {
     /// Tells which buffer an index stands for from now on, where there is room for its name. It takes no memory.
     pub fn name(&mut self, id: BufferId)
         requires { id.index < length self.old.names }
+        ensures length { length self.new.names ≡ length self.old.names }
         ensures named { slice_get self.new.names id.index ≡ Some id }
         ensures others { (other : BufferId) → other.index ≢ id.index → slice_get self.old.names other.index ≡ Some other
             → slice_get self.new.names other.index ≡ Some other }
