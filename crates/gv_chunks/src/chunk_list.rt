@@ -141,6 +141,7 @@ impl ChunkList {
     pub fn shrink(&mut self)
         ensures items { self.new.items ≡ self.old.items }
         ensures room { self.new.room ≤ max (length self.old.items) (CHUNK + 1) }
+        ensures no_more { self.new.room ≤ self.old.room }
     {
         self.parts.shrink();
     }

@@ -117,6 +117,7 @@ impl Parts {
         requires parts { AreParts self.old }
         ensures items { items_of self.new ≡ items_of self.old }
         ensures room { self.new.room ≤ max self.old.len (CHUNK + 1) }
+        ensures no_more { self.new.room ≤ self.old.room }
         ensures len { self.new.len ≡ self.old.len }
         ensures parts { AreParts self.new }
     {

@@ -140,6 +140,7 @@ impl RangeList {
     pub fn shrink(&mut self)
         ensures mappings { self.new.mappings ≡ self.old.mappings }
         ensures room { self.new.room ≤ max (length self.old.mappings) (CHUNK + 1) }
+        ensures no_more { self.new.room ≤ self.old.room }
     {
         self.list.shrink();
     }
