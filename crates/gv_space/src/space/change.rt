@@ -1,6 +1,6 @@
 //! How the list of an address space changes: the limits, the room, and then the change.
-ghost use Rattle.std.specs.Prelude.{◌≡◌, ◌+◌, length};
-ghost use Rattle.std.specs.Prelude.{[], Err, IfOk, IsOkUnless, OnOk, OnErr, MatchOption};
+ghost use Rattle.std.specs.Prelude.{◌≡◌, ◌≢◌, ◌+◌, length};
+ghost use Rattle.std.specs.Prelude.{[], Err, IfErr, IfOk, IsOkUnless, OnOk, OnErr, MatchOption};
 ghost use Rattle.std.specs.List.{All, splice};
 ghost use Rattle.gv_types.specs.declared.mapping.Mapping.{Mapping};
 ghost use Rattle.gv_ranges.specs.List.{IsLaidOut};
@@ -46,6 +46,7 @@ impl Space {
             (undo_with made.index made.put_in taken.new.items range made.tables)) }
         ensures taken { OnOk result (IsLaidOut taken.new.items) }
         ensures unchanged { OnErr result (IsUnchanged self.old self.new) }
+        ensures refused { IfErr result (λ fault. fault ≢ Fault.OutOfMemory → self.new ≡ self.old) }
         ensures room { GrowsJustFor (restored self.old.mappings range saved.now) self.old self.new }
     {
         self.mapped.seek(range.first());
@@ -69,6 +70,7 @@ impl Space {
             (undo_with made.index made.put_in taken.new.items range made.tables)) }
         ensures taken { OnOk result (IsLaidOut taken.new.items) }
         ensures unchanged { OnErr result (IsUnchanged self.old self.new) }
+        ensures refused { IfErr result (λ fault. fault ≢ Fault.OutOfMemory → self.new ≡ self.old) }
         ensures room { GrowsJustFor (restored self.old.mappings range saved.now) self.old self.new }
     {
         let (index, count) = self.list().overlapping(range);

@@ -1,6 +1,6 @@
 //! Operations applied, restored, taken back and given up.
-ghost use Rattle.std.specs.Prelude.{◌≡◌, ◌++◌, if◌then◌else◌, ℕ, IsTrue, List};
-ghost use Rattle.std.specs.Prelude.{IfOk, IsOkUnless, OnErr, MatchOption};
+ghost use Rattle.std.specs.Prelude.{◌≡◌, ◌≢◌, ◌++◌, if◌then◌else◌, ℕ, IsTrue, List};
+ghost use Rattle.std.specs.Prelude.{IfErr, IfOk, IsOkUnless, OnErr, MatchOption};
 ghost use Rattle.std.specs.List.{All};
 ghost use Rattle.gv_types.specs.Page.{IsPage};
 ghost use Rattle.gv_types.specs.PageRange.{covers};
@@ -38,6 +38,7 @@ impl Space {
         ensures taken { IfOk result (TookWhatWas self.old.mappings) }
         ensures undone { IfOk result (λ undo. undone self.new.mappings undo.change ≡ self.old.mappings) }
         ensures unchanged { OnErr result (IsUnchanged self.old self.new) }
+        ensures refused { IfErr result (λ fault. fault ≢ Fault.OutOfMemory → self.new ≡ self.old) }
         ensures room { GrowsJustFor (edited self.old.mappings (in_pages op.now)) self.old self.new }
     {
         let op = match self.check(op) {
@@ -49,7 +50,8 @@ impl Space {
 
     /// Applies an operation in pages that names them, and that `check` let through. The mappings that meet its range give way
     /// to their rests, and a map's mapping is added; nothing is joined. `TooManyMappings` where the list would pass its limit,
-    /// or undo values would hold over 2^62 mappings, then `OutOfMemory`. All growth comes before the first change.
+    /// or undo values would hold over 2^62 mappings, then `OutOfMemory`. All growth comes before the first change, and none
+    /// comes where it is refused for another fault than `OutOfMemory`.
     pub fn apply_pages(&mut self, alloc: Global, op: &PageOp) -> Result<OpUndo, Fault>
         requires pages { IsPageOp op.now }
         requires placed { All (IsPlaced self.old.area self.old.buffers) (own_mapping op.now) }
@@ -63,6 +65,7 @@ impl Space {
         ensures taken { IfOk result (TookWhatWas self.old.mappings) }
         ensures undone { IfOk result (λ undo. undone self.new.mappings undo.change ≡ self.old.mappings) }
         ensures unchanged { OnErr result (IsUnchanged self.old self.new) }
+        ensures refused { IfErr result (λ fault. fault ≢ Fault.OutOfMemory → self.new ≡ self.old) }
         ensures room { GrowsJustFor (edited self.old.mappings op.now) self.old self.new }
     {
         let (own, range) = (op.own_mapping(), op.range());
@@ -83,7 +86,7 @@ impl Space {
 
     /// Puts back what older changes took out in a range: cuts the range out, as an unmap does, and puts in the undo value's
     /// mappings, clipped to the range and not joined. `TooManyMappings` as for `apply`, then `OutOfMemory`. All growth comes
-    /// before the first change.
+    /// before the first change, and none comes at `TooManyMappings`.
     pub fn restore(
         &mut self,
         alloc: Global,
@@ -101,6 +104,7 @@ impl Space {
         ensures taken { IfOk result (TookWhatWas self.old.mappings) }
         ensures undone { IfOk result (λ undo. undone self.new.mappings undo.change ≡ self.old.mappings) }
         ensures unchanged { OnErr result (IsUnchanged self.old self.new) }
+        ensures refused { IfErr result (λ fault. fault ≢ Fault.OutOfMemory → self.new ≡ self.old) }
         ensures room { GrowsJustFor (restored self.old.mappings range saved.now.change.taken) self.old self.new }
     {
         let mut taken = SmallVec::new(alloc);
