@@ -111,10 +111,11 @@ impl ListWithTable {
         self.list.reserve(more)
     }
 
-    /// Gives room back that neither list nor table needs, and the tables that are kept.
+    /// Gives room back that neither list nor table needs, and the tables that are kept. It takes no memory.
     pub fn shrink(&mut self)
         ensures state { self.new ≡ record self.old { room = self.new.room } }
         ensures room { self.new.room ≤ max (length self.old.mappings) (CHUNK + 1) }
+        ensures no_more { self.new.room ≤ self.old.room }
     {
         self.list.shrink();
         self.table.shrink();
@@ -128,12 +129,14 @@ impl ListWithTable {
         self.pool.put(tables, &self.table);
     }
 
-    /// Makes room for the name of a buffer's index. `OutOfMemory` where the system refuses it, and only where that room was missing.
+    /// Makes room for the name of a buffer's index, where it is missing, and for none behind it. `OutOfMemory` where the system refuses
+    /// it, and only where that room was missing.
     pub fn reserve_name(&mut self, index: u32) -> Result<(), Fault>
         requires few { index < most_names }
         requires named { AreNamed self.old.names self.old.mappings }
         ensures list { list_of self.new ≡ list_of self.old }
         ensures ok { OnOk result (index < length self.new.names) }
+        ensures length { OnOk result (length self.new.names ≡ max (length self.old.names) (index + 1)) }
         ensures needed { OnErr result (length self.old.names ≤ index) }
         ensures same { (k : ℕ) (id : BufferId) → slice_get self.old.names k ≡ Some id → slice_get self.new.names k ≡ Some id }
         ensures err { IsOkUnless result Fault.OutOfMemory }
@@ -148,6 +151,7 @@ impl ListWithTable {
         requires named { AreNamed self.old.names self.old.mappings }
         requires apart { AreApart id.index self.old.mappings }
         ensures list { list_of self.new ≡ list_of self.old }
+        ensures length { length self.new.names ≡ length self.old.names }
         ensures named { slice_get self.new.names id.index ≡ Some id }
         ensures others { (other : BufferId) → other.index ≢ id.index → slice_get self.old.names other.index ≡ Some other
             → slice_get self.new.names other.index ≡ Some other }

@@ -155,11 +155,12 @@ impl Space {
         gv_split::plan(alloc, self.mapped.list(), &op)
     }
 
-    /// Gives room back that nothing held needs: list, tables, ids and buffers. An undo value that is kept may not fit then, since its room may
-    /// be gone.
+    /// Gives room back that nothing held needs: list, tables, ids and buffers. It asks for none. An undo value that is kept may not fit
+    /// then, since its room may be gone.
     pub fn trim(&mut self)
         ensures state { self.new ≡ record self.old { room = self.new.room } }
         ensures room { self.new.room ≤ max (length self.old.mappings) (CHUNK + 1) }
+        ensures no_more { self.new.room ≤ self.old.room }
     {
         self.mapped.shrink();
         self.buffers.shrink();
