@@ -30,6 +30,6 @@ pub mod EditLemmas
 pub mod LikenessLemmas
 pub mod Fewness
 pub mod Counting
-pub mod Patched
+mod Patched
 mod LeafRows
 mod BothWays
