@@ -4,10 +4,10 @@ ghost use Rattle.std.specs.Prelude.{◌≡◌, ◌+◌, ◌*◌, ◌<◌, ◌≤
 ghost use Rattle.gv_types.specs.Page.{PAGES};
 ghost use Rattle.gv_types.specs.PageRange.{span, meets, covers};
 ghost use Rattle.gv_types.specs.Mapping.{part, IsMapping};
-ghost use Rattle.gv_ranges.specs.List.{IsLaidOut, AreEnded, IsIndexOfPage};
+ghost use Rattle.gv_ranges.specs.List.{IsLaidOut, AreEnded};
 ghost use Rattle.gv_table.specs.declared.slot.Slot.TheVariants.{Empty};
 ghost use Rattle.gv_table.specs.Leaves.{AreWhole, IsLeafOf};
-ghost use Rattle.gv_table.specs.Levels.{top_level, root_level, slots_per_table, pages_of, slot_pages, IsInPart};
+ghost use Rattle.gv_table.specs.Levels.{root_level, slots_per_table, pages_of, slot_pages, IsInPart};
 ghost use Rattle.gv_table.specs.Tree.{IsTreeOf, is_table, leaf};
 
 use crate::alike::{Alike, alike_from};

@@ -1,5 +1,5 @@
 //! The list with its page table, edited.
-ghost use Rattle.std.specs.Prelude.{◌≡◌, ◌+◌, ◌<◌, ◌≤◌, ℕ, List, length, false, IsTrue, IfOk, IfSome, IsOkUnless, OnOk, OnErr};
+ghost use Rattle.std.specs.Prelude.{◌≡◌, ◌+◌, ◌<◌, ◌≤◌, List, length, false, IsTrue, IfOk, IfSome, IsOkUnless, OnOk, OnErr};
 ghost use Rattle.std.specs.List.{splice};
 ghost use Rattle.gv_types.specs.PageRange.{end_of};
 ghost use Rattle.gv_types.specs.declared.mapping.Mapping.{Mapping};
