@@ -125,6 +125,8 @@ impl ChunkList {
         ensures err { OnErr result (self.old.room < length self.old.items + more) }
         ensures enough { length self.old.items + more ≤ self.old.room
             → self.new.room ≡ self.old.room }
+        ensures capacities { length self.old.items + more ≤ self.old.room
+            → self.new.capacities ≡ self.old.capacities }
         ensures double_or_need { self.new.room
             ≤ max (2 * self.old.room) (length self.old.items + more) }
     {
