@@ -6,7 +6,7 @@
  *     element may be NULL. What is read is initialized; what is written need not be.
  *   - No two parameters of a call overlap, and nothing that a call was given is touched by another thread until it returns.
  *   - One call at a time has a handle, from any thread, under the caller's own lock. Reads take the handle as writes do.
- *   - A call finds 256 KiB of stack.
+ *   - A call finds 64 KiB of stack.
  *   - No call is made from a signal handler, nor in the child of a fork of a process with threads.
  *   - malloc, realloc and free are of one allocator, which aligns as C wants.
  *

@@ -125,7 +125,7 @@ static void *life(void *wrong) {
 }
 
 #ifndef SANITIZED
-/* How much of a stack was touched that is 1 MiB. What the header promises is 256 KiB, and this thread's own frames are in it. */
+/* How much of a stack was touched that is 1 MiB. What the header promises is 64 KiB, and this thread's own frames are in it. */
 static void stack(void) {
   const size_t size = 1 << 20;
   unsigned char *at = mmap(NULL, size, PROT_READ | PROT_WRITE, MAP_PRIVATE | MAP_ANONYMOUS | MAP_STACK, -1, 0);
@@ -142,7 +142,7 @@ static void stack(void) {
   pthread_attr_destroy(&attributes);
   while (free_bytes < size && at[free_bytes] == STALE) free_bytes++;
   CHECK(wrong == 0);
-  CHECK(size - free_bytes <= 256 << 10);
+  CHECK(size - free_bytes <= 64 << 10);
   printf("a life of a space touched %zu KiB of stack\n", (size - free_bytes) >> 10);
   munmap(at, size);
 }
