@@ -1,7 +1,11 @@
 //! Rows of outcomes let go: which faults refuse it, in their order, and that numbers and room go on behind it.
-use crate::fixtures::{request, zero};
+ghost use Rattle.std.specs.Prelude.{◌<◌};
+ghost use Rattle.gv_vm.specs.Outcomes.{queues};
+
+use crate::fixtures::{request, whole, zero};
+use gv_journal::ItemKind;
 use gv_types::{Bounds, Fault, Limits};
-use gv_vm::{Event, Outcome, Reply, Sizes, Stopped, World};
+use gv_vm::{Event, NotTold, Outcome, Reply, Sizes, Stopped, Vm, World};
 use std::alloc::Global;
 use std::process::Abort;
 use std::test::Fail;
@@ -187,4 +191,85 @@ fn no_end(rt: &impl Abort, alloc: Global, world: &mut World) -> Result<(), Fail>
         (100, 0)
     );
     Ok(())
+}
+
+/// Two queues forget outcomes by few and by many, while the journal holds many entries, few and none.
+#[test]
+fn least_held_entry_is_told(rt: HostRuntime) -> Result<(), Fail> {
+    let mut vm = whole(rt.alloc())?;
+    let end = least(&rt, rt.alloc(), &mut vm);
+    vm.close();
+    end
+}
+
+fn least(rt: &impl Abort, alloc: Global, vm: &mut Vm) -> Result<(), Fail> {
+    for queue in [1, 0, 0, 1] {
+        bind_next(rt, alloc, vm, queue)?;
+    }
+    // The numbers of entries are given out again: so an outcome tells of an entry that is of a later request by now.
+    for _ in 0..4 {
+        assert!(rt; vm.rewind().is_ok());
+    }
+    for queue in [0, 0, 1, 0, 1, 1] {
+        bind_next(rt, alloc, vm, queue)?;
+    }
+    assert_eq!(rt; vm.withdraw(alloc, 5), Ok(6));
+    forget_each(rt, vm);
+    for to in [1, 2, 5, 7] {
+        assert!(rt; vm.settle(to).is_ok());
+        forget_each(rt, vm);
+    }
+    assert_eq!(rt; (vm.told_from(0), vm.told_from(1)), (5, 5));
+    Ok(())
+}
+
+/// Binds the next request of a queue.
+fn bind_next(rt: &impl Abort, alloc: Global, vm: &mut Vm, queue: u64) -> Result<(), Fail> {
+    if queue >= 2 {
+        return Err("queue".into());
+    }
+    let (number, entry) = (vm.told_next(queue), vm.next());
+    let request = request(alloc, &[zero(0)])?;
+    match vm.bind(alloc, queue, number, request, &[]) {
+        Ok(outcome) => assert_eq!(rt; outcome, Outcome::Accepted { entry }),
+        Err(
+            NotTold {
+                fault: _,
+                request: _,
+            },
+        ) => return Err("not told".into()),
+    }
+    Ok(())
+}
+
+/// Each queue is to forget all outcomes, then fewer and fewer, then one by one.
+fn forget_each(rt: &impl Abort, vm: &mut Vm) {
+    for queue in 0..2 {
+        for to in (0..6).rev().chain(0..6) {
+            let wanted = wanted(vm, queue, to);
+            assert_eq!(rt; vm.forget(queue, to), wanted);
+        }
+    }
+}
+
+/// What the entries say that forgetting answers: a walk over all of them.
+fn wanted(vm: &Vm, queue: u64, to: u64) -> Result<u64, Fault>
+    requires { queue < queues }
+{
+    let first = vm.told_from(queue);
+    if to < first || vm.told_next(queue) < to {
+        return Err(Fault::NoOutcome);
+    }
+    for (index, item) in vm.items().iter().enumerate() {
+        let by = vm.first().saturating_add(index as u64);
+        match item.kind {
+            ItemKind::Bind {
+                queue: of,
+                number,
+                ..
+            } if of == queue && number < to => return Err(Fault::Held { by }),
+            _ => {}
+        }
+    }
+    Ok(to.saturating_sub(first))
 }

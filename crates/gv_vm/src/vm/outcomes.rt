@@ -99,8 +99,8 @@ impl Vm {
         self.told[queue as usize].rest_below(to)
     }
 
-    /// The least of the held entries that outcomes tell of. They stand in the order of the numbers, and the entries need not: after
-    /// a rewind an entry's number is given out again.
+    /// The least of the held entries that outcomes tell of. The first need not be the least: after a rewind the numbers of entries
+    /// are given out again.
     fn least_held(&self, told: &[Outcome], queue: u64, to: u64) -> Option<u64>
         ensures { result ≡ least_held self.now.journal queue to None told.now }
     {
@@ -111,8 +111,8 @@ impl Vm {
         least
     }
 
-    /// The entry that an outcome tells of, if it is held still. What is held by that number may be another entry by now, of another
-    /// queue or with a later number.
+    /// The entry that an outcome tells of, if what is held by that number is the queue's and has a number there below `to`: it may
+    /// be another request's by now.
     fn held_by(&self, outcome: &Outcome, queue: u64, to: u64) -> Option<u64>
         ensures { result ≡ held_by self.now.journal queue to outcome.now }
     {
