@@ -15,6 +15,9 @@ const EDITS: usize = 20;
 /// The middle of the pages: where three levels of tables have an edge.
 const MIDDLE: u64 = 1 << 30;
 
+/// Where edits of whole slots are, and few others: so that most of its slots are no tables. Three levels of tables have an edge there too.
+const LEAVES: u64 = 3 << 30;
+
 /// The pages that edits touch.
 #[derive(Clone, Copy)]
 pub struct Field {
@@ -53,12 +56,15 @@ impl Field {
         Ok(edits)
     }
 
-    /// Some pages: mostly few, now and then up to a table's, and seldom all.
+    /// Some pages: mostly few, now and then up to a table's or whole slots elsewhere, and seldom all.
     fn range(self, random: &mut Random) -> (u64, u64)
         ensures first { result.0 < 2 ^ 42 }
         ensures count { result.1 < 2 ^ 41 }
     {
         let first = MIDDLE - self.pages() / 2 + random.below(self.pages());
+        if random.is_one_in(8) {
+            return slots(random);
+        }
         if random.is_one_in(4_000) {
             return (MIDDLE - self.pages() / 2, self.pages() + 32);
         }
@@ -67,6 +73,18 @@ impl Field {
         }
         (first, 1 + random.below(29))
     }
+}
+
+/// Some slots of 512 pages, or now and then a few pages of one, which make it a table.
+fn slots(random: &mut Random) -> (u64, u64)
+    ensures first { result.0 < 2 ^ 42 }
+    ensures count { result.1 < 2 ^ 41 }
+{
+    let first = LEAVES - 32 * 512 + random.below(64) * 512;
+    if random.is_one_in(8) {
+        return (first + random.below(512), 1 + random.below(29));
+    }
+    (first, (1 + random.below(8)) * 512)
 }
 
 /// A map of a buffer or of zeros, or an unmap.
