@@ -24,6 +24,12 @@ pub sums_same : (numbers bases more_numbers more_bases : List ℕ) (k d : ℕ) �
 sums_same numbers bases more_numbers more_bases k d below longer number base =
     sums_at more_numbers more_bases k d (omega (arith, below, longer)) ∙ (rw (number, base) (sym (sums_at numbers bases k d below)))
 
+-- a number told as another one was
+pub sums_told : (numbers bases now : List ℕ) (k j d : ℕ) → k < length now → j < length numbers →
+    (slice_index_or now k 0 + slice_index_or bases (k / 64) 0) % 2 ^ 64 ≡ (slice_index_or numbers j 0 + slice_index_or bases (j / 64) 0) % 2 ^ 64 →
+    slice_index_or (sums now bases) k d ≡ slice_index_or (sums numbers bases) j d
+sums_told numbers bases now k j d inside within told = sums_at now bases k d inside ∙ (told ∙ sym (sums_at numbers bases j d within))
+
 -- one of the two moves by what went out and what came in, and wraps: so does the number that they tell
 moved_own : (number base out more : ℕ) → out ≤ (number + base) % 2 ^ 64 → (number + base) % 2 ^ 64 + more < out + 2 ^ 64 →
     ((number + (more + (2 ^ 64 - out)) % 2 ^ 64) % 2 ^ 64 + base) % 2 ^ 64 + out ≡ (number + base) % 2 ^ 64 + more

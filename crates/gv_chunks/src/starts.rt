@@ -1,8 +1,10 @@
 //! How many mappings stand before each chunk.
-ghost use Rattle.std.specs.Prelude.{◌≡◌, ◌≢◌, ◌+◌, ◌-◌, ◌<◌, ◌≤◌, ◌^◌, ℕ, [], ◌∷◌, length, max, min, slice_index_or, OnOk};
+ghost use Rattle.std.specs.Prelude.{◌≡◌, ◌≢◌, ◌+◌, ◌-◌, ◌*◌, ◌<◌, ◌≤◌, ◌^◌, ℕ, [], ◌∷◌, length, max, min, slice_index_or, OnOk};
+ghost use Rattle.gv_chunks.specs.Starts.{sum_at};
 
 use crate::BLOCK;
 use crate::index::{add, pad};
+use crate::row::{put_entry, take_entry};
 use gv_types::OutOfMemory;
 use std::alloc::Global;
 use std::marker::Model;
@@ -131,13 +133,9 @@ impl Starts {
         ensures behind { (k d : ℕ) → at < k → k ≤ count → slice_index_or self.new.numbers k d ≡ slice_index_or self.old.numbers (k - 1) d }
         ensures capacities { self.new.capacities ≡ self.old.capacities }
     {
-        let mut next = start;
-        for k in at..count {
-            let this = self.get(k);
-            self.set(k, next);
-            next = this;
-        }
-        self.set(count, next);
+        let base = self.bases[at / BLOCK];
+        put_entry(&mut self.numbers, at, count, start.wrapping_sub(base));
+        mend_firsts(&mut self.numbers, &self.bases, at, count);
     }
 
     /// Takes the number at `at` out: what stands behind it up to `count` moves down by one.
@@ -149,9 +147,41 @@ impl Starts {
         ensures behind { (k d : ℕ) → at ≤ k → k + 1 < count → slice_index_or self.new.numbers k d ≡ slice_index_or self.old.numbers (k + 1) d }
         ensures capacities { self.new.capacities ≡ self.old.capacities }
     {
-        for k in at..count - 1 {
-            let next = self.get(k + 1);
-            self.set(k, next);
-        }
+        take_entry(&mut self.numbers, at, count);
+        mend_lasts(&mut self.numbers, &self.bases, at, count - 1);
+    }
+}
+
+/// The numbers behind `at` up to `to` came up by one, so the first of each block still goes with the base of the block before: it is
+/// made to go with its own block's.
+fn mend_firsts(numbers: &mut [usize], bases: &[usize], at: usize, to: usize)
+    requires within { to < length numbers.old }
+    requires blocks { length numbers.old ≤ BLOCK * length bases.now }
+    ensures len { length numbers.new ≡ length numbers.old }
+    ensures before { (k d : ℕ) → k ≤ at → slice_index_or numbers.new k d ≡ slice_index_or numbers.old k d }
+    ensures told { (k d : ℕ) → at < k → k ≤ to
+        → sum_at bases.now k (slice_index_or numbers.new k d) ≡ sum_at bases.now (k - 1) (slice_index_or numbers.old k d) }
+{
+    for block in at / BLOCK + 1..to / BLOCK + 1 {
+        let moved = bases[block - 1].wrapping_sub(bases[block]);
+        let first = block * BLOCK;
+        numbers[first] = numbers[first].wrapping_add(moved);
+    }
+}
+
+/// The numbers from `at` up to `to` came down by one, so the last of each block still goes with the base of the block behind: it is
+/// made to go with its own block's.
+fn mend_lasts(numbers: &mut [usize], bases: &[usize], at: usize, to: usize)
+    requires within { to < length numbers.old }
+    requires blocks { length numbers.old ≤ BLOCK * length bases.now }
+    ensures len { length numbers.new ≡ length numbers.old }
+    ensures before { (k d : ℕ) → k < at → slice_index_or numbers.new k d ≡ slice_index_or numbers.old k d }
+    ensures told { (k d : ℕ) → at ≤ k → k < to
+        → sum_at bases.now k (slice_index_or numbers.new k d) ≡ sum_at bases.now (k + 1) (slice_index_or numbers.old k d) }
+{
+    for block in at / BLOCK..to / BLOCK {
+        let moved = bases[block + 1].wrapping_sub(bases[block]);
+        let last = block * BLOCK + BLOCK - 1;
+        numbers[last] = numbers[last].wrapping_add(moved);
     }
 }
