@@ -1,0 +1,10 @@
+//! What the definitions say of worked examples.
+ghost use Rattle.gv_packed.specs.Examples.{BufferIsPacked, ZerosArePacked, BothComeBack, ZerosHaveNoPage};
+
+/// Each worked example holds.
+pub fn examples()
+    ensures buffer { BufferIsPacked }
+    ensures zeros { ZerosArePacked }
+    ensures both { BothComeBack }
+    ensures no_page { ZerosHaveNoPage }
+{}
