@@ -120,7 +120,7 @@ fn time_all_look_ups<R: CpuClock>(
 fn common_sum(space: &Space, list: &PlainList) -> Result<Checksum, Failure> {
     let mut sum = Checksum::new();
     for mapping in space.list().iter() {
-        sum.add_mapping(mapping);
+        sum.add_mapping(&mapping.mapping());
     }
     let mut plain = Checksum::new();
     for mapping in list.mappings() {

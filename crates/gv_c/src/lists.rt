@@ -182,7 +182,7 @@ fn write_run(list: &mut [ListedMapping], run: Run<'_>)
 {
     let mut k = 0;
     for mapping in run {
-        list[k] = ListedMapping::of(mapping);
+        list[k] = ListedMapping::of(&mapping.mapping());
         k += 1;
     }
 }

@@ -4,10 +4,10 @@ use Rattle.std.proofs.lemmas.List.{take-append-drop, take-append-le, length-appe
 use Rattle.std.specs.List.{splice}
 use Rattle.std.specs.Global.{Vec}
 use Rattle.gv_types.specs.declared.mapping.Mapping.{Mapping}
-use Rattle.gv_chunks.specs.Chunks.{chunks_joined, AreChunks, Packed}
+use Rattle.gv_chunks.specs.Chunks.{chunks_joined, AreChunks, Settled}
 use Rattle.gv_chunks.specs.Inside.{IsChunkList}
 use Rattle.gv_chunks.specs.declared.TheConstants.{CHUNK}
-use Rattle.gv_chunks.proofs.PackedLemmas.{filled_packed}
+use Rattle.gv_chunks.proofs.SettledLemmas.{filled_settled}
 use Rattle.gv_chunks.proofs.RunLemmas.{joined_with_rest, none_with_rest}
 
 -- chunks that were added stand behind the others
@@ -50,16 +50,16 @@ pub length_spliced : (xs pieces : List Mapping) (index count : ℕ) → index + 
 length_spliced xs pieces index count within =
     omega (arith, length-append (take index xs) (pieces ++ drop (index + count) xs), length-append pieces (drop (index + count) xs), length-take-le index xs (omega arith), length-drop (index + count) xs)
 
--- packed chunks that hold something are the chunks of a long list
-pub some_in_chunks : (xs : List (Vec Mapping)) (used count room : ℕ) → used ≤ length xs → chunks_joined (drop used xs) ≡ [] → AreChunks xs → Packed (take used xs) →
+-- settled chunks that hold something are the chunks of a long list
+pub some_in_chunks : (xs : List (Vec Mapping)) (used count room : ℕ) → used ≤ length xs → chunks_joined (drop used xs) ≡ [] → AreChunks xs → Settled (take used xs) →
     CHUNK * used ≤ 2 * length (chunks_joined xs) + CHUNK → count ≡ length (chunks_joined xs) → 0 < count → count ≤ room → CHUNK < room → 2 * room + 3 * CHUNK ≤ CHUNK * length xs → IsChunkList xs used count room
-some_in_chunks xs used count room within none chunked packed few held some_held fits long enough = record {
+some_in_chunks xs used count room within none chunked settled few held some_held fits long enough = record {
   within = within;
   spare = none;
   chunked = chunked;
   held = held;
   few = omega (arith, few, held);
-  filled = filled_packed xs used within chunked packed none (omega (arith, held, some_held));
+  filled = filled_settled xs used within chunked settled none (omega (arith, held, some_held));
   fits = fits;
   some = λ _. omega (arith, long, enough);
   short = λ low. absurd (omega (arith, low, long));
@@ -94,13 +94,13 @@ some_piece (x ∷ xs) chunk behind count some_left past fits is = omega (arith, 
 
 -- a run of a long list replaced, wherever it lies
 pub replaced_list : (xs zs : List (Vec Mapping)) (s used now count room index out : ℕ) (pieces : List Mapping) → IsChunkList xs s count room → CHUNK < room → index + out ≤ length (chunks_joined xs) →
-    count + length pieces ≤ room + out → length zs ≡ length xs → chunks_joined zs ≡ splice (chunks_joined xs) index (index + out) pieces → used ≤ length zs → chunks_joined (drop used zs) ≡ [] → AreChunks zs → Packed (take used zs) →
+    count + length pieces ≤ room + out → length zs ≡ length xs → chunks_joined zs ≡ splice (chunks_joined xs) index (index + out) pieces → used ≤ length zs → chunks_joined (drop used zs) ≡ [] → AreChunks zs → Settled (take used zs) →
     CHUNK * used ≤ 2 * length (chunks_joined zs) + CHUNK →
     (((now ≡ 0) × (count - out + length pieces ≡ 0)) ⊎ ((now ≡ used) × (0 < count - out + length pieces))) → IsChunkList zs now (count - out + length pieces) room
-replaced_list xs zs s used now count room index out pieces was long within enough same items below none chunked packed few which =
+replaced_list xs zs s used now count room index out pieces was long within enough same items below none chunked settled few which =
     let held : count - out + length pieces ≡ length (chunks_joined zs) = omega (arith, was.held, ap length items, length_spliced (chunks_joined xs) pieces index out within) in
     let room_left : 2 * room + 3 * CHUNK ≤ CHUNK * length zs = rw same (was.enough long) in
     elim which [
       | inl empty ↦ rw empty.0 (none_in_chunks zs (count - out + length pieces) room chunked held empty.1 (λ some. omega (arith, same, was.some some)) (λ _. room_left))
-      | inr some ↦ rw some.0 (some_in_chunks zs used (count - out + length pieces) room below none chunked packed few held some.1 (omega (arith, enough, within, was.held)) long room_left)
+      | inr some ↦ rw some.0 (some_in_chunks zs used (count - out + length pieces) room below none chunked settled few held some.1 (omega (arith, enough, within, was.held)) long room_left)
     ]

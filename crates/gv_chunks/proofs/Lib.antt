@@ -2,7 +2,7 @@ pub mod SpliceLemmas
 pub mod ChunkLemmas
 pub mod StartLemmas
 pub mod JoinLemmas
-pub mod PackedLemmas
+pub mod SettledLemmas
 pub mod HeldLemmas
 pub mod PutLemmas
 pub mod RaisedLemmas

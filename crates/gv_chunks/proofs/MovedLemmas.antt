@@ -7,7 +7,7 @@ use Rattle.std.specs.List.{splice}
 use Rattle.gv_types.specs.declared.mapping.Mapping.{Mapping}
 use Rattle.gv_chunks.specs.Chunks.{chunks_joined, AreStarts, AreFirsts}
 use Rattle.gv_chunks.proofs.IndexLemmas.{start_among}
-use Rattle.gv_chunks.proofs.PackedLemmas.{joined_front}
+use Rattle.gv_chunks.proofs.SettledLemmas.{joined_front}
 use Rattle.gv_chunks.proofs.PartsLemmas.{some_of, chunk_end, chunk_within, start_told}
 use Rattle.gv_chunks.proofs.PutLemmas.{nothing_from}
 

@@ -14,7 +14,7 @@ use Rattle.gv_chunks.specs.declared.TheConstants.{CHUNK}
 use Rattle.gv_chunks.proofs.ChunkLemmas.{changed_chunks, replaced_at, joined-append}
 use Rattle.gv_chunks.proofs.HeldLemmas.{length_spliced}
 use Rattle.gv_chunks.proofs.IndexLemmas.{start_among, start_behind}
-use Rattle.gv_chunks.proofs.PackedLemmas.{joined_front}
+use Rattle.gv_chunks.proofs.SettledLemmas.{joined_front}
 use Rattle.gv_chunks.proofs.PutLemmas.{nothing_from}
 use Rattle.gv_chunks.proofs.StartLemmas.{start_within, start_rises, end_of_chunk, take_start, drop_start}
 

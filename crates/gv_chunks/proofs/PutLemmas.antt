@@ -6,7 +6,7 @@ use Rattle.std.specs.Global.{Vec}
 use Rattle.gv_types.specs.declared.mapping.Mapping.{Mapping}
 use Rattle.gv_chunks.specs.Chunks.{chunks_joined}
 use Rattle.gv_chunks.proofs.ChunkLemmas.{joined-append, joined_parts, nil_back, nil_front}
-use Rattle.gv_chunks.proofs.PackedLemmas.{joined_front}
+use Rattle.gv_chunks.proofs.SettledLemmas.{joined_front}
 
 -- behind chunks that hold nothing stand chunks that hold nothing
 pub nothing_from : (xs : List (Vec Mapping)) (i j : ℕ) → i ≤ j → chunks_joined (drop i xs) ≡ [] → chunks_joined (drop j xs) ≡ []

@@ -27,13 +27,13 @@ AreFirsts firsts chunks = (k d : ℕ) (v : Vec Mapping) (m : Mapping) → k < le
     (k < length firsts) × (slice_index_or firsts k d ≡ (slice_index_or (slice_index_or chunks k v).items 0 m).range.first)
 
 -- what a chunk and the next one hold is too much for one chunk, from the chunk `low` on
-abbrev pub PackedFrom : ℕ → List (Vec Mapping) → Type 0
-PackedFrom low chunks = (k : ℕ) (d : Vec Mapping) → low ≤ k → k + 1 < length chunks →
+abbrev pub SettledFrom : ℕ → List (Vec Mapping) → Type 0
+SettledFrom low chunks = (k : ℕ) (d : Vec Mapping) → low ≤ k → k + 1 < length chunks →
     CHUNK < vec_len (slice_index_or chunks k d) + vec_len (slice_index_or chunks (k + 1) d)
 
 -- no two neighbours fit into one chunk
-abbrev pub Packed : List (Vec Mapping) → Type 0
-Packed = PackedFrom 0
+abbrev pub Settled : List (Vec Mapping) → Type 0
+Settled = SettledFrom 0
 
 -- what contracts see of a list in chunks: its mappings, for how many it has room, and for how much each of its vectors has, with how many chunks
 -- there are

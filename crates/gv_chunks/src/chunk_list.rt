@@ -7,14 +7,15 @@ use crate::CHUNK;
 use crate::parts::Parts;
 use crate::piece::piece_of;
 use crate::starts::Starts;
-use gv_types::{Mapping, OutOfMemory};
+use gv_packed::Packed;
+use gv_types::OutOfMemory;
 use std::alloc::Global;
 use std::marker::Model;
 
 /// The chunks that stand, and where each begins.
 #[derive(Clone, Copy)]
 pub struct Standing<'a> {
-    pub chunks: &'a [Vec<Mapping>],
+    pub chunks: &'a [Vec<Packed>],
     /// For each chunk, how many mappings stand before it.
     pub starts: &'a Starts,
     /// For each chunk, the page at which its first mapping begins.
@@ -97,7 +98,7 @@ impl ChunkList {
     }
 
     /// What the chunk of an index holds from the index on. Where the list ends before the index, nothing.
-    pub fn piece(&self, index: usize) -> &[Mapping]
+    pub fn piece(&self, index: usize) -> &[Packed]
         ensures value { result.now ≡ take (length result.now) (drop index self.now.items) }
         ensures some { index < length self.now.items → 0 < length result.now }
     {
@@ -109,7 +110,7 @@ impl ChunkList {
     }
 
     /// The mapping at an index.
-    pub fn get(&self, index: usize) -> &Mapping
+    pub fn get(&self, index: usize) -> &Packed
         requires { index < length self.now.items }
         ensures { (d : Mapping) → result.now ≡ slice_index_or self.now.items index d }
     {
@@ -150,7 +151,7 @@ impl ChunkList {
 
     /// Replaces `out_count` mappings from `index` on by `pieces`. It takes no memory: the room has
     /// to be there, and stays as it is, and so does that of each vector.
-    pub fn splice(&mut self, index: usize, out_count: usize, pieces: &[Mapping])
+    pub fn splice(&mut self, index: usize, out_count: usize, pieces: &[Packed])
         requires within { index + out_count ≤ length self.old.items }
         requires room { length self.old.items + length pieces.now ≤ self.old.room + out_count }
         ensures items { self.new.items

@@ -7,11 +7,11 @@ ghost use Rattle.gv_chunks.specs.Chunks.{chunks_joined, AreChunks};
 use crate::CHUNK;
 use crate::replace::append;
 use crate::walk::index_in;
-use gv_types::Mapping;
+use gv_packed::Packed;
 
 /// Cuts the list before `index`, and answers how many chunks stand before the cut. The last chunk has to be empty: it
 /// takes what stands behind the index in its chunk.
-pub fn cut(chunks: &mut [Vec<Mapping>], index: usize) -> usize
+pub fn cut(chunks: &mut [Vec<Packed>], index: usize) -> usize
     requires some { 1 < length chunks.old }
     requires spare { chunks_joined (drop (length chunks.old - 1) chunks.old) ≡ [] }
     requires within { index ≤ length (chunks_joined chunks.old) }
@@ -29,7 +29,7 @@ pub fn cut(chunks: &mut [Vec<Mapping>], index: usize) -> usize
 }
 
 /// Moves what a chunk holds from `left` on into the last chunk, which holds nothing, and puts that behind it.
-pub fn divide(chunks: &mut [Vec<Mapping>], chunk: usize, left: usize)
+pub fn divide(chunks: &mut [Vec<Packed>], chunk: usize, left: usize)
     requires within { chunk + 1 < length chunks.old }
     requires spare { chunks_joined (drop (length chunks.old - 1) chunks.old) ≡ [] }
     requires left { (d : Vec Mapping) → left ≤ vec_len (slice_index_or chunks.old chunk d) }
@@ -53,7 +53,7 @@ pub fn divide(chunks: &mut [Vec<Mapping>], chunk: usize, left: usize)
 }
 
 /// Takes the mappings out of each chunk.
-pub fn clear(chunks: &mut [Vec<Mapping>])
+pub fn clear(chunks: &mut [Vec<Packed>])
     requires { AreChunks chunks.old }
     ensures items { chunks_joined chunks.new ≡ [] }
     ensures chunks { AreChunks chunks.new }
@@ -64,7 +64,7 @@ pub fn clear(chunks: &mut [Vec<Mapping>])
 }
 
 /// Puts the pieces into the chunks, which are empty and have room for them.
-pub fn fill(chunks: &mut [Vec<Mapping>], pieces: &[Mapping])
+pub fn fill(chunks: &mut [Vec<Packed>], pieces: &[Packed])
     requires room { length pieces.now ≤ CHUNK * length chunks.old }
     requires empty { chunks_joined chunks.old ≡ [] }
     requires chunks { AreChunks chunks.old }

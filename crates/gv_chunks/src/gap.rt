@@ -6,10 +6,10 @@ ghost use Rattle.gv_types.specs.declared.mapping.Mapping.{Mapping};
 ghost use Rattle.gv_chunks.specs.Chunks.{chunks_joined, AreChunks};
 
 use crate::cut::divide;
-use gv_types::Mapping;
+use gv_packed::Packed;
 
 /// Empties a chunk. It comes to stand behind all others.
-fn turn_out(chunks: &mut [Vec<Mapping>], chunk: usize)
+fn turn_out(chunks: &mut [Vec<Packed>], chunk: usize)
     requires within { chunk < length chunks.old }
     requires chunks { AreChunks chunks.old }
     ensures before { take chunk chunks.new ≡ take chunk chunks.old }
@@ -23,7 +23,7 @@ fn turn_out(chunks: &mut [Vec<Mapping>], chunk: usize)
 }
 
 /// Empties one of the first `standing` chunks, and puts it behind them. Those behind them hold nothing.
-pub fn close(chunks: &mut [Vec<Mapping>], standing: usize, chunk: usize)
+pub fn close(chunks: &mut [Vec<Packed>], standing: usize, chunk: usize)
     requires chunk { chunk < standing }
     requires within { standing ≤ length chunks.old }
     requires spare { chunks_joined (drop standing chunks.old) ≡ [] }
@@ -38,7 +38,7 @@ pub fn close(chunks: &mut [Vec<Mapping>], standing: usize, chunk: usize)
 
 /// Moves what one of the first `standing` chunks holds from `left` on into a chunk of its own behind it. Those behind the first
 /// `standing` hold nothing, and there is one.
-pub fn open(chunks: &mut [Vec<Mapping>], standing: usize, chunk: usize, left: usize)
+pub fn open(chunks: &mut [Vec<Packed>], standing: usize, chunk: usize, left: usize)
     requires chunk { chunk < standing }
     requires within { standing < length chunks.old }
     requires spare { chunks_joined (drop standing chunks.old) ≡ [] }

@@ -3,7 +3,8 @@ ghost use Rattle.std.specs.Prelude.{◌≡◌, ◌+◌, ◌*◌, ◌<◌, ◌≤
 ghost use Rattle.gv_chunks.specs.Chunks.{chunks_joined, AreChunks};
 
 use crate::CHUNK;
-use gv_types::{Mapping, OutOfMemory};
+use gv_packed::Packed;
+use gv_types::OutOfMemory;
 
 /// How many chunks a list needs that has room for `room` mappings: one where all fit into one. Else those that stand are filled by
 /// half or more on average, but for one, and an edit needs two that hold nothing.
@@ -21,7 +22,7 @@ pub fn chunks_for(room: usize) -> usize
 
 /// Makes chunks that hold nothing, one after another behind those that there are, until there are `count`. Where the system
 /// refuses the memory, those made stay.
-pub fn add_chunks(chunks: &mut Vec<Vec<Mapping>>, count: usize) -> Result<(), OutOfMemory>
+pub fn add_chunks(chunks: &mut Vec<Vec<Packed>>, count: usize) -> Result<(), OutOfMemory>
     ensures kept { take (length chunks.old.items) chunks.new.items ≡ chunks.old.items }
     ensures spare { chunks_joined (drop (length chunks.old.items) chunks.new.items) ≡ [] }
     ensures chunks { AreChunks chunks.old.items → AreChunks chunks.new.items }

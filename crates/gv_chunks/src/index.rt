@@ -4,7 +4,8 @@ ghost use Rattle.gv_types.specs.declared.mapping.Mapping.{Mapping};
 ghost use Rattle.gv_chunks.specs.Chunks.{chunks_joined, AreFilled, AreStarts, AreFirsts};
 
 use crate::starts::Starts;
-use gv_types::{Mapping, OutOfMemory};
+use gv_packed::Packed;
+use gv_types::OutOfMemory;
 
 /// Puts copies of a value behind the items until there are `count`. Where the system refuses the memory nothing changes.
 pub fn pad<T: Copy>(items: &mut Vec<T>, count: usize, value: T) -> Result<(), OutOfMemory>
@@ -83,7 +84,7 @@ pub fn add(numbers: &mut [usize], from: usize, to: usize, more: usize)
 
 /// Writes the page at which a chunk begins, of which the first `left` mappings stayed: where one did, the page is written already,
 /// and the chunk isn't read.
-pub(crate) fn write_first(firsts: &mut Vec<u64>, chunk: usize, held: &Vec<Mapping>, left: usize)
+pub(crate) fn write_first(firsts: &mut Vec<u64>, chunk: usize, held: &Vec<Packed>, left: usize)
     requires chunk { chunk < vec_len firsts.old }
     requires some { 0 < vec_len held.now }
     requires was { (m : Mapping) → 0 < left → slice_index_or firsts.old.items chunk 0 ≡ (slice_index_or held.now.items 0 m).range.first }
@@ -93,11 +94,11 @@ pub(crate) fn write_first(firsts: &mut Vec<u64>, chunk: usize, held: &Vec<Mappin
     if left > 0 {
         return;
     }
-    firsts[chunk] = held[0].range.first();
+    firsts[chunk] = held[0].first();
 }
 
 /// Writes where the chunks begin, from the chunk `from` on. Where those before it begin is written already.
-pub fn write_index(chunks: &[Vec<Mapping>], starts: &mut Starts, firsts: &mut [u64], from: usize)
+pub fn write_index(chunks: &[Vec<Packed>], starts: &mut Starts, firsts: &mut [u64], from: usize)
     requires from { from ≤ length chunks.now }
     requires filled { AreFilled chunks.now }
     requires few { length (chunks_joined chunks.now) < 2 ^ 64 }
@@ -114,13 +115,13 @@ pub fn write_index(chunks: &[Vec<Mapping>], starts: &mut Starts, firsts: &mut [u
     let mut start = end_of(chunks, starts, from);
     for k in from..chunks.len() {
         starts.set(k, start);
-        firsts[k] = chunks[k][0].range.first();
+        firsts[k] = chunks[k][0].first();
         start += chunks[k].len();
     }
 }
 
 /// How many mappings stand before a chunk, told by the one before it.
-fn end_of(chunks: &[Vec<Mapping>], starts: &Starts, chunk: usize) -> usize
+fn end_of(chunks: &[Vec<Packed>], starts: &Starts, chunk: usize) -> usize
     requires within { chunk ≤ length chunks.now }
     requires few { length (chunks_joined chunks.now) < 2 ^ 64 }
     requires starts { AreStarts starts.now.numbers (take chunk chunks.now) }

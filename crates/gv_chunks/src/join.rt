@@ -6,11 +6,11 @@ ghost use Rattle.gv_chunks.specs.Chunks.{chunks_joined, AreChunks};
 
 use crate::CHUNK;
 use crate::replace::append;
-use gv_types::Mapping;
+use gv_packed::Packed;
 
 /// Moves what the chunk behind a chunk holds into that chunk, which has room for it. The one that was emptied comes to stand
 /// behind all others.
-pub fn join(chunks: &mut [Vec<Mapping>], chunk: usize)
+pub fn join(chunks: &mut [Vec<Packed>], chunk: usize)
     requires within { chunk + 1 < length chunks.old }
     requires fits { (d : Vec Mapping) → vec_len (slice_index_or chunks.old chunk d)
         + vec_len (slice_index_or chunks.old (chunk + 1) d) ≤ CHUNK }

@@ -16,7 +16,8 @@ use crate::replace::replace_run;
 use crate::row::{put_entry, take_entry};
 use crate::run::replace_anywhere;
 use crate::starts::Starts;
-use gv_types::{Mapping, OutOfMemory};
+use gv_packed::Packed;
+use gv_types::OutOfMemory;
 use std::alloc::Global;
 
 /// How a run is replaced: within its chunk, which may be emptied by it, or over chunks.
@@ -39,7 +40,7 @@ pub(crate) fn are_few(standing: usize, count: usize) -> bool
 /// first `standing` chunks hold all that the list has. An index is looked for in the chunk `near` first, which may be any number.
 #[derive(Debug, Drop)]
 pub struct Parts {
-    pub(crate) chunks: Vec<Vec<Mapping>>,
+    pub(crate) chunks: Vec<Vec<Packed>>,
     pub(crate) starts: Starts,
     pub(crate) firsts: Vec<u64>,
     pub(crate) standing: usize,
@@ -206,7 +207,7 @@ impl Parts {
         start: usize,
         index: usize,
         out_count: usize,
-        pieces: &[Mapping],
+        pieces: &[Packed],
     )
         requires parts { AreParts self.old }
         requires editable { IsEditable self.old chunk start index out_count (length pieces.now) }
@@ -248,7 +249,7 @@ impl Parts {
     /// Replaces `out_count` mappings from `index` on by the pieces, wherever they lie. All chunks are gone through.
     #[cold]
     #[inline(never)]
-    pub(crate) fn replace_all(&mut self, index: usize, out_count: usize, pieces: &[Mapping])
+    pub(crate) fn replace_all(&mut self, index: usize, out_count: usize, pieces: &[Packed])
         requires parts { AreParts self.old }
         requires within { index + out_count ≤ length (items_of self.old) }
         requires long { CHUNK < self.old.room }
@@ -285,7 +286,7 @@ impl Parts {
         open(&mut self.chunks, self.standing, chunk, left);
         // Of the later chunks only their places change, so their entries move as a block, and no later chunk is read.
         let start = self.starts.get(chunk) + left;
-        let first = self.chunks[chunk + 1][0].range.first();
+        let first = self.chunks[chunk + 1][0].first();
         self.starts.put(chunk + 1, self.standing, start);
         put_entry(&mut self.firsts, chunk + 1, self.standing, first);
         self.standing += 1;

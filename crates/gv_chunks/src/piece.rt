@@ -4,10 +4,10 @@ ghost use Rattle.std.specs.Global.{Vec};
 ghost use Rattle.gv_types.specs.declared.mapping.Mapping.{Mapping};
 ghost use Rattle.gv_chunks.specs.Chunks.{chunks_joined};
 
-use gv_types::Mapping;
+use gv_packed::Packed;
 
 /// The mappings of a chunk from its index `left` on.
-pub fn piece_of(chunks: &[Vec<Mapping>], chunk: usize, left: usize) -> &[Mapping]
+pub fn piece_of(chunks: &[Vec<Packed>], chunk: usize, left: usize) -> &[Packed]
     requires chunk { chunk < length chunks.now }
     requires within { (d : Vec Mapping) → left ≤ vec_len (slice_index_or chunks.now chunk d) }
     ensures value { result.now ≡ take (length result.now)

@@ -6,11 +6,11 @@ ghost use Rattle.gv_chunks.specs.Chunks.{chunks_joined, AreChunks};
 
 use crate::CHUNK;
 use crate::cut::fill;
-use gv_types::Mapping;
+use gv_packed::Packed;
 
 /// Puts the pieces before all that the first `standing` chunks hold, in chunks from behind them, which hold nothing. Answers how
 /// many chunks stand now.
-pub fn put_first(chunks: &mut [Vec<Mapping>], standing: usize, pieces: &[Mapping]) -> usize
+pub fn put_first(chunks: &mut [Vec<Packed>], standing: usize, pieces: &[Packed]) -> usize
     requires room { length pieces.now + CHUNK * standing ≤ CHUNK * length chunks.old }
     requires spare { chunks_joined (drop standing chunks.old) ≡ [] }
     requires chunks { AreChunks chunks.old }

@@ -3,10 +3,10 @@ ghost use Rattle.std.specs.Prelude.{◌≡◌, ◌+◌, ◌-◌, ◌≤◌, leng
 ghost use Rattle.std.specs.Prelude.{vec_len, vec_capacity};
 ghost use Rattle.std.specs.List.{splice};
 
-use gv_types::Mapping;
+use gv_packed::Packed;
 
 /// Appends `pieces`, for which there is room.
-pub fn append(items: &mut Vec<Mapping>, pieces: &[Mapping])
+pub fn append(items: &mut Vec<Packed>, pieces: &[Packed])
     requires { vec_len items.old + length pieces.now ≤ vec_capacity items.old }
     ensures items { items.new.items ≡ items.old.items ++ pieces.now }
     ensures len { vec_len items.new ≡ vec_len items.old + length pieces.now }
@@ -23,7 +23,7 @@ pub fn append(items: &mut Vec<Mapping>, pieces: &[Mapping])
 }
 
 /// Moves all but the last `BY` mappings up by `BY`.
-fn raise<const BY: usize>(items: &mut [Mapping])
+fn raise<const BY: usize>(items: &mut [Packed])
     requires { BY ≤ length items.old }
     ensures len { length items.new ≡ length items.old }
     ensures behind { drop BY items.new ≡ take (length items.old - BY) items.old }
@@ -33,7 +33,7 @@ fn raise<const BY: usize>(items: &mut [Mapping])
 }
 
 /// Moves all but the first `BY` mappings down by `BY`.
-fn lower<const BY: usize>(items: &mut [Mapping])
+fn lower<const BY: usize>(items: &mut [Packed])
     requires { BY ≤ length items.old }
     ensures len { length items.new ≡ length items.old }
     ensures before { take (length items.old - BY) items.new ≡ drop BY items.old }
@@ -44,7 +44,7 @@ fn lower<const BY: usize>(items: &mut [Mapping])
 /// Moves all but the last `by` mappings up by `by`, mostly one or two. A copy by a number that stands in the code becomes a call of
 /// memmove, though only where this is no part of another function; any other goes one by one.
 #[inline(never)]
-fn raise_by(items: &mut [Mapping], by: usize)
+fn raise_by(items: &mut [Packed], by: usize)
     requires { by ≤ length items.old }
     ensures len { length items.new ≡ length items.old }
     ensures behind { drop by items.new ≡ take (length items.old - by) items.old }
@@ -61,7 +61,7 @@ fn raise_by(items: &mut [Mapping], by: usize)
 
 /// Moves all but the first `by` mappings down by `by`, as in `raise_by`.
 #[inline(never)]
-fn lower_by(items: &mut [Mapping], by: usize)
+fn lower_by(items: &mut [Packed], by: usize)
     requires { by ≤ length items.old }
     ensures len { length items.new ≡ length items.old }
     ensures before { take (length items.old - by) items.new ≡ drop by items.old }
@@ -74,7 +74,7 @@ fn lower_by(items: &mut [Mapping], by: usize)
 }
 
 /// Puts `pieces` in before `index`.
-fn put_in(items: &mut Vec<Mapping>, index: usize, pieces: &[Mapping])
+fn put_in(items: &mut Vec<Packed>, index: usize, pieces: &[Packed])
     requires within { index ≤ vec_len items.old }
     requires room { vec_len items.old + length pieces.now ≤ vec_capacity items.old }
     ensures items { items.new.items ≡ splice items.old.items index index pieces.now }
@@ -86,7 +86,7 @@ fn put_in(items: &mut Vec<Mapping>, index: usize, pieces: &[Mapping])
 }
 
 /// Takes `count` mappings out from `index` on.
-fn take_out(items: &mut Vec<Mapping>, index: usize, count: usize)
+fn take_out(items: &mut Vec<Packed>, index: usize, count: usize)
     requires { index + count ≤ vec_len items.old }
     ensures items { items.new.items
         ≡ take index items.old.items ++ drop (index + count) items.old.items }
@@ -97,7 +97,7 @@ fn take_out(items: &mut Vec<Mapping>, index: usize, count: usize)
 }
 
 /// Writes `pieces` over the mappings from `index` on.
-fn overwrite(items: &mut Vec<Mapping>, index: usize, pieces: &[Mapping])
+fn overwrite(items: &mut Vec<Packed>, index: usize, pieces: &[Packed])
     requires { index + length pieces.now ≤ vec_len items.old }
     ensures items { items.new.items
         ≡ splice items.old.items index (index + length pieces.now) pieces.now }
@@ -117,7 +117,7 @@ fn overwrite(items: &mut Vec<Mapping>, index: usize, pieces: &[Mapping])
 }
 
 /// Replaces `count` mappings from `index` on by `pieces`.
-pub fn replace_run(items: &mut Vec<Mapping>, index: usize, count: usize, pieces: &[Mapping])
+pub fn replace_run(items: &mut Vec<Packed>, index: usize, count: usize, pieces: &[Packed])
     requires within { index + count ≤ vec_len items.old }
     requires room { vec_len items.old + length pieces.now ≤ vec_capacity items.old + count }
     ensures items { items.new.items ≡ splice items.old.items index (index + count) pieces.now }

@@ -6,11 +6,11 @@ ghost use Rattle.gv_chunks.specs.declared.TheConstants.{CHUNK};
 
 use crate::CHUNK;
 use crate::parts::{Parts, Way, are_few};
-use gv_types::Mapping;
+use gv_packed::Packed;
 
 impl Parts {
     /// Replaces `out_count` mappings from `index` on by the pieces: in their chunk, where they lie in one and fit.
-    fn replace_one(&mut self, index: usize, out_count: usize, pieces: &[Mapping])
+    fn replace_one(&mut self, index: usize, out_count: usize, pieces: &[Packed])
         requires parts { AreParts self.old }
         requires within { index + out_count ≤ length (items_of self.old) }
         requires room { self.old.len + length pieces.now ≤ self.old.room + out_count }
@@ -29,7 +29,7 @@ impl Parts {
     }
 
     /// Replaces a run of which `beyond` mappings lie beyond the chunk in which it begins: first these go.
-    fn replace_across(&mut self, index: usize, out_count: usize, beyond: usize, pieces: &[Mapping])
+    fn replace_across(&mut self, index: usize, out_count: usize, beyond: usize, pieces: &[Packed])
         requires parts { AreParts self.old }
         requires beyond { 0 < beyond }
         requires less { beyond < out_count }
@@ -73,7 +73,7 @@ impl Parts {
         end: usize,
         index: usize,
         out_count: usize,
-        pieces: &[Mapping],
+        pieces: &[Packed],
     )
         requires parts { AreParts self.old }
         requires long { CHUNK < self.old.room }
@@ -96,7 +96,7 @@ impl Parts {
 
     /// Replaces `out_count` mappings from `index` on by the pieces. In most lists of most sizes they lie in one chunk, and what
     /// comes in fits into it.
-    pub fn replace(&mut self, index: usize, out_count: usize, pieces: &[Mapping])
+    pub fn replace(&mut self, index: usize, out_count: usize, pieces: &[Packed])
         requires parts { AreParts self.old }
         requires within { index + out_count ≤ length (items_of self.old) }
         requires room { self.old.len + length pieces.now ≤ self.old.room + out_count }

@@ -3,17 +3,17 @@ ghost use Rattle.std.specs.Prelude.{◌≡◌, ◌+◌, ◌-◌, ◌*◌, ◌<�
 ghost use Rattle.std.specs.List.{splice};
 ghost use Rattle.std.specs.Global.{Vec};
 ghost use Rattle.gv_types.specs.declared.mapping.Mapping.{Mapping};
-ghost use Rattle.gv_chunks.specs.Chunks.{chunks_joined, AreChunks, Packed};
+ghost use Rattle.gv_chunks.specs.Chunks.{chunks_joined, AreChunks, Settled};
 
 use crate::CHUNK;
 use crate::cut::{clear, cut};
 use crate::put::put_first;
 use crate::settle::settle;
-use gv_types::Mapping;
+use gv_packed::Packed;
 
 /// Cuts the list before `index`, and answers how many chunks stand before the cut. Of the first `used` chunks the last has to be
 /// empty, and so have those behind them.
-fn cut_used(chunks: &mut [Vec<Mapping>], used: usize, index: usize) -> usize
+fn cut_used(chunks: &mut [Vec<Packed>], used: usize, index: usize) -> usize
     requires used { used ≤ length chunks.old }
     requires spare { chunks_joined (drop (used - 1) chunks.old) ≡ [] }
     requires within { index ≤ length (chunks_joined chunks.old) }
@@ -32,7 +32,7 @@ fn cut_used(chunks: &mut [Vec<Mapping>], used: usize, index: usize) -> usize
 }
 
 /// Takes the first `out_count` mappings out, and answers how many chunks stand now. The last chunk has to be empty.
-pub fn drop_first(chunks: &mut [Vec<Mapping>], out_count: usize) -> usize
+pub fn drop_first(chunks: &mut [Vec<Packed>], out_count: usize) -> usize
     requires spare { chunks_joined (drop (length chunks.old - 1) chunks.old) ≡ [] }
     requires within { out_count ≤ length (chunks_joined chunks.old) }
     requires chunks { AreChunks chunks.old }
@@ -51,7 +51,7 @@ pub fn drop_first(chunks: &mut [Vec<Mapping>], out_count: usize) -> usize
 /// Takes `out_count` mappings out from `index` on, and answers how many chunks stand now. Of those before the call it is given the
 /// number; two more that hold nothing have to stand behind them.
 pub fn take_out_run(
-    chunks: &mut [Vec<Mapping>],
+    chunks: &mut [Vec<Packed>],
     standing: usize,
     index: usize,
     out_count: usize,
@@ -74,10 +74,10 @@ pub fn take_out_run(
 
 /// Puts the pieces in before `index`, and answers how many chunks stand now.
 pub fn put_in_run(
-    chunks: &mut [Vec<Mapping>],
+    chunks: &mut [Vec<Packed>],
     standing: usize,
     index: usize,
-    pieces: &[Mapping],
+    pieces: &[Packed],
 ) -> usize
     requires room { length pieces.now + CHUNK * (standing + 1) ≤ CHUNK * length chunks.old }
     requires spare { chunks_joined (drop standing chunks.old) ≡ [] }
@@ -86,7 +86,7 @@ pub fn put_in_run(
     ensures items { chunks_joined chunks.new ≡ splice (chunks_joined chunks.old) index index pieces.now }
     ensures within { result ≤ length chunks.new }
     ensures spare { chunks_joined (drop result chunks.new) ≡ [] }
-    ensures packed { Packed (take result chunks.new) }
+    ensures settled { Settled (take result chunks.new) }
     ensures few { CHUNK * result ≤ 2 * length (chunks_joined chunks.new) + CHUNK }
     ensures chunks { AreChunks chunks.new }
 {
@@ -99,11 +99,11 @@ pub fn put_in_run(
 /// Replaces `out_count` mappings from `index` on by the pieces, and answers how many chunks stand now. All that stands is gone
 /// through, and neighbours that fit into one chunk are joined.
 pub fn replace_anywhere(
-    chunks: &mut [Vec<Mapping>],
+    chunks: &mut [Vec<Packed>],
     standing: usize,
     index: usize,
     out_count: usize,
-    pieces: &[Mapping],
+    pieces: &[Packed],
 ) -> usize
     requires standing { standing + 2 ≤ length chunks.old }
     requires room { 2 * (length (chunks_joined chunks.old) - out_count) + length pieces.now + 3 * CHUNK ≤ CHUNK * length chunks.old }
@@ -113,7 +113,7 @@ pub fn replace_anywhere(
     ensures items { chunks_joined chunks.new ≡ splice (chunks_joined chunks.old) index (index + out_count) pieces.now }
     ensures within { result ≤ length chunks.new }
     ensures spare { chunks_joined (drop result chunks.new) ≡ [] }
-    ensures packed { Packed (take result chunks.new) }
+    ensures settled { Settled (take result chunks.new) }
     ensures few { CHUNK * result ≤ 2 * length (chunks_joined chunks.new) + CHUNK }
     ensures chunks { AreChunks chunks.new }
 {

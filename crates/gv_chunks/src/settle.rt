@@ -2,15 +2,15 @@
 ghost use Rattle.std.specs.Prelude.{◌≡◌, ◌+◌, ◌*◌, ◌<◌, ◌≤◌, [], length, take, drop};
 ghost use Rattle.std.specs.Global.{Vec};
 ghost use Rattle.gv_types.specs.declared.mapping.Mapping.{Mapping};
-ghost use Rattle.gv_chunks.specs.Chunks.{chunks_joined, AreChunks, Packed};
+ghost use Rattle.gv_chunks.specs.Chunks.{chunks_joined, AreChunks, Settled};
 
 use crate::CHUNK;
 use crate::join::join;
-use gv_types::Mapping;
+use gv_packed::Packed;
 
 /// Joins neighbours that fit into one chunk, from the last pair of the first `used` chunks down, and answers how many
 /// chunks stand now. Those behind them hold nothing, before and after.
-pub fn settle(chunks: &mut [Vec<Mapping>], used: usize) -> usize
+pub fn settle(chunks: &mut [Vec<Packed>], used: usize) -> usize
     requires within { used ≤ length chunks.old }
     requires spare { chunks_joined (drop used chunks.old) ≡ [] }
     requires chunks { AreChunks chunks.old }
@@ -18,7 +18,7 @@ pub fn settle(chunks: &mut [Vec<Mapping>], used: usize) -> usize
     ensures fewer { result ≤ used }
     ensures some { 0 < used → 0 < result }
     ensures spare { chunks_joined (drop result chunks.new) ≡ [] }
-    ensures packed { Packed (take result chunks.new) }
+    ensures settled { Settled (take result chunks.new) }
     ensures few { CHUNK * result ≤ 2 * length (chunks_joined chunks.new) + CHUNK }
     ensures chunks { AreChunks chunks.new }
 {

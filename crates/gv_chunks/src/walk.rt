@@ -4,10 +4,10 @@ ghost use Rattle.std.specs.Global.{Vec};
 ghost use Rattle.gv_types.specs.declared.mapping.Mapping.{Mapping};
 ghost use Rattle.gv_chunks.specs.Chunks.{chunks_joined};
 
-use gv_types::Mapping;
+use gv_packed::Packed;
 
 /// The chunk that an index lies in or at the end of, and the index in it.
-pub fn index_in(chunks: &[Vec<Mapping>], index: usize) -> (usize, usize)
+pub fn index_in(chunks: &[Vec<Packed>], index: usize) -> (usize, usize)
     requires some { 0 < length chunks.now }
     requires within { index ≤ length (chunks_joined chunks.now) }
     ensures within { result.0 < length chunks.now }

@@ -1,8 +1,8 @@
 //! A list in chunks beside the same mappings in one block.
 use crate::fixtures::mapping;
 use gv_chunks::{CHUNK, ChunkList};
+use gv_packed::Packed;
 use gv_plain::Random;
-use gv_types::Mapping;
 use std::alloc::Global;
 use std::test::Fail;
 
@@ -20,7 +20,7 @@ struct Phase {
 #[derive(Drop)]
 struct Lists {
     list: ChunkList,
-    block: Vec<Mapping>,
+    block: Vec<Packed>,
     made: u64,
 }
 
@@ -66,7 +66,7 @@ const PHASES: [Phase; 6] = [
 ];
 
 /// Whether the list has these mappings and no others, chunk by chunk, no chunk is empty, and chunks are few.
-fn holds(list: &ChunkList, wanted: &[Mapping]) -> bool {
+fn holds(list: &ChunkList, wanted: &[Packed]) -> bool {
     let chunks = list.chunks().chunks;
     let mut rest = wanted;
     for chunk in chunks {
@@ -85,10 +85,10 @@ fn holds(list: &ChunkList, wanted: &[Mapping]) -> bool {
 }
 
 /// New mappings, each of them another.
-fn fresh(alloc: Global, count: u64, made: &mut u64) -> Result<Vec<Mapping>, Fail> {
+fn fresh(alloc: Global, count: u64, made: &mut u64) -> Result<Vec<Packed>, Fail> {
     let mut pieces = Vec::new(alloc);
     for _ in 0..count {
-        pieces.push(mapping(*made % (1 << 40), 1, 1, 0)?)?;
+        pieces.push(Packed::new(&mapping(*made % (1 << 40), 1, 1, 0)?))?;
         *made = made.saturating_add(1);
     }
     Ok(pieces)
@@ -101,7 +101,7 @@ impl Lists {
         alloc: Global,
         place: usize,
         out_count: usize,
-        pieces: &[Mapping],
+        pieces: &[Packed],
     ) -> Result<(), Fail> {
         let len = self.block.len();
         if self.list.len() != len || place > len || out_count > len - place {

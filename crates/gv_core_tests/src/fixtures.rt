@@ -9,6 +9,7 @@ ghost use Rattle.gv_types.specs.declared.mapping.Backing.TheVariants.{Buffer};
 ghost use Rattle.gv_ranges.specs.List.{run, IsLaidOut};
 ghost use Rattle.gv_ranges.specs.Edit.{edited};
 
+use gv_packed::Packed;
 use gv_ranges::{RangeList, Run, next_rest, prev_rest};
 use gv_types::{Backing, BufferId, Entry, Flags, Mapping, OutOfMemory, PageOp, PageRange};
 use std::alloc::Global;
@@ -65,7 +66,7 @@ pub fn unmap(first: u64, count: u64) -> Result<PageOp, &'static str>
 }
 
 /// Appends what there is.
-fn add(pieces: &mut Vec<Mapping>, piece: Option<Mapping>) -> Result<(), OutOfMemory>
+fn add(pieces: &mut Vec<Packed>, piece: Option<Packed>) -> Result<(), OutOfMemory>
     ensures { OnOk result (pieces.new.items ≡ pieces.old.items ++ option_to_list piece) }
 {
     // The borrow checker proves the call only where the function names the types inside the mapping.
@@ -77,7 +78,7 @@ fn add(pieces: &mut Vec<Mapping>, piece: Option<Mapping>) -> Result<(), OutOfMem
 }
 
 /// A copy of a run.
-fn copied(alloc: Global, run: Run<'_>) -> Result<Vec<Mapping>, OutOfMemory>
+fn copied(alloc: Global, run: Run<'_>) -> Result<Vec<Packed>, OutOfMemory>
     ensures { IfOk result (λ copy. copy.items ≡ run.entry) }
 {
     let mut copy = Vec::new(alloc);
@@ -94,7 +95,7 @@ fn replacement(
     place: usize,
     count: usize,
     op: &PageOp,
-) -> Result<Vec<Mapping>, OutOfMemory>
+) -> Result<Vec<Packed>, OutOfMemory>
     requires op { IsPageOp op.now }
     requires within { place + count ≤ length list.now.mappings }
     requires meeting { All (λ m. IsTrue (meets m.range (range_of op.now))) (run list.now.mappings place count) }
@@ -106,7 +107,7 @@ fn replacement(
     let here = copied(alloc, list.run(place, count))?;
     let mut pieces = Vec::new(alloc);
     add(&mut pieces, prev_rest(&here, range.first()))?;
-    add(&mut pieces, op.own_mapping())?;
+    add(&mut pieces, Packed::own(op))?;
     add(&mut pieces, next_rest(&here, range.end()))?;
     Ok(pieces)
 }
@@ -133,12 +134,12 @@ pub fn list_of_one(alloc: Global, one: Mapping) -> Result<RangeList, OutOfMemory
 {
     let mut list = RangeList::new(alloc);
     list.reserve(1)?;
-    list.splice(0, 0, &[one]);
+    list.splice(0, 0, &[Packed::new(&one)]);
     Ok(list)
 }
 
 /// The mappings of a list, in one block.
-pub fn to_vec(alloc: Global, list: &RangeList) -> Result<Vec<Mapping>, OutOfMemory>
+pub fn to_vec(alloc: Global, list: &RangeList) -> Result<Vec<Packed>, OutOfMemory>
     ensures value { IfOk result (λ mappings. mappings.items ≡ list.now.mappings) }
     ensures laid_out { IsLaidOut list.now.mappings }
 {

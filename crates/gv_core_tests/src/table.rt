@@ -13,6 +13,7 @@ ghost use Rattle.gv_table.specs.Kinds.{AreEnough};
 ghost use Rattle.gv_table.specs.Table.{IsTree, FitsOutside, gained_by};
 
 use crate::fixtures::{edit, entry, map, spread, to_vec, unmap};
+use gv_packed::Packed;
 use gv_ranges::RangeList;
 use gv_table::{PageTable, Spares, laws};
 use gv_types::{BufferId, Fault, PageOp, PageRange};
@@ -28,7 +29,7 @@ fn spares_for(alloc: Global, table: &PageTable, op: &PageOp) -> Result<Spares, F
         → clipped (range_of op.now).first (end_of (range_of op.now)) ms ≡ own_mapping op.now
         → AreEnough spares (gained_by ms table.now)) }
 {
-    match op.own_mapping() {
+    match Packed::own(op) {
         Some(own) => table.spare(alloc, op.range(), &[own]),
         None => table.spare(alloc, op.range(), &[]),
     }

@@ -7,7 +7,7 @@ use crate::piece::Piece;
 use crate::row::{Row, RowKind, Told};
 use gv_ranges::RangeList;
 use gv_space::Space;
-use gv_types::{BufferId, OutOfMemory, PAGE_BYTES, PageRange, SPACE_PAGES};
+use gv_types::{Backing, BufferId, OutOfMemory, PAGE_BYTES, PageRange, SPACE_PAGES};
 use std::alloc::Global;
 use std::collections::BTreeMap;
 
@@ -159,6 +159,8 @@ impl History {
         range: PageRange,
         list: &RangeList,
     ) -> Result<Vec<Piece>, OutOfMemory> {
+        // The borrow checker proves this only where the function names the types inside the mapping.
+        let _backing = Backing::Zero;
         let (index, count) = list.overlapping(range);
         let mut now = Vec::new(alloc);
         for mapping in list.run(index, count) {

@@ -1,6 +1,7 @@
 //! What is drawn of a mapping.
 
-use gv_types::{Backing, Mapping};
+use gv_packed::Packed;
+use gv_types::Backing;
 
 /// The pages of a mapping that are drawn, and what stands behind the first of them.
 #[derive(Clone, Copy, Debug, PartialEq, Eq)]
@@ -13,18 +14,13 @@ pub struct Piece {
 
 impl Piece {
     /// What of a mapping lies at the page `low` or above and below the page `high`, if anything does.
-    pub fn of(mapping: &Mapping, low: u64, high: u64) -> Option<Piece> {
-        let first = mapping.range.first().max(low);
-        let end = mapping.range.end().min(high);
-        if first >= end {
-            return None;
-        }
-        let skipped = first.saturating_sub(mapping.range.first());
+    pub fn of(mapping: &Packed, low: u64, high: u64) -> Option<Piece> {
+        let drawn = mapping.clip(low, high)?;
         Some(Piece {
-            first,
-            end,
-            backing: mapping.backing.advanced(skipped),
-            read_only: mapping.flags.read_only,
+            first: drawn.first(),
+            end: drawn.end(),
+            backing: drawn.backing(),
+            read_only: drawn.flags().read_only,
         })
     }
 

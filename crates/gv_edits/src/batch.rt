@@ -2,9 +2,10 @@
 ghost use Rattle.gv_space.specs.State.{IsUnchanged};
 
 use crate::failure::Failure;
+use gv_packed::Packed;
 use gv_plain::{Edit, PlainList};
 use gv_space::Space;
-use gv_types::{BUFFER_PAGES, Backing, Bounds, BufferId, Limits, Mapping};
+use gv_types::{BUFFER_PAGES, Backing, Bounds, BufferId, Limits};
 use std::alloc::{AllocError, Global};
 
 /// A space, and the plain list of the same mappings.
@@ -48,7 +49,7 @@ impl Pair {
 }
 
 /// A copy of the mappings of a space.
-fn mappings(alloc: Global, space: &Space) -> Result<Vec<Mapping>, AllocError> {
+fn mappings(alloc: Global, space: &Space) -> Result<Vec<Packed>, AllocError> {
     let mut copy = Vec::with_capacity(alloc, space.list().len())?;
     for mapping in space.list().iter() {
         copy.push(*mapping)?;
@@ -57,7 +58,7 @@ fn mappings(alloc: Global, space: &Space) -> Result<Vec<Mapping>, AllocError> {
 }
 
 /// Whether a space holds these mappings.
-fn holds(space: &Space, mappings: &[Mapping]) -> bool {
+fn holds(space: &Space, mappings: &[Packed]) -> bool {
     space.list().len() == mappings.len()
         && space
             .list()
@@ -70,7 +71,7 @@ fn holds(space: &Space, mappings: &[Mapping]) -> bool {
 fn agree(space: &Space, list: &PlainList) -> Result<(), Failure> {
     let mut others = list.mappings();
     for mapping in space.list().iter() {
-        if others.next() != Some(mapping) {
+        if others.next() != Some(&mapping.mapping()) {
             return Err(Failure::Mappings);
         }
     }

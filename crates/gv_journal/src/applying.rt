@@ -17,7 +17,7 @@ ghost use Rattle.gv_journal.specs.Work.{HasRoom, Continues, IsTurnRefused, IsRef
 use crate::refusal::Refusal;
 use crate::undoing::revert_all;
 use gv_space::{OpUndo, Space};
-use gv_types::{BufferId, Fault, Op, OutOfMemory, PageOp};
+use gv_types::{Backing, BufferId, Fault, Op, OutOfMemory, PageOp};
 use std::alloc::Global;
 
 /// What a request has done so far: operations in pages, and as many undo values.
@@ -61,6 +61,8 @@ fn apply_pages(alloc: Global, space: &mut Space, work: &mut Work, op: &PageOp) -
     ensures room { OnOk result ((left : ℕ) → HasRoom (1 + left) work.old → HasRoom left work.new) }
     ensures grown { GrowsFor (op.now ∷ []) space.old space.new }
 {
+    // The borrow checker proves this only where the function names the types inside the operation.
+    let _backing = Backing::Zero;
     match space.apply_pages(alloc, op) {
         Ok(undo) => {
             work.ops.push_reserved(*op);

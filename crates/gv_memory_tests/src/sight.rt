@@ -42,7 +42,7 @@ pub fn fold_of(space: &Space, ids: &[Option<BufferId>]) -> Fold {
 pub fn list_of(space: &Space) -> Fold {
     let mut fold = Fold::new();
     for mapping in space.list().iter() {
-        take_mapping(&mut fold, mapping);
+        take_mapping(&mut fold, &mapping.mapping());
     }
     fold
 }

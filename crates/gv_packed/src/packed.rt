@@ -1,10 +1,12 @@
 //! A mapping in 32 bytes.
 ghost use Rattle.std.specs.Prelude.{◌≡◌, ◌+◌, ◌<◌, ◌≤◌, IsTrue};
+ghost use Rattle.std.specs.Option.{option_to_list};
 ghost use Rattle.gv_types.specs.Page.{PAGES};
 ghost use Rattle.gv_types.specs.PageRange.{end_of, covers};
 ghost use Rattle.gv_types.specs.Mapping.{clip, is_of, part, piece, IsMapping};
+ghost use Rattle.gv_types.specs.Operation.{own_mapping, IsPageOp};
 
-use gv_types::{Backing, BufferId, Entry, Flags, Mapping, PageRange};
+use gv_types::{Backing, BufferId, Entry, Flags, Mapping, PageOp, PageRange};
 use std::marker::Model;
 
 /// So many bits of `head` are below the first page.
@@ -59,6 +61,23 @@ impl Model for Packed {
     ghost inverse_ok = { words_of-unpacked };
 }
 
+impl Default for Packed {
+    ghost use Rattle.gv_types.specs.Mapping.{one_page_of_zeros};
+
+    ghost is_default = { λ m. m ≡ one_page_of_zeros };
+
+    /// One page of zeros at page 0: what stands in the unused places of a short list that lies in its value.
+    fn default() -> Packed {
+        Packed {
+            head: 0,
+            place: 0,
+            generation: 0,
+            low: 1,
+            index: 0,
+        }
+    }
+}
+
 impl Packed {
     /// The mapping in 32 bytes.
     #[inline(always)]
@@ -89,6 +108,18 @@ impl Packed {
                 low,
                 index: 0,
             },
+        }
+    }
+
+    /// The mapping that an operation puts in, if any.
+    #[inline(always)]
+    pub fn own(op: &PageOp) -> Option<Packed>
+        requires { IsPageOp op.now }
+        ensures { option_to_list result ≡ own_mapping op.now }
+    {
+        match op.own_mapping() {
+            Some(mapping) => Some(Packed::new(&mapping)),
+            None => None,
         }
     }
 

@@ -10,11 +10,12 @@ ghost use Rattle.gv_ranges.specs.List.{at, first_behind, IsLaidOut, IsOverlappin
 
 use crate::search::{count_begun, count_ended, entry_at, first_behind_in, step_past};
 use gv_chunks::chunk_list::Standing;
-use gv_types::{Entry, Mapping, PageRange, SPACE_PAGES};
+use gv_packed::Packed;
+use gv_types::{Entry, PageRange, SPACE_PAGES};
 
 /// Where to look for the last chunk whose first mapping begins at `page` or before it: from a chunk on, at three chunks at most. Each
 /// step leaves a quarter, whatever it finds, and its three looks don't wait for one another.
-fn near_chunk_of_page(chunks: &[Vec<Mapping>], firsts: &[u64], page: u64) -> (usize, usize)
+fn near_chunk_of_page(chunks: &[Vec<Packed>], firsts: &[u64], page: u64) -> (usize, usize)
     requires filled { AreFilled chunks.now }
     requires firsts { AreFirsts firsts.now chunks.now }
     requires laid_out { IsLaidOut (chunks_joined chunks.now) }
@@ -41,7 +42,7 @@ fn near_chunk_of_page(chunks: &[Vec<Mapping>], firsts: &[u64], page: u64) -> (us
 
 /// The last chunk whose first mapping begins at `page` or before it, or the first chunk. The last steps halve what is left,
 /// whatever they find.
-fn chunk_of_page(chunks: &[Vec<Mapping>], firsts: &[u64], page: u64) -> usize
+fn chunk_of_page(chunks: &[Vec<Packed>], firsts: &[u64], page: u64) -> usize
     requires filled { AreFilled chunks.now }
     requires firsts { AreFirsts firsts.now chunks.now }
     requires laid_out { IsLaidOut (chunks_joined chunks.now) }
@@ -62,7 +63,7 @@ fn chunk_of_page(chunks: &[Vec<Mapping>], firsts: &[u64], page: u64) -> usize
 }
 
 /// Whether a chunk is the last one whose first mapping begins at `page` or before it.
-fn is_chunk_of_page(chunks: &[Vec<Mapping>], firsts: &[u64], chunk: usize, page: u64) -> bool
+fn is_chunk_of_page(chunks: &[Vec<Packed>], firsts: &[u64], chunk: usize, page: u64) -> bool
     requires filled { AreFilled chunks.now }
     requires firsts { AreFirsts firsts.now chunks.now }
     requires laid_out { IsLaidOut (chunks_joined chunks.now) }
@@ -78,7 +79,7 @@ fn is_chunk_of_page(chunks: &[Vec<Mapping>], firsts: &[u64], chunk: usize, page:
 
 /// As `chunk_of_page`, given a guess, which may be any number: it is searched for only where it isn't that one.
 pub(crate) fn chunk_near_page(
-    chunks: &[Vec<Mapping>],
+    chunks: &[Vec<Packed>],
     firsts: &[u64],
     guess: usize,
     page: u64,
@@ -113,7 +114,7 @@ pub(crate) fn entry_in(standing: Standing<'_>, page: u64) -> Option<Entry>
 }
 
 /// The first mapping that ends behind `page`, of a list in order that stands in chunks.
-pub(crate) fn first_behind_of(standing: Standing<'_>, page: u64) -> Option<&Mapping>
+pub(crate) fn first_behind_of(standing: Standing<'_>, page: u64) -> Option<&Packed>
     requires filled { AreFilled standing.chunks.now }
     requires firsts { AreFirsts standing.firsts.now standing.chunks.now }
     requires laid_out { IsLaidOut (chunks_joined standing.chunks.now) }
@@ -135,7 +136,7 @@ pub(crate) fn first_behind_of(standing: Standing<'_>, page: u64) -> Option<&Mapp
 
 /// The last chunk that begins before `page`, given one before which all mappings do; that one, where it is the last. It
 /// looks at where the chunks behind it begin, one after another.
-fn last_begun_chunk(chunks: &[Vec<Mapping>], firsts: &[u64], chunk: usize, page: u64) -> usize
+fn last_begun_chunk(chunks: &[Vec<Packed>], firsts: &[u64], chunk: usize, page: u64) -> usize
     requires filled { AreFilled chunks.now }
     requires firsts { AreFirsts firsts.now chunks.now }
     requires laid_out { IsLaidOut (chunks_joined chunks.now) }

@@ -7,7 +7,8 @@ ghost use Rattle.gv_chunks.specs.declared.TheConstants.{CHUNK};
 use crate::chunk_search::{chunk_near_page, entry_in, first_behind_of, overlapping_in};
 use crate::run::Run;
 use gv_chunks::ChunkList;
-use gv_types::{Entry, Mapping, OutOfMemory, PageRange, SPACE_PAGES};
+use gv_packed::Packed;
+use gv_types::{Entry, OutOfMemory, PageRange, SPACE_PAGES};
 use std::alloc::Global;
 use std::marker::Model;
 
@@ -52,7 +53,7 @@ impl RangeList {
 
     /// The mapping at an index.
     #[inline(always)]
-    pub fn get(&self, index: usize) -> &Mapping
+    pub fn get(&self, index: usize) -> &Packed
         requires { index < length self.now.mappings }
         ensures { (d : Mapping) → result.now ≡ slice_index_or self.now.mappings index d }
     {
@@ -61,7 +62,7 @@ impl RangeList {
 
     /// The mappings from an index on that stand in one block of memory with the one at it.
     #[inline(always)]
-    pub fn piece(&self, index: usize) -> &[Mapping]
+    pub fn piece(&self, index: usize) -> &[Packed]
         requires { index ≤ length self.now.mappings }
         ensures value { result.now ≡ take (length result.now) (drop index self.now.mappings) }
         ensures some { index < length self.now.mappings → 0 < length result.now }
@@ -107,7 +108,7 @@ impl RangeList {
     }
 
     /// The first mapping that ends behind a page: the one that holds it, or else the next one. One search.
-    pub fn first_behind(&self, page: u64) -> Option<&Mapping>
+    pub fn first_behind(&self, page: u64) -> Option<&Packed>
         ensures { MatchOption result (first_behind self.now.mappings page ≡ None)
             (λ m. first_behind self.now.mappings page ≡ Some m.now) }
     {
@@ -147,7 +148,7 @@ impl RangeList {
 
     /// Replaces `out_count` mappings from `index` on by `pieces`. It takes no memory: the room has
     /// to be there, and stays as it is.
-    pub fn splice(&mut self, index: usize, out_count: usize, pieces: &[Mapping])
+    pub fn splice(&mut self, index: usize, out_count: usize, pieces: &[Packed])
         requires within { index + out_count ≤ length self.old.mappings }
         requires room { length self.old.mappings + length pieces.now ≤ self.old.room + out_count }
         requires laid_out { IsLaidOut

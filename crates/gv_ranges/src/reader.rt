@@ -4,13 +4,13 @@ ghost use Rattle.gv_types.specs.declared.mapping.Mapping.{Mapping};
 ghost use Rattle.gv_ranges.specs.List.{IsLaidOut};
 
 use crate::RangeList;
-use gv_types::Mapping;
+use gv_packed::Packed;
 use std::marker::Model;
 
 /// A list, or a slice of pieces, read near an index: the block of memory that holds it is looked up once.
 #[derive(Drop)]
 pub struct Reader<'a> {
-    block: &'a [Mapping],
+    block: &'a [Packed],
     // The index of the first mapping of the block.
     base: usize,
     len: usize,
@@ -34,7 +34,7 @@ impl<'a> Model for Reader<'a> {
 
 impl<'a> Reader<'a> {
     /// The pieces, all in one block.
-    pub fn of_slice(pieces: &'a [Mapping]) -> Reader<'a>
+    pub fn of_slice(pieces: &'a [Packed]) -> Reader<'a>
         requires { IsLaidOut pieces.now }
         ensures { result ≡ pieces.now }
     {
@@ -109,7 +109,7 @@ impl<'a> Reader<'a> {
 
     /// The mapping at an index.
     #[inline(always)]
-    pub fn get(&self, index: usize) -> &'a Mapping
+    pub fn get(&self, index: usize) -> &'a Packed
         requires { index < length self.now }
         ensures { (d : Mapping) → result.now ≡ slice_index_or self.now index d }
     {
@@ -126,7 +126,7 @@ impl<'a> Reader<'a> {
     /// The mapping at an index, wherever it stands.
     #[cold]
     #[inline(never)]
-    fn get_beyond(&self, index: usize) -> &'a Mapping
+    fn get_beyond(&self, index: usize) -> &'a Packed
         requires { index < length self.now }
         ensures { (d : Mapping) → result.now ≡ slice_index_or self.now index d }
     {

@@ -7,11 +7,12 @@ ghost use Rattle.gv_types.specs.PageRange.{end_of};
 ghost use Rattle.gv_ranges.specs.List.{IsLaidOut};
 ghost use Rattle.gv_ranges.specs.Edit.{clipped};
 
-use gv_types::{Mapping, SPACE_PAGES};
+use gv_packed::Packed;
+use gv_types::SPACE_PAGES;
 
 /// What of the mappings lies below `page`, where each of them ends past the page: at most the rest of the first.
 #[inline(always)]
-pub fn prev_rest(mappings: &[Mapping], page: u64) -> Option<Mapping>
+pub fn prev_rest(mappings: &[Packed], page: u64) -> Option<Packed>
     requires laid_out { IsLaidOut mappings.now }
     requires past { All (λ m. page < end_of m.range) mappings.now }
     ensures { option_to_list result ≡ clipped 0 page mappings.now }
@@ -24,7 +25,7 @@ pub fn prev_rest(mappings: &[Mapping], page: u64) -> Option<Mapping>
 
 /// What of the mappings lies at `page` or behind it, where each of them begins before the page: at most the rest of the last.
 #[inline(always)]
-pub fn next_rest(mappings: &[Mapping], page: u64) -> Option<Mapping>
+pub fn next_rest(mappings: &[Packed], page: u64) -> Option<Packed>
     requires laid_out { IsLaidOut mappings.now }
     requires before { All (λ m. m.range.first < page) mappings.now }
     ensures { option_to_list result ≡ clipped page PAGES mappings.now }

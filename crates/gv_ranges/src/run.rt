@@ -4,7 +4,7 @@ ghost use Rattle.std.specs.Iterator.{YieldsFirstRef, item_count};
 ghost use Rattle.gv_ranges.specs.List.{run};
 
 use crate::RangeList;
-use gv_types::Mapping;
+use gv_packed::Packed;
 use std::iter::FusedIterator;
 use std::marker::Model;
 
@@ -15,7 +15,7 @@ pub struct Run<'a> {
     end: usize,
     left: usize,
     // Those that come next, as far as they were looked up: they may go beyond the run.
-    block: &'a [Mapping],
+    block: &'a [Packed],
 }
 
 impl<'a> Model for Run<'a> {
@@ -48,7 +48,7 @@ impl<'a> Run<'a> {
 }
 
 /// The mappings from an index on: those of a block, where it has any.
-fn block_at<'a>(list: &'a RangeList, index: usize, block: &'a [Mapping]) -> &'a [Mapping]
+fn block_at<'a>(list: &'a RangeList, index: usize, block: &'a [Packed]) -> &'a [Packed]
     requires within { index < length list.now.mappings }
     requires ahead { block.now ≡ take (length block.now) (drop index list.now.mappings) }
     ensures ahead { result.now ≡ take (length result.now) (drop index list.now.mappings) }
@@ -62,13 +62,13 @@ fn block_at<'a>(list: &'a RangeList, index: usize, block: &'a [Mapping]) -> &'a 
 }
 
 impl<'a> Iterator for Run<'a> {
-    type Item = &'a Mapping;
+    type Item = &'a Packed;
 
     ghost next_gives = { YieldsFirstRef (λ rest. rest) };
 
     ghost remaining = { item_count (λ rest. rest) };
 
-    fn next(&mut self) -> Option<&'a Mapping> {
+    fn next(&mut self) -> Option<&'a Packed> {
         if self.left == 0 {
             return None;
         }

@@ -21,8 +21,8 @@ impl Alive {
         let mut mappings: u64 = 0;
         for mapping in space.list().iter() {
             mappings = mappings.saturating_add(1);
-            pages = pages.saturating_add(mapping.range.count());
-            if let Backing::Buffer { id, .. } = mapping.backing {
+            pages = pages.saturating_add(mapping.count());
+            if let Backing::Buffer { id, .. } = mapping.backing() {
                 let _is_new = buffers.insert(id.generation.get())?;
             }
         }

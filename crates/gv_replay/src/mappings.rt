@@ -2,8 +2,9 @@
 
 use crate::text::write_buffer;
 use gv_lines::write_hex;
+use gv_packed::Packed;
 use gv_ranges::RangeList;
-use gv_types::{Backing, Mapping, PAGE_BYTES};
+use gv_types::{Backing, PAGE_BYTES};
 use std::alloc::AllocError;
 
 /// The first byte of a page.
@@ -23,12 +24,12 @@ pub fn write_mappings(out: &mut String, list: &RangeList) -> Result<(), AllocErr
 }
 
 /// Writes a mapping: its first byte, the byte past its end, what stands behind it, and its flags.
-fn write_mapping(out: &mut String, mapping: &Mapping) -> Result<(), AllocError> {
-    write_hex(out, byte_of(mapping.range.first()))?;
+fn write_mapping(out: &mut String, mapping: &Packed) -> Result<(), AllocError> {
+    write_hex(out, byte_of(mapping.first()))?;
     out.push_str(" ")?;
-    write_hex(out, byte_of(mapping.range.end()))?;
+    write_hex(out, byte_of(mapping.end()))?;
     out.push_str(" ")?;
-    match mapping.backing {
+    match mapping.backing() {
         Backing::Buffer { id, page } => {
             write_buffer(out, &id)?;
             out.push_str(" ")?;
@@ -36,7 +37,7 @@ fn write_mapping(out: &mut String, mapping: &Mapping) -> Result<(), AllocError> 
         }
         Backing::Zero => out.push_str("zero")?,
     }
-    out.push_str(if mapping.flags.read_only {
+    out.push_str(if mapping.flags().read_only {
         " ro\n"
     } else {
         " rw\n"

@@ -79,7 +79,7 @@ impl Replay {
         let list = self.machine.space().list();
         let (index, count) = list.overlapping(range);
         for mapping in list.run(index, count) {
-            if mapping.range == range && mapping.backing.is_of(*buffer) {
+            if mapping.range() == range && mapping.is_of(*buffer) {
                 return true;
             }
         }

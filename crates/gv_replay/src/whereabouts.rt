@@ -132,8 +132,8 @@ fn push_mapped(
 ) -> Result<(), AllocError> {
     let (index, count) = list.overlapping(range);
     for mapping in list.run(index, count) {
-        if mapping.backing.is_of(*buffer) {
-            found.push(mapping.range)?;
+        if mapping.is_of(*buffer) {
+            found.push(mapping.range())?;
         }
     }
     Ok(())

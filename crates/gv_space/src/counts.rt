@@ -8,15 +8,16 @@ ghost use Rattle.gv_space.specs.Counts.{more_used, less_used, more_kept, less_ke
 ghost use Rattle.gv_space.specs.Live.{IsLiveBacking};
 
 use gv_buffers::Buffers;
+use gv_packed::Packed;
 use gv_ranges::Run;
-use gv_types::{Backing, Mapping, OutOfMemory};
+use gv_types::{Backing, OutOfMemory};
 
 /// Makes room for the places of mappings that come into the list, each in its buffer.
-pub fn make_places(buffers: &mut Buffers, mappings: &[Mapping]) -> Result<(), OutOfMemory>
+pub fn make_places(buffers: &mut Buffers, mappings: &[Packed]) -> Result<(), OutOfMemory>
     ensures { buffers.new ≡ buffers.old }
 {
     for mapping in mappings {
-        if let Backing::Buffer { id, .. } = mapping.backing {
+        if let Backing::Buffer { id, .. } = mapping.backing() {
             buffers.make_places(id, mappings.len() as u64)?;
         }
     }
@@ -24,27 +25,27 @@ pub fn make_places(buffers: &mut Buffers, mappings: &[Mapping]) -> Result<(), Ou
 }
 
 /// Counts mappings that come into the list, each in its buffer, with the page where it begins.
-pub fn count_in(buffers: &mut Buffers, mappings: &[Mapping])
+pub fn count_in(buffers: &mut Buffers, mappings: &[Packed])
     requires live { All (λ m. IsLiveBacking buffers.old m.backing) mappings.now }
     requires room { All (λ b. b.uses + count_of b.id mappings.now ≤ most_counted) buffers.old.live }
     ensures { buffers.new ≡ by_count more_used mappings.now buffers.old }
 {
     for mapping in mappings {
-        if let Backing::Buffer { id, .. } = mapping.backing {
-            buffers.count_in(id, mapping.range.first());
+        if let Backing::Buffer { id, .. } = mapping.backing() {
+            buffers.count_in(id, mapping.first());
         }
     }
 }
 
 /// Counts out mappings that left the list.
-pub fn count_out(buffers: &mut Buffers, mappings: &[Mapping])
+pub fn count_out(buffers: &mut Buffers, mappings: &[Packed])
     requires live { All (λ m. IsLiveBacking buffers.old m.backing) mappings.now }
     requires counted { All (λ b. count_of b.id mappings.now ≤ b.uses) buffers.old.live }
     ensures { buffers.new ≡ by_count less_used mappings.now buffers.old }
 {
     for mapping in mappings {
-        if let Backing::Buffer { id, .. } = mapping.backing {
-            buffers.count_out(id, mapping.range.first());
+        if let Backing::Buffer { id, .. } = mapping.backing() {
+            buffers.count_out(id, mapping.first());
         }
     }
 }
@@ -56,40 +57,40 @@ pub fn count_out_run(buffers: &mut Buffers, run: Run<'_>)
     ensures { buffers.new ≡ by_count less_used run.entry buffers.old }
 {
     for mapping in run {
-        if let Backing::Buffer { id, .. } = mapping.backing {
-            buffers.count_out(id, mapping.range.first());
+        if let Backing::Buffer { id, .. } = mapping.backing() {
+            buffers.count_out(id, mapping.first());
         }
     }
 }
 
 /// Counts mappings that come into an undo value, each in its buffer.
-pub fn keep(buffers: &mut Buffers, mappings: &[Mapping])
+pub fn keep(buffers: &mut Buffers, mappings: &[Packed])
     requires live { All (λ m. IsLiveBacking buffers.old m.backing) mappings.now }
     requires room { All (λ b. b.kept + count_of b.id mappings.now ≤ most_counted) buffers.old.live }
     ensures { buffers.new ≡ by_count more_kept mappings.now buffers.old }
 {
     for mapping in mappings {
-        if let Backing::Buffer { id, .. } = mapping.backing {
+        if let Backing::Buffer { id, .. } = mapping.backing() {
             buffers.keep(id);
         }
     }
 }
 
 /// Counts out mappings that leave an undo value.
-pub fn unkeep(buffers: &mut Buffers, mappings: &[Mapping])
+pub fn unkeep(buffers: &mut Buffers, mappings: &[Packed])
     requires live { All (λ m. IsLiveBacking buffers.old m.backing) mappings.now }
     requires counted { All (λ b. count_of b.id mappings.now ≤ b.kept) buffers.old.live }
     ensures { buffers.new ≡ by_count less_kept mappings.now buffers.old }
 {
     for mapping in mappings {
-        if let Backing::Buffer { id, .. } = mapping.backing {
+        if let Backing::Buffer { id, .. } = mapping.backing() {
             buffers.unkeep(id);
         }
     }
 }
 
 /// Counts what was taken out of the list, where it gave way to `pieces`, and came into an undo value.
-pub fn move_counts(buffers: &mut Buffers, taken: &[Mapping], pieces: &[Mapping])
+pub fn move_counts(buffers: &mut Buffers, taken: &[Packed], pieces: &[Packed])
     requires taken { All (λ m. IsLiveBacking buffers.old m.backing) taken.now }
     requires pieces { All (λ m. IsLiveBacking buffers.old m.backing) pieces.now }
     requires keeps { All (λ b. b.kept + count_of b.id taken.now ≤ most_counted) buffers.old.live }
@@ -104,7 +105,7 @@ pub fn move_counts(buffers: &mut Buffers, taken: &[Mapping], pieces: &[Mapping])
 }
 
 /// Counts a run that comes back out of an undo value into the list, where `pieces` give way to it.
-pub fn move_counts_back(buffers: &mut Buffers, pieces: Run<'_>, taken: &[Mapping])
+pub fn move_counts_back(buffers: &mut Buffers, pieces: Run<'_>, taken: &[Packed])
     requires taken { All (λ m. IsLiveBacking buffers.old m.backing) taken.now }
     requires pieces { All (λ m. IsLiveBacking buffers.old m.backing) pieces }
     requires kept { All (λ b. count_of b.id taken.now ≤ b.kept) buffers.old.live }

@@ -7,8 +7,9 @@ ghost use Rattle.gv_ranges.specs.List.{run, IsLaidOut};
 ghost use Rattle.gv_ranges.specs.Edit.{clipped, restored};
 ghost use Rattle.gv_space.specs.Refusal.{count_met};
 
+use gv_packed::Packed;
 use gv_ranges::{RangeList, next_rest, prev_rest};
-use gv_types::{Mapping, OutOfMemory, PageRange};
+use gv_types::{OutOfMemory, PageRange};
 use smallvec::SmallVec;
 use std::array::from_ref;
 
@@ -16,17 +17,17 @@ use std::array::from_ref;
 const INLINE: usize = 3;
 
 /// A few mappings, in the value itself where they are at most three.
-pub type Pieces = SmallVec<Mapping, INLINE>;
+pub type Pieces = SmallVec<Packed, INLINE>;
 
 /// How many mappings come in without memory: most operations put in one, with a rest on each side.
 const INCOMING: usize = 3;
 
 /// The mappings that come in, in the value itself where they are at most three.
-pub type Incoming = SmallVec<Mapping, INCOMING>;
+pub type Incoming = SmallVec<Packed, INCOMING>;
 
 /// The mapping, if there is one, as pieces.
 #[inline(always)]
-pub fn as_pieces(mapping: &Option<Mapping>) -> &[Mapping]
+pub fn as_pieces(mapping: &Option<Packed>) -> &[Packed]
     ensures { result.now ≡ option_to_list mapping.now }
 {
     match mapping {
@@ -59,18 +60,18 @@ pub fn copy_run(
 }
 
 /// How many of the saved mappings have pages in the range.
-pub fn count_in_range(saved: &[Mapping], range: PageRange) -> usize
+pub fn count_in_range(saved: &[Packed], range: PageRange) -> usize
     ensures count { result ≡ count_met saved.now range }
     ensures few { result ≤ length saved.now }
     ensures in_space { IsInSpace range }
 {
-    saved.iter().filter(|m| m.range.meets(range)).count()
+    saved.iter().filter(|m| m.range().meets(range)).count()
 }
 
 /// Appends what of the saved mappings lies in the range.
 fn push_clipped(
     pieces: &mut Incoming,
-    saved: &[Mapping],
+    saved: &[Packed],
     range: PageRange,
 ) -> Result<(), OutOfMemory>
     requires { IsLaidOut saved.now }
@@ -91,8 +92,8 @@ fn push_clipped(
 /// mappings in the range stand.
 pub fn with_rests(
     pieces: &mut Incoming,
-    taken: &[Mapping],
-    saved: &[Mapping],
+    taken: &[Packed],
+    saved: &[Packed],
     range: PageRange,
 ) -> Result<(usize, usize), OutOfMemory>
     requires none { pieces.old.items ≡ [] }

@@ -5,8 +5,9 @@ ghost use Rattle.gv_types.specs.declared.mapping.Mapping.{Mapping};
 ghost use Rattle.gv_space.specs.Counts.{count_of, ranges_of};
 ghost use Rattle.gv_space.specs.Placed.{AreFound};
 
+use gv_packed::Packed;
 use gv_ranges::RangeList;
-use gv_types::{Backing, BufferId, Mapping, OutOfMemory, PageRange};
+use gv_types::{Backing, BufferId, OutOfMemory, PageRange};
 use smallvec::SmallVec;
 use std::alloc::Global;
 
@@ -14,7 +15,7 @@ use std::alloc::Global;
 const FEW: usize = 4;
 
 /// So many mappings, in the value itself.
-type FewMappings = SmallVec<Mapping, FEW>;
+type FewMappings = SmallVec<Packed, FEW>;
 
 /// The range of each mapping of a buffer that has `count` of them, in the order of the list. Where it keeps the places of all, each is
 /// looked up; else the list is gone through, as far as the last one.
@@ -35,7 +36,13 @@ pub fn ranges_of(
     if places.len() as u64 == count {
         let mappings = placed_mappings(alloc, list, id, places)?;
         if mappings.len() as u64 == count {
-            return Ok(mappings.as_slice().iter().map(|m| m.range).collect(alloc)?);
+            return Ok(
+                mappings
+                    .as_slice()
+                    .iter()
+                    .map(|m| m.range())
+                    .collect(alloc)?,
+            );
         }
     }
     first_ranges(alloc, list, id, count as usize)
@@ -90,7 +97,7 @@ fn index_of(list: &RangeList, id: BufferId, page: u64, from: usize) -> Option<us
         → is_of id (slice_index_or list.now.mappings index d).backing ≡ true) }
 {
     let (index, met) = list.overlapping(PageRange::new(page, 1)?);
-    if met == 0 || index < from || !list.get(index).backing.is_of(id) {
+    if met == 0 || index < from || !list.get(index).is_of(id) {
         return None;
     }
     Some(index)
@@ -108,9 +115,9 @@ fn first_ranges(
 {
     let ranges = list
         .iter()
-        .filter(|m| m.backing.is_of(id))
+        .filter(|m| m.is_of(id))
         .take(count)
-        .map(|m| m.range)
+        .map(|m| m.range())
         .collect(alloc)?;
     Ok(ranges)
 }

@@ -48,7 +48,7 @@ impl OpUndo {
         ensures { result ≡ at self.now.change.taken page }
     {
         for mapping in self.taken.as_slice() {
-            if mapping.range.covers(page) {
+            if mapping.range().covers(page) {
                 return Some(mapping.part(page));
             }
         }

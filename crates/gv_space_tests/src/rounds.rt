@@ -2,6 +2,7 @@
 use crate::changes::{Restored, Stay, Watch, bring_back, nested};
 use crate::course::{Choice, Course, Held, State, Way, course_of, looks_of, way_of};
 use crate::model::{Model, PLACES, Setting, entry_behind};
+use crate::sight::are_listed;
 use gv_plain::{Random, count_of};
 use gv_space::Space;
 use gv_types::{Backing, Bounds, BufferId, Entry, Fault, Limits, Mapping, PageOp};
@@ -53,7 +54,7 @@ fn missed_page(space: &Space, model: &Model) -> Option<Miss> {
 
 /// What is missed in a space that has to be what the model says, where undo values keep these mappings.
 fn missed(space: &Space, model: &Model, kept: &[Mapping]) -> Option<Miss> {
-    if !space.list().iter().eq(model.list.as_slice()) {
+    if !are_listed(space.list(), model.list.as_slice()) {
         return Some(Miss::List);
     }
     if space.tables() != model.tables() {

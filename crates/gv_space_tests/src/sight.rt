@@ -102,10 +102,19 @@ pub fn part_of(step: &Split, buffers: &[BufferId]) -> Part {
     }
 }
 
+/// Whether a list has these mappings and no others.
+pub fn are_listed(list: &RangeList, wanted: &[Mapping]) -> bool {
+    list.len() == wanted.len()
+        && list
+            .iter()
+            .zip(wanted)
+            .all(|(one, other)| one.mapping() == *other)
+}
+
 pub fn list_of(list: &RangeList, buffers: &[BufferId]) -> Pieces {
     let mut pieces = [None; MOST];
     for (place, mapping) in pieces.iter_mut().zip(list.iter()) {
-        *place = Some(piece_of(mapping, buffers));
+        *place = Some(piece_of(&mapping.mapping(), buffers));
     }
     Pieces {
         count: list.len(),

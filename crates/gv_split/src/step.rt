@@ -108,7 +108,7 @@ fn steps_of_run(alloc: Global, run: Run<'_>, op: &PageOp) -> Result<Vec<Step>, F
         .ok_or(Fault::OutOfMemory)?;
     let mut answer = Vec::with_capacity(alloc, count)?;
     for mapping in run {
-        answer.push_reserved(step_in(op, mapping));
+        answer.push_reserved(step_in(op, &mapping.mapping()));
     }
     if let Some(mapping) = own {
         answer.push_reserved(Step::Map { mapping });
@@ -120,7 +120,7 @@ fn steps_of_run(alloc: Global, run: Run<'_>, op: &PageOp) -> Result<Vec<Step>, F
 fn count_of_buffer(list: &RangeList, buffer: BufferId) -> usize
     ensures { result ≡ length (filter (λ m. is_of buffer m.backing) list.now.mappings) }
 {
-    list.iter().filter(|m| m.backing.is_of(buffer)).count()
+    list.iter().filter(|m| m.is_of(buffer)).count()
 }
 
 /// The steps for the mappings of a buffer, all of which go.
@@ -135,9 +135,9 @@ fn steps_of_buffer(alloc: Global, list: &RangeList, buffer: BufferId) -> Result<
     }
     let answer = list
         .iter()
-        .filter(|m| m.backing.is_of(buffer))
+        .filter(|m| m.is_of(buffer))
         .map(|m| Step::Unmap {
-            mapping: *m,
+            mapping: m.mapping(),
             keep: false,
         })
         .collect(alloc)?;

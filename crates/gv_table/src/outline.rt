@@ -4,6 +4,7 @@ ghost use Rattle.gv_types.specs.declared.mapping.Mapping.{Mapping};
 ghost use Rattle.gv_ranges.specs.List.{IsLaidOut};
 ghost use Rattle.gv_table.specs.Names.{unnamed, unnamed_mapping};
 
+use gv_packed::Packed;
 use gv_ranges::Reader;
 use gv_types::{Backing, BufferId, Mapping};
 use std::marker::Model;
@@ -65,10 +66,10 @@ impl<'l> Outline<'l> {
 
 /// A mapping whose buffer is told by its index alone.
 #[inline(always)]
-fn unnamed(m: &Mapping) -> Mapping
+fn unnamed(m: &Packed) -> Mapping
     ensures { result ≡ unnamed_mapping m.now }
 {
-    let backing = match m.backing {
+    let backing = match m.backing() {
         Backing::Buffer { id, page } => Backing::Buffer {
             id: BufferId::new(id.index, 0),
             page,
@@ -76,8 +77,8 @@ fn unnamed(m: &Mapping) -> Mapping
         Backing::Zero => Backing::Zero,
     };
     Mapping {
-        range: m.range,
+        range: m.range(),
         backing,
-        flags: m.flags,
+        flags: m.flags(),
     }
 }

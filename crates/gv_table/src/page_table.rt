@@ -23,8 +23,9 @@ use crate::spares::Spares;
 use crate::table_counts::TableCounts;
 use crate::tables::Tables;
 use crate::walk::walk_tree;
+use gv_packed::Packed;
 use gv_ranges::{RangeList, Reader};
-use gv_types::{BufferId, Entry, Fault, Mapping, PageRange, SPACE_PAGES};
+use gv_types::{BufferId, Entry, Fault, PageRange, SPACE_PAGES};
 use std::alloc::Global;
 use std::marker::Model;
 
@@ -164,12 +165,7 @@ impl PageTable {
     /// Empty tables for a paint after which the list holds these pieces in the range: enough for
     /// each list that is like the one of this tree outside the range. `OutOfMemory` where the
     /// system refuses the memory for one, so only where some are needed.
-    pub fn spare(
-        &self,
-        alloc: Global,
-        range: PageRange,
-        pieces: &[Mapping],
-    ) -> Result<Spares, Fault>
+    pub fn spare(&self, alloc: Global, range: PageRange, pieces: &[Packed]) -> Result<Spares, Fault>
         requires { IsLaidOut pieces.now }
         ensures number { IfOk result (λ spares. spares ≡ needed_for pieces.now range self.now) }
         ensures enough { IfOk result (λ spares. (ms : List Mapping) → IsLaidOut ms
@@ -187,7 +183,7 @@ impl PageTable {
         &self,
         alloc: Global,
         range: PageRange,
-        pieces: &[Mapping],
+        pieces: &[Packed],
         pool: &mut Pool,
     ) -> Result<Spares, Fault>
         requires { IsLaidOut pieces.now }
@@ -209,7 +205,7 @@ impl PageTable {
     /// one mapping is to hold whole or none to meet. That table has to stand and to stay: whether it did, and if not, nothing changed.
     /// Of the list, which need not be the one that the tree is to be of yet, the pieces tell what it says of the range, and `some` where
     /// one of its mappings lies. No table is gained or lost, and it takes no memory.
-    pub fn paint_within(&mut self, range: PageRange, pieces: &[Mapping], some: PageRange) -> bool
+    pub fn paint_within(&mut self, range: PageRange, pieces: &[Packed], some: PageRange) -> bool
         requires laid_out { IsLaidOut pieces.now }
         requires named { AreNamed self.old.names pieces.now }
         requires list { IsPatchOf self.old range pieces.now some }

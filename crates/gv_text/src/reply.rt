@@ -136,7 +136,7 @@ pub fn write_mappings(out: &mut String, names: &Names, list: &RangeList) -> Resu
         return out.push_str("empty\n");
     }
     for mapping in list.iter() {
-        write_mapping(out, names, mapping)?;
+        write_mapping(out, names, &mapping.mapping())?;
         out.push_str("\n")?;
     }
     Ok(())

@@ -31,7 +31,7 @@ use Rattle.gv_journal.proofs.item.ItemKind.TheSendSync.{the_send as kind_send}
 use Rattle.gv_journal.proofs.columns.Columns.TheSendSync.{the_send as columns_send}
 use Rattle.gv_vm.proofs.jobs.Jobs.TheSendSync.{the_send as jobs_send}
 use Rattle.gv_vm.proofs.told.Told.TheSendSync.{the_send as told_send}
-use Rattle.gv_types.proofs.mapping.Mapping.TheSendSync.{the_send as mapping_send}
+use Rattle.gv_packed.proofs.packed.Packed.TheSendSync.{the_send as packed_send}
 use Rattle.smallvec.proofs.small_vec.SmallVec.TheSendSync.{the_send as small_vec_send}
 use Rattle.gv_space.specs.contracts.list_with_table.ListWithTable.TheInside.{the_row as list_with_table_inside, the_type as list_with_table_type}
 use Rattle.gv_space.specs.contracts.space.Space.TheInside.{the_row as space_inside, the_type as space_type}
@@ -105,7 +105,7 @@ space_send : IsSend space
 space_send = view_send space_inside _ _ _ _ (declared_send space_type (bounds_send, (limits_send, (list_with_table_send, (buffers_send, (wide, tt))))))
 
 undo_send : IsSend undo
-undo_send = view_send undo_inside _ _ _ _ (declared_send undo_type (number, (number, (range_send, (search (sendable, crosses, small_vec_send, mapping_send) depth 8, (spares_send, tt))))))
+undo_send = view_send undo_inside _ _ _ _ (declared_send undo_type (number, (number, (range_send, (search (sendable, crosses, small_vec_send, packed_send) depth 8, (spares_send, tt))))))
 
 item_send : IsSend item
 item_send = declared_send item_type (kind_send, (Vec-send _ undo_send, tt))

@@ -133,8 +133,8 @@ fn held_until(list: &RangeList, page: u64) -> (Option<Entry>, u64)
     let Some(m) = list.first_behind(page) else {
         return (None, SPACE_PAGES);
     };
-    if page < m.range.first() {
-        return (None, m.range.first());
+    if page < m.first() {
+        return (None, m.first());
     }
-    (Some(m.part(page)), m.range.end())
+    (Some(m.part(page)), m.end())
 }

@@ -112,15 +112,19 @@ fn is_each_timeline(world: &World, model: &Model) -> bool {
     clock.count() == model.setting.timelines
 }
 
+/// Whether the list has the mappings that the definitions have, and no others.
+fn is_listed(world: &World, model: &Model) -> bool {
+    let (list, wanted) = (world.vm().space().list(), &model.ground.list);
+    list.len() == wanted.len()
+        && list
+            .iter()
+            .zip(wanted)
+            .all(|(one, other)| one.mapping() == *other)
+}
+
 /// Whether a world is what the definitions have.
 pub fn agrees(alloc: Global, world: &World, model: &Model) -> Result<bool, OutOfMemory> {
-    let is_listed = world
-        .vm()
-        .space()
-        .list()
-        .iter()
-        .eq(model.ground.list.as_slice());
-    let is_same = is_listed
+    let is_same = is_listed(world, model)
         && has_entries(world, model)
         && shows_each_page(world, model)
         && told_each_queue(world, model)

@@ -3,7 +3,8 @@ ghost use Rattle.std.specs.Prelude.{◌≡◌, [], IfOk};
 
 use crate::fixtures::{map, zero};
 use gv_buffers::Usage;
-use gv_types::{Bounds, BufferId, Fault, Flags, Limits, Mapping, Op, Point, Request};
+use gv_packed::Packed;
+use gv_types::{Bounds, BufferId, Fault, Flags, Limits, Op, Point, Request};
 use gv_vm::{Access, Event, NotTold, Outcome, Place, Reply, Sizes, Stopped, Target, Vm, World};
 use std::alloc::{AllocError, Global};
 use std::process::Abort;
@@ -149,7 +150,7 @@ fn expect_out_of_turn(
     };
     let given = request(alloc, &[zero(4), zero(9)], &[point])?;
     let wanted = request(alloc, &[zero(4), zero(9)], &[point])?;
-    let mappings: Vec<Mapping> = vm
+    let mappings: Vec<Packed> = vm
         .space()
         .list()
         .iter()

@@ -112,7 +112,7 @@ pub fn withdraw(alloc: Global, vm: &mut Vm, entry: u64, done: &mut Done) -> Resu
 /// All mappings, and the page table's tables.
 pub fn sum_up(vm: &Vm, done: &mut Done) {
     for mapping in vm.space().list().iter() {
-        done.digest.add_mapping(mapping);
+        done.digest.add_mapping(&mapping.mapping());
     }
     for tables in vm.space().tables() {
         done.digest.add(tables);

@@ -13,9 +13,10 @@ ghost use Rattle.gv_table.specs.Table.{IsTree, FitsOutside, gained_by, tables_st
 ghost use Rattle.gv_table.specs.declared.page_table.PageTable.{PageTable};
 
 use super::ListWithTable;
+use gv_packed::Packed;
 use gv_ranges::RangeList;
 use gv_table::{PageTable, Pool, Spares};
-use gv_types::{Fault, Mapping, PageRange};
+use gv_types::{Fault, PageRange};
 use std::alloc::Global;
 
 impl ListWithTable {
@@ -30,8 +31,8 @@ impl ListWithTable {
         range: PageRange,
         index: usize,
         out_count: usize,
-        pieces: &[Mapping],
-        inside: &[Mapping],
+        pieces: &[Packed],
+        inside: &[Packed],
     ) -> Result<Spares, Fault>
         requires within { index + out_count ≤ length self.old.mappings }
         requires ended { AreEnded self.old.mappings range.first index }
@@ -68,8 +69,8 @@ impl ListWithTable {
         range: PageRange,
         index: usize,
         out_count: usize,
-        pieces: &[Mapping],
-        inside: &[Mapping],
+        pieces: &[Packed],
+        inside: &[Packed],
     ) -> bool
         requires within { index + out_count ≤ length self.old.mappings }
         requires room { length self.old.mappings + length pieces.now ≤ self.old.room + out_count }
@@ -111,8 +112,8 @@ impl ListWithTable {
         range: PageRange,
         index: usize,
         out_count: usize,
-        pieces: &[Mapping],
-        inside: &[Mapping],
+        pieces: &[Packed],
+        inside: &[Packed],
     ) -> Result<Spares, Fault>
         requires within { index + out_count ≤ length self.old.mappings }
         requires ended { AreEnded self.old.mappings range.first index }
@@ -149,7 +150,7 @@ impl ListWithTable {
         range: PageRange,
         index: usize,
         out_count: usize,
-        pieces: &[Mapping],
+        pieces: &[Packed],
         spares: Spares,
     )
         requires within { index + out_count ≤ length self.old.mappings }
@@ -186,7 +187,7 @@ impl ListWithTable {
         range: PageRange,
         index: usize,
         out_count: usize,
-        pieces: &[Mapping],
+        pieces: &[Packed],
         spares: Spares,
     )
         requires within { index + out_count ≤ length self.old.mappings }
@@ -218,19 +219,19 @@ fn pages_of_one(
     list: &RangeList,
     index: usize,
     out_count: usize,
-    pieces: &[Mapping],
+    pieces: &[Packed],
 ) -> Option<PageRange>
     requires { index + out_count ≤ length list.now.mappings }
     ensures { IfSome result (HasMappingAt (splice list.now.mappings index (index + out_count) pieces.now)) }
 {
     if !pieces.is_empty() {
-        return Some(pieces[0].range);
+        return Some(pieces[0].range());
     }
     if index > 0 {
-        return Some(list.get(index - 1).range);
+        return Some(list.get(index - 1).range());
     }
     if out_count < list.len() {
-        return Some(list.get(out_count).range);
+        return Some(list.get(out_count).range());
     }
     None
 }

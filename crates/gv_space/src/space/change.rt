@@ -14,8 +14,9 @@ ghost use Rattle.gv_space.specs.Undo.{undo_with};
 use super::Space;
 use crate::counts;
 use crate::pieces::{Pieces, copy_run, with_rests};
+use gv_packed::Packed;
 use gv_table::Spares;
-use gv_types::{Fault, Mapping, PageRange};
+use gv_types::{Fault, PageRange};
 use smallvec::SmallVec;
 use std::alloc::Global;
 
@@ -34,7 +35,7 @@ impl Space {
         &mut self,
         alloc: Global,
         range: PageRange,
-        saved: &[Mapping],
+        saved: &[Packed],
         taken: &mut Pieces,
     ) -> Result<Made, Fault>
         requires laid_out { IsLaidOut saved.now }
@@ -58,7 +59,7 @@ impl Space {
         &mut self,
         alloc: Global,
         range: PageRange,
-        saved: &[Mapping],
+        saved: &[Packed],
         taken: &mut Pieces,
     ) -> Result<Made, Fault>
         requires laid_out { IsLaidOut saved.now }
@@ -97,9 +98,9 @@ impl Space {
         alloc: Global,
         range: PageRange,
         index: usize,
-        taken: &[Mapping],
-        pieces: &[Mapping],
-        inside: &[Mapping],
+        taken: &[Packed],
+        pieces: &[Packed],
+        inside: &[Packed],
     ) -> Result<Spares, Fault>
         requires { IsReady inside.now self.old range index taken.now pieces.now }
         ensures changed { IfOk result (λ tables. IsChanged self.old self.new

@@ -18,6 +18,7 @@ use super::change::Made;
 use crate::counts;
 use crate::pieces::as_pieces;
 use crate::undo::OpUndo;
+use gv_packed::Packed;
 use gv_types::{Fault, Op, PageOp, PageRange};
 use smallvec::SmallVec;
 use std::alloc::Global;
@@ -68,7 +69,7 @@ impl Space {
         ensures refused { IfErr result (λ fault. fault ≢ Fault.OutOfMemory → self.new ≡ self.old) }
         ensures room { GrowsJustFor (edited self.old.mappings op.now) self.old self.new }
     {
-        let (own, range) = (op.own_mapping(), op.range());
+        let (own, range) = (Packed::own(op), op.range());
         let mut taken = SmallVec::new(alloc);
         let Made {
             index,

@@ -14,8 +14,9 @@ ghost use Rattle.gv_space.specs.Refusal.{operation_fault, buffer_fault, dead_fau
 use super::Space;
 use crate::pieces::count_in_range;
 use gv_buffers::Buffers;
+use gv_packed::Packed;
 use gv_ranges::RangeList;
-use gv_types::{Backing, BufferId, Fault, Mapping, Op, PageOp, PageRange, SPACE_PAGES};
+use gv_types::{Backing, BufferId, Fault, Op, PageOp, PageRange, SPACE_PAGES};
 
 /// Undo values of one space hold at most so many mappings.
 const MAX_KEPT: u64 = 1 << 62;
@@ -45,7 +46,7 @@ impl Space {
         range: PageRange,
         index: usize,
         count: usize,
-        saved: &[Mapping],
+        saved: &[Packed],
     ) -> Result<(), Fault>
         requires laid_out { IsLaidOut saved.now }
         requires met { IsOverlappingRun self.now.mappings range index count }

@@ -34,7 +34,7 @@ fn count_in(space: &Space, id: &BufferId) -> u64 {
     space
         .list()
         .iter()
-        .filter(|mapping| count_of(&[**mapping], id) == 1)
+        .filter(|mapping| count_of(&[mapping.mapping()], id) == 1)
         .count() as u64
 }
 

@@ -4,10 +4,11 @@ ghost use Rattle.gv_journal.specs.State.{FitsSpace};
 
 use crate::journal::counts::{Counts, counts_of, kept_is_counted, uses_are_counted, without_kept};
 use crate::journal::harness::{Harness, Reply, Step, play};
+use crate::sight::are_listed;
 use gv_journal::{Item, ItemKind, Journal};
 use gv_plain::{Random, given};
 use gv_space::Space;
-use gv_types::{Backing, Bounds, Entry, Limits, Mapping};
+use gv_types::{Backing, Bounds, Entry, Limits, Mapping, OutOfMemory};
 use std::alloc::Global;
 use std::test::Fail;
 
@@ -165,9 +166,19 @@ fn forget(
 /// Whether the newest item is taken back: list and counts are those before it.
 fn is_taken_back(space: &Space, past: &mut Past, counts: &Counts) -> bool {
     match (past.lists.pop(), past.counts.pop()) {
-        (Some(list), Some(before)) => space.list().iter().eq(list.as_slice()) && before == *counts,
+        (Some(list), Some(before)) => are_listed(space.list(), list.as_slice())
+            && before == *counts,
         _ => false,
     }
+}
+
+/// A copy of the list.
+fn copied(alloc: Global, space: &Space) -> Result<Vec<Mapping>, OutOfMemory> {
+    let mut copy = Vec::new(alloc);
+    for mapping in space.list().iter() {
+        copy.push(mapping.mapping())?;
+    }
+    Ok(copy)
 }
 
 /// Plays a step, and looks at what it made of list and counts.
@@ -183,7 +194,7 @@ fn turn(
 {
     let Round { harness, past } = round;
     let held = journal.items().len();
-    let list: Vec<Mapping> = space.list().iter().map(|mapping| *mapping).collect(alloc)?;
+    let list = copied(alloc, space)?;
     let before = counts_of(space, harness.buffers.as_slice());
     let gone = match step {
         Step::Settle { to } => to.saturating_sub(journal.first()) as usize,
@@ -208,7 +219,7 @@ fn turn(
                 past.counts.push(before)?;
                 counted
             } else {
-                space.list().iter().eq(list.as_slice()) && before == counts
+                are_listed(space.list(), list.as_slice()) && before == counts
             }
         }
     };

@@ -32,7 +32,7 @@ pub fn list_of(pieces: &[Piece]) -> List {
 pub fn see(space: &Space, buffers: &[BufferId]) -> List {
     let mut list = [None; MOST];
     for (place, mapping) in list.iter_mut().zip(space.list().iter()) {
-        *place = Some(piece_of(mapping, buffers));
+        *place = Some(piece_of(&mapping.mapping(), buffers));
     }
     list
 }

@@ -31,7 +31,7 @@ loop-mapping-preserved c =
     let here : m ≡ get_or ms k m = cc in
     let later : rest ≡ drop (k + 1) ms = cc in
     let many = length-map ms c_mapping in
-    let value : c.of.result ≡ get_or all k c.of.result = c.of.ensures ∙ ap c_mapping here ∙ sym (at_map c_mapping ms k c.of.result m below) in
+    let value : c.of.result ≡ get_or all k c.of.result = c.of.ensures ∙ ap c_mapping (c.mapping.ensures.value ∙ here) ∙ sym (at_map c_mapping ms k c.of.result m below) in
     record {
       long = length-set c.loop-mapping.list k c.of.result ∙ inv.long;
       at = omega (arith, longer, inv.at);

@@ -3,7 +3,7 @@ use Rattle.std.proofs.lemmas.List.{length-append, length-take-le, take-append-le
 use Rattle.std.specs.List.{splice}
 use Rattle.gv_chunks.specs.Chunks.{chunks_joined, AreChunks}
 use Rattle.gv_chunks.proofs.ChunkLemmas.{taken_chunks, dropped_chunks, appended_chunks}
-use Rattle.gv_chunks.proofs.PackedLemmas.{joined_front}
+use Rattle.gv_chunks.proofs.SettledLemmas.{joined_front}
 use Rattle.gv_chunks.proofs.PutLemmas.{nothing_from}
 use Rattle.gv_chunks.proofs.RunLemmas.{none_in_front, joined_with_rest, none_with_rest, out_then_in}
 use Rattle.gv_chunks.proofs.run.replace_anywhere.Goals as goal
@@ -49,7 +49,7 @@ returns c =
       items = all ∙ put;
       within = omega arith;
       spare = none_with_rest c.put_in_run.new.chunks c.split_at_mut-used-2.result.1.now c.put_in_run.result c.put_in_run.ensures.within c.put_in_run.ensures.spare last;
-      packed = rw front c.put_in_run.ensures.packed;
+      settled = rw front c.put_in_run.ensures.settled;
       few = rw all c.put_in_run.ensures.few;
       chunks = appended_chunks c.put_in_run.new.chunks c.split_at_mut-used-2.result.1.now c.put_in_run.ensures.chunks there;
     }

@@ -1,5 +1,5 @@
 use Rattle.std.proofs.Common.{◌≡◌, ◌+◌, ◌-◌, ◌<◌, ◌≤◌, ◌∙◌, ◌++◌, arith, drop, length}
-use Rattle.gv_chunks.proofs.PackedLemmas.{few_standing, behind_joined, spare_joined, packed_joined}
+use Rattle.gv_chunks.proofs.SettledLemmas.{few_standing, behind_joined, spare_joined, settled_joined}
 use Rattle.gv_chunks.proofs.settle.settle.Goals as goal
 
 pub loop-k-preserved-then-len-le-CHUNK : goal.loop-k-preserved-then-len-le-CHUNK
@@ -18,10 +18,10 @@ loop-k-preserved-then-len-le-CHUNK c =
       ahead = omega arith;
       some = λ _. omega arith;
       spare = spare_joined c.loop-k.chunks c.join.new.chunks (c.loop-k.k - 1 - 1) c.loop-k.standing pair room behind c.loop-k.invariant.spare c.join.ensures.spare;
-      packed = packed_joined c.loop-k.chunks c.join.new.chunks (c.loop-k.k - 1 - 1) c.loop-k.standing pair room same behind c.join.ensures.joint (rw next at c.loop-k.invariant.packed);
+      settled = settled_joined c.loop-k.chunks c.join.new.chunks (c.loop-k.k - 1 - 1) c.loop-k.standing pair room same behind c.join.ensures.joint (rw next at c.loop-k.invariant.settled);
       chunks = c.join.ensures.chunks;
     }
 
 pub returns-clause-few : goal.returns-clause-few
 returns-clause-few c =
-    few_standing c.loop-k.chunks c.loop-k.standing (omega arith) c.loop-k.invariant.spare (λ j d low pair. c.loop-k.invariant.packed j d (omega arith) pair)
+    few_standing c.loop-k.chunks c.loop-k.standing (omega arith) c.loop-k.invariant.spare (λ j d low pair. c.loop-k.invariant.settled j d (omega arith) pair)

@@ -1,5 +1,5 @@
 use Rattle.std.proofs.Common.{◌≡◌, ◌≤◌, ◌<◌, ◌-◌, take, drop, []}
-use Rattle.gv_chunks.specs.Chunks.{chunks_joined, AreChunks, PackedFrom}
+use Rattle.gv_chunks.specs.Chunks.{chunks_joined, AreChunks, SettledFrom}
 use Rattle.gv_chunks.proofs.settle.settle.Given as goal
 
 abbrev pub invariant-loop-k : goal.invariant-loop-k
@@ -9,6 +9,6 @@ invariant-loop-k l = record {
   ahead : l.k ≤ l.standing;
   some : 0 < l.used → 0 < l.standing;
   spare : chunks_joined (drop l.standing l.chunks) ≡ [];
-  packed : PackedFrom (l.k - 1) (take l.standing l.chunks);
+  settled : SettledFrom (l.k - 1) (take l.standing l.chunks);
   chunks : AreChunks l.chunks;
 }

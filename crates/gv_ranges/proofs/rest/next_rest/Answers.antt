@@ -1,16 +1,9 @@
-use Rattle.std.proofs.Common.{◌-◌, ◌∙◌, ap, sym, subst, length, arith}
+use Rattle.std.proofs.Common.{◌∙◌, ap, sym, arith}
 use Rattle.std.specs.Option.{option_to_list}
 use Rattle.gv_types.specs.Page.{PAGES}
-use Rattle.gv_types.specs.Mapping.{IsMapping}
-use Rattle.gv_ranges.proofs.LookupLemmas.{is_mapping}
 use Rattle.std.proofs.lemmas.Bool.{eqb-false}
 use Rattle.gv_ranges.proofs.RestLemmas.{rest_of_last}
 use Rattle.gv_ranges.proofs.rest.next_rest.Goals as goal
-
-pub clip-requires : goal.clip-requires
-clip-requires c =
-    subst IsMapping (sym c.index-mappings-mappings.is)
-    (is_mapping c.args.mappings.now 0 (length c.args.mappings.now - 1) c.index-mappings-mappings.result c.requires.laid_out (omega (arith, eqb-false _ _ (sym c.if-is_empty.ensures))))
 
 pub returns : goal.returns
 returns c =

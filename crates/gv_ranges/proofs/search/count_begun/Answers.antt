@@ -7,6 +7,6 @@ pub returns-else-first-page-clause-not_begun : goal.returns-else-first-page-clau
 returns-else-first-page-clause-not_begun c =
     let ms = c.args.mappings.now in
     let m = c.index-mappings-count.result in
-    let begins : c.args.page ≤ (get_or ms c.loop-count.count m).range.first = omega arith in
+    let begins : c.args.page ≤ (get_or ms c.loop-count.count m).range.first = rw (← c.index-mappings-count.is) (omega arith) in
     not_begun-from ms c.args.page c.loop-count.count c.requires.laid_out (omega arith)
     (λ d. rw (get_or_default ms c.loop-count.count d m (omega arith)) begins)

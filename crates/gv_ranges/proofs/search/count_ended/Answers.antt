@@ -20,7 +20,7 @@ pub returns-then-end-page-2 : goal.returns-then-end-page-2
 returns-then-end-page-2 c =
     let ms = c.args.mappings.now in
     let i = c.last_begun-index.result in
-    let ends : end_of (get_or ms i c.index-mappings-index.result).range ≤ c.args.page = omega arith in
+    let ends : end_of (get_or ms i c.index-mappings-index.result).range ≤ c.args.page = rw (← c.index-mappings-index.is) (omega arith) in
     placed-next ms c.args.page i c.requires.laid_out c.last_begun-index.ensures.within c.last_begun-index.ensures.later
     (λ d. rw (get_or_default ms i d c.index-mappings-index.result c.last_begun-index.ensures.within) ends)
 
@@ -28,6 +28,6 @@ pub returns-else-end-page-2 : goal.returns-else-end-page-2
 returns-else-end-page-2 c =
     let ms = c.args.mappings.now in
     let i = c.last_begun-index.result in
-    let past : c.args.page < end_of (get_or ms i c.index-mappings-index.result).range = omega arith in
+    let past : c.args.page < end_of (get_or ms i c.index-mappings-index.result).range = rw (← c.index-mappings-index.is) (omega arith) in
     placed-here ms c.args.page i c.requires.laid_out c.last_begun-index.ensures.within c.last_begun-index.ensures.ended
     (λ d. rw (get_or_default ms i d c.index-mappings-index.result c.last_begun-index.ensures.within) past)

@@ -4,7 +4,7 @@ use Rattle.std.proofs.lemmas.List.{get_or_default}
 use Rattle.gv_types.specs.PageRange.{end_of}
 use Rattle.gv_types.specs.declared.mapping.Mapping.{Mapping}
 use Rattle.gv_ranges.proofs.PartLemmas.{All-take_at}
-use Rattle.gv_ranges.proofs.LookupLemmas.{at_past, at_found, at_gap, is_mapping}
+use Rattle.gv_ranges.proofs.LookupLemmas.{at_past, at_found, at_gap}
 use Rattle.gv_ranges.proofs.Indices.{at-nothing, at-empty}
 use Rattle.gv_ranges.proofs.search.entry_at.Goals as goal
 use Rattle.gv_ranges.proofs.search.entry_at.Goals.{then-page-ge-SPACE_PAGES-via-then-page-ge-SPACE_PAGES, then-page-ge-SPACE_PAGES-via-else-page-ge-SPACE_PAGES+then-is_empty, then-page-first-via-then-page-first, then-page-first-via-else-page-first+then-end-page}
@@ -31,10 +31,6 @@ returns-then-page-first c =
           let ends : end_of (get_or ms i m).range ≤ c.args.page = rw (← c.index-mappings-last_begun.is) (omega arith) in
           sym (at-nothing ms c.args.page i c.requires inside c.last_begun.ensures.later (λ d. rw (get_or_default ms i d m inside) ends)))
     ]
-
-pub part-requires-clause-mapping : goal.part-requires-clause-mapping
-part-requires-clause-mapping c =
-    rw c.index-mappings-last_begun.is (is_mapping c.args.mappings.now 0 c.last_begun.result c.index-mappings-last_begun.result c.requires c.last_begun.ensures.within)
 
 pub returns : goal.returns
 returns c =

@@ -7,7 +7,7 @@ loop-left-preserved c =
     let inv = c.loop-left.invariant in
     let next = halved c.args.mappings.now c.args.page c.loop-left.index c.loop-left.left (c.loop-left.left / 2)
     _ c.first-first.result c.step_past-index.result c.index-mappings-index.result c.requires.laid_out inv.within c.loop-left-test.true refl inv.ended inv.later
-    c.index-mappings-index.is (rw c.index-mappings-index.is c.first-first.ensures.value) c.step_past-index.ensures refl in
+    c.index-mappings-index.is c.first-first.ensures.value c.step_past-index.ensures refl in
     record { some = omega arith; within = next.0; ended = next.1; later = next.2 }
 
 pub returns-clause-later : goal.returns-clause-later

@@ -10,7 +10,7 @@ loop-left-preserved c =
     c.index-mappings-index.result c.index-mappings-index-in-loop-left.result c.index-mappings-index-in-loop-left-2.result
     c.requires.laid_out inv.within c.loop-left-test.true refl inv.ended inv.later
     c.index-mappings-index.is c.index-mappings-index-in-loop-left.is c.index-mappings-index-in-loop-left-2.is
-    (rw c.index-mappings-index.is c.first-first.ensures.value) (rw c.index-mappings-index-in-loop-left.is c.first-second.ensures.value)
-    (rw c.index-mappings-index-in-loop-left-2.is c.first-third.ensures.value)
+    c.first-first.ensures.value c.first-second.ensures.value
+    c.first-third.ensures.value
     c.step_past-low.ensures c.step_past-middle.ensures c.step_past-high.ensures refl in
     record { some = omega arith; within = next.0; ended = next.1; later = next.2 }

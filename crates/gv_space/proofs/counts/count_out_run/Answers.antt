@@ -1,4 +1,4 @@
-use Rattle.std.proofs.Common.{◌≡◌, ◌+◌, ◌<◌, ◌≤◌, length, ◌++◌, ◌∷◌, [], arith, sym, refl}
+use Rattle.std.proofs.Common.{◌≡◌, ◌+◌, ◌<◌, ◌≤◌, length, ◌++◌, ◌∷◌, [], arith, sym, refl, ◌∙◌}
 use Rattle.std.proofs.lemmas.List.{length-append}
 use Rattle.gv_types.specs.declared.mapping.Backing.TheVariants.{Zero}
 use Rattle.gv_space.specs.Counts.{less_used}
@@ -20,7 +20,7 @@ count_out-requires c =
     let next = next_is c.args.run c.loop-mapping.mapping-iterator c.next.new.self (length c.loop-mapping.yielded) c.in-Some.mapping.now c.loop-mapping.invariant.walked c.in-Some.ensures.steps in
     can_count less_used (λ b. b.uses) (λ b n. n ≤ b.uses) (λ n. 0 < n) less_used_counting (λ b n k less fits. omega arith)
     c.args.buffers.now c.loop-mapping.buffers c.args.run (length c.loop-mapping.yielded) c.in-Some.mapping.now c.in-Buffer.id c.in-Buffer.page
-    next.within next.is c.in-Buffer.is c.requires.live c.requires.counted c.loop-mapping.invariant.counted
+    next.within next.is (sym c.backing.ensures ∙ c.in-Buffer.is) c.requires.live c.requires.counted c.loop-mapping.invariant.counted
 
 pub loop-mapping-preserved-in-Buffer : goal.loop-mapping-preserved-in-Buffer
 loop-mapping-preserved-in-Buffer c =
@@ -31,7 +31,7 @@ loop-mapping-preserved-in-Buffer c =
       within = (let less = next.within in omega (arith, less));
       walked = next.behind;
       counted = count_turn less_used c.args.buffers.now c.loop-mapping.buffers c.count_out.new.self c.args.run i c.in-Some.mapping.now
-          _ less_used_counting next.within next.is c.in-Buffer.is c.loop-mapping.invariant.counted c.count_out.ensures;
+          _ less_used_counting next.within next.is (sym c.backing.ensures ∙ c.in-Buffer.is) c.loop-mapping.invariant.counted c.count_out.ensures;
       can = tt;
       finite = tt;
     }
@@ -45,7 +45,7 @@ loop-mapping-preserved c =
       within = (let less = next.within in omega (arith, less));
       walked = next.behind;
       counted = count_turn less_used c.args.buffers.now c.loop-mapping.buffers c.loop-mapping.buffers c.args.run i c.in-Some.mapping.now
-          Zero less_used_counting next.within next.is c.in_default.is c.loop-mapping.invariant.counted refl;
+          Zero less_used_counting next.within next.is (sym c.backing.ensures ∙ c.in_default.is) c.loop-mapping.invariant.counted refl;
       can = tt;
       finite = tt;
     }

@@ -12,14 +12,14 @@ pub unkeep-requires : goal.unkeep-requires
 unkeep-requires c =
     can_count less_kept (λ b. b.kept) (λ b n. n ≤ b.kept) (λ n. 0 < n) less_kept_counting (λ b n k less fits. omega arith)
     c.args.buffers.now c.loop-mapping.buffers c.args.mappings.now c.loop-mapping.mapping-index c.mapping-item.result c.in-Buffer.id c.in-Buffer.page
-    c.loop-mapping-test.true c.mapping-item.is c.in-Buffer.is c.requires.live c.requires.counted c.loop-mapping.invariant
+    c.loop-mapping-test.true c.mapping-item.is (sym c.backing.ensures ∙ c.in-Buffer.is) c.requires.live c.requires.counted c.loop-mapping.invariant
 
 pub loop-mapping-preserved : goal.loop-mapping-preserved
 loop-mapping-preserved c =
-    let turn = count_turn less_kept c.args.buffers.now c.loop-mapping.buffers c.match-mapping.buffers c.args.mappings.now c.loop-mapping.mapping-index c.mapping-item.result in
-    elim c.match-mapping.branch [
-      | in-Buffer w ↦ turn _ less_kept_counting c.loop-mapping-test.true c.mapping-item.is w.in-Buffer.is c.loop-mapping.invariant (w.buffers-is ∙ w.unkeep.ensures)
-      | in_default w ↦ turn Zero less_kept_counting c.loop-mapping-test.true c.mapping-item.is w.in_default.is c.loop-mapping.invariant w.buffers-is
+    let turn = count_turn less_kept c.args.buffers.now c.loop-mapping.buffers c.match-backing.buffers c.args.mappings.now c.loop-mapping.mapping-index c.mapping-item.result in
+    elim c.match-backing.branch [
+      | in-Buffer w ↦ turn _ less_kept_counting c.loop-mapping-test.true c.mapping-item.is (sym c.backing.ensures ∙ w.in-Buffer.is) c.loop-mapping.invariant (w.buffers-is ∙ w.unkeep.ensures)
+      | in_default w ↦ turn Zero less_kept_counting c.loop-mapping-test.true c.mapping-item.is (sym c.backing.ensures ∙ w.in_default.is) c.loop-mapping.invariant w.buffers-is
     ]
 
 pub returns : goal.returns

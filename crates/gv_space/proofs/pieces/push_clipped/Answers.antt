@@ -1,17 +1,11 @@
-use Rattle.std.proofs.Common.{◌≡◌, ◌∙◌, ◌++◌, ◌∷◌, [], List, take, ap, refl, sym, subst, Some, None}
+use Rattle.std.proofs.Common.{◌≡◌, ◌∙◌, ◌++◌, ◌∷◌, [], List, take, ap, refl, sym, Some, None}
 use Rattle.std.proofs.lemmas.List.{append_assoc}
 use Rattle.gv_types.specs.declared.mapping.Mapping.{Mapping}
 use Rattle.gv_ranges.specs.Edit.{clipped}
-use Rattle.gv_types.specs.Mapping.{clip, IsMapping}
+use Rattle.gv_types.specs.Mapping.{clip}
 use Rattle.gv_types.specs.PageRange.{end_of}
-use Rattle.gv_ranges.proofs.ReplacedLemmas.{all_mappings}
 use Rattle.gv_space.proofs.Clips.{grown_by_none, grown_by_piece}
 use Rattle.gv_space.proofs.pieces.push_clipped.Goals as goal
-
-pub clip-requires : goal.clip-requires
-clip-requires c =
-    subst IsMapping (sym c.mapping-item.is)
-    (all_mappings c.args.saved.now 0 c.requires c.loop-mapping.mapping-index c.mapping-item.result c.loop-mapping-test.true)
 
 pub loop-mapping-preserved-in-None : goal.loop-mapping-preserved-in-None
 loop-mapping-preserved-in-None c =

@@ -19,7 +19,7 @@ turn f old between new all text m left rest line first second steps so_far =
 pub loop-mapping-preserved : goal.loop-mapping-preserved
 loop-mapping-preserved c = record {
   written = turn (λ m. reply (mapping_text (names_alone c.args.names.now.entries) m ∷ [])) _ _ _ _ (mapping_text (names_alone c.args.names.now.entries) c.in-Some.mapping.now) c.in-Some.mapping.now c.loop-mapping.mapping-iterator c.next.new.self
-      refl c.in_ok-write_mapping.ensures c.in_ok-push_str.ensures.bytes c.in-Some.ensures.steps c.loop-mapping.invariant.written;
+      refl (rw c.mapping.ensures.value at c.in_ok-write_mapping.ensures) c.in_ok-push_str.ensures.bytes c.in-Some.ensures.steps c.loop-mapping.invariant.written;
   held = All-tail HasBytesThatFit c.in-Some.mapping.now c.next.new.self (rw c.in-Some.ensures.steps at c.loop-mapping.invariant.held);
   can = tt;
   finite = tt;

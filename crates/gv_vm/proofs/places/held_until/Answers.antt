@@ -1,7 +1,7 @@
 use Rattle.std.proofs.Common.{◌∙◌, ◌<◌, ap, arith, sym, Some}
 use Rattle.std.proofs.lemmas.Bool.{and_from, le-leb, lt-ltb}
 use Rattle.gv_types.specs.PageRange.{end_of}
-use Rattle.gv_ranges.proofs.BehindLemmas.{found_behind, at-none_behind, at-before_behind, at-of_behind, is_mapping-behind}
+use Rattle.gv_ranges.proofs.BehindLemmas.{found_behind, at-none_behind, at-before_behind, at-of_behind}
 use Rattle.gv_vm.proofs.Runs.{to_the_end, to_the_next, to_its_end}
 use Rattle.gv_vm.proofs.places.held_until.Goals as goal
 
@@ -19,13 +19,10 @@ pub returns-then-page-first-clause-end : goal.returns-then-page-first-clause-end
 returns-then-page-first-clause-end c =
     c.first-then-page-first.ensures.value ∙ sym (to_the_next c.args.list.now.mappings c.args.page c.in-Some.m.now c.in-Some.ensures (omega arith))
 
-pub part-requires-clause-mapping : goal.part-requires-clause-mapping
-part-requires-clause-mapping c = is_mapping-behind c.args.list.now.mappings c.args.page c.in-Some.m.now c.requires.laid_out c.in-Some.ensures
-
-pub part-requires-clause-covered : goal.part-requires-clause-covered
-part-requires-clause-covered c =
+pub part-requires : goal.part-requires
+part-requires c =
     let found = found_behind c.args.list.now.mappings c.args.page c.in-Some.m.now c.in-Some.ensures in
-    and_from _ _ (le-leb _ _ (omega arith)) (lt-ltb _ _ found.reaches)
+    record { covered = and_from _ _ (le-leb _ _ (omega arith)) (lt-ltb _ _ found.reaches) }
 
 pub returns-clause-entry : goal.returns-clause-entry
 returns-clause-entry c =

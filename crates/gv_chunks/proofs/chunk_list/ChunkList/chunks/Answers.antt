@@ -1,6 +1,6 @@
 use Rattle.std.proofs.Common.{◌∙◌, ap, take}
 use Rattle.gv_chunks.specs.Chunks.{chunks_joined}
-use Rattle.gv_chunks.proofs.PackedLemmas.{joined_front}
+use Rattle.gv_chunks.proofs.SettledLemmas.{joined_front}
 use Rattle.gv_chunks.proofs.chunk_list.ChunkList.chunks.Goals as goal
 
 pub returns-clause-items : goal.returns-clause-items

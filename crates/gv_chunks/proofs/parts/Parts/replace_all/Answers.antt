@@ -4,7 +4,7 @@ use Rattle.std.specs.List.{splice}
 use Rattle.gv_chunks.specs.Chunks.{chunks_joined}
 use Rattle.gv_chunks.specs.Inside.{IsChunkList}
 use Rattle.gv_chunks.proofs.HeldLemmas.{replaced_list}
-use Rattle.gv_chunks.proofs.PackedLemmas.{joined_front}
+use Rattle.gv_chunks.proofs.SettledLemmas.{joined_front}
 use Rattle.gv_chunks.proofs.PartsLemmas.{index_written}
 use Rattle.gv_chunks.proofs.parts.Parts.replace_all.Goals.{then-self-eq0, else-self-eq0}
 use Rattle.gv_chunks.proofs.parts.Parts.replace_all.Goals as goal
@@ -25,7 +25,7 @@ write_index-requires-clause-filled c =
     let list : IsChunkList zs c.if-self-eq0.self after p.room =
     replaced_list xs zs p.standing c.replace_anywhere-used.result c.if-self-eq0.self p.len p.room c.args.index c.args.out_count c.args.pieces.now c.requires.parts.list c.requires.long c.requires.within c.requires.room
     same (c.replace_anywhere-used.ensures.items ∙ ap (λ ys. splice (chunks_joined ys) c.args.index (c.args.index + c.args.out_count) c.args.pieces.now) c.deref_mut.ensures.value) c.replace_anywhere-used.ensures.within
-    c.replace_anywhere-used.ensures.spare c.replace_anywhere-used.ensures.chunks c.replace_anywhere-used.ensures.packed c.replace_anywhere-used.ensures.few which in
+    c.replace_anywhere-used.ensures.spare c.replace_anywhere-used.ensures.chunks c.replace_anywhere-used.ensures.settled c.replace_anywhere-used.ensures.few which in
     rw read list.filled
 
 pub write_index-requires-clause-few : goal.write_index-requires-clause-few
@@ -44,7 +44,7 @@ write_index-requires-clause-few c =
     let list : IsChunkList zs c.if-self-eq0.self after p.room =
     replaced_list xs zs p.standing c.replace_anywhere-used.result c.if-self-eq0.self p.len p.room c.args.index c.args.out_count c.args.pieces.now c.requires.parts.list c.requires.long c.requires.within c.requires.room
     same (c.replace_anywhere-used.ensures.items ∙ ap (λ ys. splice (chunks_joined ys) c.args.index (c.args.index + c.args.out_count) c.args.pieces.now) c.deref_mut.ensures.value) c.replace_anywhere-used.ensures.within
-    c.replace_anywhere-used.ensures.spare c.replace_anywhere-used.ensures.chunks c.replace_anywhere-used.ensures.packed c.replace_anywhere-used.ensures.few which in
+    c.replace_anywhere-used.ensures.spare c.replace_anywhere-used.ensures.chunks c.replace_anywhere-used.ensures.settled c.replace_anywhere-used.ensures.few which in
     rw read (omega (arith, ap length (joined_front zs c.if-self-eq0.self list.spare), list.held, list.fits, c.fits-self))
 
 pub returns-clause-parts : goal.returns-clause-parts
@@ -63,7 +63,7 @@ returns-clause-parts c =
     let list : IsChunkList zs c.if-self-eq0.self after p.room =
     replaced_list xs zs p.standing c.replace_anywhere-used.result c.if-self-eq0.self p.len p.room c.args.index c.args.out_count c.args.pieces.now c.requires.parts.list c.requires.long c.requires.within c.requires.room
     same (c.replace_anywhere-used.ensures.items ∙ ap (λ ys. splice (chunks_joined ys) c.args.index (c.args.index + c.args.out_count) c.args.pieces.now) c.deref_mut.ensures.value) c.replace_anywhere-used.ensures.within
-    c.replace_anywhere-used.ensures.spare c.replace_anywhere-used.ensures.chunks c.replace_anywhere-used.ensures.packed c.replace_anywhere-used.ensures.few which in
+    c.replace_anywhere-used.ensures.spare c.replace_anywhere-used.ensures.chunks c.replace_anywhere-used.ensures.settled c.replace_anywhere-used.ensures.few which in
     let starts = c.write_index.new.starts.numbers in
     let firsts = c.write_index.new.firsts in
     let starts_size : length starts ≡ length p.starts.numbers = c.write_index.ensures.starts_len in

@@ -9,7 +9,7 @@ use Rattle.gv_space.proofs.space.Space.apply_pages.Goals as goal
 pub returns-clause-says : goal.returns-clause-says
 returns-clause-says c =
     let saved = c.as_pieces.result.now in
-    let is : c.as_pieces.result.now ≡ own_mapping c.args.op.now = c.as_pieces.ensures ∙ c.own_mapping-own.ensures in
+    let is : c.as_pieces.result.now ≡ own_mapping c.args.op.now = c.as_pieces.ensures ∙ c.own-own.ensures in
     let undo = undo_with c.in_ok-index.field-0.index c.in_ok-index.field-0.put_in c.change.new.taken.items c.range-range.result c.in_ok-index.field-0.tables in
     says_after c.args.self.now c.change.new.self c.args.op.now c.range-range.result saved undo c.requires.pages c.range-range.ensures is c.in_ok-index.ensures.changed
 

@@ -1,16 +1,7 @@
-use Rattle.std.proofs.Common.{◌+◌, ◌-◌, ◌∙◌, arith, ap}
+use Rattle.std.proofs.Common.{◌∙◌, arith, ap}
 use mir.Val.{bool_byte}
-use Rattle.gv_ranges.proofs.LookupLemmas.{is_mapping}
 use Rattle.gv_space.proofs.Rests.{rests_of_run, few_rests_of_run}
 use Rattle.gv_space.proofs.space.refusal.count_rests.Goals as goal
-
-pub clip-prev-requires : goal.clip-prev-requires
-clip-prev-requires c =
-    rw (c.get.ensures c.get.result.now) (is_mapping c.args.list.now.mappings 0 c.args.index c.get.result.now c.len-len.ensures.laid_out (omega (arith, c.if-count-eq0.false, c.requires.within)))
-
-pub clip-next-requires : goal.clip-next-requires
-clip-next-requires c =
-    rw (c.get-2.ensures c.get-2.result.now) (is_mapping c.args.list.now.mappings 0 (c.args.index + c.args.count - 1) c.get-2.result.now c.len-len.ensures.laid_out (omega (arith, c.if-count-eq0.false, c.requires.within)))
 
 pub returns-clause-value : goal.returns-clause-value
 returns-clause-value c =

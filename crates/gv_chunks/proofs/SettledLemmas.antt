@@ -4,38 +4,38 @@ use Rattle.std.proofs.lemmas.List.{append-nil, get_or-take, get_or-drop, get_or_
 use Rattle.std.proofs.lemmas.Bool.{cases_lt}
 use Rattle.std.specs.Global.{Vec}
 use Rattle.gv_types.specs.declared.mapping.Mapping.{Mapping}
-use Rattle.gv_chunks.specs.Chunks.{chunks_joined, AreChunks, AreFilled, Packed, PackedFrom}
+use Rattle.gv_chunks.specs.Chunks.{chunks_joined, AreChunks, AreFilled, Settled, SettledFrom}
 use Rattle.gv_chunks.specs.declared.TheConstants.{CHUNK}
 use Rattle.gv_chunks.proofs.ChunkLemmas.{joined-append, joined_parts, joined_at}
 
--- the chunks behind the first are packed too
-pub packed_rest : (c : Vec Mapping) (cs : List (Vec Mapping)) → Packed (c ∷ cs) → Packed cs
-packed_rest c cs packed k d low within =
-    let held = packed (suc k) d (omega arith) (omega arith) in
+-- the chunks behind the first are settled too
+pub settled_rest : (c : Vec Mapping) (cs : List (Vec Mapping)) → Settled (c ∷ cs) → Settled cs
+settled_rest c cs settled k d low within =
+    let held = settled (suc k) d (omega arith) (omega arith) in
     let next : suc k + 1 ≡ suc (k + 1) = omega arith in
     rw next at held
 
--- how few packed chunks are, by what the first holds
-pub few_behind : (c : Vec Mapping) (cs : List (Vec Mapping)) → Packed (c ∷ cs) → CHUNK * length cs + vec_len c ≤ 2 * length (chunks_joined (c ∷ cs))
-few_behind c [] packed = omega (arith, c.ok, length-append c.items [])
-few_behind c (d ∷ cs) packed =
-    let behind : CHUNK * length cs + vec_len d ≤ 2 * length (chunks_joined (d ∷ cs)) = few_behind d cs (packed_rest c (d ∷ cs) packed) in
-    let pair : CHUNK < vec_len c + vec_len d = packed 0 c (omega arith) (omega arith) in
+-- how few settled chunks are, by what the first holds
+pub few_behind : (c : Vec Mapping) (cs : List (Vec Mapping)) → Settled (c ∷ cs) → CHUNK * length cs + vec_len c ≤ 2 * length (chunks_joined (c ∷ cs))
+few_behind c [] settled = omega (arith, c.ok, length-append c.items [])
+few_behind c (d ∷ cs) settled =
+    let behind : CHUNK * length cs + vec_len d ≤ 2 * length (chunks_joined (d ∷ cs)) = few_behind d cs (settled_rest c (d ∷ cs) settled) in
+    let pair : CHUNK < vec_len c + vec_len d = settled 0 c (omega arith) (omega arith) in
     omega (arith, c.ok, length-append c.items (chunks_joined (d ∷ cs)))
 
 -- as many as that
-pub few_packed : (cs : List (Vec Mapping)) → Packed cs → CHUNK * length cs ≤ 2 * length (chunks_joined cs) + CHUNK
-few_packed [] packed = omega arith
-few_packed (c ∷ cs) packed = omega (arith, few_behind c cs packed)
+pub few_settled : (cs : List (Vec Mapping)) → Settled cs → CHUNK * length cs ≤ 2 * length (chunks_joined cs) + CHUNK
+few_settled [] settled = omega arith
+few_settled (c ∷ cs) settled = omega (arith, few_behind c cs settled)
 
 -- the first chunks hold all that the list holds, where the others hold nothing
 pub joined_front : (xs : List (Vec Mapping)) (n : ℕ) → chunks_joined (drop n xs) ≡ [] → chunks_joined (take n xs) ≡ chunks_joined xs
 joined_front xs n none = sym (joined_parts xs n ∙ (ap (λ ms. chunks_joined (take n xs) ++ ms) none ∙ append-nil (chunks_joined (take n xs))))
 
--- so they are few where they are packed
-pub few_standing : (xs : List (Vec Mapping)) (n : ℕ) → n ≤ length xs → chunks_joined (drop n xs) ≡ [] → Packed (take n xs) → CHUNK * n ≤ 2 * length (chunks_joined xs) + CHUNK
-few_standing xs n within none packed =
-    let few : CHUNK * length (take n xs) ≤ 2 * length (chunks_joined (take n xs)) + CHUNK = few_packed (take n xs) packed in
+-- so they are few where they are settled
+pub few_standing : (xs : List (Vec Mapping)) (n : ℕ) → n ≤ length xs → chunks_joined (drop n xs) ≡ [] → Settled (take n xs) → CHUNK * n ≤ 2 * length (chunks_joined xs) + CHUNK
+few_standing xs n within none settled =
+    let few : CHUNK * length (take n xs) ≤ 2 * length (chunks_joined (take n xs)) + CHUNK = few_settled (take n xs) settled in
     rw (length-take-le n xs within, joined_front xs n none) at few
 
 -- what stands behind two chunks that were joined
@@ -78,38 +78,38 @@ grown old new i k d low within behind joint =
           rw at (omega (arith, (slice_index_or new i d).ok, (slice_index_or old (i + 1) d).ok, length-append (slice_index_or old i d).items (slice_index_or old (i + 1) d).items))
     ]
 
--- a join leaves what is packed behind it packed
-pub packed_joined : (old new : List (Vec Mapping)) (i n : ℕ) → i + 1 < n → n ≤ length old → length new ≡ length old → drop (i + 1) new ≡ drop (i + 2) old ++ drop (length old - 1) new →
+-- a join leaves what is settled behind it settled
+pub settled_joined : (old new : List (Vec Mapping)) (i n : ℕ) → i + 1 < n → n ≤ length old → length new ≡ length old → drop (i + 1) new ≡ drop (i + 2) old ++ drop (length old - 1) new →
     ((d : Vec Mapping) → (slice_index_or new i d).items ≡ (slice_index_or old i d).items ++ (slice_index_or old (i + 1) d).items) →
-    PackedFrom (i + 1) (take n old) → PackedFrom i (take (n - 1) new)
-packed_joined old new i n within room same behind joint packed k d low pair =
+    SettledFrom (i + 1) (take n old) → SettledFrom i (take (n - 1) new)
+settled_joined old new i n within room same behind joint settled k d low pair =
     let size : length (take (n - 1) new) ≡ n - 1 = length-take-le (n - 1) new (omega arith) in
     let before : length (take n old) ≡ n = length-take-le n old room in
     let first : slice_index_or (take (n - 1) new) k d ≡ slice_index_or new k d = get_or-take (n - 1) new k d (omega arith) in
     let second : slice_index_or (take (n - 1) new) (k + 1) d ≡ slice_index_or old (k + 2) d =
     get_or-take (n - 1) new (k + 1) d (omega arith) ∙ (moved_up old new i (k + 1) d (omega arith) (omega arith) behind ∙ ap (λ j. slice_index_or old j d) (omega arith)) in
-    let held : CHUNK < vec_len (slice_index_or (take n old) (k + 1) d) + vec_len (slice_index_or (take n old) (k + 1 + 1) d) = packed (k + 1) d (omega arith) (omega arith) in
+    let held : CHUNK < vec_len (slice_index_or (take n old) (k + 1) d) + vec_len (slice_index_or (take n old) (k + 1 + 1) d) = settled (k + 1) d (omega arith) (omega arith) in
     let one : slice_index_or (take n old) (k + 1) d ≡ slice_index_or old (k + 1) d = get_or-take n old (k + 1) d (omega arith) in
     let two : slice_index_or (take n old) (k + 1 + 1) d ≡ slice_index_or old (k + 2) d = get_or-take n old (k + 1 + 1) d (omega arith) ∙ ap (λ j. slice_index_or old j d) (omega arith) in
     let kept : CHUNK < vec_len (slice_index_or old (k + 1) d) + vec_len (slice_index_or old (k + 2) d) = rw (one, two) at held in
     let larger : vec_len (slice_index_or old (k + 1) d) ≤ vec_len (slice_index_or new k d) = grown old new i k d low (omega arith) behind joint in
     rw (first, second) (omega arith)
 
--- chunks that are packed each hold something, where anything is held
-pub filled_packed : (xs : List (Vec Mapping)) (n : ℕ) → n ≤ length xs → AreChunks xs → Packed (take n xs) → chunks_joined (drop n xs) ≡ [] → 0 < length (chunks_joined xs) → AreFilled (take n xs)
-filled_packed xs n within room packed none some_held k d inside =
+-- chunks that are settled each hold something, where anything is held
+pub filled_settled : (xs : List (Vec Mapping)) (n : ℕ) → n ≤ length xs → AreChunks xs → Settled (take n xs) → chunks_joined (drop n xs) ≡ [] → 0 < length (chunks_joined xs) → AreFilled (take n xs)
+filled_settled xs n within room settled none some_held k d inside =
     let size : length (take n xs) ≡ n = length-take-le n xs within in
     elim (cases_lt (k + 1) n) [
       | inl before ↦
           let next : slice_index_or (take n xs) (k + 1) d ≡ slice_index_or xs (k + 1) d = get_or-take n xs (k + 1) d before in
-          let pair : CHUNK < vec_len (slice_index_or (take n xs) k d) + vec_len (slice_index_or (take n xs) (k + 1) d) = packed k d (omega arith) (omega arith) in
+          let pair : CHUNK < vec_len (slice_index_or (take n xs) k d) + vec_len (slice_index_or (take n xs) (k + 1) d) = settled k d (omega arith) (omega arith) in
           let both : CHUNK < vec_len (slice_index_or (take n xs) k d) + vec_len (slice_index_or xs (k + 1) d) = rw next at pair in
           omega (arith, (slice_index_or xs (k + 1) d).ok, room (k + 1) d (omega arith))
       | inr last ↦ elim (cases_lt 0 k) [
         | inl later ↦
             let there : k - 1 + 1 ≡ k = omega arith in
             let first : slice_index_or (take n xs) (k - 1) d ≡ slice_index_or xs (k - 1) d = get_or-take n xs (k - 1) d (omega arith) in
-            let pair : CHUNK < vec_len (slice_index_or (take n xs) (k - 1) d) + vec_len (slice_index_or (take n xs) (k - 1 + 1) d) = packed (k - 1) d (omega arith) (omega arith) in
+            let pair : CHUNK < vec_len (slice_index_or (take n xs) (k - 1) d) + vec_len (slice_index_or (take n xs) (k - 1 + 1) d) = settled (k - 1) d (omega arith) (omega arith) in
             let both : CHUNK < vec_len (slice_index_or xs (k - 1) d) + vec_len (slice_index_or (take n xs) k d) = rw (first, there) at pair in
             omega (arith, (slice_index_or xs (k - 1) d).ok, room (k - 1) d (omega arith))
         | inr none_before ↦
