@@ -15,7 +15,7 @@ use crate::outline::Outline;
 use crate::paint::paint_tree;
 use crate::place::{Excerpt, Place};
 use crate::pool::Pool;
-use crate::release::clear;
+use crate::release::give_up;
 use crate::short::paint_in_slot;
 use crate::slot::{Slot, give_back, give_pages_back};
 use crate::spare::needed_in_tree;
@@ -92,8 +92,8 @@ impl PageTable {
     fn take_down(&mut self)
         ensures { IsTree [] self.new }
     {
-        let mut left = Spares::new();
-        clear(&mut self.root, TOP_LEVEL, &mut left, &mut self.counts);
+        give_up(&mut self.root, TOP_LEVEL);
+        self.counts = TableCounts::new();
     }
 
     /// Makes room for the name of a buffer's index, where it is missing, and for none behind it. `OutOfMemory` where the system refuses

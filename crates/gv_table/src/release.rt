@@ -12,7 +12,7 @@ ghost use Rattle.gv_table.specs.Counts.{tables_in, tables_at, count_at};
 use crate::fill::empty;
 use crate::levels::{SLOTS, slots_met};
 use crate::place::Place;
-use crate::slot::{Slot, overwrite};
+use crate::slot::{Slot, give_back, give_pages_back, overwrite};
 use crate::spares::Spares;
 use crate::table_counts::TableCounts;
 use gv_types::PageRange;
@@ -94,6 +94,25 @@ fn release_part(
             counts.lower(0);
         }
         Slot::Table(_) => unreachable!(),
+        Slot::Empty | Slot::Zero { .. } | Slot::Buffer { .. } => {}
+    }
+}
+
+/// Empties a slot, and gives its tables back to the system, one after another. What they hold is not emptied before.
+#[inline(never)]
+pub fn give_up(slot: &mut Slot, level: usize)
+    ensures { slot.new ≡ Empty }
+{
+    match mem::replace(slot, Slot::Empty) {
+        Slot::Pages(table) => give_pages_back(table),
+        Slot::Table(mut slots) => {
+            if level > 0 {
+                for index in 0..SLOTS {
+                    give_up(&mut slots[index], level - 1);
+                }
+            }
+            give_back(slots);
+        }
         Slot::Empty | Slot::Zero { .. } | Slot::Buffer { .. } => {}
     }
 }

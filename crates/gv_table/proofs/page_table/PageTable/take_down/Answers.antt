@@ -1,4 +1,4 @@
-use Rattle.std.proofs.Common.{◌≡◌, [], refl, arith, subst, sym}
+use Rattle.std.proofs.Common.{◌≡◌, [], refl, subst, sym, ◌∙◌}
 use Rattle.gv_table.specs.declared.slot.Slot.{Slot}
 use Rattle.gv_table.specs.declared.slot.Slot.TheVariants.{Empty}
 use Rattle.gv_table.specs.Named.{named, AreLeavesTold}
@@ -16,11 +16,10 @@ use Rattle.gv_table.proofs.page_table.PageTable.take_down.Goals as goal
 
 pub invariant_of-self : goal.invariant_of-self
 invariant_of-self c =
-    let emptied = c.clear.ensures.emptied in
+    let emptied = c.give_up.ensures in
     record {
-      counted = λ target.
-          let none : tables_at target 5 c.clear.new.slot ≡ 0 = subst (λ (s : Slot). tables_at target 5 s ≡ 0) (sym emptied) (tables_at-other target 5 Empty is_table-Empty) in
-          omega (arith, none, c.clear.ensures.counted target, c.self.invariant.counted target);
+      counted = λ target. c.new-self-inside.ensures target ∙
+          sym (subst (λ (s : Slot). tables_at target 5 s ≡ 0) (sym emptied) (tables_at-other target 5 Empty is_table-Empty));
       shaped = subst (IsShaped 5) (sym emptied) (shaped-other 5 Empty is_table-Empty);
       told = subst (AreLeavesTold 5) (sym emptied) (empty-told 5);
       named = c.self.invariant.named;
@@ -29,5 +28,5 @@ invariant_of-self c =
 pub returns : goal.returns
 returns c =
     let names = c.self.inside.names.items in
-    subst (λ (s : Slot). IsTreeOf [] 5 0 (named names s)) (sym c.clear.ensures.emptied)
+    subst (λ (s : Slot). IsTreeOf [] 5 0 (named names s)) (sym c.give_up.ensures)
     (subst (λ (s : Slot). IsTreeOf [] 5 0 s) (sym (named-Empty names)) (IsTreeOf-nothing [] 5 0 Empty (wanted-nothing [] 5 0 refl) refl))
