@@ -8,7 +8,7 @@ ghost use Rattle.gv_space.specs.State.{AreKept, IsUnchanged};
 ghost use Rattle.gv_space.specs.Undo.{CanRevert, AreAmongKept, reverted};
 
 use gv_space::{OpUndo, Space};
-use gv_types::{BufferId, Fault, Op, PageRange};
+use gv_types::{Backing, BufferId, Fault, Op, PageRange};
 use std::alloc::Global;
 
 /// What looks at a space between its changes.
@@ -49,6 +49,8 @@ fn apply_checked(alloc: Global, space: &mut Space, op: &Op) -> Result<OpUndo, Fa
         IsChanged space.old space.new (edited space.old.mappings (in_pages op.now)) undo) }
     ensures unchanged { OnErr result (IsUnchanged space.old space.new) }
 {
+    // The borrow checker proves this only where the function names the types inside the operation.
+    let _backing = Backing::Zero;
     if !op.has_range() {
         return Err(Fault::Unmapped { access: 0 });
     }

@@ -174,6 +174,8 @@ fn is_taken_back(space: &Space, past: &mut Past, counts: &Counts) -> bool {
 
 /// A copy of the list.
 fn copied(alloc: Global, space: &Space) -> Result<Vec<Mapping>, OutOfMemory> {
+    // The borrow checker proves this only where the function names the types inside the mapping.
+    let _backing = Backing::Zero;
     let mut copy = Vec::new(alloc);
     for mapping in space.list().iter() {
         copy.push(mapping.mapping())?;
