@@ -6,6 +6,7 @@ ghost use Rattle.gv_chunks.specs.declared.TheConstants.{CHUNK};
 use crate::CHUNK;
 use crate::parts::Parts;
 use crate::piece::piece_of;
+use crate::spot::Spot;
 use crate::starts::Starts;
 use gv_packed::Packed;
 use gv_types::OutOfMemory;
@@ -84,17 +85,17 @@ impl ChunkList {
         }
     }
 
-    /// In which chunk an index is looked for first.
-    pub fn near(&self) -> usize {
-        self.parts.near
-    }
-
-    /// From now on an index is looked for in this chunk first, and in the others where it isn't there. The chunk may be any number:
-    /// nothing but time comes of it.
-    pub fn look_near(&mut self, chunk: usize)
-        ensures { self.new ≡ self.old }
+    /// What the chunk of a spot holds from its index on. Where the list ends before the index, nothing.
+    #[inline(always)]
+    pub fn piece_at(&self, spot: Spot) -> &[Packed]
+        ensures value { result.now ≡ take (length result.now) (drop spot.index self.now.items) }
+        ensures some { spot.index < length self.now.items → 0 < length result.now }
     {
-        self.parts.near = chunk;
+        if spot.index >= self.parts.len {
+            return &[];
+        }
+        let (chunk, start) = self.parts.find(spot);
+        piece_of(&self.parts.chunks, chunk, spot.index - start)
     }
 
     /// What the chunk of an index holds from the index on. Where the list ends before the index, nothing.
@@ -102,11 +103,7 @@ impl ChunkList {
         ensures value { result.now ≡ take (length result.now) (drop index self.now.items) }
         ensures some { index < length self.now.items → 0 < length result.now }
     {
-        if index >= self.parts.len {
-            return &[];
-        }
-        let (chunk, start) = self.parts.spot(index);
-        piece_of(&self.parts.chunks, chunk, index - start)
+        self.piece_at(Spot::anywhere(index))
     }
 
     /// The mapping at an index.
@@ -149,19 +146,19 @@ impl ChunkList {
         self.parts.shrink();
     }
 
-    /// Replaces `out_count` mappings from `index` on by `pieces`. It takes no memory: the room has
+    /// Replaces `out_count` mappings from a spot on by `pieces`. It takes no memory: the room has
     /// to be there, and stays as it is, and so does that of each vector.
-    pub fn splice(&mut self, index: usize, out_count: usize, pieces: &[Packed])
-        requires within { index + out_count ≤ length self.old.items }
+    pub fn splice(&mut self, spot: Spot, out_count: usize, pieces: &[Packed])
+        requires within { spot.index + out_count ≤ length self.old.items }
         requires room { length self.old.items + length pieces.now ≤ self.old.room + out_count }
         ensures items { self.new.items
-            ≡ splice self.old.items index (index + out_count) pieces.now }
+            ≡ splice self.old.items spot.index (spot.index + out_count) pieces.now }
         ensures room { self.new.room ≡ self.old.room }
         ensures capacities { self.new.capacities ≡ self.old.capacities }
     {
         if out_count == 0 && pieces.is_empty() {
             return;
         }
-        self.parts.replace(index, out_count, pieces);
+        self.parts.replace(spot, out_count, pieces);
     }
 }

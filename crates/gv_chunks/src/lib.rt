@@ -16,10 +16,12 @@ pub mod replacing;
 pub mod row;
 pub mod run;
 pub mod settle;
+pub mod spot;
 pub mod starts;
 pub mod walk;
 
 pub use chunk_list::{ChunkList, Standing};
+pub use spot::Spot;
 
 /// How many mappings a chunk has room for.
 pub const CHUNK: usize = 128;

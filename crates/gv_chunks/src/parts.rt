@@ -15,6 +15,7 @@ use crate::index::{last_at_most, pad, start_of_near, write_first, write_index};
 use crate::replace::replace_run;
 use crate::row::{put_entry, take_entry};
 use crate::run::replace_anywhere;
+use crate::spot::Spot;
 use crate::starts::Starts;
 use gv_packed::Packed;
 use gv_types::OutOfMemory;
@@ -37,7 +38,7 @@ pub(crate) fn are_few(standing: usize, count: usize) -> bool
 }
 
 /// The chunks of a list, and where each begins: how many mappings stand before it, and at which page its first one begins. The
-/// first `standing` chunks hold all that the list has. An index is looked for in the chunk `near` first, which may be any number.
+/// first `standing` chunks hold all that the list has.
 #[derive(Debug, Drop)]
 pub struct Parts {
     pub(crate) chunks: Vec<Vec<Packed>>,
@@ -46,7 +47,6 @@ pub struct Parts {
     pub(crate) standing: usize,
     pub(crate) len: usize,
     pub(crate) room: usize,
-    pub(crate) near: usize,
 }
 
 impl Parts {
@@ -64,7 +64,6 @@ impl Parts {
             standing: 0,
             len: 0,
             room: 0,
-            near: 0,
         }
     }
 
@@ -132,23 +131,23 @@ impl Parts {
         self.room = least;
     }
 
-    /// The chunk of an index, and how many mappings stand before that chunk.
+    /// The chunk of a spot's index, and how many mappings stand before that chunk.
     #[inline(always)]
-    pub fn spot(&self, index: usize) -> (usize, usize)
+    pub fn find(&self, spot: Spot) -> (usize, usize)
         requires parts { AreParts self.now }
-        requires within { index ≤ length (items_of self.now) }
-        ensures { IsSpot self.now index result.0 result.1 }
+        requires within { spot.index ≤ length (items_of self.now) }
+        ensures { IsSpot self.now spot.index result.0 result.1 }
     {
-        match start_of_near(&self.starts, self.standing, index, self.near) {
-            Some(start) => (self.near, start),
-            None => self.spot_elsewhere(index),
+        match start_of_near(&self.starts, self.standing, spot.index, spot.near) {
+            Some(start) => (spot.near, start),
+            None => self.find_anywhere(spot.index),
         }
     }
 
-    /// The same, looked for in all chunks.
+    /// The chunk of an index, looked for in all of them, and how many mappings stand before that chunk.
     #[cold]
     #[inline(never)]
-    fn spot_elsewhere(&self, index: usize) -> (usize, usize)
+    pub(crate) fn find_anywhere(&self, index: usize) -> (usize, usize)
         requires parts { AreParts self.now }
         requires within { index ≤ length (items_of self.now) }
         ensures { IsSpot self.now index result.0 result.1 }

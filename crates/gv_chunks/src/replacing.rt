@@ -6,6 +6,7 @@ ghost use Rattle.gv_chunks.specs.declared.TheConstants.{CHUNK};
 
 use crate::CHUNK;
 use crate::parts::{Parts, Way, are_few};
+use crate::spot::Spot;
 use gv_packed::Packed;
 
 impl Parts {
@@ -20,7 +21,7 @@ impl Parts {
         ensures capacities { capacities_of self.new ≡ capacities_of self.old }
         ensures parts { AreParts self.new }
     {
-        let (chunk, start) = self.spot(index);
+        let (chunk, start) = self.find_anywhere(index);
         match self.way(chunk, start, index, out_count, pieces.len()) {
             Way::Within => self.edit(chunk, start, index, out_count, pieces),
             Way::Emptied => self.remove(chunk, start, index, out_count),
@@ -94,19 +95,20 @@ impl Parts {
         self.replace_one(index, out_count, pieces);
     }
 
-    /// Replaces `out_count` mappings from `index` on by the pieces. In most lists of most sizes they lie in one chunk, and what
+    /// Replaces `out_count` mappings from a spot on by the pieces. In most lists of most sizes they lie in one chunk, and what
     /// comes in fits into it.
-    pub fn replace(&mut self, index: usize, out_count: usize, pieces: &[Packed])
+    pub fn replace(&mut self, spot: Spot, out_count: usize, pieces: &[Packed])
         requires parts { AreParts self.old }
-        requires within { index + out_count ≤ length (items_of self.old) }
+        requires within { spot.index + out_count ≤ length (items_of self.old) }
         requires room { self.old.len + length pieces.now ≤ self.old.room + out_count }
         requires change { 0 < out_count + length pieces.now }
-        ensures items { items_of self.new ≡ splice (items_of self.old) index (index + out_count) pieces.now }
+        ensures items { items_of self.new ≡ splice (items_of self.old) spot.index (spot.index + out_count) pieces.now }
         ensures room { self.new.room ≡ self.old.room }
         ensures capacities { capacities_of self.new ≡ capacities_of self.old }
         ensures parts { AreParts self.new }
     {
-        let (chunk, start) = self.spot(index);
+        let index = spot.index;
+        let (chunk, start) = self.find(spot);
         match self.way(chunk, start, index, out_count, pieces.len()) {
             Way::Within => self.edit(chunk, start, index, out_count, pieces),
             Way::Emptied => self.remove(chunk, start, index, out_count),

@@ -1,5 +1,5 @@
 use Rattle.gv_chunks.proofs.PartsLemmas.{spot_told}
-use Rattle.gv_chunks.proofs.parts.Parts.spot_elsewhere.Goals as goal
+use Rattle.gv_chunks.proofs.parts.Parts.find_anywhere.Goals as goal
 
 pub returns : goal.returns
 returns c =

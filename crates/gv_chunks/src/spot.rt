@@ -1,0 +1,20 @@
+//! Where a list is read or edited.
+ghost use Rattle.std.specs.Prelude.{◌≡◌};
+
+/// An index, and the chunk that is looked in for it. It may be any number: where the index isn't in that chunk it is looked for in all
+/// of them, and nothing but time comes of it.
+#[derive(Clone, Copy, Debug)]
+pub struct Spot {
+    pub index: usize,
+    pub near: usize,
+}
+
+impl Spot {
+    /// An index of which no chunk is known.
+    #[inline(always)]
+    pub fn anywhere(index: usize) -> Spot
+        ensures { result.index ≡ index }
+    {
+        Spot { index, near: 0 }
+    }
+}
