@@ -8,7 +8,9 @@ ghost use Rattle.gv_types.specs.declared.mapping.Mapping.{Mapping};
 ghost use Rattle.gv_chunks.specs.Chunks.{chunks_joined, AreFilled, AreStarts, AreFirsts};
 ghost use Rattle.gv_ranges.specs.List.{at, first_behind, IsLaidOut, IsOverlappingRun};
 
+use crate::cut::Cut;
 use crate::search::{count_begun, count_ended, entry_at, first_behind_in, step_past};
+use gv_chunks::Spot;
 use gv_chunks::chunk_list::Standing;
 use gv_packed::Packed;
 use gv_types::{Entry, PageRange, SPACE_PAGES};
@@ -42,7 +44,7 @@ fn near_chunk_of_page(chunks: &[Vec<Packed>], firsts: &[u64], page: u64) -> (usi
 
 /// The last chunk whose first mapping begins at `page` or before it, or the first chunk. The last steps halve what is left,
 /// whatever they find.
-fn chunk_of_page(chunks: &[Vec<Packed>], firsts: &[u64], page: u64) -> usize
+pub(crate) fn chunk_of_page(chunks: &[Vec<Packed>], firsts: &[u64], page: u64) -> usize
     requires filled { AreFilled chunks.now }
     requires firsts { AreFirsts firsts.now chunks.now }
     requires laid_out { IsLaidOut (chunks_joined chunks.now) }
@@ -60,43 +62,6 @@ fn chunk_of_page(chunks: &[Vec<Packed>], firsts: &[u64], page: u64) -> usize
         left -= half;
     }
     chunk
-}
-
-/// Whether a chunk is the last one whose first mapping begins at `page` or before it.
-fn is_chunk_of_page(chunks: &[Vec<Packed>], firsts: &[u64], chunk: usize, page: u64) -> bool
-    requires filled { AreFilled chunks.now }
-    requires firsts { AreFirsts firsts.now chunks.now }
-    requires laid_out { IsLaidOut (chunks_joined chunks.now) }
-    ensures within { IsTrue result → chunk < length chunks.now }
-    ensures ended { IsTrue result → All (λ m. end_of m.range ≤ page) (chunks_joined (take chunk chunks.now)) }
-    ensures later { IsTrue result → All (λ m. page < m.range.first) (chunks_joined (drop (chunk + 1) chunks.now)) }
-{
-    if chunk >= chunks.len() || page < firsts[chunk] {
-        return false;
-    }
-    chunk + 1 == chunks.len() || page < firsts[chunk + 1]
-}
-
-/// As `chunk_of_page`, given a guess, which may be any number: it is searched for only where it isn't that one.
-pub(crate) fn chunk_near_page(
-    chunks: &[Vec<Packed>],
-    firsts: &[u64],
-    guess: usize,
-    page: u64,
-) -> usize
-    requires filled { AreFilled chunks.now }
-    requires firsts { AreFirsts firsts.now chunks.now }
-    requires laid_out { IsLaidOut (chunks_joined chunks.now) }
-    requires some { 0 < length chunks.now }
-    requires page { page ≤ PAGES }
-    ensures within { result < length chunks.now }
-    ensures ended { All (λ m. end_of m.range ≤ page) (chunks_joined (take result chunks.now)) }
-    ensures later { All (λ m. page < m.range.first) (chunks_joined (drop (result + 1) chunks.now)) }
-{
-    if is_chunk_of_page(chunks, firsts, guess, page) {
-        return guess;
-    }
-    chunk_of_page(chunks, firsts, page)
 }
 
 /// What a list in order that stands in chunks holds at a page.
@@ -175,25 +140,27 @@ fn count_begun_in(standing: Standing<'_>, chunk: usize, from: usize, page: u64) 
     standing.starts.get(last) + count
 }
 
-/// The index of the first mapping that meets the range, in the list that the chunks are together, and how many do. The chunk of the
-/// range's first page is guessed.
-pub(crate) fn overlapping_in(
-    standing: Standing<'_>,
-    guess: usize,
-    range: PageRange,
-) -> (usize, usize)
+/// Where the range meets the list that the chunks are together.
+#[inline(always)]
+pub(crate) fn cut_in(standing: Standing<'_>, range: PageRange) -> Cut
     requires filled { AreFilled standing.chunks.now }
     requires starts { AreStarts standing.starts.now.numbers standing.chunks.now }
     requires firsts { AreFirsts standing.firsts.now standing.chunks.now }
     requires laid_out { IsLaidOut (chunks_joined standing.chunks.now) }
-    ensures { IsOverlappingRun (chunks_joined standing.entry.chunks.now) range result.0 result.1 }
+    ensures { IsOverlappingRun (chunks_joined standing.entry.chunks.now) range result.spot.index result.count }
 {
     if standing.chunks.is_empty() {
-        return (0, 0);
+        return Cut {
+            spot: Spot::anywhere(0),
+            count: 0,
+        };
     }
-    let chunk = chunk_near_page(standing.chunks, standing.firsts, guess, range.first());
-    let ended = count_ended(&standing.chunks[chunk], range.first());
-    let index = standing.starts.get(chunk) + ended;
-    let behind = count_begun_in(standing, chunk, ended, range.end());
-    (index, behind - index)
+    let near = chunk_of_page(standing.chunks, standing.firsts, range.first());
+    let ended = count_ended(&standing.chunks[near], range.first());
+    let index = standing.starts.get(near) + ended;
+    let behind = count_begun_in(standing, near, ended, range.end());
+    Cut {
+        spot: Spot { index, near },
+        count: behind - index,
+    }
 }

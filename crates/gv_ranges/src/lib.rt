@@ -2,6 +2,7 @@
 #![tactic(auto)]
 
 mod chunk_search;
+mod cut;
 pub mod laws;
 mod range_list;
 mod reader;
@@ -9,6 +10,7 @@ mod rest;
 mod run;
 mod search;
 
+pub use cut::Cut;
 pub use range_list::RangeList;
 pub use reader::Reader;
 pub use rest::{next_rest, prev_rest};

@@ -4,9 +4,10 @@ ghost use Rattle.std.specs.Prelude.{max, MatchOption, None, Some, OnOk, OnErr};
 ghost use Rattle.gv_types.specs.declared.mapping.Mapping.{Mapping};
 ghost use Rattle.gv_chunks.specs.declared.TheConstants.{CHUNK};
 
-use crate::chunk_search::{chunk_near_page, entry_in, first_behind_of, overlapping_in};
+use crate::chunk_search::{chunk_of_page, cut_in, entry_in, first_behind_of};
+use crate::cut::Cut;
 use crate::run::Run;
-use gv_chunks::ChunkList;
+use gv_chunks::{ChunkList, Spot};
 use gv_packed::Packed;
 use gv_types::{Entry, OutOfMemory, PageRange, SPACE_PAGES};
 use std::alloc::Global;
@@ -70,12 +71,31 @@ impl RangeList {
         self.list.piece(index)
     }
 
+    /// The mappings from a spot on that stand in one block of memory with the one at it.
+    #[inline(always)]
+    pub fn piece_at(&self, spot: Spot) -> &[Packed]
+        requires { spot.index ≤ length self.now.mappings }
+        ensures value { result.now ≡ take (length result.now) (drop spot.index self.now.mappings) }
+        ensures some { spot.index < length self.now.mappings → 0 < length result.now }
+    {
+        self.list.piece_at(spot)
+    }
+
     /// The `count` mappings from an index on, one after another.
     pub fn run(&self, index: usize, count: usize) -> Run<'_>
         requires { index + count ≤ length self.now.mappings }
         ensures { result ≡ run self.now.mappings index count }
     {
         Run::new(self, index, count)
+    }
+
+    /// The `count` mappings from a spot on, one after another.
+    #[inline(always)]
+    pub fn run_at(&self, spot: Spot, count: usize) -> Run<'_>
+        requires { spot.index + count ≤ length self.now.mappings }
+        ensures { result ≡ run self.now.mappings spot.index count }
+    {
+        Run::at(self, spot, count)
     }
 
     /// All mappings, in ascending order.
@@ -115,17 +135,25 @@ impl RangeList {
         first_behind_of(self.list.chunks(), page)
     }
 
-    /// Tells that the next calls are about a page or what lies near it: the block of memory that holds it is looked up once for all
-    /// of them. Without this call they answer the same.
-    pub fn seek(&mut self, page: u64)
-        ensures { self.new ≡ self.old }
+    /// The spot of an index, near which a page lies: where the block of memory that holds the page holds the index, no call has to
+    /// search for it.
+    pub fn spot(&self, index: usize, page: u64) -> Spot
+        ensures { result.index ≡ index }
     {
         let standing = self.list.chunks();
         if page >= SPACE_PAGES || standing.chunks.is_empty() {
-            return;
+            return Spot::anywhere(index);
         }
-        let chunk = chunk_near_page(standing.chunks, standing.firsts, self.list.near(), page);
-        self.list.look_near(chunk);
+        let near = chunk_of_page(standing.chunks, standing.firsts, page);
+        Spot { index, near }
+    }
+
+    /// Where the range meets the list. One search, and a look at each of the mappings that meet it; the calls for the spot search no more.
+    #[inline(always)]
+    pub fn cut(&self, range: PageRange) -> Cut
+        ensures { IsOverlappingRun self.now.mappings range result.spot.index result.count }
+    {
+        cut_in(self.list.chunks(), range)
     }
 
     /// The index of the first mapping that meets the range, and how many mappings do. Where none
@@ -134,7 +162,8 @@ impl RangeList {
     pub fn overlapping(&self, range: PageRange) -> (usize, usize)
         ensures { IsOverlappingRun self.now.mappings range result.0 result.1 }
     {
-        overlapping_in(self.list.chunks(), self.list.near(), range)
+        let Cut { spot, count } = self.cut(range);
+        (spot.index, count)
     }
 
     /// Gives room back that no mapping needs: it has room for just its mappings then, or for a little more than a block of memory holds.
@@ -157,6 +186,20 @@ impl RangeList {
             ≡ splice self.old.mappings index (index + out_count) pieces.now }
         ensures room { self.new.room ≡ self.old.room }
     {
-        self.list.splice(index, out_count, pieces);
+        self.splice_at(Spot::anywhere(index), out_count, pieces);
+    }
+
+    /// The same from a spot on.
+    #[inline(always)]
+    pub fn splice_at(&mut self, spot: Spot, out_count: usize, pieces: &[Packed])
+        requires within { spot.index + out_count ≤ length self.old.mappings }
+        requires room { length self.old.mappings + length pieces.now ≤ self.old.room + out_count }
+        requires laid_out { IsLaidOut
+            (splice self.old.mappings spot.index (spot.index + out_count) pieces.now) }
+        ensures mappings { self.new.mappings
+            ≡ splice self.old.mappings spot.index (spot.index + out_count) pieces.now }
+        ensures room { self.new.room ≡ self.old.room }
+    {
+        self.list.splice(spot, out_count, pieces);
     }
 }

@@ -4,6 +4,7 @@ ghost use Rattle.std.specs.Iterator.{YieldsFirstRef, item_count};
 ghost use Rattle.gv_ranges.specs.List.{run};
 
 use crate::RangeList;
+use gv_chunks::Spot;
 use gv_packed::Packed;
 use std::iter::FusedIterator;
 use std::marker::Model;
@@ -43,6 +44,22 @@ impl<'a> Run<'a> {
             end: index + count,
             left: count,
             block: &[],
+        }
+    }
+
+    /// The `count` mappings of a list from a spot on.
+    #[inline(always)]
+    pub(crate) fn at(list: &'a RangeList, spot: Spot, count: usize) -> Run<'a>
+        requires { spot.index + count ≤ length list.now.mappings }
+        ensures { result ≡ run list.now.mappings spot.index count }
+    {
+        // Tells that indices are numbers of a machine.
+        let _len = list.len();
+        Run {
+            list,
+            end: spot.index + count,
+            left: count,
+            block: list.piece_at(spot),
         }
     }
 }

@@ -3,26 +3,26 @@ use Rattle.gv_ranges.specs.List.{IsIndexOfPage}
 use Rattle.gv_chunks.specs.Chunks.{chunks_joined}
 use Rattle.gv_ranges.proofs.JoinedLemmas.{laid_out-chunk, few_before, placed-in_chunk}
 use Rattle.gv_ranges.proofs.Indices.{indices_rise, run_between}
-use Rattle.gv_ranges.proofs.chunk_search.overlapping_in.Goals as goal
+use Rattle.gv_ranges.proofs.chunk_search.cut_in.Goals as goal
 
 pub count_ended-ended-requires-clause-laid_out : goal.count_ended-ended-requires-clause-laid_out
 count_ended-ended-requires-clause-laid_out c =
-    laid_out-chunk c.args.standing.chunks.now c.chunk_near_page-chunk.result c.index-standing-chunk.result c.deref.result.now c.requires.laid_out c.chunk_near_page-chunk.ensures.within
+    laid_out-chunk c.args.standing.chunks.now c.chunk_of_page-near.result c.index-standing-near.result c.deref.result.now c.requires.laid_out c.chunk_of_page-near.ensures.within
     c.deref.ensures.value
 
 pub overflow_add-index : goal.overflow_add-index
 overflow_add-index c =
-    let few = few_before c.args.standing.chunks.now c.chunk_near_page-chunk.result c.count_ended-ended.result _ c.index-standing-chunk.result c.deref.result.now c.requires.laid_out c.chunk_near_page-chunk.ensures.within
-    c.deref.ensures.value c.count_ended-ended.ensures.within (c.requires.starts c.chunk_near_page-chunk.result 0 c.chunk_near_page-chunk.ensures.within).1 in
+    let few = few_before c.args.standing.chunks.now c.chunk_of_page-near.result c.count_ended-ended.result _ c.index-standing-near.result c.deref.result.now c.requires.laid_out c.chunk_of_page-near.ensures.within
+    c.deref.ensures.value c.count_ended-ended.ensures.within (c.requires.starts c.chunk_of_page-near.result 0 c.chunk_of_page-near.ensures.within).1 in
     omega (arith, few)
 
 -- how many mappings end before the range
 placed : (c : goal.After-count_begun_in-behind) → IsIndexOfPage (chunks_joined c.args.standing.chunks.now) c.args.range.first (c.get.result + c.count_ended-ended.result)
 placed c =
-    placed-in_chunk c.args.standing.chunks.now c.args.range.first c.chunk_near_page-chunk.result c.count_ended-ended.result _ c.index-standing-chunk.result c.deref.result.now c.chunk_near_page-chunk.ensures.within
+    placed-in_chunk c.args.standing.chunks.now c.args.range.first c.chunk_of_page-near.result c.count_ended-ended.result _ c.index-standing-near.result c.deref.result.now c.chunk_of_page-near.ensures.within
     c.deref.ensures.value (rw c.first-2.ensures.value at c.count_ended-ended.ensures)
-    (rw c.first.ensures.value at c.chunk_near_page-chunk.ensures.ended) (rw c.first.ensures.value at c.chunk_near_page-chunk.ensures.later)
-    (c.get.ensures 0 ∙ (c.requires.starts c.chunk_near_page-chunk.result 0 c.chunk_near_page-chunk.ensures.within).1)
+    (rw c.first.ensures.value at c.chunk_of_page-near.ensures.ended) (rw c.first.ensures.value at c.chunk_of_page-near.ensures.later)
+    (c.get.ensures 0 ∙ (c.requires.starts c.chunk_of_page-near.result 0 c.chunk_of_page-near.ensures.within).1)
 
 pub overflow_sub-result : goal.overflow_sub-result
 overflow_sub-result c =
