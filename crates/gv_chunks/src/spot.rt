@@ -17,4 +17,15 @@ impl Spot {
     {
         Spot { index, near: 0 }
     }
+
+    /// Another index, which is looked for in the same chunk.
+    #[inline(always)]
+    pub fn at(self, index: usize) -> Spot
+        ensures { result.index ≡ index }
+    {
+        Spot {
+            index,
+            near: self.near,
+        }
+    }
 }

@@ -81,6 +81,15 @@ impl RangeList {
         self.list.piece_at(spot)
     }
 
+    /// The mapping at a spot.
+    #[inline(always)]
+    pub fn get_at(&self, spot: Spot) -> &Packed
+        requires { spot.index < length self.now.mappings }
+        ensures { (d : Mapping) → result.now ≡ slice_index_or self.now.mappings spot.index d }
+    {
+        &self.piece_at(spot)[0]
+    }
+
     /// The `count` mappings from an index on, one after another.
     pub fn run(&self, index: usize, count: usize) -> Run<'_>
         requires { index + count ≤ length self.now.mappings }
@@ -135,17 +144,13 @@ impl RangeList {
         first_behind_of(self.list.chunks(), page)
     }
 
-    /// The spot of an index, near which a page lies: where the block of memory that holds the page holds the index, no call has to
-    /// search for it.
-    pub fn spot(&self, index: usize, page: u64) -> Spot
-        ensures { result.index ≡ index }
-    {
+    /// The block of memory in which a page lies, for the spot of an index that lies there too: the calls for it need not search then.
+    pub fn near(&self, page: u64) -> usize {
         let standing = self.list.chunks();
         if page >= SPACE_PAGES || standing.chunks.is_empty() {
-            return Spot::anywhere(index);
+            return 0;
         }
-        let near = chunk_of_page(standing.chunks, standing.firsts, page);
-        Spot { index, near }
+        chunk_of_page(standing.chunks, standing.firsts, page)
     }
 
     /// Where the range meets the list. One search, and a look at each of the mappings that meet it; the calls for the spot search no more.

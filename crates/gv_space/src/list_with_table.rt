@@ -66,13 +66,6 @@ impl ListWithTable {
         &self.list
     }
 
-    /// Tells that the next calls are about a page or what lies near it.
-    pub fn seek(&mut self, page: u64)
-        ensures { self.new ≡ self.old }
-    {
-        self.list.seek(page);
-    }
-
     /// The page table.
     pub fn table(&self) -> &PageTable
         ensures { IsTree self.now.mappings result.now }

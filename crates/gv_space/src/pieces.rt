@@ -8,7 +8,7 @@ ghost use Rattle.gv_ranges.specs.Edit.{clipped, restored};
 ghost use Rattle.gv_space.specs.Refusal.{count_met};
 
 use gv_packed::Packed;
-use gv_ranges::{RangeList, next_rest, prev_rest};
+use gv_ranges::{Cut, RangeList, next_rest, prev_rest};
 use gv_types::{OutOfMemory, PageRange};
 use smallvec::SmallVec;
 use std::array::from_ref;
@@ -36,24 +36,19 @@ pub fn as_pieces(mapping: &Option<Packed>) -> &[Packed]
     }
 }
 
-/// Copies the `count` mappings of a list from an index on to where they stay, which asks for just their room. Mostly they stand in one
-/// block of memory.
-pub fn copy_run(
-    pieces: &mut Pieces,
-    list: &RangeList,
-    index: usize,
-    count: usize,
-) -> Result<(), OutOfMemory>
+/// Copies the mappings of a cut to where they stay, which asks for just their room. Mostly they stand in one block of memory.
+pub fn copy_run(pieces: &mut Pieces, list: &RangeList, cut: Cut) -> Result<(), OutOfMemory>
     requires none { pieces.old.items ≡ [] }
-    requires within { index + count ≤ length list.now.mappings }
-    ensures { OnOk result (pieces.new.items ≡ run list.now.mappings index count) }
+    requires within { cut.spot.index + cut.count ≤ length list.now.mappings }
+    ensures { OnOk result (pieces.new.items ≡ run list.now.mappings cut.spot.index cut.count) }
 {
+    let Cut { spot, count } = cut;
     pieces.reserve_exact(count)?;
-    let block = list.piece(index);
+    let block = list.piece_at(spot);
     if count <= block.len() {
         return Ok(pieces.extend_from_slice(&block[..count])?);
     }
-    for mapping in list.run(index, count) {
+    for mapping in list.run_at(spot, count) {
         pieces.push(*mapping)?;
     }
     Ok(())

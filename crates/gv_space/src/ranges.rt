@@ -5,8 +5,9 @@ ghost use Rattle.gv_types.specs.declared.mapping.Mapping.{Mapping};
 ghost use Rattle.gv_space.specs.Counts.{count_of, ranges_of};
 ghost use Rattle.gv_space.specs.Placed.{AreFound};
 
+use gv_chunks::Spot;
 use gv_packed::Packed;
-use gv_ranges::RangeList;
+use gv_ranges::{Cut, RangeList};
 use gv_types::{Backing, BufferId, OutOfMemory, PageRange};
 use smallvec::SmallVec;
 use std::alloc::Global;
@@ -82,25 +83,25 @@ fn push_placed(
     let _backing = Backing::Zero;
     // Tells that the list's length is a number of a machine.
     let _len = list.len();
-    let Some(index) = index_of(list, *id, page, from) else {
+    let Some(spot) = spot_of(list, *id, page, from) else {
         return Ok(from);
     };
-    mappings.push(*list.get(index))?;
-    Ok(index + 1)
+    mappings.push(*list.get_at(spot))?;
+    Ok(spot.index + 1)
 }
 
-/// The index of the mapping in which a page lies, if it is the buffer's, and stands at `from` or behind it.
-fn index_of(list: &RangeList, id: BufferId, page: u64, from: usize) -> Option<usize>
-    ensures behind { IfSome result (λ index. from ≤ index) }
-    ensures within { IfSome result (λ index. index < length list.now.mappings) }
-    ensures is_of { IfSome result (λ index. (d : Mapping)
-        → is_of id (slice_index_or list.now.mappings index d).backing ≡ true) }
+/// The spot of the mapping in which a page lies, if it is the buffer's, and stands at `from` or behind it.
+fn spot_of(list: &RangeList, id: BufferId, page: u64, from: usize) -> Option<Spot>
+    ensures behind { IfSome result (λ spot. from ≤ spot.index) }
+    ensures within { IfSome result (λ spot. spot.index < length list.now.mappings) }
+    ensures is_of { IfSome result (λ spot. (d : Mapping)
+        → is_of id (slice_index_or list.now.mappings spot.index d).backing ≡ true) }
 {
-    let (index, met) = list.overlapping(PageRange::new(page, 1)?);
-    if met == 0 || index < from || !list.get(index).is_of(id) {
+    let Cut { spot, count } = list.cut(PageRange::new(page, 1)?);
+    if count == 0 || spot.index < from || !list.get_at(spot).is_of(id) {
         return None;
     }
-    Some(index)
+    Some(spot)
 }
 
 /// The ranges of a buffer's first mappings.

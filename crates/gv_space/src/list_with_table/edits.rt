@@ -13,6 +13,7 @@ ghost use Rattle.gv_table.specs.Table.{IsTree, FitsOutside, gained_by, tables_st
 ghost use Rattle.gv_table.specs.declared.page_table.PageTable.{PageTable};
 
 use super::ListWithTable;
+use gv_chunks::Spot;
 use gv_packed::Packed;
 use gv_ranges::RangeList;
 use gv_table::{PageTable, Pool, Spares};
@@ -20,7 +21,7 @@ use gv_types::{Fault, PageRange};
 use std::alloc::Global;
 
 impl ListWithTable {
-    /// Replaces `out_count` mappings from `index` on by `pieces`, and paints the range. The mappings before the index have to
+    /// Replaces `out_count` mappings from a spot on by `pieces`, and paints the range. The mappings before it have to
     /// end before the range, and the list to stay as it is outside the range, and to have the pieces `inside` in it: nothing is searched.
     /// It answers the tables that left the tree: just those that the old list needs to be painted back. It takes memory for the
     /// tables that the tree may need, and before the first change. Those that are kept serve before any is made. `OutOfMemory`
@@ -29,25 +30,25 @@ impl ListWithTable {
         &mut self,
         alloc: Global,
         range: PageRange,
-        index: usize,
+        spot: Spot,
         out_count: usize,
         pieces: &[Packed],
         inside: &[Packed],
     ) -> Result<Spares, Fault>
-        requires within { index + out_count ≤ length self.old.mappings }
-        requires ended { AreEnded self.old.mappings range.first index }
+        requires within { spot.index + out_count ≤ length self.old.mappings }
+        requires ended { AreEnded self.old.mappings range.first spot.index }
         requires room { length self.old.mappings + length pieces.now ≤ self.old.room + out_count }
         requires laid_out { IsLaidOut
-            (splice self.old.mappings index (index + out_count) pieces.now) }
+            (splice self.old.mappings spot.index (spot.index + out_count) pieces.now) }
         requires alike { AreAlikeOutside range self.old.mappings
-            (splice self.old.mappings index (index + out_count) pieces.now) }
+            (splice self.old.mappings spot.index (spot.index + out_count) pieces.now) }
         requires inside { clipped range.first (end_of range)
-            (splice self.old.mappings index (index + out_count) pieces.now) ≡ inside.now }
+            (splice self.old.mappings spot.index (spot.index + out_count) pieces.now) ≡ inside.now }
         requires sorted { IsLaidOut inside.now }
         requires named_inside { AreNamed self.old.names inside.now }
-        requires named { AreNamed self.old.names (splice self.old.mappings index (index + out_count) pieces.now) }
+        requires named { AreNamed self.old.names (splice self.old.mappings spot.index (spot.index + out_count) pieces.now) }
         ensures mappings { OnOk result (self.new.mappings
-            ≡ splice self.old.mappings index (index + out_count) pieces.now) }
+            ≡ splice self.old.mappings spot.index (spot.index + out_count) pieces.now) }
         ensures tables { IfOk result (λ tables. (table : PageTable) → IsTree self.new.mappings table
             → gained_by self.old.mappings table ≡ tables) }
         ensures err { IsOkUnless result Fault.OutOfMemory }
@@ -55,10 +56,10 @@ impl ListWithTable {
         ensures room { self.new.room ≡ self.old.room }
         ensures names { self.new.names ≡ self.old.names }
     {
-        if self.edit_ahead(range, index, out_count, pieces, inside) {
+        if self.edit_ahead(range, spot, out_count, pieces, inside) {
             return Ok(Spares::new());
         }
-        self.edit_anywhere(alloc, range, index, out_count, pieces, inside)
+        self.edit_anywhere(alloc, range, spot, out_count, pieces, inside)
     }
 
     /// The same, where the range lies in one table that stands and is to stay, and no table is gained or lost: whether it did, and if not,
@@ -67,26 +68,26 @@ impl ListWithTable {
     fn edit_ahead(
         &mut self,
         range: PageRange,
-        index: usize,
+        spot: Spot,
         out_count: usize,
         pieces: &[Packed],
         inside: &[Packed],
     ) -> bool
-        requires within { index + out_count ≤ length self.old.mappings }
+        requires within { spot.index + out_count ≤ length self.old.mappings }
         requires room { length self.old.mappings + length pieces.now ≤ self.old.room + out_count }
         requires laid_out { IsLaidOut
-            (splice self.old.mappings index (index + out_count) pieces.now) }
+            (splice self.old.mappings spot.index (spot.index + out_count) pieces.now) }
         requires alike { AreAlikeOutside range self.old.mappings
-            (splice self.old.mappings index (index + out_count) pieces.now) }
+            (splice self.old.mappings spot.index (spot.index + out_count) pieces.now) }
         requires inside { clipped range.first (end_of range)
-            (splice self.old.mappings index (index + out_count) pieces.now)
+            (splice self.old.mappings spot.index (spot.index + out_count) pieces.now)
             ≡ clipped range.first (end_of range) inside.now }
         requires sorted { IsLaidOut inside.now }
         requires named_inside { AreNamed self.old.names inside.now }
-        requires named { AreNamed self.old.names (splice self.old.mappings index (index + out_count) pieces.now) }
+        requires named { AreNamed self.old.names (splice self.old.mappings spot.index (spot.index + out_count) pieces.now) }
         ensures not { result ≡ false → self.new ≡ self.old }
         ensures mappings { IsTrue result → self.new.mappings
-            ≡ splice self.old.mappings index (index + out_count) pieces.now }
+            ≡ splice self.old.mappings spot.index (spot.index + out_count) pieces.now }
         ensures tables { IsTrue result → (table : PageTable) → IsTree self.new.mappings table
             → gained_by self.old.mappings table ≡ none }
         ensures room { self.new.room ≡ self.old.room }
@@ -94,13 +95,13 @@ impl ListWithTable {
     {
         // Tells that the list is laid out.
         let _len = self.list.len();
-        let Some(some) = pages_of_one(&self.list, index, out_count, pieces) else {
+        let Some(some) = pages_of_one(&self.list, spot, out_count, pieces) else {
             return false;
         };
         if !self.table.paint_within(range, inside, some) {
             return false;
         }
-        self.list.splice(index, out_count, pieces);
+        self.list.splice_at(spot, out_count, pieces);
         true
     }
 
@@ -110,24 +111,24 @@ impl ListWithTable {
         &mut self,
         alloc: Global,
         range: PageRange,
-        index: usize,
+        spot: Spot,
         out_count: usize,
         pieces: &[Packed],
         inside: &[Packed],
     ) -> Result<Spares, Fault>
-        requires within { index + out_count ≤ length self.old.mappings }
-        requires ended { AreEnded self.old.mappings range.first index }
+        requires within { spot.index + out_count ≤ length self.old.mappings }
+        requires ended { AreEnded self.old.mappings range.first spot.index }
         requires room { length self.old.mappings + length pieces.now ≤ self.old.room + out_count }
         requires laid_out { IsLaidOut
-            (splice self.old.mappings index (index + out_count) pieces.now) }
+            (splice self.old.mappings spot.index (spot.index + out_count) pieces.now) }
         requires alike { AreAlikeOutside range self.old.mappings
-            (splice self.old.mappings index (index + out_count) pieces.now) }
+            (splice self.old.mappings spot.index (spot.index + out_count) pieces.now) }
         requires inside { clipped range.first (end_of range)
-            (splice self.old.mappings index (index + out_count) pieces.now) ≡ inside.now }
+            (splice self.old.mappings spot.index (spot.index + out_count) pieces.now) ≡ inside.now }
         requires sorted { IsLaidOut inside.now }
-        requires named { AreNamed self.old.names (splice self.old.mappings index (index + out_count) pieces.now) }
+        requires named { AreNamed self.old.names (splice self.old.mappings spot.index (spot.index + out_count) pieces.now) }
         ensures mappings { OnOk result (self.new.mappings
-            ≡ splice self.old.mappings index (index + out_count) pieces.now) }
+            ≡ splice self.old.mappings spot.index (spot.index + out_count) pieces.now) }
         ensures tables { IfOk result (λ tables. (table : PageTable) → IsTree self.new.mappings table
             → gained_by self.old.mappings table ≡ tables) }
         ensures err { IsOkUnless result Fault.OutOfMemory }
@@ -138,46 +139,46 @@ impl ListWithTable {
         // Tells that the list is laid out.
         let _len = self.list.len();
         let spares = self.table.spare_from(alloc, range, inside, &mut self.pool)?;
-        self.list.splice(index, out_count, pieces);
+        self.list.splice_at(spot, out_count, pieces);
         let (table, pool) = (&mut self.table, &mut self.pool);
-        Ok(paint(table, pool, &self.list, range, index, spares))
+        Ok(paint(table, pool, &self.list, range, spot.index, spares))
     }
 
-    /// Replaces `out_count` mappings from `index` on by `pieces`, and paints the range, as `edit` does, with tables that are enough for
+    /// Replaces `out_count` mappings from a spot on by `pieces`, and paints the range, as `edit` does, with tables that are enough for
     /// it. Those that leave the tree are kept for later. It takes no memory.
     pub fn put_back(
         &mut self,
         range: PageRange,
-        index: usize,
+        spot: Spot,
         out_count: usize,
         pieces: &[Packed],
         spares: Spares,
     )
-        requires within { index + out_count ≤ length self.old.mappings }
-        requires ended { AreEnded self.old.mappings range.first index }
+        requires within { spot.index + out_count ≤ length self.old.mappings }
+        requires ended { AreEnded self.old.mappings range.first spot.index }
         requires room { length self.old.mappings + length pieces.now ≤ self.old.room + out_count }
         requires laid_out { IsLaidOut
-            (splice self.old.mappings index (index + out_count) pieces.now) }
+            (splice self.old.mappings spot.index (spot.index + out_count) pieces.now) }
         requires alike { AreAlikeOutside range self.old.mappings
-            (splice self.old.mappings index (index + out_count) pieces.now) }
+            (splice self.old.mappings spot.index (spot.index + out_count) pieces.now) }
         requires inside { clipped range.first (end_of range)
-            (splice self.old.mappings index (index + out_count) pieces.now)
+            (splice self.old.mappings spot.index (spot.index + out_count) pieces.now)
             ≡ clipped range.first (end_of range) pieces.now }
         requires sorted { IsLaidOut pieces.now }
         requires named_pieces { AreNamed self.old.names pieces.now }
-        requires named { AreNamed self.old.names (splice self.old.mappings index (index + out_count) pieces.now) }
+        requires named { AreNamed self.old.names (splice self.old.mappings spot.index (spot.index + out_count) pieces.now) }
         requires enough { (table : PageTable) → IsTree self.old.mappings table
-            → AreEnough spares (gained_by (splice self.old.mappings index (index + out_count) pieces.now) table) }
+            → AreEnough spares (gained_by (splice self.old.mappings spot.index (spot.index + out_count) pieces.now) table) }
         ensures mappings { self.new.mappings
-            ≡ splice self.old.mappings index (index + out_count) pieces.now }
+            ≡ splice self.old.mappings spot.index (spot.index + out_count) pieces.now }
         ensures room { self.new.room ≡ self.old.room }
         ensures names { self.new.names ≡ self.old.names }
     {
-        if self.edit_ahead(range, index, out_count, pieces, pieces) {
+        if self.edit_ahead(range, spot, out_count, pieces, pieces) {
             self.keep(spares);
             return;
         }
-        self.put_back_anywhere(range, index, out_count, pieces, spares);
+        self.put_back_anywhere(range, spot, out_count, pieces, spares);
     }
 
     /// The same, wherever the range lies. Not inlined: nearly every edit takes the short road, whose frame stays small so.
@@ -185,53 +186,55 @@ impl ListWithTable {
     fn put_back_anywhere(
         &mut self,
         range: PageRange,
-        index: usize,
+        spot: Spot,
         out_count: usize,
         pieces: &[Packed],
         spares: Spares,
     )
-        requires within { index + out_count ≤ length self.old.mappings }
-        requires ended { AreEnded self.old.mappings range.first index }
+        requires within { spot.index + out_count ≤ length self.old.mappings }
+        requires ended { AreEnded self.old.mappings range.first spot.index }
         requires room { length self.old.mappings + length pieces.now ≤ self.old.room + out_count }
         requires laid_out { IsLaidOut
-            (splice self.old.mappings index (index + out_count) pieces.now) }
+            (splice self.old.mappings spot.index (spot.index + out_count) pieces.now) }
         requires alike { AreAlikeOutside range self.old.mappings
-            (splice self.old.mappings index (index + out_count) pieces.now) }
-        requires named { AreNamed self.old.names (splice self.old.mappings index (index + out_count) pieces.now) }
+            (splice self.old.mappings spot.index (spot.index + out_count) pieces.now) }
+        requires named { AreNamed self.old.names (splice self.old.mappings spot.index (spot.index + out_count) pieces.now) }
         requires enough { (table : PageTable) → IsTree self.old.mappings table
-            → AreEnough spares (gained_by (splice self.old.mappings index (index + out_count) pieces.now) table) }
+            → AreEnough spares (gained_by (splice self.old.mappings spot.index (spot.index + out_count) pieces.now) table) }
         ensures mappings { self.new.mappings
-            ≡ splice self.old.mappings index (index + out_count) pieces.now }
+            ≡ splice self.old.mappings spot.index (spot.index + out_count) pieces.now }
         ensures room { self.new.room ≡ self.old.room }
         ensures names { self.new.names ≡ self.old.names }
     {
         // Tells that the list is laid out.
         let _len = self.list.len();
-        self.list.splice(index, out_count, pieces);
+        self.list.splice_at(spot, out_count, pieces);
         let (table, pool) = (&mut self.table, &mut self.pool);
-        let left = paint(table, pool, &self.list, range, index, spares);
+        let left = paint(table, pool, &self.list, range, spot.index, spares);
         pool.put(left, table);
     }
 }
 
 /// Where one of the mappings lies that the list has once the pieces stand in a run's place, if it has any there or beside it.
+#[inline(always)]
 fn pages_of_one(
     list: &RangeList,
-    index: usize,
+    spot: Spot,
     out_count: usize,
     pieces: &[Packed],
 ) -> Option<PageRange>
-    requires { index + out_count ≤ length list.now.mappings }
-    ensures { IfSome result (HasMappingAt (splice list.now.mappings index (index + out_count) pieces.now)) }
+    requires { spot.index + out_count ≤ length list.now.mappings }
+    ensures { IfSome result (HasMappingAt (splice list.now.mappings spot.index (spot.index + out_count) pieces.now)) }
 {
     if !pieces.is_empty() {
         return Some(pieces[0].range());
     }
+    let index = spot.index;
     if index > 0 {
-        return Some(list.get(index - 1).range());
+        return Some(list.get_at(spot.at(index - 1)).range());
     }
     if out_count < list.len() {
-        return Some(list.get(out_count).range());
+        return Some(list.get_at(spot.at(out_count)).range());
     }
     None
 }

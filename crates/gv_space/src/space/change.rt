@@ -14,6 +14,7 @@ ghost use Rattle.gv_space.specs.Undo.{undo_with};
 use super::Space;
 use crate::counts;
 use crate::pieces::{Pieces, copy_run, with_rests};
+use gv_chunks::Spot;
 use gv_packed::Packed;
 use gv_table::Spares;
 use gv_types::{Fault, PageRange};
@@ -50,33 +51,9 @@ impl Space {
         ensures refused { IfErr result (λ fault. fault ≢ Fault.OutOfMemory → self.new ≡ self.old) }
         ensures room { GrowsJustFor (restored self.old.mappings range saved.now) self.old self.new }
     {
-        self.mapped.seek(range.first());
-        self.change_near(alloc, range, saved, taken)
-    }
-
-    /// The same, where the list was told what comes.
-    fn change_near(
-        &mut self,
-        alloc: Global,
-        range: PageRange,
-        saved: &[Packed],
-        taken: &mut Pieces,
-    ) -> Result<Made, Fault>
-        requires laid_out { IsLaidOut saved.now }
-        requires placed { All (IsPlaced self.old.area self.old.buffers) saved.now }
-        requires none { taken.old.items ≡ [] }
-        ensures fault { MatchOption (limit_fault self.old range (restored self.old.mappings range saved.now))
-            (IsOkUnless result Fault.OutOfMemory) (λ fault. result ≡ Err fault) }
-        ensures changed { IfOk result (λ made. IsChanged self.old self.new (restored self.old.mappings range saved.now)
-            (undo_with made.index made.put_in taken.new.items range made.tables)) }
-        ensures taken { OnOk result (IsLaidOut taken.new.items) }
-        ensures unchanged { OnErr result (IsUnchanged self.old self.new) }
-        ensures refused { IfErr result (λ fault. fault ≢ Fault.OutOfMemory → self.new ≡ self.old) }
-        ensures room { GrowsJustFor (restored self.old.mappings range saved.now) self.old self.new }
-    {
-        let (index, count) = self.list().overlapping(range);
-        self.check_limits(range, index, count, saved)?;
-        copy_run(taken, self.list(), index, count)?;
+        let cut = self.list().cut(range);
+        self.check_limits(range, cut, saved)?;
+        copy_run(taken, self.list(), cut)?;
         let mut pieces = SmallVec::new(alloc);
         let (start, end) = with_rests(&mut pieces, taken.as_slice(), saved, range)?;
         let pieces = pieces.as_slice();
@@ -84,9 +61,9 @@ impl Space {
         self.mapped
             .reserve(pieces.len().saturating_sub(taken.len()))?;
         counts::make_places(&mut self.buffers, pieces)?;
-        let tables = self.commit(alloc, range, index, taken.as_slice(), pieces, inside)?;
+        let tables = self.commit(alloc, range, cut.spot, taken.as_slice(), pieces, inside)?;
         Ok(Made {
-            index,
+            index: cut.spot.index,
             put_in: pieces.len(),
             tables,
         })
@@ -97,15 +74,15 @@ impl Space {
         &mut self,
         alloc: Global,
         range: PageRange,
-        index: usize,
+        spot: Spot,
         taken: &[Packed],
         pieces: &[Packed],
         inside: &[Packed],
     ) -> Result<Spares, Fault>
-        requires { IsReady inside.now self.old range index taken.now pieces.now }
+        requires { IsReady inside.now self.old range spot.index taken.now pieces.now }
         ensures changed { IfOk result (λ tables. IsChanged self.old self.new
-            (splice self.old.mappings index (index + length taken.now) pieces.now)
-            (undo_with index (length pieces.now) taken.now range tables)) }
+            (splice self.old.mappings spot.index (spot.index + length taken.now) pieces.now)
+            (undo_with spot.index (length pieces.now) taken.now range tables)) }
         ensures err { IsOkUnless result Fault.OutOfMemory }
         ensures unchanged { OnErr result (self.new ≡ self.old) }
         ensures room { self.new.room ≡ self.old.room }
@@ -113,7 +90,7 @@ impl Space {
         let count = taken.len();
         let tables = self
             .mapped
-            .edit(alloc, range, index, count, pieces, inside)?;
+            .edit(alloc, range, spot, count, pieces, inside)?;
         counts::move_counts(&mut self.buffers, taken, pieces);
         self.kept_count += count as u64;
         Ok(tables)

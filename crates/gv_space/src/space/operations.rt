@@ -18,6 +18,7 @@ use super::change::Made;
 use crate::counts;
 use crate::pieces::as_pieces;
 use crate::undo::OpUndo;
+use gv_chunks::Spot;
 use gv_packed::Packed;
 use gv_types::{Fault, Op, PageOp, PageRange};
 use smallvec::SmallVec;
@@ -134,19 +135,6 @@ impl Space {
         ensures kept { (others : List Mapping)
             → AreKept self.old (undo.change.taken ++ others) → AreKept self.new others }
     {
-        self.mapped.seek(undo.range.first());
-        self.revert_near(undo);
-    }
-
-    /// The same, where the list was told what comes.
-    fn revert_near(&mut self, undo: OpUndo)
-        requires { CanRevert self.old undo }
-        ensures state { self.new ≡ reverted self.old undo }
-        ensures undone { (before : List Mapping)
-            → IsUndoOf before self.old.mappings undo → self.new.mappings ≡ before }
-        ensures kept { (others : List Mapping)
-            → AreKept self.old (undo.change.taken ++ others) → AreKept self.new others }
-    {
         let OpUndo {
             index,
             put_in,
@@ -154,10 +142,13 @@ impl Space {
             taken,
             tables,
         } = undo;
-        let pieces = self.mapped.list().run(index, put_in);
+        let list = self.mapped.list();
+        let near = list.near(range.first());
+        let spot = Spot { index, near };
+        let pieces = list.run_at(spot, put_in);
         counts::move_counts_back(&mut self.buffers, pieces, taken.as_slice());
         self.mapped
-            .put_back(range, index, put_in, taken.as_slice(), tables);
+            .put_back(range, spot, put_in, taken.as_slice(), tables);
         self.kept_count -= taken.len() as u64;
     }
 

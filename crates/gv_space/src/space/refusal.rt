@@ -15,7 +15,7 @@ use super::Space;
 use crate::pieces::count_in_range;
 use gv_buffers::Buffers;
 use gv_packed::Packed;
-use gv_ranges::RangeList;
+use gv_ranges::{Cut, RangeList};
 use gv_types::{Backing, BufferId, Fault, Op, PageOp, PageRange, SPACE_PAGES};
 
 /// Undo values of one space hold at most so many mappings.
@@ -40,25 +40,25 @@ impl Space {
     }
 
     /// `TooManyMappings` where the list would pass its limit, or undo values would hold too much, once the saved mappings
-    /// stand in the range, which `count` mappings from an index on meet.
+    /// stand in the range, where the cut is that of the range.
     pub(super) fn check_limits(
         &self,
         range: PageRange,
-        index: usize,
-        count: usize,
+        cut: Cut,
         saved: &[Packed],
     ) -> Result<(), Fault>
         requires laid_out { IsLaidOut saved.now }
-        requires met { IsOverlappingRun self.now.mappings range index count }
+        requires met { IsOverlappingRun self.now.mappings range cut.spot.index cut.count }
         ensures { MatchOption (limit_fault self.now range (restored self.now.mappings range saved.now))
             (IsOk result) (λ fault. result ≡ Err fault) }
     {
         let list = self.list();
+        let Cut { spot, count } = cut;
         let limit = self.limits.mappings();
         let without_rests = list.len() - count + count_in_range(saved, range);
         // The rests are at most two, and counted near the limit alone.
         if (without_rests + 2) as u64 > limit
-            && (without_rests + count_rests(list, range, index, count)) as u64 > limit
+            && (without_rests + count_rests(list, range, spot.index, count)) as u64 > limit
         {
             return Err(Fault::TooManyMappings);
         }

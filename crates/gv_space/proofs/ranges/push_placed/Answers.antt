@@ -11,7 +11,7 @@ pub returns : goal.returns
 returns c =
     let ms = c.args.list.now.mappings in
     let items = c.args.mappings.now.items in
-    let it = c.get.result.now in
-    let found = found_next c.args.id.now ms items c.args.from c.in-Some.index it c.requires c.in-Some.ensures.behind c.in-Some.ensures.within (c.in-Some.ensures.is_of it) in
-    subst (λ (found : List Mapping). AreFound c.args.id.now ms found (c.in-Some.index + 1))
-    (ap (λ (m : Mapping). items ++ m ∷ []) (sym (c.get.ensures it)) ∙ sym c.in_ok-push.ensures.ok) found
+    let it = c.get_at.result.now in
+    let found = found_next c.args.id.now ms items c.args.from c.in-Some.spot.index it c.requires c.in-Some.ensures.behind c.in-Some.ensures.within (c.in-Some.ensures.is_of it) in
+    subst (λ (found : List Mapping). AreFound c.args.id.now ms found (c.in-Some.spot.index + 1))
+    (ap (λ (m : Mapping). items ++ m ∷ []) (sym (c.get_at.ensures it)) ∙ sym c.in_ok-push.ensures.ok) found

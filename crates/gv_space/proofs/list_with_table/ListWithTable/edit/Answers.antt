@@ -10,7 +10,7 @@ pub edit_ahead-requires-clause-inside : goal.edit_ahead-requires-clause-inside
 edit_ahead-requires-clause-inside c =
     let range = c.args.range in
     let inside = c.args.inside.now in
-    let now = splice c.args.self.now.mappings c.args.index (c.args.index + c.args.out_count) c.args.pieces.now in
+    let now = splice c.args.self.now.mappings c.args.spot.index (c.args.spot.index + c.args.out_count) c.args.pieces.now in
     let lie : LieIn range inside = subst (LieIn range) c.requires.inside (lie_in-clipped range now) in
     c.requires.inside ∙
     sym (clipped_whole range.first (end_of range) inside
