@@ -12,6 +12,7 @@ use crate::cut::Cut;
 use crate::search::{count_begun, count_ended, entry_at, first_behind_in, step_past};
 use gv_chunks::Spot;
 use gv_chunks::chunk_list::Standing;
+use gv_chunks::piece::piece_of;
 use gv_packed::Packed;
 use gv_types::{Entry, PageRange, SPACE_PAGES};
 
@@ -142,17 +143,20 @@ fn count_begun_in(standing: Standing<'_>, chunk: usize, from: usize, page: u64) 
 
 /// Where the range meets the list that the chunks are together.
 #[inline(always)]
-pub(crate) fn cut_in(standing: Standing<'_>, range: PageRange) -> Cut
+pub(crate) fn cut_in(standing: Standing<'_>, range: PageRange) -> Cut<'_>
     requires filled { AreFilled standing.chunks.now }
     requires starts { AreStarts standing.starts.now.numbers standing.chunks.now }
     requires firsts { AreFirsts standing.firsts.now standing.chunks.now }
     requires laid_out { IsLaidOut (chunks_joined standing.chunks.now) }
-    ensures { IsOverlappingRun (chunks_joined standing.entry.chunks.now) range result.spot.index result.count }
+    ensures run { IsOverlappingRun (chunks_joined standing.entry.chunks.now) range result.spot.index result.count }
+    ensures block { result.block.now
+        ≡ take (length result.block.now) (drop result.spot.index (chunks_joined standing.entry.chunks.now)) }
 {
     if standing.chunks.is_empty() {
         return Cut {
             spot: Spot::anywhere(0),
             count: 0,
+            block: &[],
         };
     }
     let near = chunk_of_page(standing.chunks, standing.firsts, range.first());
@@ -162,5 +166,6 @@ pub(crate) fn cut_in(standing: Standing<'_>, range: PageRange) -> Cut
     Cut {
         spot: Spot { index, near },
         count: behind - index,
+        block: piece_of(standing.chunks, near, ended),
     }
 }

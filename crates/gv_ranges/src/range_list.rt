@@ -155,8 +155,9 @@ impl RangeList {
 
     /// Where the range meets the list. One search, and a look at each of the mappings that meet it; the calls for the spot search no more.
     #[inline(always)]
-    pub fn cut(&self, range: PageRange) -> Cut
-        ensures { IsOverlappingRun self.now.mappings range result.spot.index result.count }
+    pub fn cut(&self, range: PageRange) -> Cut<'_>
+        ensures run { IsOverlappingRun self.now.mappings range result.spot.index result.count }
+        ensures block { result.block.now ≡ take (length result.block.now) (drop result.spot.index self.now.mappings) }
     {
         cut_in(self.list.chunks(), range)
     }
@@ -167,7 +168,7 @@ impl RangeList {
     pub fn overlapping(&self, range: PageRange) -> (usize, usize)
         ensures { IsOverlappingRun self.now.mappings range result.0 result.1 }
     {
-        let Cut { spot, count } = self.cut(range);
+        let Cut { spot, count, .. } = self.cut(range);
         (spot.index, count)
     }
 

@@ -37,14 +37,14 @@ pub fn as_pieces(mapping: &Option<Packed>) -> &[Packed]
 }
 
 /// Copies the mappings of a cut to where they stay, which asks for just their room. Mostly they stand in one block of memory.
-pub fn copy_run(pieces: &mut Pieces, list: &RangeList, cut: Cut) -> Result<(), OutOfMemory>
+pub fn copy_run(pieces: &mut Pieces, list: &RangeList, cut: Cut<'_>) -> Result<(), OutOfMemory>
     requires none { pieces.old.items ≡ [] }
     requires within { cut.spot.index + cut.count ≤ length list.now.mappings }
-    ensures { OnOk result (pieces.new.items ≡ run list.now.mappings cut.spot.index cut.count) }
+    requires block { cut.block.now ≡ take (length cut.block.now) (drop cut.spot.index list.now.mappings) }
+    ensures { OnOk result (pieces.new.items ≡ run list.now.mappings cut.entry.spot.index cut.entry.count) }
 {
-    let Cut { spot, count } = cut;
+    let Cut { spot, count, block } = cut;
     pieces.reserve_exact(count)?;
-    let block = list.piece_at(spot);
     if count <= block.len() {
         return Ok(pieces.extend_from_slice(&block[..count])?);
     }

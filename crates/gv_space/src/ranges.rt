@@ -97,7 +97,7 @@ fn spot_of(list: &RangeList, id: BufferId, page: u64, from: usize) -> Option<Spo
     ensures is_of { IfSome result (λ spot. (d : Mapping)
         → is_of id (slice_index_or list.now.mappings spot.index d).backing ≡ true) }
 {
-    let Cut { spot, count } = list.cut(PageRange::new(page, 1)?);
+    let Cut { spot, count, .. } = list.cut(PageRange::new(page, 1)?);
     if count == 0 || spot.index < from || !list.get_at(spot).is_of(id) {
         return None;
     }

@@ -54,6 +54,7 @@ impl Space {
         let cut = self.list().cut(range);
         self.check_limits(range, cut, saved)?;
         copy_run(taken, self.list(), cut)?;
+        let spot = cut.spot;
         let mut pieces = SmallVec::new(alloc);
         let (start, end) = with_rests(&mut pieces, taken.as_slice(), saved, range)?;
         let pieces = pieces.as_slice();
@@ -61,9 +62,9 @@ impl Space {
         self.mapped
             .reserve(pieces.len().saturating_sub(taken.len()))?;
         counts::make_places(&mut self.buffers, pieces)?;
-        let tables = self.commit(alloc, range, cut.spot, taken.as_slice(), pieces, inside)?;
+        let tables = self.commit(alloc, range, spot, taken.as_slice(), pieces, inside)?;
         Ok(Made {
-            index: cut.spot.index,
+            index: spot.index,
             put_in: pieces.len(),
             tables,
         })

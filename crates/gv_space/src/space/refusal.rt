@@ -44,7 +44,7 @@ impl Space {
     pub(super) fn check_limits(
         &self,
         range: PageRange,
-        cut: Cut,
+        cut: Cut<'_>,
         saved: &[Packed],
     ) -> Result<(), Fault>
         requires laid_out { IsLaidOut saved.now }
@@ -53,7 +53,7 @@ impl Space {
             (IsOk result) (λ fault. result ≡ Err fault) }
     {
         let list = self.list();
-        let Cut { spot, count } = cut;
+        let Cut { spot, count, .. } = cut;
         let limit = self.limits.mappings();
         let without_rests = list.len() - count + count_in_range(saved, range);
         // The rests are at most two, and counted near the limit alone.

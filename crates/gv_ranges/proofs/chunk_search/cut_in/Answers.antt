@@ -1,4 +1,4 @@
-use Rattle.std.proofs.Common.{◌+◌, arith, ◌∙◌}
+use Rattle.std.proofs.Common.{◌≡◌, ◌+◌, arith, ◌∙◌, length, take}
 use Rattle.gv_ranges.specs.List.{IsIndexOfPage}
 use Rattle.gv_chunks.specs.Chunks.{chunks_joined}
 use Rattle.gv_ranges.proofs.JoinedLemmas.{laid_out-chunk, few_before, placed-in_chunk}
@@ -29,7 +29,13 @@ overflow_sub-result c =
     indices_rise (chunks_joined c.args.standing.chunks.now) c.args.range _ c.count_begun_in-behind.result c.requires.laid_out c.first.ensures.in_space (placed c) c.count_begun_in-behind.ensures.within
     (rw c.end.ensures.value at c.count_begun_in-behind.ensures.not_begun)
 
-pub returns : goal.returns
-returns c =
-    run_between (chunks_joined c.args.standing.chunks.now) c.args.range _ c.count_begun_in-behind.result c.requires.laid_out c.first.ensures.in_space (placed c) c.count_begun_in-behind.ensures.within
+pub returns-clause-run : goal.returns-clause-run
+returns-clause-run c =
+    run_between (chunks_joined c.args.standing.chunks.now) c.args.range _ c.count_begun_in-behind.result c.requires.laid_out c.first.ensures.in_space (placed c.before.before) c.count_begun_in-behind.ensures.within
     (rw c.end.ensures.value at c.count_begun_in-behind.ensures.not_begun) (rw c.end.ensures.value at c.count_begun_in-behind.ensures.begun)
+
+pub returns-clause-block : goal.returns-clause-block
+returns-clause-block c =
+    let start : c.get.result ≡ length (chunks_joined (take c.chunk_of_page-near.result c.args.standing.chunks.now)) =
+    c.get.ensures 0 ∙ (c.requires.starts c.chunk_of_page-near.result 0 c.chunk_of_page-near.ensures.within).1 in
+    rw start c.piece_of.ensures.value

@@ -22,25 +22,25 @@ with_rests-requires-clause-taken c =
 pub returns-in_err-reserve-clause-room : goal.returns-in_err-reserve-clause-room
 returns-in_err-reserve-clause-room c =
     grown_just_for c.self.inside c.args.self.now _ c.args.range c.args.saved.now c.copy_run.new.pieces.items c.as_slice-pieces.result.now c.reserve.new.self
-    c.cut-cut.result.spot.index c.cut-cut.result.count c.saturating_sub.result c.self.invariant.space c.self.view_is (rw c.list.ensures.value at c.cut-cut.ensures) (rw c.list-2.ensures.value at c.in_ok-copy_run.ensures)
+    c.cut-cut.result.spot.index c.cut-cut.result.count c.saturating_sub.result c.self.invariant.space c.self.view_is (rw c.list.ensures.value at c.cut-cut.ensures.run) (rw c.list-2.ensures.value at c.in_ok-copy_run.ensures)
     (c.as_slice-pieces.ensures ∙ (rw c.as_slice.ensures at c.in_ok-start.ensures.pieces)) (omega (arith, c.len.ensures.value, c.saturating_sub.ensures)) c.reserve.ensures.enough c.reserve.ensures.double_or_need refl
 
 pub returns-in_err-make_places-clause-room : goal.returns-in_err-make_places-clause-room
 returns-in_err-make_places-clause-room c =
     grown_just_for c.self.inside c.args.self.now _ c.args.range c.args.saved.now c.copy_run.new.pieces.items c.as_slice-pieces.result.now c.reserve.new.self
-    c.cut-cut.result.spot.index c.cut-cut.result.count c.saturating_sub.result c.self.invariant.space c.self.view_is (rw c.list.ensures.value at c.cut-cut.ensures) (rw c.list-2.ensures.value at c.in_ok-copy_run.ensures)
+    c.cut-cut.result.spot.index c.cut-cut.result.count c.saturating_sub.result c.self.invariant.space c.self.view_is (rw c.list.ensures.value at c.cut-cut.ensures.run) (rw c.list-2.ensures.value at c.in_ok-copy_run.ensures)
     (c.as_slice-pieces.ensures ∙ (rw c.as_slice.ensures at c.in_ok-start.ensures.pieces)) (omega (arith, c.len.ensures.value, c.saturating_sub.ensures)) c.reserve.ensures.enough c.reserve.ensures.double_or_need refl
 
 pub returns-clause-room : goal.returns-clause-room
 returns-clause-room c =
     grown_just_for c.self.inside c.args.self.now _ c.args.range c.args.saved.now c.copy_run.new.pieces.items c.as_slice-pieces.result.now c.reserve.new.self
-    c.cut-cut.result.spot.index c.cut-cut.result.count c.saturating_sub.result c.self.invariant.space c.self.view_is (rw c.list.ensures.value at c.cut-cut.ensures) (rw c.list-2.ensures.value at c.in_ok-copy_run.ensures)
+    c.cut-cut.result.spot.index c.cut-cut.result.count c.saturating_sub.result c.self.invariant.space c.self.view_is (rw c.list.ensures.value at c.cut-cut.ensures.run) (rw c.list-2.ensures.value at c.in_ok-copy_run.ensures)
     (c.as_slice-pieces.ensures ∙ (rw c.as_slice.ensures at c.in_ok-start.ensures.pieces)) (omega (arith, c.len.ensures.value, c.saturating_sub.ensures)) c.reserve.ensures.enough c.reserve.ensures.double_or_need c.commit.ensures.room
 
 pub returns-in_err-tables-clause-room : goal.returns-in_err-tables-clause-room
 returns-in_err-tables-clause-room c =
     grown_just_for c.self.inside c.args.self.now _ c.args.range c.args.saved.now c.copy_run.new.pieces.items c.as_slice-pieces.result.now c.reserve.new.self
-    c.cut-cut.result.spot.index c.cut-cut.result.count c.saturating_sub.result c.self.invariant.space c.self.view_is (rw c.list.ensures.value at c.cut-cut.ensures) (rw c.list-2.ensures.value at c.in_ok-copy_run.ensures)
+    c.cut-cut.result.spot.index c.cut-cut.result.count c.saturating_sub.result c.self.invariant.space c.self.view_is (rw c.list.ensures.value at c.cut-cut.ensures.run) (rw c.list-2.ensures.value at c.in_ok-copy_run.ensures)
     (c.as_slice-pieces.ensures ∙ (rw c.as_slice.ensures at c.in_ok-start.ensures.pieces)) (omega (arith, c.len.ensures.value, c.saturating_sub.ensures)) c.reserve.ensures.enough c.reserve.ensures.double_or_need c.commit.ensures.room
 
 pub commit-requires : goal.commit-requires
@@ -50,7 +50,7 @@ commit-requires c =
     rw (c.make_places.ensures, between, c.as_slice-2.ensures)
     (made_ready c.self.inside c.args.self.now c.args.range c.args.saved.now c.self.invariant.space c.requires.laid_out c.reserve.new.self
     c.cut-cut.result.spot.index c.cut-cut.result.count c.copy_run.new.pieces.items c.as_slice-pieces.result.now c.saturating_sub.result
-    c.self.view_is (rw c.list.ensures.value at c.cut-cut.ensures) (rw c.list-2.ensures.value at c.in_ok-copy_run.ensures) (c.as_slice-pieces.ensures ∙ (rw c.as_slice.ensures at c.in_ok-start.ensures.pieces))
+    c.self.view_is (rw c.list.ensures.value at c.cut-cut.ensures.run) (rw c.list-2.ensures.value at c.in_ok-copy_run.ensures) (c.as_slice-pieces.ensures ∙ (rw c.as_slice.ensures at c.in_ok-start.ensures.pieces))
     c.requires.placed (no_fault _ c.check_limits.result _ c.check_limits.ensures c.in_ok-check_limits.was)
     c.reserve.ensures.unchanged.mappings c.in_ok-reserve.ensures.ok (omega (arith, c.len.ensures.value, c.saturating_sub.ensures)))
 
@@ -63,7 +63,7 @@ returns-clause-changed c =
     let ready : IsReady within before c.args.range c.cut-cut.result.spot.index c.copy_run.new.pieces.items c.as_slice-pieces.result.now =
     made_ready c.self.inside c.args.self.now c.args.range c.args.saved.now c.self.invariant.space c.requires.laid_out list
     c.cut-cut.result.spot.index c.cut-cut.result.count c.copy_run.new.pieces.items c.as_slice-pieces.result.now c.saturating_sub.result
-    c.self.view_is (rw c.list.ensures.value at c.cut-cut.ensures) (rw c.list-2.ensures.value at c.in_ok-copy_run.ensures) (c.as_slice-pieces.ensures ∙ (rw c.as_slice.ensures at c.in_ok-start.ensures.pieces))
+    c.self.view_is (rw c.list.ensures.value at c.cut-cut.ensures.run) (rw c.list-2.ensures.value at c.in_ok-copy_run.ensures) (c.as_slice-pieces.ensures ∙ (rw c.as_slice.ensures at c.in_ok-start.ensures.pieces))
     c.requires.placed (no_fault _ c.check_limits.result _ c.check_limits.ensures c.in_ok-check_limits.was)
     c.reserve.ensures.unchanged.mappings c.in_ok-reserve.ensures.ok (omega (arith, c.len.ensures.value, c.saturating_sub.ensures)) in
     let after : List Mapping = splice list.mappings c.cut-cut.result.spot.index (c.cut-cut.result.spot.index + length c.copy_run.new.pieces.items) c.as_slice-pieces.result.now in
