@@ -48,7 +48,16 @@ impl Places {
     }
 
     /// A mapping that begins at a page comes to so many others. It takes no memory: without room, the pages aren't known from here on.
+    #[inline(always)]
     pub fn come(&mut self, page: u64, count: u64) {
+        // Where there are others, and none is kept, none is known.
+        if count == 0 || !self.pages.is_empty() {
+            self.put_in(page, count);
+        }
+    }
+
+    /// The same, where they may be known.
+    fn put_in(&mut self, page: u64, count: u64) {
         if count >= MOST || !self.are_known(count) || self.pages.len() == self.pages.capacity() {
             self.pages.clear();
             return;
@@ -58,7 +67,15 @@ impl Places {
     }
 
     /// One of so many mappings leaves, which began at a page.
+    #[inline(always)]
     pub fn leave(&mut self, page: u64, count: u64) {
+        if !self.pages.is_empty() {
+            self.take_away(page, count);
+        }
+    }
+
+    /// The same, where some page is kept.
+    fn take_away(&mut self, page: u64, count: u64) {
         match self.pages.as_slice().binary_search(&page) {
             Ok(index) if self.are_known(count) => {
                 let _page = self.pages.remove(index);
