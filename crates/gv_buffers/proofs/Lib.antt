@@ -3,7 +3,6 @@ pub mod Ascending
 pub mod Lists
 pub mod Leaving
 pub mod Tables
-pub mod Counters
 pub mod Conflicts
 pub mod Rooms
 pub mod Vacancy

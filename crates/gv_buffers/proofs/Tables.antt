@@ -14,9 +14,9 @@ use Rattle.gv_buffers.specs.declared.slots.Slots.{Slots}
 use Rattle.gv_buffers.specs.declared.buffers.Buffers.TheInside.{Inside}
 use Rattle.gv_buffers.specs.Buffers.{Buffer, BuffersState, has_id, buffer, IsLive, IsTable, IsBuffer, only, changed}
 use Rattle.gv_buffers.specs.Indices.{Notes, IsNoted}
-use Rattle.gv_buffers.specs.Slots.{SlotList, get, buffer_at, buffer_in, buffers_from, live_count, of_generation, live_at, Holds, AreNoted}
+use Rattle.gv_buffers.specs.declared.counter.Move.{Move}
+use Rattle.gv_buffers.specs.Slots.{SlotList, after_move, get, buffer_at, buffer_in, buffers_from, live_count, of_generation, live_at, Holds, AreNoted}
 use Rattle.gv_buffers.specs.Inside.{table_of, AreSoundBuffers}
-use Rattle.gv_buffers.proofs.FoundLemmas.{counted_lives}
 use Rattle.gv_buffers.proofs.Vacancy.{AreVacant-alike}
 use Rattle.gv_buffers.proofs.Lists.{seen_at, buffers_from-map, buffers_from-same, All-buffers_from, AllPairs-buffers_from, find-buffers_from}
 
@@ -177,19 +177,23 @@ moved a t new id change sound view lives vacant long here others keeps users =
           ∙ ap (changed id change) view;
     }
 
-pub counted_contains : (a : Inside) (t : BuffersState) (id : BufferId) (count : Buffer → ℕ) (P : ℕ → Type 0) → table_of a ≡ t →
-    IsSomeAnd (option_map count (buffer t id)) P → Holds a.slots.entries.items id.index
-counted_contains a t id count P view holds = live_contains a id (subst (λ (s : BuffersState). IsLive s id) (sym view) (counted_lives t id count P holds))
+pub some_lives : (P : Buffer → Type 0) (o : Option Buffer) → IsSomeAnd o P → IsSome o
+some_lives P None holds = absurd holds
+some_lives P (Some b) holds = refl
 
--- what is said of a count of a live buffer holds of the number in its slot
-pub count_in_place : (a : Inside) (t : BuffersState) (id : BufferId) (count : Buffer → ℕ) (P : ℕ → Type 0) → table_of a ≡ t →
-    IsSomeAnd (option_map count (buffer t id)) P → IsSomeAnd (option_map count (buffer_in a.slots.entries.items id.index)) P
-count_in_place a t id count P view holds =
-    let lives_here : IsLive (table_of a) id = subst (λ (s : BuffersState). IsLive s id) (sym view) (counted_lives t id count P holds) in
-    let found = slot_of a id lives_here in
-    let holds_here : IsSomeAnd (option_map count (buffer (table_of a) id)) P = subst (λ (s : BuffersState). IsSomeAnd (option_map count (buffer s id)) P) (sym view) holds in
-    let seen : buffer (table_of a) id ≡ buffer_in a.slots.entries.items id.index = live_buffer a id found.0 lives_here found.1 ∙ sym (ap (option_map (buffer_at id.index)) found.1) in
-    subst (λ (o : Option Buffer). IsSomeAnd (option_map count o) P) seen holds_here
+-- a mapping that moves leaves all but the counts of its buffer as it was
+pub IsBuffer-after_move : (how : Move) (made : ℕ) (b : Buffer) → IsBuffer made b → IsBuffer made (after_move how b)
+IsBuffer-after_move how made b was = record { made_before = was.made_before; some_pages = was.some_pages; few_pages = was.few_pages; no_conflict = was.no_conflict }
+
+-- what is said of a live buffer holds of the one in its slot
+pub in_place : (a : Inside) (t : BuffersState) (id : BufferId) (P : Buffer → Type 0) → table_of a ≡ t →
+    IsSomeAnd (buffer t id) P → IsSomeAnd (buffer_in a.slots.entries.items id.index) P
+in_place a t id P view holds =
+    let holds_here : IsSomeAnd (buffer (table_of a) id) P = subst (λ (s : BuffersState). IsSomeAnd (buffer s id) P) (sym view) holds in
+    let lives : IsLive (table_of a) id = some_lives P (buffer (table_of a) id) holds_here in
+    let found = slot_of a id lives in
+    let seen : buffer (table_of a) id ≡ buffer_in a.slots.entries.items id.index = live_buffer a id found.0 lives found.1 ∙ sym (ap (option_map (buffer_at id.index)) found.1) in
+    subst (λ (o : Option Buffer). IsSomeAnd o P) seen holds_here
 
 -- a number read of what a search found
 pub read_from_map : (o : Option (Bor LiveBuffer)) (r : Option ℕ) (read : LiveBuffer → ℕ) (Gives : Bor LiveBuffer → ℕ → Type 0) →

@@ -151,6 +151,14 @@ raised counter n b = with_count counter (count counter b + n) b
 abbrev pub lowered : Counter → ℕ → Buffer → Buffer
 lowered counter n b = with_count counter (count counter b - n) b
 
+-- a buffer, one of whose mappings left the list and came into an undo value
+abbrev pub taken_out : Buffer → Buffer
+taken_out b = record b { uses = b.uses - 1; kept = b.kept + 1 }
+
+-- a buffer, one of whose mappings came back into the list out of an undo value
+abbrev pub brought_back : Buffer → Buffer
+brought_back b = record b { uses = b.uses + 1; kept = b.kept - 1 }
+
 abbrev pub conflict_fault : Option ℕ → Option Fault
 conflict_fault None = None
 conflict_fault (Some job) = Some (Conflict job)

@@ -1,12 +1,14 @@
 -- How the live buffers lie in their slots. No public clause cites this module.
-use Rattle.std.specs.Prelude.{◌≡◌, ◌≢◌, ◌⊎◌, ℕ, ◌+◌, ◌<◌, ◌==◌, if◌then◌else◌, List, [], ◌∷◌, length, reverse, slice_get, unwrap_or, Option, Some, None, IsSome, IsNone, is_some, count_by, position, slice_index_or, vec_len, vec_capacity}
+use Rattle.std.specs.Prelude.{◌≡◌, ◌≢◌, ◌⊎◌, ℕ, ◌+◌, ◌-◌, ◌<◌, ◌==◌, if◌then◌else◌, List, [], ◌∷◌, length, reverse, slice_get, unwrap_or, Option, Some, None, IsSome, IsNone, is_some, count_by, position, slice_index_or, vec_len, vec_capacity}
 use Rattle.std.specs.Option.{option_map}
 use Rattle.std.specs.List.{All, AllPairs}
 use Rattle.gv_types.specs.declared.mapping.BufferId.{BufferId}
 use Rattle.gv_types.specs.Mapping.{buffer_id}
 use Rattle.gv_buffers.specs.declared.live_buffer.LiveBuffer.{LiveBuffer}
 use Rattle.gv_buffers.specs.Indices.{Notes, IsNoted}
-use Rattle.gv_buffers.specs.Buffers.{Buffer, left_by}
+use Rattle.gv_buffers.specs.declared.counter.Move.{Move}
+use Rattle.gv_buffers.specs.declared.counter.Move.TheVariants.{In, Out, TakenOut, BroughtBack, Released}
+use Rattle.gv_buffers.specs.Buffers.{Buffer, most_counted, left_by}
 
 -- for each index from 0 on the live buffer there, if there is one
 abbrev pub SlotList : Type 0
@@ -88,6 +90,34 @@ HasRoomForJob job (Some slot) = IsNone (position (λ u. u.job == job) slot.users
 abbrev pub IsUserIn : ℕ → Option LiveBuffer → Type 0
 IsUserIn job None = ⊥
 IsUserIn job (Some slot) = IsSome (position (λ u. u.job == job) slot.users.list.items)
+
+-- how many mappings are in the list once one has moved
+abbrev pub uses_after : Move → ℕ → ℕ
+uses_after In uses = uses + 1
+uses_after Out uses = uses - 1
+uses_after TakenOut uses = uses - 1
+uses_after BroughtBack uses = uses + 1
+uses_after Released uses = uses
+
+-- and how many in undo values
+abbrev pub kept_after : Move → ℕ → ℕ
+kept_after In kept = kept
+kept_after Out kept = kept
+kept_after TakenOut kept = kept + 1
+kept_after BroughtBack kept = kept - 1
+kept_after Released kept = kept - 1
+
+-- a buffer, one of whose mappings moved
+abbrev pub after_move : Move → Buffer → Buffer
+after_move how b = record b { uses = uses_after how b.uses; kept = kept_after how b.kept }
+
+-- one of its mappings can move so
+abbrev pub CanMove : Move → Buffer → Type 0
+CanMove In b = b.uses < most_counted
+CanMove Out b = 0 < b.uses
+CanMove TakenOut b = (0 < b.uses) × (b.kept < most_counted)
+CanMove BroughtBack b = (b.uses < most_counted) × (0 < b.kept)
+CanMove Released b = 0 < b.kept
 
 -- a job has left the buffer at an index, or the buffer is as it was
 abbrev pub IsLeftOrSame : ℕ → SlotList → SlotList → ℕ → Type 0

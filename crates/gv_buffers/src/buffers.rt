@@ -2,7 +2,7 @@
 ghost use Rattle.std.specs.Prelude.{◌≡◌, ◌<◌, length, IfOk, IsOk, IsOkUnless, OnOk, OnErr, MatchOption};
 ghost use Rattle.gv_types.specs.Limits.{greatest, IsFromOneTo};
 
-use crate::counter::Counter;
+use crate::counter::{Counter, Move};
 use crate::indices::{Indices, forget};
 use crate::live_buffer::LiveBuffer;
 use crate::places::Places;
@@ -44,8 +44,9 @@ impl Buffers {
     ghost use Rattle.gv_buffers.specs.Buffers.{no_buffers, next_index, uses, kept, pages, IsTable};
     ghost use Rattle.gv_buffers.specs.Buffers.{create_fault, destroy_fault, join_fault, IsCreated};
     ghost use Rattle.gv_buffers.specs.Buffers.{without, changed, left_everywhere};
-    ghost use Rattle.gv_buffers.specs.Buffers.{counted, raised, lowered};
+    ghost use Rattle.gv_buffers.specs.Buffers.{buffer, counted, raised, lowered, taken_out, brought_back};
     ghost use Rattle.gv_buffers.specs.Buffers.{joined_by, most_counted};
+    ghost use Rattle.gv_buffers.specs.Slots.{CanMove, after_move};
     ghost use Rattle.std.specs.Option.{IsSomeAnd};
 
     /// A table of no buffer, in which at most `limit` are alive at once, from 1 to 65,536. It has
@@ -178,11 +179,12 @@ impl Buffers {
     }
 
     /// Counts one more mapping in the list, which begins at a page. It takes no memory.
+    #[inline(always)]
     pub fn count_in(&mut self, id: BufferId, page: u64)
         requires { IsSomeAnd (uses self.old id) (λ count. count < most_counted) }
         ensures { self.new ≡ changed id (raised Counter.Uses 1) self.old }
     {
-        self.raise(Counter::Uses, id, page);
+        self.count_move(id, Move::In, page);
     }
 
     /// The pages at which the buffer's mappings begin, ascending, where they are at most 64, there was always room for them, and each
@@ -195,27 +197,41 @@ impl Buffers {
     }
 
     /// Counts one mapping less in the list, which began at a page. It takes no memory.
+    #[inline(always)]
     pub fn count_out(&mut self, id: BufferId, page: u64)
         requires { IsSomeAnd (uses self.old id) (λ count. 0 < count) }
         ensures { self.new ≡ changed id (lowered Counter.Uses 1) self.old }
     {
-        self.lower(Counter::Uses, id, page);
+        self.count_move(id, Move::Out, page);
     }
 
-    /// Counts one more mapping in undo values. It takes no memory.
-    pub fn keep(&mut self, id: BufferId)
-        requires { IsSomeAnd (kept self.old id) (λ count. count < most_counted) }
-        ensures { self.new ≡ changed id (raised Counter.Kept 1) self.old }
+    /// One mapping, which began at a page, leaves the list and comes into an undo value. It takes no memory.
+    #[inline(always)]
+    pub fn take_out(&mut self, id: BufferId, page: u64)
+        requires used { IsSomeAnd (uses self.old id) (λ count. 0 < count) }
+        requires room { IsSomeAnd (kept self.old id) (λ count. count < most_counted) }
+        ensures { self.new ≡ changed id taken_out self.old }
     {
-        self.raise(Counter::Kept, id, 0);
+        self.count_move(id, Move::TakenOut, page);
+    }
+
+    /// One mapping, which begins at a page, comes back into the list out of an undo value. It takes no memory.
+    #[inline(always)]
+    pub fn bring_back(&mut self, id: BufferId, page: u64)
+        requires room { IsSomeAnd (uses self.old id) (λ count. count < most_counted) }
+        requires kept { IsSomeAnd (kept self.old id) (λ count. 0 < count) }
+        ensures { self.new ≡ changed id brought_back self.old }
+    {
+        self.count_move(id, Move::BroughtBack, page);
     }
 
     /// Counts one mapping less in undo values. It takes no memory.
+    #[inline(always)]
     pub fn unkeep(&mut self, id: BufferId)
         requires { IsSomeAnd (kept self.old id) (λ count. 0 < count) }
         ensures { self.new ≡ changed id (lowered Counter.Kept 1) self.old }
     {
-        self.lower(Counter::Kept, id, 0);
+        self.count_move(id, Move::Released, 0);
     }
 
     // How many buffers are alive.
@@ -233,20 +249,13 @@ impl Buffers {
         self.slots.get(id).map(|slot| slot.count(counter))
     }
 
-    /// Counts one mapping more, which begins at a page.
-    fn raise(&mut self, counter: Counter, id: BufferId, page: u64)
-        requires { IsSomeAnd (counted counter self.old id) (λ count. count < most_counted) }
-        ensures { self.new ≡ changed id (raised counter 1) self.old }
+    /// Counts a mapping that moves, and begins at a page.
+    #[inline(always)]
+    fn count_move(&mut self, id: BufferId, how: Move, page: u64)
+        requires { IsSomeAnd (buffer self.old id) (CanMove how) }
+        ensures { self.new ≡ changed id (after_move how) self.old }
     {
-        self.slots.raise(id.index, counter, page);
-    }
-
-    /// Counts one mapping less, which began at a page.
-    fn lower(&mut self, counter: Counter, id: BufferId, page: u64)
-        requires { IsSomeAnd (counted counter self.old id) (λ count. 0 < count) }
-        ensures { self.new ≡ changed id (lowered counter 1) self.old }
-    {
-        self.slots.lower(id.index, counter, page);
+        self.slots.count_move(id.index, how, page);
     }
 
     /// Lets a job use a buffer; one that uses it already gets the stronger usage. `NoBuffer` where

@@ -1,4 +1,4 @@
-//! The counts of mappings that a buffer has.
+//! The counts of mappings that a buffer has, and how they move.
 
 /// Which mappings of a buffer are counted.
 #[derive(Clone, Copy, Debug, PartialEq, Eq)]
@@ -7,4 +7,19 @@ pub enum Counter {
     Uses,
     /// Those in undo values.
     Kept,
+}
+
+/// How a mapping of a buffer moves.
+#[derive(Clone, Copy)]
+pub enum Move {
+    /// Into the list.
+    In,
+    /// Out of the list.
+    Out,
+    /// Out of the list, into an undo value.
+    TakenOut,
+    /// Back into the list, out of an undo value.
+    BroughtBack,
+    /// Out of an undo value.
+    Released,
 }

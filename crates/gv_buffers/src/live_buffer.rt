@@ -1,9 +1,9 @@
 //! A live buffer at its index.
 ghost use Rattle.std.specs.Prelude.{◌≡◌, ◌<◌, ℕ, IsOk, MatchOption};
-ghost use Rattle.gv_buffers.specs.Slots.{buffer_at};
-ghost use Rattle.gv_buffers.specs.Buffers.{count, raised, lowered, most_counted, use_fault};
+ghost use Rattle.gv_buffers.specs.Slots.{buffer_at, after_move, CanMove};
+ghost use Rattle.gv_buffers.specs.Buffers.{count, use_fault};
 
-use crate::counter::Counter;
+use crate::counter::{Counter, Move};
 use crate::places::Places;
 use crate::users::Users;
 use gv_types::{Fault, Generation};
@@ -32,31 +32,27 @@ impl LiveBuffer {
         }
     }
 
-    /// Counts one mapping more, which begins at a page.
-    pub fn raise(&mut self, counter: Counter, page: u64)
-        requires { count counter (buffer_at 0 self.old) < most_counted }
-        ensures { (index : ℕ) → buffer_at index self.new ≡ raised counter 1 (buffer_at index self.old) }
+    /// Counts a mapping that moves, and begins at a page.
+    #[inline(always)]
+    pub fn count_move(&mut self, how: Move, page: u64)
+        requires { CanMove how (buffer_at 0 self.old) }
+        ensures { (index : ℕ) → buffer_at index self.new ≡ after_move how (buffer_at index self.old) }
     {
-        match counter {
-            Counter::Uses => {
+        match how {
+            Move::In | Move::BroughtBack => {
                 self.places.come(page, self.uses);
                 self.uses += 1;
             }
-            Counter::Kept => self.kept += 1,
-        }
-    }
-
-    /// Counts one mapping less, which began at a page.
-    pub fn lower(&mut self, counter: Counter, page: u64)
-        requires { 0 < count counter (buffer_at 0 self.old) }
-        ensures { (index : ℕ) → buffer_at index self.new ≡ lowered counter 1 (buffer_at index self.old) }
-    {
-        match counter {
-            Counter::Uses => {
+            Move::Out | Move::TakenOut => {
                 self.places.leave(page, self.uses);
                 self.uses -= 1;
             }
-            Counter::Kept => self.kept -= 1,
+            Move::Released => {}
+        }
+        match how {
+            Move::TakenOut => self.kept += 1,
+            Move::BroughtBack | Move::Released => self.kept -= 1,
+            Move::In | Move::Out => {}
         }
     }
 

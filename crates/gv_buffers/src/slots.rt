@@ -6,12 +6,12 @@ ghost use Rattle.std.specs.Option.{option_copied, option_map};
 ghost use Rattle.gv_buffers.specs.Indices.{IsNoted};
 ghost use Rattle.gv_buffers.specs.Slots.{get, live_at, live_count, buffer_at, buffer_in, next_slot};
 ghost use Rattle.gv_buffers.specs.Slots.{Holds, Updates, AreNoted, AreVacant};
-ghost use Rattle.gv_buffers.specs.Slots.{HasRoomForJob, IsUserIn, IsLeftOrSame};
-ghost use Rattle.gv_buffers.specs.Buffers.{count, raised, lowered, most_counted, joined_by, left_by};
+ghost use Rattle.gv_buffers.specs.Slots.{HasRoomForJob, IsUserIn, IsLeftOrSame, CanMove, after_move};
+ghost use Rattle.gv_buffers.specs.Buffers.{joined_by, left_by};
 
 mod shrinking;
 
-use crate::counter::Counter;
+use crate::counter::Move;
 use crate::indices::{Indices, note};
 use crate::live_buffer::LiveBuffer;
 use crate::usage::Usage;
@@ -120,28 +120,17 @@ impl Slots {
         self.vacant.push_reserved(index);
     }
 
-    /// Counts one mapping more of the buffer at an index, which begins at a page.
-    pub fn raise(&mut self, index: u32, counter: Counter, page: u64)
-        requires { IsSomeAnd (option_map (count counter) (buffer_in self.old.entries.items index)) (λ count. count < most_counted) }
+    /// Counts a mapping that moves, of the buffer at an index, which begins at a page.
+    #[inline(always)]
+    pub fn count_move(&mut self, index: u32, how: Move, page: u64)
+        requires { IsSomeAnd (buffer_in self.old.entries.items index) (CanMove how) }
         ensures here { buffer_in self.new.entries.items index
-            ≡ option_map (raised counter 1) (buffer_in self.old.entries.items index) }
+            ≡ option_map (after_move how) (buffer_in self.old.entries.items index) }
         ensures others { (other : ℕ) → other ≢ index → get self.new.entries.items other ≡ get self.old.entries.items other }
         ensures length { length self.new.entries.items ≡ length self.old.entries.items }
         ensures vacant { self.new.vacant ≡ self.old.vacant }
     {
-        raise_slot(&mut self.entries[index as usize], counter, page);
-    }
-
-    /// Counts one mapping less of the buffer at an index, which began at a page.
-    pub fn lower(&mut self, index: u32, counter: Counter, page: u64)
-        requires { IsSomeAnd (option_map (count counter) (buffer_in self.old.entries.items index)) (λ count. 0 < count) }
-        ensures here { buffer_in self.new.entries.items index
-            ≡ option_map (lowered counter 1) (buffer_in self.old.entries.items index) }
-        ensures others { (other : ℕ) → other ≢ index → get self.new.entries.items other ≡ get self.old.entries.items other }
-        ensures length { length self.new.entries.items ≡ length self.old.entries.items }
-        ensures vacant { self.new.vacant ≡ self.old.vacant }
-    {
-        lower_slot(&mut self.entries[index as usize], counter, page);
+        count_move_in(&mut self.entries[index as usize], how, page);
     }
 
     /// Makes room for the places of more mappings of the buffer at an index, if there is one.
@@ -219,14 +208,15 @@ impl Slots {
     }
 }
 
-/// Counts one mapping more of the buffer in a slot, where one is.
-fn raise_slot(slot: &mut Option<LiveBuffer>, counter: Counter, page: u64)
-    requires { IsSomeAnd (option_map (count counter) (option_map (buffer_at 0) slot.old)) (λ count. count < most_counted) }
+/// Counts a mapping that moves, of the buffer in a slot, where one is.
+#[inline(always)]
+fn count_move_in(slot: &mut Option<LiveBuffer>, how: Move, page: u64)
+    requires { IsSomeAnd (option_map (buffer_at 0) slot.old) (CanMove how) }
     ensures { (index : ℕ) → option_map (buffer_at index) slot.new
-        ≡ option_map (raised counter 1) (option_map (buffer_at index) slot.old) }
+        ≡ option_map (after_move how) (option_map (buffer_at index) slot.old) }
 {
     if let Some(buffer) = slot {
-        buffer.raise(counter, page);
+        buffer.count_move(how, page);
     }
 }
 
@@ -238,17 +228,6 @@ fn make_places_in(slot: &mut Option<LiveBuffer>, more: u64) -> Result<(), AllocE
         buffer.make_places(more)?;
     }
     Ok(())
-}
-
-/// Counts one mapping less of the buffer in a slot, where one is.
-fn lower_slot(slot: &mut Option<LiveBuffer>, counter: Counter, page: u64)
-    requires { IsSomeAnd (option_map (count counter) (option_map (buffer_at 0) slot.old)) (λ count. 0 < count) }
-    ensures { (index : ℕ) → option_map (buffer_at index) slot.new
-        ≡ option_map (lowered counter 1) (option_map (buffer_at index) slot.old) }
-{
-    if let Some(buffer) = slot {
-        buffer.lower(counter, page);
-    }
 }
 
 /// Makes room for a job among the users of the buffer in a slot. Whether it is no user yet.

@@ -16,7 +16,8 @@ enum Call {
     Leave(u64),
     CountIn,
     CountOut,
-    Keep,
+    TakeOut,
+    BringBack,
     Unkeep,
 }
 
@@ -45,7 +46,8 @@ fn count(buffers: &mut Buffers, id: &BufferId, call: &Call) -> Result<(), &'stat
     match call {
         Call::CountIn if uses < 10 => buffers.count_in(*id, uses),
         Call::CountOut if uses > 0 => buffers.count_out(*id, uses - 1),
-        Call::Keep if kept < 10 => buffers.keep(*id),
+        Call::TakeOut if uses > 0 && kept < 10 => buffers.take_out(*id, uses - 1),
+        Call::BringBack if uses < 10 && kept > 0 => buffers.bring_back(*id, uses),
         Call::Unkeep if kept > 0 => buffers.unkeep(*id),
         _ => return Err("no count"),
     }
@@ -168,13 +170,22 @@ fn what_names_a_buffer(rt: HostRuntime) -> Result<(), Fail> {
         (0, Call::Create(4), Ok(()), sight(4, 0, 0)),
         (0, Call::CountIn, Ok(()), sight(4, 1, 0)),
         (0, Call::CountIn, Ok(()), sight(4, 2, 0)),
-        (0, Call::Keep, Ok(()), all),
+        (0, Call::CountIn, Ok(()), sight(4, 3, 0)),
+        (0, Call::TakeOut, Ok(()), all),
         (0, Call::Join(7, Usage::Read), Ok(()), all),
         (0, Call::Join(8, Usage::Read), Ok(()), all),
         (0, Call::Destroy, Err(Fault::Mapped { count: 2 }), all),
         (0, Call::CountOut, Ok(()), sight(4, 1, 1)),
         (0, Call::CountOut, Ok(()), sight(4, 0, 1)),
         (0, Call::Destroy, Err(kept), sight(4, 0, 1)),
+        (0, Call::BringBack, Ok(()), sight(4, 1, 0)),
+        (
+            0,
+            Call::Destroy,
+            Err(Fault::Mapped { count: 1 }),
+            sight(4, 1, 0),
+        ),
+        (0, Call::TakeOut, Ok(()), sight(4, 0, 1)),
         (0, Call::Unkeep, Ok(()), sight(4, 0, 0)),
         (
             0,

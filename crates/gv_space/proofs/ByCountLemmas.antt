@@ -10,7 +10,7 @@ use Rattle.gv_types.specs.declared.mapping.BufferId.{BufferId}
 use Rattle.gv_types.specs.declared.mapping.Mapping.{Mapping}
 use Rattle.gv_buffers.specs.Buffers.{Buffer, BuffersState, buffer, pages, IsLive, IsTable}
 use Rattle.gv_buffers.proofs.FoundLemmas.{counted_lives}
-use Rattle.gv_space.specs.Counts.{count_of, by_count, counted, more_used, less_used, more_kept, less_kept}
+use Rattle.gv_space.specs.Counts.{count_of, by_count, counted, more_used, less_used, more_kept, less_kept, moved_out}
 use Rattle.gv_space.specs.Live.{IsLiveBacking}
 use Rattle.gv_space.specs.State.{LieInside, IsPlaced}
 use Rattle.gv_space.proofs.TableLemmas.{IsKeeping, buffer-each, pages-each, IsTable-each}
@@ -35,6 +35,9 @@ more_kept_of_counts = record { id = λ b n. refl; pages = λ b n. refl; users = 
 
 pub less_kept_of_counts : IsOfCounts less_kept
 less_kept_of_counts = record { id = λ b n. refl; pages = λ b n. refl; users = λ b n. refl }
+
+pub moved_out_of_counts : IsOfCounts moved_out
+moved_out_of_counts = record { id = λ b n. refl; pages = λ b n. refl; users = λ b n. refl }
 
 keeping : (change : Buffer → ℕ → Buffer) (ms : List Mapping) → IsOfCounts change → IsKeeping (λ b. change b (count_of b.id ms))
 keeping change ms of_counts = record { id = λ b. of_counts.id b (count_of b.id ms); pages = λ b. of_counts.pages b (count_of b.id ms) }

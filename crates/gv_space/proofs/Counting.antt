@@ -9,7 +9,7 @@ use Rattle.gv_types.specs.declared.mapping.Backing.TheVariants.{Buffer as Buffer
 use Rattle.gv_types.specs.declared.mapping.BufferId.{BufferId}
 use Rattle.gv_types.specs.declared.mapping.Mapping.{Mapping}
 use Rattle.gv_buffers.specs.Buffers.{Buffer, BuffersState, buffer, changed, only, has_id}
-use Rattle.gv_space.specs.Counts.{count_of, by_count, more_used, less_used, more_kept, less_kept}
+use Rattle.gv_space.specs.Counts.{count_of, by_count, more_used, less_used, less_kept, moved_out, moved_in}
 use Rattle.gv_space.specs.Live.{IsLiveBacking}
 use Rattle.gv_space.proofs.CountLemmas.{is_same_id-symmetric, count_of-more, count_of-front_lt}
 use Rattle.gv_space.proofs.TableLemmas.{each-each, each-same, each-itself, buffer-each, found_live}
@@ -32,11 +32,25 @@ more_used_counting = record { none = λ b. with_uses b _ b.uses (omega arith); m
 pub less_used_counting : IsCounting less_used
 less_used_counting = record { none = λ b. with_uses b _ b.uses (omega arith); more = λ b n. with_uses b _ _ (omega arith); id = λ b n. refl }
 
-pub more_kept_counting : IsCounting more_kept
-more_kept_counting = record { none = λ b. with_kept b _ b.kept (omega arith); more = λ b n. with_kept b _ _ (omega arith); id = λ b n. refl }
-
 pub less_kept_counting : IsCounting less_kept
 less_kept_counting = record { none = λ b. with_kept b _ b.kept (omega arith); more = λ b n. with_kept b _ _ (omega arith); id = λ b n. refl }
+
+with_both : (b : Buffer) (uses kept uses' kept' : ℕ) → uses ≡ uses' → kept ≡ kept' → record b { uses = uses; kept = kept } ≡ record b { uses = uses'; kept = kept' }
+with_both b uses kept uses' kept' same_uses same_kept = rw (same_uses, same_kept) refl
+
+pub moved_out_counting : IsCounting moved_out
+moved_out_counting = record {
+  none = λ b. with_both b _ _ b.uses b.kept (omega arith) (omega arith);
+  more = λ b n. with_both b _ _ _ _ (omega arith) (omega arith);
+  id = λ b n. refl;
+}
+
+pub moved_in_counting : IsCounting moved_in
+moved_in_counting = record {
+  none = λ b. with_both b _ _ b.uses b.kept (omega arith) (omega arith);
+  more = λ b n. with_both b _ _ _ _ (omega arith) (omega arith);
+  id = λ b n. refl;
+}
 
 -- the table with one mapping counted
 abbrev pub with_one : (Buffer → ℕ → Buffer) → Backing → BuffersState → BuffersState

@@ -1,10 +1,10 @@
 -- The counts of buffers after a change of the list, and after it is taken back.
-use Rattle.std.proofs.Common.{◌≡◌, ℕ, ◌+◌, ◌-◌, List, ◌++◌, slice_index_or, arith, refl, sym, ◌∙◌, ap}
+use Rattle.std.proofs.Common.{◌≡◌, ℕ, ◌+◌, ◌-◌, ◌≤◌, List, ◌++◌, slice_index_or, arith, refl, sym, ◌∙◌, ap}
 use Rattle.std.specs.List.{All, splice}
 use Rattle.gv_types.specs.declared.mapping.Mapping.{Mapping}
 use Rattle.gv_ranges.specs.List.{run}
 use Rattle.gv_buffers.specs.Buffers.{Buffer, BuffersState}
-use Rattle.gv_space.specs.Counts.{count_of, by_count, counted, more_used, less_used, more_kept, less_kept}
+use Rattle.gv_space.specs.Counts.{count_of, by_count, counted, more_used, less_used, more_kept, less_kept, moved_out, moved_in}
 use Rattle.gv_space.proofs.CountLemmas.{count_of-append, count_of-splice}
 use Rattle.gv_space.proofs.TableLemmas.{each-each, each-same, each-itself}
 use Rattle.gv_space.proofs.ByCountLemmas.{All-by_count}
@@ -80,3 +80,25 @@ there_and_back old new taken t used =
     ∙ each-each (λ b. counted b (count_of b.id old)) unkeep t
     ∙ each-itself (λ b. b.uses ≡ count_of b.id old) (λ b. counted (unkeep b) (count_of b.id old)) t used
     (λ b uses. with_counts b (count_of b.id old) (b.kept + count_of b.id taken - count_of b.id taken) (sym uses) (omega arith))
+
+-- mappings that leave a buffer before others come leave it with as many as where they leave it last
+left_first : (b : Buffer) (kept gone come : ℕ) → gone ≤ b.uses → record b { uses = b.uses - gone + come; kept = kept } ≡ record b { uses = b.uses + come - gone; kept = kept }
+left_first b kept gone come few = let same : b.uses - gone + come ≡ b.uses + come - gone = omega arith in rw same refl
+
+-- mappings are taken out of the list before those that stand for them come into it
+pub taken_out_first : (taken pieces : List Mapping) (t : BuffersState) → All (λ b. count_of b.id taken ≤ b.uses) t.live →
+    by_count more_used pieces (by_count moved_out taken t) ≡ by_count less_used taken (by_count more_used pieces (by_count more_kept taken t))
+taken_out_first taken pieces t few =
+    each-each (λ b. more_used b (count_of b.id pieces)) (λ b. moved_out b (count_of b.id taken)) t
+    ∙ each-same (λ b. count_of b.id taken ≤ b.uses) _ _ t few (λ b less. left_first b (b.kept + count_of b.id taken) (count_of b.id taken) (count_of b.id pieces) less)
+    ∙ sym (ap (by_count less_used taken) (each-each (λ b. more_used b (count_of b.id pieces)) (λ b. more_kept b (count_of b.id taken)) t)
+    ∙ each-each (λ b. less_used b (count_of b.id taken)) (λ b. more_used (more_kept b (count_of b.id taken)) (count_of b.id pieces)) t)
+
+-- and those leave it before what was taken out comes back
+pub brought_back_last : (pieces taken : List Mapping) (t : BuffersState) → All (λ b. count_of b.id pieces ≤ b.uses) t.live →
+    by_count moved_in taken (by_count less_used pieces t) ≡ by_count less_used pieces (by_count more_used taken (by_count less_kept taken t))
+brought_back_last pieces taken t few =
+    each-each (λ b. moved_in b (count_of b.id taken)) (λ b. less_used b (count_of b.id pieces)) t
+    ∙ each-same (λ b. count_of b.id pieces ≤ b.uses) _ _ t few (λ b less. left_first b (b.kept - count_of b.id taken) (count_of b.id pieces) (count_of b.id taken) less)
+    ∙ sym (ap (by_count less_used pieces) (each-each (λ b. more_used b (count_of b.id taken)) (λ b. less_kept b (count_of b.id taken)) t)
+    ∙ each-each (λ b. less_used b (count_of b.id pieces)) (λ b. more_used (less_kept b (count_of b.id taken)) (count_of b.id taken)) t)

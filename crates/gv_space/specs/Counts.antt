@@ -37,3 +37,11 @@ more_kept b count = record b { kept = b.kept + count }
 -- so many mappings less in undo values
 abbrev pub less_kept : Buffer → ℕ → Buffer
 less_kept b count = record b { kept = b.kept - count }
+
+-- so many mappings moved out of the list into undo values
+abbrev pub moved_out : Buffer → ℕ → Buffer
+moved_out b count = record b { uses = b.uses - count; kept = b.kept + count }
+
+-- so many mappings moved back into the list out of undo values
+abbrev pub moved_in : Buffer → ℕ → Buffer
+moved_in b count = record b { uses = b.uses + count; kept = b.kept - count }

@@ -5,6 +5,7 @@ ghost use Rattle.std.specs.List.{All};
 ghost use Rattle.gv_buffers.specs.Buffers.{most_counted};
 ghost use Rattle.gv_space.specs.Counts.{by_count, count_of};
 ghost use Rattle.gv_space.specs.Counts.{more_used, less_used, more_kept, less_kept};
+ghost use Rattle.gv_space.specs.Counts.{moved_out, moved_in};
 ghost use Rattle.gv_space.specs.Live.{IsLiveBacking};
 
 use gv_buffers::Buffers;
@@ -37,19 +38,6 @@ pub fn count_in(buffers: &mut Buffers, mappings: &[Packed])
     }
 }
 
-/// Counts out mappings that left the list.
-pub fn count_out(buffers: &mut Buffers, mappings: &[Packed])
-    requires live { All (λ m. IsLiveBacking buffers.old m.backing) mappings.now }
-    requires counted { All (λ b. count_of b.id mappings.now ≤ b.uses) buffers.old.live }
-    ensures { buffers.new ≡ by_count less_used mappings.now buffers.old }
-{
-    for mapping in mappings {
-        if let Backing::Buffer { id, .. } = mapping.backing() {
-            buffers.count_out(id, mapping.first());
-        }
-    }
-}
-
 /// Counts out a run of the list, which leaves it.
 pub fn count_out_run(buffers: &mut Buffers, run: Run<'_>)
     requires live { All (λ m. IsLiveBacking buffers.old m.backing) run }
@@ -63,15 +51,30 @@ pub fn count_out_run(buffers: &mut Buffers, run: Run<'_>)
     }
 }
 
-/// Counts mappings that come into an undo value, each in its buffer.
-pub fn keep(buffers: &mut Buffers, mappings: &[Packed])
+/// Counts mappings that leave the list and come into an undo value, each in its buffer, with the page where it began.
+fn take_out(buffers: &mut Buffers, mappings: &[Packed])
     requires live { All (λ m. IsLiveBacking buffers.old m.backing) mappings.now }
+    requires counted { All (λ b. count_of b.id mappings.now ≤ b.uses) buffers.old.live }
     requires room { All (λ b. b.kept + count_of b.id mappings.now ≤ most_counted) buffers.old.live }
-    ensures { buffers.new ≡ by_count more_kept mappings.now buffers.old }
+    ensures { buffers.new ≡ by_count moved_out mappings.now buffers.old }
 {
     for mapping in mappings {
         if let Backing::Buffer { id, .. } = mapping.backing() {
-            buffers.keep(id);
+            buffers.take_out(id, mapping.first());
+        }
+    }
+}
+
+/// Counts mappings that come back into the list out of an undo value, each in its buffer, with the page where it begins.
+fn bring_back(buffers: &mut Buffers, mappings: &[Packed])
+    requires live { All (λ m. IsLiveBacking buffers.old m.backing) mappings.now }
+    requires kept { All (λ b. count_of b.id mappings.now ≤ b.kept) buffers.old.live }
+    requires room { All (λ b. b.uses + count_of b.id mappings.now ≤ most_counted) buffers.old.live }
+    ensures { buffers.new ≡ by_count moved_in mappings.now buffers.old }
+{
+    for mapping in mappings {
+        if let Backing::Buffer { id, .. } = mapping.backing() {
+            buffers.bring_back(id, mapping.first());
         }
     }
 }
@@ -99,9 +102,8 @@ pub fn move_counts(buffers: &mut Buffers, taken: &[Packed], pieces: &[Packed])
     ensures { buffers.new ≡ by_count less_used taken.now
         (by_count more_used pieces.now (by_count more_kept taken.now buffers.old)) }
 {
-    keep(buffers, taken);
+    take_out(buffers, taken);
     count_in(buffers, pieces);
-    count_out(buffers, taken);
 }
 
 /// Counts a run that comes back out of an undo value into the list, where `pieces` give way to it.
@@ -114,7 +116,6 @@ pub fn move_counts_back(buffers: &mut Buffers, pieces: Run<'_>, taken: &[Packed]
     ensures { buffers.new ≡ by_count less_used pieces.entry
         (by_count more_used taken.now (by_count less_kept taken.now buffers.old)) }
 {
-    unkeep(buffers, taken);
-    count_in(buffers, taken);
     count_out_run(buffers, pieces);
+    bring_back(buffers, taken);
 }

@@ -1,0 +1,6 @@
+use Rattle.std.proofs.Common.{◌≡◌, take}
+use Rattle.gv_space.specs.Counts.{by_count, moved_in}
+use Rattle.gv_space.proofs.counts.bring_back.Given as goal
+
+abbrev pub invariant-loop-mapping : goal.invariant-loop-mapping
+invariant-loop-mapping l = l.buffers ≡ by_count moved_in (take l.mapping-index l.mappings) l.initial.buffers
