@@ -1,6 +1,6 @@
 //! A list in chunks beside the same mappings in one block.
 use crate::fixtures::mapping;
-use gv_chunks::{CHUNK, ChunkList};
+use gv_chunks::{CHUNK, ChunkList, Spot};
 use gv_packed::Packed;
 use gv_plain::Random;
 use std::alloc::Global;
@@ -112,7 +112,12 @@ impl Lists {
         changed.extend_from_slice(&self.block[place + out_count..])?;
         self.block = changed;
         self.list.reserve(pieces.len())?;
-        self.list.splice(place, out_count, pieces);
+        // Wherever the place is looked for first, the list is the same.
+        let spot = Spot {
+            index: place,
+            near: self.made as usize % 5,
+        };
+        self.list.splice(spot, out_count, pieces);
         Ok(())
     }
 }

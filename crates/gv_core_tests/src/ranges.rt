@@ -5,6 +5,7 @@ ghost use Rattle.gv_ranges.specs.Examples.{RestsKeepFlags, RestsOfZeros, Neighbo
 ghost use Rattle.gv_ranges.specs.Examples.{RestoreOfPieces};
 
 use crate::fixtures::{edit, entry, list_of, list_of_one, mapping, spread, unmap};
+use gv_chunks::Spot;
 use gv_packed::Packed;
 use gv_ranges::{RangeList, Run, laws, next_rest, prev_rest};
 use gv_types::{Mapping, PageRange, SPACE_PAGES};
@@ -100,21 +101,49 @@ fn a_thousand_mappings(rt: HostRuntime) -> Result<(), Fail> {
     Ok(())
 }
 
+/// Whether what stands from these spots on, `count` mappings, is what stands from their indices on.
+fn are_alike(list: &RangeList, spots: &[Spot], count: usize) -> bool {
+    let len = list.len();
+    for spot in spots {
+        let index = spot.index;
+        if index >= len || count > len - index || list.get_at(*spot) != list.get(index) {
+            return false;
+        }
+        if !list.run_at(*spot, count).eq(list.run(index, count)) {
+            return false;
+        }
+    }
+    true
+}
+
 #[test]
 fn a_list_answers_the_same_wherever_it_looks_first(rt: HostRuntime) -> Result<(), Fail> {
-    let plain = spread(rt.alloc(), 1000, 2)?;
-    let mut list = spread(rt.alloc(), 1000, 2)?;
+    let list = spread(rt.alloc(), 1000, 2)?;
     for k in 0..1000u32 {
-        list.seek(u64::from(k) * 613 % 2003);
         let page = u64::from(k) * 2;
         let range = PageRange::new(page, 3).ok_or("no range")?;
-        let wanted = (k as usize, if k < 999 { 2 } else { 1 });
-        assert!(rt; list.overlapping(range) == wanted, "at {page}");
-        assert!(rt; list.at(page) == Some(entry(k)), "at {page}");
+        let index = k as usize;
+        let count = if k < 999 { 2 } else { 1 };
+        assert!(rt; list.overlapping(range) == (index, count), "at {page}");
+        let cut = list.cut(range);
+        assert!(rt; (cut.spot.index, cut.count) == (index, count), "at {page}");
+        let spots = [
+            cut.spot,
+            Spot::anywhere(index),
+            Spot {
+                index,
+                near: index * 613 % 13,
+            },
+            Spot {
+                index,
+                near: list.near(page),
+            },
+        ];
+        assert!(rt; are_alike(&list, &spots, count), "at {page}");
     }
     for page in [0, 1, 700, 1_998, SPACE_PAGES - 1, SPACE_PAGES, u64::MAX] {
-        list.seek(page);
-        assert!(rt; list.iter().eq(plain.iter()), "looked at {page}");
+        let near = list.near(page);
+        assert!(rt; are_alike(&list, &[Spot { index: 0, near }], list.len()), "looked at {page}");
     }
     Ok(())
 }
