@@ -143,7 +143,10 @@ fn a_list_answers_the_same_wherever_it_looks_first(rt: HostRuntime) -> Result<()
     }
     for page in [0, 1, 700, 1_998, SPACE_PAGES - 1, SPACE_PAGES, u64::MAX] {
         let near = list.near(page);
-        assert!(rt; are_alike(&list, &[Spot { index: 0, near }], list.len()), "looked at {page}");
+        assert!(rt;
+            are_alike(&list, &[Spot { index: 0, near }], list.len()),
+            "looked at {page}"
+        );
     }
     Ok(())
 }

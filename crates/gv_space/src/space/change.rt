@@ -89,9 +89,7 @@ impl Space {
         ensures room { self.new.room ≡ self.old.room }
     {
         let count = taken.len();
-        let tables = self
-            .mapped
-            .edit(alloc, range, spot, count, pieces, inside)?;
+        let tables = self.mapped.edit(alloc, range, spot, count, pieces, inside)?;
         counts::move_counts(&mut self.buffers, taken, pieces);
         self.kept_count += count as u64;
         Ok(tables)
