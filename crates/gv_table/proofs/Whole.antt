@@ -1,5 +1,5 @@
 -- Slots that one mapping holds whole, or that no mapping meets.
-use Rattle.std.proofs.Common.{◌≡◌, ℕ, ◌+◌, ◌-◌, ◌*◌, ◌<◌, ◌≤◌, inl, inr, false, List, length, get_or, Option, Some, None, MatchOption, Bor, IfSome, arith, ap, sym, subst, ◌∙◌}
+use Rattle.std.proofs.Common.{◌≡◌, ℕ, ◌+◌, ◌-◌, ◌*◌, ◌<◌, ◌≤◌, inl, inr, false, List, length, get_or, Option, Some, None, MatchOption, Bor, IfSome, arith, ap, refl, sym, subst, ◌∙◌}
 use Rattle.std.specs.Option.{option_copied}
 use Rattle.std.proofs.lemmas.Bool.{cases_lt}
 use Rattle.std.proofs.Math.Nat.{add-mul}
@@ -13,12 +13,14 @@ use Rattle.gv_table.specs.declared.slot.Slot.{Slot}
 use Rattle.gv_table.specs.declared.slot.Slot.TheVariants.{Empty}
 use Rattle.gv_table.specs.declared.wanted.Wanted.TheVariants as variant
 use Rattle.gv_table.specs.Levels.{pages_of, slot_pages}
+use Rattle.gv_table.specs.Names.{IsTold, AreTold}
 use Rattle.gv_table.specs.Tree.{is_table, leaf, IsTreeOf}
 use Rattle.gv_table.specs.Wanted.{wanted, is_divided}
-use Rattle.gv_table.proofs.Covered.{met-none}
+use Rattle.gv_table.proofs.Covered.{met-none, told-less}
+use Rattle.gv_table.proofs.PagesOf.{pages_of-some}
 use Rattle.gv_table.proofs.Slots.{is_table-Empty, is_table-leaf}
 use Rattle.gv_table.proofs.Spans.{meets-before, meets-after}
-use Rattle.gv_table.proofs.Trees.{IsTreeOf-nothing, IsTreeOf-leaf}
+use Rattle.gv_table.proofs.Trees.{IsTreeOf-nothing, IsTreeOf-leaf, leaf-told}
 use Rattle.gv_table.proofs.Wants.{wanted-nothing}
 
 -- nothing is wanted of a slot between two mappings
@@ -57,6 +59,16 @@ module _ (ms : List Mapping) (level first : ℕ) where
       MatchOption held (slot ≡ Empty) (λ m. slot ≡ leaf (part m.now first)) → IsTreeOf ms level first slot
   alike-tree None slot is made = IsTreeOf-nothing ms level first slot is made
   alike-tree (Some m) slot is made = IsTreeOf-leaf ms level first (part m.now first) slot is made
+
+  -- what it holds can be told
+  pub alike-told : (held : Option (Bor Mapping)) → IsLaidOut ms → AreTold ms →
+      MatchOption held (wanted ms level first ≡ variant.Nothing) (λ m. wanted ms level first ≡ variant.Entry (part m.now first)) →
+      IfSome held (λ m. IsTold (part m.now first).backing 1)
+  alike-told None laid told is = tt
+  alike-told (Some m) laid told is =
+      let some = pages_of-some level in
+      told-less (part m.now first).backing 1 (pages_of level)
+      (leaf-told ms level first (part m.now first) laid told (IsTreeOf-leaf ms level first (part m.now first) _ is refl)) (omega (arith, some))
 
 pub alike-no-table : (held : Option (Bor Mapping)) (first : ℕ) (slot : Slot) →
     MatchOption held (slot ≡ Empty) (λ m. slot ≡ leaf (part m.now first)) → is_table slot ≡ false

@@ -9,6 +9,7 @@ pub mod Sums
 pub mod Tree
 pub mod Leaves
 pub mod Counts
+pub mod BufferIndex
 pub mod Chain
 pub mod PageChain
 pub mod Shape

@@ -22,11 +22,12 @@ use gv_types::Entry;
 
 /// Makes the slots the parts of a leaf, each of `pages` pages.
 fn spread(slots: &mut [Slot; SLOTS], entry: &Entry, pages: u64)
-    requires { slots_per_table * pages ≤ PAGES }
+    requires bound { slots_per_table * pages ≤ PAGES }
+    requires some { 0 < pages }
     ensures leaves { (k : ℕ) → k < slots_per_table
         → is_table (slice_index_or slots.new k Empty) ≡ false }
     ensures entries { HasSmallPages entry.now.backing (slots_per_table * pages)
-        → (k : ℕ) → k < slots_per_table
+        → IsTold entry.now.backing (slots_per_table * pages) → (k : ℕ) → k < slots_per_table
         → slice_index_or slots.new k Empty ≡ leaf (entry_advanced entry.now (k * pages)) }
 {
     for index in 0..SLOTS {
@@ -37,12 +38,13 @@ fn spread(slots: &mut [Slot; SLOTS], entry: &Entry, pages: u64)
 /// An empty table, with the parts of the entry, where there is one.
 fn filled(entry: Option<Entry>, pages: u64, table: Box<[Slot; SLOTS]>) -> Box<[Slot; SLOTS]>
     requires bound { slots_per_table * pages ≤ PAGES }
+    requires some { 0 < pages }
     requires empty { AreEmpty table.value }
     ensures empty { entry ≡ None → AreEmpty result.value }
     ensures leaves { (k : ℕ) → k < slots_per_table
         → is_table (slice_index_or result.value k Empty) ≡ false }
     ensures entries { IfSome entry (λ e. HasSmallPages e.backing (slots_per_table * pages)
-        → (k : ℕ) → k < slots_per_table
+        → IsTold e.backing (slots_per_table * pages) → (k : ℕ) → k < slots_per_table
         → slice_index_or result.value k Empty ≡ leaf (entry_advanced e (k * pages))) }
 {
     let mut slots = table;

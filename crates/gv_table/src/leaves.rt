@@ -7,6 +7,7 @@ ghost use Rattle.gv_ranges.specs.List.{IsLaidOut};
 ghost use Rattle.gv_table.specs.declared.slot.Slot.TheVariants.{Empty};
 ghost use Rattle.gv_table.specs.Kinds.{Kind, of};
 ghost use Rattle.gv_table.specs.Levels.{top_level, root_level, slots_per_table, pages_of};
+ghost use Rattle.gv_table.specs.Names.{AreTold, IsTold};
 ghost use Rattle.gv_table.specs.Shape.{IsShaped};
 ghost use Rattle.gv_table.specs.Tree.{IsTreeOf, leaf};
 ghost use Rattle.gv_table.specs.Counts.{tables_in, tables_at, row_tables_at, count_at, row_gained, row_lost, IsRowOf};
@@ -32,6 +33,7 @@ pub fn make_leaf(
     counts: &mut TableCounts,
 )
     requires some { 0 < level }
+    requires told { IsTold entry.backing 1 }
     requires known { level ≤ top_level }
     requires shaped { IsShaped level slot.old }
     requires counted { (target : ℕ) → tables_at target level slot.old ≤ count_at counts.old target }
@@ -58,6 +60,7 @@ fn paint_whole(
     requires shaped { IsShaped place.level slot.old }
     requires mapping { IfSome held (λ m. IsMapping m.now) }
     requires covered { IfSome held (λ m. IsTrue (covers m.now.range place.first)) }
+    requires told { IfSome held (λ m. IsTold (part m.now place.first).backing 1) }
     requires counted { (target : ℕ) → tables_at target place.level slot.old ≤ count_at counts.old target }
     ensures slot { MatchOption held.entry (slot.new ≡ Empty) (λ m. slot.new ≡ leaf (part m.now place.first)) }
     ensures put { (kind : Kind) → of kind left.new ≡ of kind left.old + tables_in kind place.level slot.old }
@@ -86,6 +89,7 @@ pub fn paint_alike(
     requires shaped { (k : ℕ) → k < slots_per_table → IsShaped place.level (slice_index_or slots.old k Empty) }
     requires in_space { place.first + slots_per_table * pages_of place.level ≤ PAGES }
     requires laid_out { IsLaidOut excerpt.now.mappings.now }
+    requires told { AreTold excerpt.now.mappings.now }
     requires ordered { run.start ≤ run.end }
     requires within { run.end ≤ slots_per_table }
     requires wanted { (k : ℕ) → run.start ≤ k → k < run.end → MatchOption held

@@ -3,6 +3,7 @@
 #![tactic(auto)]
 
 mod alike;
+mod buffer_index;
 mod chain;
 mod divide;
 mod fill;

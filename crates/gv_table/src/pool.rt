@@ -11,7 +11,7 @@ use crate::tables::Tables;
 use std::alloc::{AllocError, Global};
 use std::marker::Model;
 
-/// So many tables are kept at most: 3 MiB.
+/// So many tables are kept at most: 1 MiB.
 const MOST_KEPT: u64 = 256;
 
 /// Empty tables of pages that left trees and are kept for later paints, so that a table which comes and goes is neither made anew nor

@@ -8,6 +8,7 @@ ghost use Rattle.gv_ranges.specs.List.{IsLaidOut, AreEnded};
 ghost use Rattle.gv_table.specs.declared.slot.Slot.TheVariants.{Empty};
 ghost use Rattle.gv_table.specs.Leaves.{AreWhole, IsLeafOf};
 ghost use Rattle.gv_table.specs.Levels.{root_level, slots_per_table, pages_of, slot_pages, IsInPart};
+ghost use Rattle.gv_table.specs.Names.{AreTold, IsTold};
 ghost use Rattle.gv_table.specs.Tree.{IsTreeOf, is_table, leaf};
 
 use crate::alike::{Alike, alike_from};
@@ -43,6 +44,7 @@ pub fn paint_leaves(slots: &mut [Slot; SLOTS], place: Place, excerpt: &Excerpt<'
     requires known { place.level ≤ root_level }
     requires in_space { place.first + slots_per_table * pages_of place.level ≤ PAGES }
     requires laid_out { IsLaidOut excerpt.now.mappings.now }
+    requires told { AreTold excerpt.now.mappings.now }
     requires position { AreEnded excerpt.now.mappings.now excerpt.now.range.first excerpt.now.position }
     requires met { IsTrue (meets (span place.first (slots_per_table * pages_of place.level)) excerpt.now.range) }
     ensures not { result ≡ false → slots.new ≡ slots.old }
@@ -123,6 +125,7 @@ fn put_leaves(slots: &mut [Slot; SLOTS], place: Place, excerpt: &Excerpt<'_, '_>
     requires known { place.level ≤ root_level }
     requires in_space { place.first + slots_per_table * pages_of place.level ≤ PAGES }
     requires laid_out { IsLaidOut excerpt.now.mappings.now }
+    requires told { AreTold excerpt.now.mappings.now }
     requires position { AreEnded excerpt.now.mappings.now excerpt.now.range.first excerpt.now.position }
     requires ordered { run.start ≤ run.end }
     requires within { run.end ≤ slots_per_table }
@@ -174,6 +177,8 @@ fn fill_leaves(slots: &mut [Slot; SLOTS], place: Place, run: Range<usize>, held:
     requires mapping { IfSome held (λ m. IsMapping m.now) }
     requires covered { (k : ℕ) → run.start ≤ k → k < run.end
         → IfSome held (λ m. IsTrue (covers m.now.range (place.first + k * pages_of place.level))) }
+    requires told { (k : ℕ) → run.start ≤ k → k < run.end
+        → IfSome held (λ m. IsTold (part m.now (place.first + k * pages_of place.level)).backing 1) }
     ensures filled { (k : ℕ) → run.start ≤ k → k < run.end → MatchOption held.entry
         (slice_index_or slots.new k Empty ≡ Empty)
         (λ m. slice_index_or slots.new k Empty ≡ leaf (part m.now (place.first + k * pages_of place.level))) }
@@ -199,6 +204,7 @@ fn fill_leaves(slots: &mut [Slot; SLOTS], place: Place, run: Range<usize>, held:
 fn leaf_of(held: Option<&Mapping>, page: u64) -> Slot
     requires mapping { IfSome held (λ m. IsMapping m.now) }
     requires covered { IfSome held (λ m. IsTrue (covers m.now.range page)) }
+    requires told { IfSome held (λ m. IsTold (part m.now page).backing 1) }
     ensures { MatchOption held.entry (result ≡ Empty) (λ m. result ≡ leaf (part m.now page)) }
 {
     match held {

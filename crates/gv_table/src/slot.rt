@@ -1,9 +1,10 @@
 //! A slot of a table.
-ghost use Rattle.std.specs.Prelude.{◌≡◌};
+ghost use Rattle.std.specs.Prelude.{◌≡◌, false};
 
+use crate::buffer_index::BufferIndex;
 use crate::levels::SLOTS;
 use crate::page_slot::Pages;
-use gv_types::{Backing, BufferId, Entry, Flags};
+use gv_types::{Backing, Entry, Flags};
 use std::mem;
 
 /// A slot of more than one page: empty where no mapping meets its pages; a leaf where one mapping holds them all, with the entry of
@@ -16,7 +17,7 @@ pub enum Slot {
     },
     Buffer {
         flags: Flags,
-        id: BufferId,
+        id: BufferIndex,
         page: u64,
     },
     Pages(Box<Pages>),
@@ -24,20 +25,27 @@ pub enum Slot {
 }
 
 // A table of 512 slots is made in a frame and then moved to the heap, so a slot is kept small.
-const _: () = prove!(size_of::<Slot>() == 24);
+const _: () = prove!(size_of::<Slot>() == 16);
 
 impl Slot {
     ghost use Rattle.std.specs.Prelude.{◌≡◌, MatchOption};
+    ghost use Rattle.gv_table.specs.Names.{IsTold};
     ghost use Rattle.gv_table.specs.Tree.{leaf, is_table, HasNoEntry};
 
-    /// The leaf of an entry.
+    /// The leaf of an entry, whose buffer is told by its index alone.
+    #[inline(always)]
     pub fn leaf(entry: Entry) -> Slot
-        ensures { result ≡ leaf entry }
+        ensures leaf { IsTold entry.backing 1 → result ≡ leaf entry }
+        ensures other { is_table result ≡ false }
     {
         let flags = entry.flags;
         match entry.backing {
             Backing::Zero => Slot::Zero { flags },
-            Backing::Buffer { id, page } => Slot::Buffer { flags, id, page },
+            Backing::Buffer { id, page } => Slot::Buffer {
+                flags,
+                id: BufferIndex::of(id),
+                page,
+            },
         }
     }
 
@@ -63,7 +71,7 @@ impl Slot {
                 flags,
             }),
             Slot::Buffer { flags, id, page } => Some(Entry {
-                backing: Backing::Buffer { id, page },
+                backing: Backing::Buffer { id: id.id(), page },
                 flags,
             }),
         }

@@ -6,7 +6,7 @@ use Rattle.gv_table.specs.declared.slot.Slot.{Slot}
 use Rattle.gv_table.specs.Kinds.{of}
 use Rattle.gv_table.specs.Levels.{pages_of}
 use Rattle.gv_table.specs.Tree.{is_table, child, leaf, slot_of}
-use Rattle.gv_table.proofs.PagesOf.{pages_of-zero, pages_of-below, pages_of-bound}
+use Rattle.gv_table.proofs.PagesOf.{pages_of-zero, pages_of-below, pages_of-bound, pages_of-some}
 use Rattle.gv_table.proofs.Slots.{is_table-Pages, is_table-Table, child-Pages, child-Table, page-other, slot_of-none}
 use Rattle.gv_table.proofs.Shapes.{shaped-Pages, shaped-Table, shaped-other}
 use Rattle.gv_table.proofs.KindLemmas.{one_of-low}
@@ -27,12 +27,6 @@ pages-are (Some entry) part parts = λ small told k below.
     let one : k * 1 ≡ k = omega arith in
     parts small told k below ∙ ap (λ (n : ℕ). leaf (entry_advanced entry n)) (sym one)
 
-slots-are : (entry : Option Entry) (part : ℕ → Slot) (p : ℕ) →
-    IfSome entry (λ e. HasSmallPages e.backing (512 * p) → (k : ℕ) → k < 512 → part k ≡ leaf (entry_advanced e (k * p))) →
-    IfSome entry (λ e. HasSmallPages e.backing (512 * p) → IsTold e.backing (512 * p) → (k : ℕ) → k < 512 → part k ≡ leaf (entry_advanced e (k * p)))
-slots-are None part p parts = tt
-slots-are (Some entry) part p parts = λ small told k below. parts small k below
-
 pub take_pages-requires : goal.take_pages-requires
 take_pages-requires c = λ kind.
     let low : c.args.level - 1 ≡ 0 = omega (arith, c.if-level-eq1.true) in
@@ -43,6 +37,9 @@ filled-requires-clause-bound c =
     let below-of = pages_of-below c.args.level c.requires.some in
     let all = pages_of-bound c.args.level c.requires.known in
     omega (arith, below-of, all, c.pages_of.ensures.pages)
+
+pub filled-requires-clause-some : goal.filled-requires-clause-some
+filled-requires-clause-some c = let some = pages_of-some (c.args.level - 1) in omega (arith, some, c.pages_of.ensures.pages)
 
 pub returns-then-level-eq1-clause-table : goal.returns-then-level-eq1-clause-table
 returns-then-level-eq1-clause-table c = is_table-Pages c.filled_pages.result
@@ -77,4 +74,4 @@ returns-else-level-eq1-clause-empty c = λ none k below. child-Table c.filled.re
 
 pub returns-else-level-eq1-clause-entries : goal.returns-else-level-eq1-clause-entries
 returns-else-level-eq1-clause-entries c =
-    parts-are c.args.entry _ c.pages_of.result (pages_of (c.args.level - 1)) _ c.pages_of.ensures.pages (λ k. child-Table c.filled.result k) (slots-are c.args.entry _ c.pages_of.result c.filled.ensures.entries)
+    parts-are c.args.entry _ c.pages_of.result (pages_of (c.args.level - 1)) _ c.pages_of.ensures.pages (λ k. child-Table c.filled.result k) c.filled.ensures.entries

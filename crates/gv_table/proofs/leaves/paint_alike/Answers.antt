@@ -1,10 +1,11 @@
-use Rattle.std.proofs.Common.{rules, arith, refl, ◌≡◌, ◌≢◌, ◌≤◌, ◌<◌, ◌+◌, ◌*◌, ℕ, ◌⊎◌, inl, inr, List, length, slice_index_or, slice_set, MatchOption, sym, ap, ◌∙◌, subst}
+use Rattle.std.proofs.Common.{rules, arith, refl, ◌≡◌, ◌≢◌, ◌≤◌, ◌<◌, ◌+◌, ◌*◌, ℕ, ◌⊎◌, inl, inr, List, length, slice_index_or, slice_set, IfSome, MatchOption, sym, ap, ◌∙◌, subst}
 use Rattle.std.proofs.lemmas.List.{get_or_default}
 use Rattle.gv_types.specs.Mapping.{part}
 use Rattle.gv_table.specs.Kinds.{Kind}
 use Rattle.gv_table.specs.declared.slot.Slot.{Slot}
 use Rattle.gv_table.specs.declared.slot.Slot.TheVariants.{Empty}
 use Rattle.gv_table.specs.Levels.{pages_of}
+use Rattle.gv_table.specs.Names.{IsTold}
 use Rattle.gv_table.specs.Shape.{IsShaped}
 use Rattle.gv_table.specs.Tree.{IsTreeOf, leaf}
 use Rattle.gv_table.specs.Counts.{tables_in, tables_at}
@@ -15,7 +16,7 @@ use Rattle.gv_table.proofs.Painted.{painted-gained, painted-lost, painted-above}
 use Rattle.gv_table.proofs.InOne.{sides}
 use Rattle.gv_table.proofs.Shapes.{shaped-other}
 use Rattle.gv_table.proofs.Rows.{row-other, row-here}
-use Rattle.gv_table.proofs.Whole.{alike-undivided, alike-tree, alike-no-table}
+use Rattle.gv_table.proofs.Whole.{alike-undivided, alike-tree, alike-told, alike-no-table}
 use Rattle.gv_table.proofs.leaves.paint_alike.Goals as goal
 
 pub loop-index-init : goal.loop-index-init
@@ -44,6 +45,15 @@ paint_whole-requires-clause-counted c = λ target.
     let counted = here.counted target in
     let same = ap (λ (s : Slot). tables_at target c.args.place.level s) read in
     omega (arith, counted, same)
+
+pub paint_whole-requires-clause-told : goal.paint_whole-requires-clause-told
+paint_whole-requires-clause-told c =
+    let ms = c.args.excerpt.now.mappings.now in
+    let start : c.args.place.first + c.loop-index.index * c.pages_of-pages.result ≡ c.args.place.first + c.loop-index.index * pages_of c.args.place.level =
+    ap (λ (n : ℕ). c.args.place.first + c.loop-index.index * n) c.pages_of-pages.ensures.pages in
+    let page : ℕ = c.args.place.first + c.loop-index.index * pages_of c.args.place.level in
+    subst (λ (n : ℕ). IfSome c.args.held (λ m. IsTold (part m.now n).backing 1)) (sym start)
+    (alike-told ms c.args.place.level page c.args.held c.requires.laid_out c.requires.told (c.requires.wanted c.loop-index.index c.loop-index.auto.index c.loop-index-test.true))
 
 split : (k i : ℕ) → k < i + 1 → (k < i) ⊎ (k ≡ i)
 split k i below = grind arith

@@ -20,7 +20,8 @@ use Rattle.gv_table.specs.Tree.{IsTreeOf, IsToldOutside, is_table, child, slot_o
 use Rattle.gv_table.specs.Counts.{gained, tables_at, one_if, IsPartOf}
 use Rattle.gv_table.proofs.Counts.{gained-parts, lost-parts, tables_at-other, tables_at-same, tables_at-parts, tables_at-pages}
 use Rattle.gv_table.proofs.Matches.{lost-whole, gained-none}
-use Rattle.gv_table.proofs.PagesOf.{pages_of-below, part-within, one-more-part}
+use Rattle.gv_table.proofs.Covered.{told-less}
+use Rattle.gv_table.proofs.PagesOf.{pages_of-some, pages_of-below, part-within, one-more-part}
 use Rattle.gv_table.proofs.Painted.{table-row, row-tables, painted-below, painted-above, painted-gained, painted-lost, row-tree, row_gained-zero, row_lost-zero, gained-divided, lost-divided, pages-lost, pages-gained, pages-tables}
 use Rattle.gv_table.proofs.InOne.{row-pages, in-row, one-tree, one-gained, one-lost}
 use Rattle.gv_table.proofs.Positions.{ended-later, position-ended}
@@ -30,7 +31,7 @@ use Rattle.gv_table.proofs.Slots.{is_table-Empty, is_table-leaf, no-table, child
 use Rattle.gv_table.proofs.Counting.{divided-row, divided-counted, row-part, row-counted, row-still}
 use Rattle.gv_table.proofs.Spans.{meets-before}
 use Rattle.gv_table.proofs.Sums.{sum_below-at}
-use Rattle.gv_table.proofs.Trees.{IsTreeOf-pages, IsTreeOf-nothing, IsTreeOf-leaf, IsTreeOf-table, outside-apart, empty-apart}
+use Rattle.gv_table.proofs.Trees.{IsTreeOf-pages, IsTreeOf-nothing, IsTreeOf-leaf, IsTreeOf-table, leaf-told, outside-apart, empty-apart}
 use Rattle.gv_table.proofs.Wants.{table-above}
 use Rattle.gv_table.proofs.paint.+paint.Goals as goal
 
@@ -155,6 +156,7 @@ paint_slots-paint_alike-requires t c =
       in_space = c.requires.in_space;
       shaped = c.loop-index.invariant.shaped;
       laid_out = c.requires.laid_out;
+      told = c.requires.told;
       ordered = omega arith;
       within = omega (arith, c.min-alike.ensures, c.loop-index-test.true, c.slots_met-low.ensures.within);
       wanted = λ k from below.
@@ -236,6 +238,15 @@ paint_slot-returns-in-Nothing t c =
           let given = c.clear_unwanted.ensures.counted target in
           omega (arith, leaf, given);
     }
+
+pub paint_slot-make_leaf-requires-clause-told : goal.paint_slot-make_leaf-requires-clause-told
+paint_slot-make_leaf-requires-clause-told t c =
+    let ms = c.args.excerpt.now.mappings.now in
+    let want = sym c.slot_wanted.ensures ∙ c.in-Entry.is in
+    let some = pages_of-some c.args.place.level in
+    told-less c.in-Entry.entry.backing 1 (pages_of c.args.place.level)
+    (leaf-told ms c.args.place.level c.args.place.first c.in-Entry.entry c.requires.laid_out c.requires.told
+    (IsTreeOf-leaf ms c.args.place.level c.args.place.first c.in-Entry.entry _ want refl)) (omega (arith, some))
 
 pub paint_slot-returns-in-Entry : goal.paint_slot-returns-in-Entry
 paint_slot-returns-in-Entry t c =

@@ -10,7 +10,7 @@ use Rattle.gv_table.specs.Levels.{pages_of}
 use Rattle.gv_table.specs.Tree.{IsTreeOf}
 use Rattle.gv_table.specs.Wanted.{wanted}
 use Rattle.gv_table.proofs.Positions.{position-ended}
-use Rattle.gv_table.proofs.Whole.{alike-tree, copied-match, copied-some, slot-from}
+use Rattle.gv_table.proofs.Whole.{alike-tree, alike-told, copied-match, copied-some, slot-from}
 use Rattle.gv_table.proofs.short_row.put_leaves.Goals as goal
 
 pub fill_leaves-requires-clause-covered : goal.fill_leaves-requires-clause-covered
@@ -21,6 +21,18 @@ fill_leaves-requires-clause-covered c = λ k from below.
     copied-some c.as_ref.result held (λ m. covers m.range (c.args.place.first + k * pages_of c.args.place.level) ≡ true) c.as_ref.ensures.value
     (subst (λ (n : ℕ). IfSome held (λ m. covers m.range n ≡ true)) there
     (c.alike_from-count.ensures.covered (k - c.loop-index.index) (omega (arith, from, below, c.min-alike.ensures))))
+
+pub fill_leaves-requires-clause-told : goal.fill_leaves-requires-clause-told
+fill_leaves-requires-clause-told c = λ k from below.
+    let ms = c.args.excerpt.now.mappings.now in
+    let level : ℕ = c.args.place.level in
+    let p : ℕ = pages_of c.args.place.level in
+    let held = c.alike_from-count.result.held in
+    let there = slot-from c.args.place.first (c.args.place.first + c.loop-index.index * c.pages_of-pages.result) c.loop-index.index k c.pages_of-pages.result p refl c.pages_of-pages.ensures.pages from in
+    alike-told ms level (c.args.place.first + k * p) c.as_ref.result c.requires.laid_out c.requires.told
+    (copied-match c.as_ref.result held _ (λ m. wanted ms level (c.args.place.first + k * p) ≡ variant.Entry (part m (c.args.place.first + k * p))) c.as_ref.ensures.value
+    (subst (λ (n : ℕ). MatchOption held (wanted ms level n ≡ variant.Nothing) (λ m. wanted ms level n ≡ variant.Entry (part m n)))
+    there (c.alike_from-count.ensures.wanted (k - c.loop-index.index) (omega (arith, from, below, c.min-alike.ensures)))))
 
 pub loop-index-preserved : goal.loop-index-preserved
 loop-index-preserved c =
