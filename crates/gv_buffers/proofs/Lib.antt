@@ -1,5 +1,6 @@
 pub mod Joins
 pub mod Ascending
+pub mod Rising
 pub mod Lists
 pub mod Leaving
 pub mod Tables

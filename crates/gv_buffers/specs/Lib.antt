@@ -1,5 +1,6 @@
 pub mod Users
 pub mod Ascending
+pub mod Places
 pub mod Buffers
 pub mod Slots
 pub mod Indices

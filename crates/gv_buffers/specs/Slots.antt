@@ -7,7 +7,7 @@ use Rattle.gv_types.specs.Mapping.{buffer_id}
 use Rattle.gv_buffers.specs.declared.live_buffer.LiveBuffer.{LiveBuffer}
 use Rattle.gv_buffers.specs.Indices.{Notes, IsNoted}
 use Rattle.gv_buffers.specs.declared.counter.Move.{Move}
-use Rattle.gv_buffers.specs.declared.counter.Move.TheVariants.{In, Out, TakenOut, BroughtBack, Released}
+use Rattle.gv_buffers.specs.declared.counter.Move.TheVariants.{In, Out, TakenOut, BroughtBack, Saved, Released}
 use Rattle.gv_buffers.specs.Buffers.{Buffer, most_counted, left_by}
 
 -- for each index from 0 on the live buffer there, if there is one
@@ -97,6 +97,7 @@ uses_after In uses = uses + 1
 uses_after Out uses = uses - 1
 uses_after TakenOut uses = uses - 1
 uses_after BroughtBack uses = uses + 1
+uses_after Saved uses = uses
 uses_after Released uses = uses
 
 -- and how many in undo values
@@ -105,6 +106,7 @@ kept_after In kept = kept
 kept_after Out kept = kept
 kept_after TakenOut kept = kept + 1
 kept_after BroughtBack kept = kept - 1
+kept_after Saved kept = kept + 1
 kept_after Released kept = kept - 1
 
 -- a buffer, one of whose mappings moved
@@ -117,6 +119,7 @@ CanMove In b = b.uses < most_counted
 CanMove Out b = 0 < b.uses
 CanMove TakenOut b = (0 < b.uses) × (b.kept < most_counted)
 CanMove BroughtBack b = (b.uses < most_counted) × (0 < b.kept)
+CanMove Saved b = b.kept < most_counted
 CanMove Released b = 0 < b.kept
 
 -- a job has left the buffer at an index, or the buffer is as it was

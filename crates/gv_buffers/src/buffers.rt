@@ -17,9 +17,8 @@ use std::marker::Model;
 // So many buffers a new table has room for, where its limit is no lower.
 const FIRST_ROOM: u64 = 8;
 
-/// The live buffers of an address space: how many pages each has, how many mappings name it, and
-/// which running jobs use it. No two jobs use one buffer where either writes it, as the kernel's
-/// Reservation Objects ask. An id that died stays dead when its index is used again.
+/// The live buffers of an address space: how many pages each has, how many mappings name it, and which running jobs use it. No two jobs use
+/// one buffer where either writes it, as the kernel's Reservation Objects ask. An id that died stays dead when its index is used again.
 #[derive(Drop)]
 pub struct Buffers {
     limit: u64,
@@ -49,8 +48,8 @@ impl Buffers {
     ghost use Rattle.gv_buffers.specs.Slots.{CanMove, after_move};
     ghost use Rattle.std.specs.Option.{IsSomeAnd};
 
-    /// A table of no buffer, in which at most `limit` are alive at once, from 1 to 65,536. It has
-    /// room for the first 8. `OutOfMemory` where the system refuses that room.
+    /// A table of no buffer, in which at most `limit` are alive at once, from 1 to 65,536. It has room for the first 8. `OutOfMemory` where
+    /// the system refuses that room.
     pub fn new(alloc: Global, limit: u64) -> Result<Buffers, Fault>
         requires { IsFromOneTo greatest.buffers limit }
         ensures empty { IfOk result (λ b. b ≡ no_buffers limit) }
@@ -99,10 +98,9 @@ impl Buffers {
         self.slots.next_index()
     }
 
-    /// Makes a buffer of `pages` pages, unless `create_fault` says why none can be, or memory is
-    /// refused. The id's generation is how many were made before; its index is the one that a
-    /// destroyed buffer left last, if one is vacant. It takes memory only where none is, and then
-    /// for twice as many indices.
+    /// Makes a buffer of `pages` pages, unless `create_fault` says why none can be, or memory is refused. The id's generation is how many
+    /// were made before; its index is the one that a destroyed buffer left last, if one is vacant. It takes memory only where none is, and
+    /// then for twice as many indices.
     pub fn create(&mut self, alloc: Global, pages: u64) -> Result<BufferId, Fault>
         ensures fault { MatchOption (create_fault self.old pages)
             (IsOkUnless result Fault.OutOfMemory) (λ fault. result ≡ Err fault) }
@@ -128,9 +126,8 @@ impl Buffers {
         Ok(BufferId::new(index, generation))
     }
 
-    /// Destroys a buffer that nothing names. `NoBuffer` where the id is dead, then `Mapped` where
-    /// mappings of it are in the list, `Kept` where they are in undo values, and `InUse` where jobs
-    /// use it. It takes no memory.
+    /// Destroys a buffer that nothing names. `NoBuffer` where the id is dead, then `Mapped` where mappings of it are in the list, `Kept`
+    /// where they are in undo values, and `InUse` where jobs use it. It takes no memory.
     pub fn destroy(&mut self, id: BufferId) -> Result<(), Fault>
         ensures fault { MatchOption (destroy_fault self.old id)
             (IsOk result) (λ fault. result ≡ Err fault) }
@@ -187,8 +184,8 @@ impl Buffers {
         self.count_move(id, Move::In, page);
     }
 
-    /// The pages at which the buffer's mappings begin, ascending, where they are at most 64, there was always room for them, and each
-    /// count told its page; else none. So whether they are as many as the mappings, and each one's, has to be looked up.
+    /// The pages at which the buffer's mappings begin, ascending, where they are at most 64 and there was always room for them: exactly
+    /// those that calls told to come and not to leave; else none. That the list has them is in no contract: whether it does is looked up.
     pub fn places(&self, id: BufferId) -> &[u64] {
         match self.slots.get(id) {
             Some(slot) => slot.places.pages(),
@@ -223,6 +220,15 @@ impl Buffers {
         ensures { self.new ≡ changed id brought_back self.old }
     {
         self.count_move(id, Move::BroughtBack, page);
+    }
+
+    /// Counts one more mapping in undo values. It takes no memory.
+    #[inline(always)]
+    pub fn keep(&mut self, id: BufferId)
+        requires { IsSomeAnd (kept self.old id) (λ count. count < most_counted) }
+        ensures { self.new ≡ changed id (raised Counter.Kept 1) self.old }
+    {
+        self.count_move(id, Move::Saved, 0);
     }
 
     /// Counts one mapping less in undo values. It takes no memory.

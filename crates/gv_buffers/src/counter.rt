@@ -20,6 +20,8 @@ pub enum Move {
     TakenOut,
     /// Back into the list, out of an undo value.
     BroughtBack,
+    /// Into an undo value, while another stands in its place in the list.
+    Saved,
     /// Out of an undo value.
     Released,
 }

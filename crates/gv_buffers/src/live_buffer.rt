@@ -2,6 +2,7 @@
 ghost use Rattle.std.specs.Prelude.{◌≡◌, ◌<◌, ℕ, IsOk, MatchOption};
 ghost use Rattle.gv_buffers.specs.Slots.{buffer_at, after_move, CanMove};
 ghost use Rattle.gv_buffers.specs.Buffers.{count, use_fault};
+ghost use Rattle.gv_buffers.specs.Places.{places_after};
 
 use crate::counter::{Counter, Move};
 use crate::places::Places;
@@ -36,7 +37,8 @@ impl LiveBuffer {
     #[inline(always)]
     pub fn count_move(&mut self, how: Move, page: u64)
         requires { CanMove how (buffer_at 0 self.old) }
-        ensures { (index : ℕ) → buffer_at index self.new ≡ after_move how (buffer_at index self.old) }
+        ensures counts { (index : ℕ) → buffer_at index self.new ≡ after_move how (buffer_at index self.old) }
+        ensures places { self.new.places.pages ≡ places_after how page self.old.uses self.old.places }
     {
         match how {
             Move::In | Move::BroughtBack => {
@@ -47,10 +49,10 @@ impl LiveBuffer {
                 self.places.leave(page, self.uses);
                 self.uses -= 1;
             }
-            Move::Released => {}
+            Move::Saved | Move::Released => {}
         }
         match how {
-            Move::TakenOut => self.kept += 1,
+            Move::TakenOut | Move::Saved => self.kept += 1,
             Move::BroughtBack | Move::Released => self.kept -= 1,
             Move::In | Move::Out => {}
         }
