@@ -18,6 +18,7 @@ enum Call {
     CountOut,
     TakeOut,
     BringBack,
+    Keep,
     Unkeep,
 }
 
@@ -48,6 +49,7 @@ fn count(buffers: &mut Buffers, id: &BufferId, call: &Call) -> Result<(), &'stat
         Call::CountOut if uses > 0 => buffers.count_out(*id, uses - 1),
         Call::TakeOut if uses > 0 && kept < 10 => buffers.take_out(*id, uses - 1),
         Call::BringBack if uses < 10 && kept > 0 => buffers.bring_back(*id, uses),
+        Call::Keep if kept < 10 => buffers.keep(*id),
         Call::Unkeep if kept > 0 => buffers.unkeep(*id),
         _ => return Err("no count"),
     }
@@ -186,6 +188,8 @@ fn what_names_a_buffer(rt: HostRuntime) -> Result<(), Fail> {
             sight(4, 1, 0),
         ),
         (0, Call::TakeOut, Ok(()), sight(4, 0, 1)),
+        (0, Call::Keep, Ok(()), sight(4, 0, 2)),
+        (0, Call::Unkeep, Ok(()), sight(4, 0, 1)),
         (0, Call::Unkeep, Ok(()), sight(4, 0, 0)),
         (
             0,

@@ -9,7 +9,7 @@ use Rattle.gv_types.specs.declared.mapping.Backing.TheVariants.{Buffer as Buffer
 use Rattle.gv_types.specs.declared.mapping.BufferId.{BufferId}
 use Rattle.gv_types.specs.declared.mapping.Mapping.{Mapping}
 use Rattle.gv_buffers.specs.Buffers.{Buffer, BuffersState, buffer, changed, only, has_id}
-use Rattle.gv_space.specs.Counts.{count_of, by_count, more_used, less_used, less_kept, moved_out, moved_in}
+use Rattle.gv_space.specs.Counts.{count_of, by_count, more_used, less_used, more_kept, less_kept, moved_out, moved_in}
 use Rattle.gv_space.specs.Live.{IsLiveBacking}
 use Rattle.gv_space.proofs.CountLemmas.{is_same_id-symmetric, count_of-more, count_of-front_lt}
 use Rattle.gv_space.proofs.TableLemmas.{each-each, each-same, each-itself, buffer-each, found_live}
@@ -31,6 +31,9 @@ more_used_counting = record { none = λ b. with_uses b _ b.uses (omega arith); m
 
 pub less_used_counting : IsCounting less_used
 less_used_counting = record { none = λ b. with_uses b _ b.uses (omega arith); more = λ b n. with_uses b _ _ (omega arith); id = λ b n. refl }
+
+pub more_kept_counting : IsCounting more_kept
+more_kept_counting = record { none = λ b. with_kept b _ b.kept (omega arith); more = λ b n. with_kept b _ _ (omega arith); id = λ b n. refl }
 
 pub less_kept_counting : IsCounting less_kept
 less_kept_counting = record { none = λ b. with_kept b _ b.kept (omega arith); more = λ b n. with_kept b _ _ (omega arith); id = λ b n. refl }

@@ -14,6 +14,7 @@ pub mod TableLemmas
 pub mod Counting
 pub mod ByCountLemmas
 pub mod Recounted
+pub mod Standing
 pub mod KeptLemmas
 pub mod Rooms
 pub mod LiveNames

@@ -1,7 +1,8 @@
 -- How many mappings name each buffer, and how the counts of buffers move with them.
-use Rattle.std.specs.Prelude.{ℕ, ◌+◌, ◌-◌, List, map, filter, length}
+use Rattle.std.specs.Prelude.{◌≡◌, ℕ, ◌+◌, ◌-◌, ◌<◌, List, map, filter, length, slice_index_or}
 use Rattle.gv_types.specs.Mapping.{is_of}
 use Rattle.gv_types.specs.PageRange.{PageRangeState}
+use Rattle.gv_types.specs.declared.mapping.Backing.TheVariants.{Buffer as BufferPages}
 use Rattle.gv_types.specs.declared.mapping.BufferId.{BufferId}
 use Rattle.gv_types.specs.declared.mapping.Mapping.{Mapping}
 use Rattle.gv_buffers.specs.Buffers.{BuffersState, Buffer}
@@ -45,3 +46,9 @@ moved_out b count = record b { uses = b.uses - count; kept = b.kept + count }
 -- so many mappings moved back into the list out of undo values
 abbrev pub moved_in : Buffer → ℕ → Buffer
 moved_in b count = record b { uses = b.uses + count; kept = b.kept - count }
+
+-- the first of some mappings is of the buffer
+pub record IsFirstOf (id : BufferId) (ms : List Mapping) : Type 0 where
+  pub some : 0 < length ms
+  pub page : ℕ
+  pub is : (d : Mapping) → (slice_index_or ms 0 d).backing ≡ BufferPages id page

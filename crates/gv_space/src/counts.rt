@@ -1,17 +1,17 @@
 //! The counts of buffers, moved with the mappings. A mapping of zeros counts nothing, and nothing
 //! here takes memory.
-ghost use Rattle.std.specs.Prelude.{◌≡◌, ◌+◌, ◌≤◌};
+ghost use Rattle.std.specs.Prelude.{◌≡◌, ◌+◌, ◌≤◌, IfSome};
 ghost use Rattle.std.specs.List.{All};
 ghost use Rattle.gv_buffers.specs.Buffers.{most_counted};
 ghost use Rattle.gv_space.specs.Counts.{by_count, count_of};
 ghost use Rattle.gv_space.specs.Counts.{more_used, less_used, more_kept, less_kept};
-ghost use Rattle.gv_space.specs.Counts.{moved_out, moved_in};
+ghost use Rattle.gv_space.specs.Counts.{moved_out, moved_in, IsFirstOf};
 ghost use Rattle.gv_space.specs.Live.{IsLiveBacking};
 
 use gv_buffers::Buffers;
 use gv_packed::Packed;
 use gv_ranges::Run;
-use gv_types::{Backing, OutOfMemory};
+use gv_types::{Backing, BufferId, OutOfMemory};
 
 /// Makes room for the places of mappings that come into the list, each in its buffer.
 pub fn make_places(buffers: &mut Buffers, mappings: &[Packed]) -> Result<(), OutOfMemory>
@@ -92,7 +92,30 @@ pub fn unkeep(buffers: &mut Buffers, mappings: &[Packed])
     }
 }
 
-/// Counts what was taken out of the list, where it gave way to `pieces`, and came into an undo value.
+/// The buffer of the first mapping that was taken out, where the first piece is of it too and begins at the same page, as a rest of that
+/// mapping does: then the one stands in the list in the place of the other.
+#[inline(always)]
+fn stays_first(taken: &[Packed], pieces: &[Packed]) -> Option<BufferId>
+    ensures taken { IfSome result (λ id. IsFirstOf id taken.now) }
+    ensures pieces { IfSome result (λ id. IsFirstOf id pieces.now) }
+{
+    if taken.is_empty() || pieces.is_empty() || taken[0].first() != pieces[0].first() {
+        return None;
+    }
+    let Backing::Buffer { id, .. } = taken[0].backing() else {
+        return None;
+    };
+    let Backing::Buffer { id: other, .. } = pieces[0].backing() else {
+        return None;
+    };
+    if id != other {
+        return None;
+    }
+    Some(id)
+}
+
+/// Counts what was taken out of the list, where it gave way to `pieces`, and came into an undo value. Where a rest of the first mapping
+/// stays in its place, the list has as many of its buffer as before, and they begin where they began.
 pub fn move_counts(buffers: &mut Buffers, taken: &[Packed], pieces: &[Packed])
     requires taken { All (λ m. IsLiveBacking buffers.old m.backing) taken.now }
     requires pieces { All (λ m. IsLiveBacking buffers.old m.backing) pieces.now }
@@ -102,6 +125,12 @@ pub fn move_counts(buffers: &mut Buffers, taken: &[Packed], pieces: &[Packed])
     ensures { buffers.new ≡ by_count less_used taken.now
         (by_count more_used pieces.now (by_count more_kept taken.now buffers.old)) }
 {
+    if let Some(id) = stays_first(taken, pieces) {
+        buffers.keep(id);
+        take_out(buffers, &taken[1..]);
+        count_in(buffers, &pieces[1..]);
+        return;
+    }
     take_out(buffers, taken);
     count_in(buffers, pieces);
 }
