@@ -1,6 +1,7 @@
 pub mod Joins
 pub mod Ascending
 pub mod Rising
+pub mod PlaceRows
 pub mod Lists
 pub mod Leaving
 pub mod Tables
@@ -12,3 +13,4 @@ pub mod Using
 pub mod FoundLemmas
 pub mod Counts
 pub mod TakenBack
+pub mod PlaceLemmas

@@ -76,19 +76,19 @@ rising_inserted (x ∷ pages) page (suc index) up gap =
 among_at : (pages : List ℕ) (page index : ℕ) → IsPageAt pages page index → is_among page pages ≡ true
 among_at pages page index at = list_any_at (λ other. eqb other page) pages index 0 at.within (eq-eqb _ _ at.here)
 
--- the pages of so many mappings are known, and there is room for one more
-pub record HaveRoom (places : PlacesState) (count : ℕ) : Type 0 where
-  pub few : count < most_placed
-  pub known : length places.pages ≡ count
-  pub room : count < places.room
+-- the pages are known, and there is room for one more
+pub record HaveRoom (places : PlacesState) : Type 0 where
+  pub few : places.count < most_placed
+  pub known : length places.pages ≡ places.count
+  pub room : places.count < places.room
 
 -- a page that comes into its gap is placed
-pub placed_in_gap : (page count index : ℕ) (places : PlacesState) → HaveRoom places count → IsGap places.pages page index →
-    insert places.pages index page ≡ placed page count places
-placed_in_gap page count index places have gap =
-    let few : nat_lt count 64 ≡ true = lt-ltb _ _ have.few in
-    let known : eqb (length places.pages) count ≡ true = eq-eqb _ _ have.known in
-    let room : nat_lt count places.room ≡ true = lt-ltb _ _ have.room in
+pub placed_in_gap : (page index : ℕ) (places : PlacesState) → HaveRoom places → IsGap places.pages page index →
+    insert places.pages index page ≡ (placed page places).pages
+placed_in_gap page index places have gap =
+    let few : nat_lt places.count 64 ≡ true = lt-ltb _ _ have.few in
+    let known : eqb (length places.pages) places.count ≡ true = eq-eqb _ _ have.known in
+    let room : nat_lt places.count places.room ≡ true = lt-ltb _ _ have.room in
     rw (few, known, room, count_lower_gap places.pages page index gap) refl
 
 none_lower : (pages : List ℕ) (page : ℕ) → All (λ b. page ≤ b) pages → count_lower page pages ≡ 0
@@ -128,23 +128,24 @@ removed_is_first (x ∷ pages) page (suc index) up at =
     (cases_lt x page)
 
 -- a page that is removed where all are known is displaced
-pub displaced_at : (page count index : ℕ) (pages : List ℕ) → AreRising pages → length pages ≡ count → IsPageAt pages page index →
-    remove pages index ≡ displaced page count pages
-displaced_at page count index pages up all at =
-    let known : eqb (length pages) count ≡ true = eq-eqb _ _ all in
-    rw (known, among_at pages page index at) (removed_is_first pages page index up at)
+pub displaced_at : (page index : ℕ) (places : PlacesState) → AreRising places.pages → length places.pages ≡ places.count →
+    IsPageAt places.pages page index → remove places.pages index ≡ (displaced page places).pages
+displaced_at page index places up all at =
+    let known : eqb (length places.pages) places.count ≡ true = eq-eqb _ _ all in
+    rw (known, among_at places.pages page index at) (removed_is_first places.pages page index up at)
 
 -- where not all are known, none is from here on
-pub displaced_unknown : (page count : ℕ) (pages : List ℕ) → length pages ≢ count → [] ≡ displaced page count pages
-displaced_unknown page count pages other =
-    let unknown : eqb (length pages) count ≡ false = ne_eqb _ _ other in
+pub displaced_unknown : (page : ℕ) (places : PlacesState) → length places.pages ≢ places.count → [] ≡ (displaced page places).pages
+displaced_unknown page places other =
+    let unknown : eqb (length places.pages) places.count ≡ false = ne_eqb _ _ other in
     rw unknown refl
 
 -- nor where the page is none of them
-pub displaced_missing : (page count : ℕ) (pages : List ℕ) → is_among page pages ≡ false → [] ≡ displaced page count pages
-displaced_missing page count pages missing =
+pub displaced_missing : (page : ℕ) (places : PlacesState) → is_among page places.pages ≡ false → [] ≡ (displaced page places).pages
+displaced_missing page places missing =
     rw missing
-    (elim (eqb (length pages) count) as (λ t. [] ≡ cond (t && false) (remove pages (count_lower page pages)) [])
+    (elim (eqb (length places.pages) places.count) as
+    (λ t. [] ≡ cond (t && false) (remove places.pages (count_lower page places.pages)) [])
     [ true ↦ refl | false ↦ refl ])
 
 -- what a binary search of the pages says

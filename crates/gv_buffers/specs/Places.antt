@@ -1,12 +1,11 @@
--- Where the mappings of one buffer begin, as far as it is known. No public clause cites this module.
-use Rattle.std.specs.Prelude.{ℕ, ◌≤◌, ◌==◌, ◌&&◌, nat_lt, Bool, if◌then◌else◌, List, [], length, filter, insert}
+-- Where the mappings of one buffer begin, as far as it is known.
+use Rattle.std.specs.Prelude.{◌≡◌, ◌≢◌, ℕ, ◌+◌, ◌-◌, ◌<◌, ◌≤◌, ◌==◌, ◌&&◌, min, nat_lt, Bool, true, if◌then◌else◌, List, [], length, filter, insert, slice_index_or}
 use Rattle.std.specs.List.{AllPairs, list_any, remove}
-use Rattle.gv_buffers.specs.declared.counter.Move.{Move}
-use Rattle.gv_buffers.specs.declared.counter.Move.TheVariants.{In, Out, TakenOut, BroughtBack, Saved, Released}
 
--- what contracts see of `Places`: the first page of each mapping, or none where they aren't known, and how many pages there is
--- room for
+-- what contracts see of `Places`: how many mappings there are, the first page of each, or none where they aren't known, and how many
+-- pages there is room for
 pub record PlacesState : Type 0 where
+  pub count : ℕ
   pub pages : List ℕ
   pub room : ℕ
 
@@ -20,7 +19,10 @@ most_placed = 64
 
 -- those of a buffer without a mapping, with room in the value itself
 abbrev pub no_places : PlacesState
-no_places = record { pages = []; room = 4 }
+no_places = record { count = 0; pages = []; room = 4 }
+
+abbrev pub are_known : PlacesState → Bool
+are_known places = length places.pages == places.count
 
 abbrev pub is_among : ℕ → List ℕ → Bool
 is_among page pages = list_any (λ other. other == page) pages
@@ -29,25 +31,42 @@ is_among page pages = list_any (λ other. other == page) pages
 abbrev pub count_lower : ℕ → List ℕ → ℕ
 count_lower page pages = length (filter (λ other. nat_lt other page) pages)
 
--- the pages of so many mappings are known, and there is room for one more
-abbrev pub can_be_placed : ℕ → PlacesState → Bool
-can_be_placed count places = nat_lt count most_placed && (length places.pages == count) && nat_lt count places.room
+-- the pages are known, and there is room for one more
+abbrev pub can_be_placed : PlacesState → Bool
+can_be_placed places = nat_lt places.count most_placed && are_known places && nat_lt places.count places.room
 
--- the pages once a mapping that begins at a page has come to so many others
-abbrev pub placed : ℕ → ℕ → PlacesState → List ℕ
-placed page count places =
-    if can_be_placed count places then insert places.pages (count_lower page places.pages) page else []
+-- once a mapping that begins at a page has come
+abbrev pub placed : ℕ → PlacesState → PlacesState
+placed page places = record places {
+  count = places.count + 1;
+  pages = if can_be_placed places then insert places.pages (count_lower page places.pages) page else [];
+}
 
--- the pages once one of so many mappings, which began at a page, has left
-abbrev pub displaced : ℕ → ℕ → List ℕ → List ℕ
-displaced page count pages =
-    if (length pages == count) && is_among page pages then remove pages (count_lower page pages) else []
+-- once a mapping, which began at a page, has left
+abbrev pub displaced : ℕ → PlacesState → PlacesState
+displaced page places = record places {
+  count = places.count - 1;
+  pages = if are_known places && is_among page places.pages then remove places.pages (count_lower page places.pages) else [];
+}
 
--- the pages once a mapping that begins at a page has moved, of a buffer that had so many in the list
-abbrev pub places_after : Move → ℕ → ℕ → PlacesState → List ℕ
-places_after In page uses places = placed page uses places
-places_after Out page uses places = displaced page uses places.pages
-places_after TakenOut page uses places = displaced page uses places.pages
-places_after BroughtBack page uses places = placed page uses places
-places_after Saved page uses places = places.pages
-places_after Released page uses places = places.pages
+-- those at an index: of no mapping, where the table has no row for it
+abbrev pub places_at : List PlacesState → ℕ → PlacesState
+places_at rows index = slice_index_or rows index no_places
+
+-- those at each other index are the same
+abbrev pub AreSameElsewhere : ℕ → List PlacesState → List PlacesState → Type 0
+AreSameElsewhere index old new = (other : ℕ) → other ≢ index → places_at new other ≡ places_at old other
+
+-- where the pages are known, and are to be kept, there is room for more of them
+abbrev pub HasRoomFor : ℕ → PlacesState → PlacesState → Type 0
+HasRoomFor more old new = old.count < most_placed → are_known old ≡ true → old.count + min more (most_placed - old.count) ≤ new.room
+
+-- those of each index are the same, but for the room
+pub record HaveSamePlaces (old new : List PlacesState) : Type 0 where
+  pub count : (index : ℕ) → (places_at new index).count ≡ (places_at old index).count
+  pub pages : (index : ℕ) → (places_at new index).pages ≡ (places_at old index).pages
+
+-- these are where the mappings begin: as many are counted, and where as many pages are known as are counted, they are these
+pub record StandAt (firsts : List ℕ) (places : PlacesState) : Type 0 where
+  pub count : places.count ≡ length firsts
+  pub pages : length places.pages ≡ places.count → places.pages ≡ firsts

@@ -5,7 +5,6 @@ ghost use Rattle.gv_types.specs.Limits.{greatest, IsFromOneTo};
 use crate::counter::{Counter, Move};
 use crate::indices::{Indices, forget};
 use crate::live_buffer::LiveBuffer;
-use crate::places::Places;
 use crate::slots::Slots;
 use crate::usage::Usage;
 use crate::users::Users;
@@ -118,7 +117,6 @@ impl Buffers {
             pages,
             uses: 0,
             kept: 0,
-            places: Places::new(alloc),
             users: Users::new(alloc),
         };
         self.slots.put_in(buffer);
@@ -167,59 +165,42 @@ impl Buffers {
         self.slots.get(id).map(|slot| slot.pages)
     }
 
-    /// Makes room for the places of more mappings in the list. `OutOfMemory` where the system refuses it; none is needed where the
-    /// buffer has over 64, or an older one of its mappings isn't known.
-    pub fn make_places(&mut self, id: BufferId, more: u64) -> Result<(), OutOfMemory>
-        ensures { self.new ≡ self.old }
-    {
-        Ok(self.slots.make_places(id.index, more)?)
-    }
-
-    /// Counts one more mapping in the list, which begins at a page. It takes no memory.
+    /// Counts one more mapping in the list. It takes no memory.
     #[inline(always)]
-    pub fn count_in(&mut self, id: BufferId, page: u64)
+    pub fn count_in(&mut self, id: BufferId)
         requires { IsSomeAnd (uses self.old id) (λ count. count < most_counted) }
         ensures { self.new ≡ changed id (raised Counter.Uses 1) self.old }
     {
-        self.count_move(id, Move::In, page);
+        self.count_move(id, Move::In);
     }
 
-    /// The pages at which the buffer's mappings begin, ascending, where they are at most 64 and there was always room for them: exactly
-    /// those that calls told to come and not to leave; else none. That the list has them is in no contract: whether it does is looked up.
-    pub fn places(&self, id: BufferId) -> &[u64] {
-        match self.slots.get(id) {
-            Some(slot) => slot.places.pages(),
-            None => &[],
-        }
-    }
-
-    /// Counts one mapping less in the list, which began at a page. It takes no memory.
+    /// Counts one mapping less in the list. It takes no memory.
     #[inline(always)]
-    pub fn count_out(&mut self, id: BufferId, page: u64)
+    pub fn count_out(&mut self, id: BufferId)
         requires { IsSomeAnd (uses self.old id) (λ count. 0 < count) }
         ensures { self.new ≡ changed id (lowered Counter.Uses 1) self.old }
     {
-        self.count_move(id, Move::Out, page);
+        self.count_move(id, Move::Out);
     }
 
-    /// One mapping, which began at a page, leaves the list and comes into an undo value. It takes no memory.
+    /// One mapping leaves the list and comes into an undo value. It takes no memory.
     #[inline(always)]
-    pub fn take_out(&mut self, id: BufferId, page: u64)
+    pub fn take_out(&mut self, id: BufferId)
         requires used { IsSomeAnd (uses self.old id) (λ count. 0 < count) }
         requires room { IsSomeAnd (kept self.old id) (λ count. count < most_counted) }
         ensures { self.new ≡ changed id taken_out self.old }
     {
-        self.count_move(id, Move::TakenOut, page);
+        self.count_move(id, Move::TakenOut);
     }
 
-    /// One mapping, which begins at a page, comes back into the list out of an undo value. It takes no memory.
+    /// One mapping comes back into the list out of an undo value. It takes no memory.
     #[inline(always)]
-    pub fn bring_back(&mut self, id: BufferId, page: u64)
+    pub fn bring_back(&mut self, id: BufferId)
         requires room { IsSomeAnd (uses self.old id) (λ count. count < most_counted) }
         requires kept { IsSomeAnd (kept self.old id) (λ count. 0 < count) }
         ensures { self.new ≡ changed id brought_back self.old }
     {
-        self.count_move(id, Move::BroughtBack, page);
+        self.count_move(id, Move::BroughtBack);
     }
 
     /// Counts one more mapping in undo values. It takes no memory.
@@ -228,7 +209,7 @@ impl Buffers {
         requires { IsSomeAnd (kept self.old id) (λ count. count < most_counted) }
         ensures { self.new ≡ changed id (raised Counter.Kept 1) self.old }
     {
-        self.count_move(id, Move::Saved, 0);
+        self.count_move(id, Move::Saved);
     }
 
     /// Counts one mapping less in undo values. It takes no memory.
@@ -237,7 +218,7 @@ impl Buffers {
         requires { IsSomeAnd (kept self.old id) (λ count. 0 < count) }
         ensures { self.new ≡ changed id (lowered Counter.Kept 1) self.old }
     {
-        self.count_move(id, Move::Released, 0);
+        self.count_move(id, Move::Released);
     }
 
     // How many buffers are alive.
@@ -255,13 +236,13 @@ impl Buffers {
         self.slots.get(id).map(|slot| slot.count(counter))
     }
 
-    /// Counts a mapping that moves, and begins at a page.
+    /// Counts a mapping that moves.
     #[inline(always)]
-    fn count_move(&mut self, id: BufferId, how: Move, page: u64)
+    fn count_move(&mut self, id: BufferId, how: Move)
         requires { IsSomeAnd (buffer self.old id) (CanMove how) }
         ensures { self.new ≡ changed id (after_move how) self.old }
     {
-        self.slots.count_move(id.index, how, page);
+        self.slots.count_move(id.index, how);
     }
 
     /// Lets a job use a buffer; one that uses it already gets the stronger usage. `NoBuffer` where

@@ -7,10 +7,12 @@ mod counter;
 mod indices;
 pub mod laws;
 mod live_buffer;
+mod place_table;
 mod places;
 mod slots;
 mod usage;
 mod users;
 
 pub use buffers::Buffers;
+pub use place_table::PlaceTable;
 pub use usage::{Usage, User};

@@ -2,13 +2,10 @@
 ghost use Rattle.std.specs.Prelude.{◌≡◌, ◌<◌, ℕ, IsOk, MatchOption};
 ghost use Rattle.gv_buffers.specs.Slots.{buffer_at, after_move, CanMove};
 ghost use Rattle.gv_buffers.specs.Buffers.{count, use_fault};
-ghost use Rattle.gv_buffers.specs.Places.{places_after};
 
 use crate::counter::{Counter, Move};
-use crate::places::Places;
 use crate::users::Users;
 use gv_types::{Fault, Generation};
-use std::alloc::AllocError;
 
 /// A live buffer at its index.
 #[derive(Drop)]
@@ -17,8 +14,6 @@ pub struct LiveBuffer {
     pub pages: u64,
     pub uses: u64,
     pub kept: u64,
-    // They stand beside the counts, which change at the same time.
-    pub places: Places,
     pub users: Users,
 }
 
@@ -33,22 +28,15 @@ impl LiveBuffer {
         }
     }
 
-    /// Counts a mapping that moves, and begins at a page.
+    /// Counts a mapping that moves.
     #[inline(always)]
-    pub fn count_move(&mut self, how: Move, page: u64)
+    pub fn count_move(&mut self, how: Move)
         requires { CanMove how (buffer_at 0 self.old) }
-        ensures counts { (index : ℕ) → buffer_at index self.new ≡ after_move how (buffer_at index self.old) }
-        ensures places { self.new.places.pages ≡ places_after how page self.old.uses self.old.places }
+        ensures { (index : ℕ) → buffer_at index self.new ≡ after_move how (buffer_at index self.old) }
     {
         match how {
-            Move::In | Move::BroughtBack => {
-                self.places.come(page, self.uses);
-                self.uses += 1;
-            }
-            Move::Out | Move::TakenOut => {
-                self.places.leave(page, self.uses);
-                self.uses -= 1;
-            }
+            Move::In | Move::BroughtBack => self.uses += 1,
+            Move::Out | Move::TakenOut => self.uses -= 1,
             Move::Saved | Move::Released => {}
         }
         match how {
@@ -58,18 +46,10 @@ impl LiveBuffer {
         }
     }
 
-    /// Makes room for the places of more mappings in the list.
-    pub fn make_places(&mut self, more: u64) -> Result<(), AllocError>
-        ensures { (index : ℕ) → buffer_at index self.new ≡ buffer_at index self.old }
-    {
-        self.places.make_room(self.uses, more)
-    }
-
-    /// Gives room back that neither its places nor its users need.
+    /// Gives room back that its users don't need.
     pub fn shrink(&mut self)
         ensures { (index : ℕ) → buffer_at index self.new ≡ buffer_at index self.old }
     {
-        self.places.shrink();
         self.users.shrink();
     }
 

@@ -1,6 +1,7 @@
 //! Where the mappings of a buffer begin.
-ghost use Rattle.std.specs.Prelude.{◌≡◌, ◌+◌, ◌-◌, ◌<◌, ◌≤◌, ◌==◌, length, min, OnOk, OnErr};
-ghost use Rattle.gv_buffers.specs.Places.{no_places, most_placed, placed, displaced};
+ghost use Rattle.std.specs.Prelude.{◌≡◌, ◌+◌, ◌<◌, ◌≤◌, OnOk, OnErr};
+ghost use Rattle.gv_buffers.specs.Buffers.{most_counted};
+ghost use Rattle.gv_buffers.specs.Places.{are_known, no_places, placed, displaced, HasRoomFor};
 
 use smallvec::SmallVec;
 use std::alloc::{AllocError, Global};
@@ -12,11 +13,10 @@ const INLINE: usize = 4;
 /// Of a buffer with more mappings no page is kept, until it has none.
 const MOST: u64 = 64;
 
-/// The first page of each mapping of a buffer, ascending; none where they aren't known. As far as they are known, they are exactly the
-/// pages that came and didn't leave. That these are the list's own mappings is no part of any contract: so who asks looks each up, and
-/// whether they are as many as there are mappings.
+/// How many mappings a buffer has in the list, and the first page of each, ascending; none where they aren't known.
 #[derive(Drop)]
 pub struct Places {
+    count: u64,
     pages: SmallVec<u64, INLINE>,
 }
 
@@ -25,7 +25,7 @@ impl Model for Places {
 
     ghost Value = { PlacesState };
 
-    ghost view = { λ p. record { pages = p.pages.items; room = p.pages.capacity } };
+    ghost view = { λ p. record { count = p.count; pages = p.pages.items; room = p.pages.capacity } };
 
     ghost invariant = { λ p. AreRising p.pages.items };
 }
@@ -36,8 +36,16 @@ impl Places {
         ensures { result ≡ no_places }
     {
         Places {
+            count: 0,
             pages: SmallVec::new(alloc),
         }
+    }
+
+    /// How many mappings there are.
+    pub fn count(&self) -> u64
+        ensures { result ≡ self.now.count }
+    {
+        self.count
     }
 
     /// The pages.
@@ -47,52 +55,55 @@ impl Places {
         self.pages.as_slice()
     }
 
-    /// Whether they are known, where there are so many mappings.
-    fn are_known(&self, count: u64) -> bool
-        ensures { result ≡ (length self.now.pages == count) }
+    /// Whether they are known.
+    fn are_known(&self) -> bool
+        ensures { result ≡ are_known self.now }
     {
-        self.pages.len() as u64 == count
+        self.pages.len() as u64 == self.count
     }
 
-    /// Makes room for more mappings beside so many, as far as their pages will be kept.
-    pub fn make_room(&mut self, count: u64, more: u64) -> Result<(), AllocError>
+    /// Makes room for more mappings, as far as their pages will be kept.
+    pub fn make_room(&mut self, more: u64) -> Result<(), AllocError>
         ensures pages { self.new.pages ≡ self.old.pages }
+        ensures count { self.new.count ≡ self.old.count }
         ensures no_less { self.old.room ≤ self.new.room }
-        ensures room { OnOk result (count < most_placed → length self.old.pages ≡ count
-            → length self.old.pages + min more (most_placed - count) ≤ self.new.room) }
+        ensures room { OnOk result (HasRoomFor more self.old self.new) }
         ensures err { OnErr result (self.new ≡ self.old) }
     {
-        if count < MOST && self.are_known(count) {
-            self.pages.reserve(more.min(MOST - count) as usize)?;
+        if self.count < MOST && self.are_known() {
+            self.pages.reserve(more.min(MOST - self.count) as usize)?;
         }
         Ok(())
     }
 
     /// Gives room back that no page needs.
     pub fn shrink(&mut self)
-        ensures { self.new.pages ≡ self.old.pages }
+        ensures pages { self.new.pages ≡ self.old.pages }
+        ensures count { self.new.count ≡ self.old.count }
     {
         self.pages.shrink_to_fit();
     }
 
-    /// A mapping that begins at a page comes to so many others. It takes no memory: without room, the pages aren't known from here on.
+    /// A mapping that begins at a page comes. It takes no memory: without room, the pages aren't known from here on.
     #[inline(always)]
-    pub fn come(&mut self, page: u64, count: u64)
-        ensures pages { self.new.pages ≡ placed page count self.old }
-        ensures room { self.new.room ≡ self.old.room }
+    pub fn come(&mut self, page: u64)
+        requires { self.old.count < most_counted }
+        ensures { self.new ≡ placed page self.old }
     {
         // Where there are others, and none is kept, none is known.
-        if count == 0 || !self.pages.is_empty() {
-            self.put_in(page, count);
+        if self.count == 0 || !self.pages.is_empty() {
+            self.put_in(page);
         }
+        self.count += 1;
     }
 
-    /// The same, where they may be known.
-    fn put_in(&mut self, page: u64, count: u64)
-        ensures pages { self.new.pages ≡ placed page count self.old }
+    /// Puts the page of one that comes, where the others may be known.
+    fn put_in(&mut self, page: u64)
+        ensures pages { self.new.pages ≡ (placed page self.old).pages }
+        ensures count { self.new.count ≡ self.old.count }
         ensures room { self.new.room ≡ self.old.room }
     {
-        if count >= MOST || !self.are_known(count) || self.pages.len() == self.pages.capacity() {
+        if self.count >= MOST || !self.are_known() || self.pages.len() == self.pages.capacity() {
             self.pages.clear();
             return;
         }
@@ -100,24 +111,25 @@ impl Places {
         let _has_room = self.pages.insert(index, page);
     }
 
-    /// One of so many mappings leaves, which began at a page.
+    /// A mapping leaves, which began at a page.
     #[inline(always)]
-    pub fn leave(&mut self, page: u64, count: u64)
-        ensures pages { self.new.pages ≡ displaced page count self.old.pages }
-        ensures room { self.new.room ≡ self.old.room }
+    pub fn leave(&mut self, page: u64)
+        ensures { self.new ≡ displaced page self.old }
     {
         if !self.pages.is_empty() {
-            self.take_away(page, count);
+            self.take_away(page);
         }
+        self.count = self.count.saturating_sub(1);
     }
 
-    /// The same, where some page is kept.
-    fn take_away(&mut self, page: u64, count: u64)
-        ensures pages { self.new.pages ≡ displaced page count self.old.pages }
+    /// Takes the page of one that leaves away, where some page is kept.
+    fn take_away(&mut self, page: u64)
+        ensures pages { self.new.pages ≡ (displaced page self.old).pages }
+        ensures count { self.new.count ≡ self.old.count }
         ensures room { self.new.room ≡ self.old.room }
     {
         match self.pages.as_slice().binary_search(&page) {
-            Ok(index) if self.are_known(count) => {
+            Ok(index) if self.are_known() => {
                 let _page = self.pages.remove(index);
             }
             _ => self.pages.clear(),

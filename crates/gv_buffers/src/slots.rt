@@ -120,9 +120,9 @@ impl Slots {
         self.vacant.push_reserved(index);
     }
 
-    /// Counts a mapping that moves, of the buffer at an index, which begins at a page.
+    /// Counts a mapping that moves, of the buffer at an index.
     #[inline(always)]
-    pub fn count_move(&mut self, index: u32, how: Move, page: u64)
+    pub fn count_move(&mut self, index: u32, how: Move)
         requires { IsSomeAnd (buffer_in self.old.entries.items index) (CanMove how) }
         ensures here { buffer_in self.new.entries.items index
             ≡ option_map (after_move how) (buffer_in self.old.entries.items index) }
@@ -130,19 +130,7 @@ impl Slots {
         ensures length { length self.new.entries.items ≡ length self.old.entries.items }
         ensures vacant { self.new.vacant ≡ self.old.vacant }
     {
-        count_move_in(&mut self.entries[index as usize], how, page);
-    }
-
-    /// Makes room for the places of more mappings of the buffer at an index, if there is one.
-    pub fn make_places(&mut self, index: u32, more: u64) -> Result<(), AllocError>
-        ensures same { (other : ℕ) → buffer_in self.new.entries.items other ≡ buffer_in self.old.entries.items other }
-        ensures length { length self.new.entries.items ≡ length self.old.entries.items }
-        ensures vacant { self.new.vacant ≡ self.old.vacant }
-    {
-        if (index as usize) < self.entries.len() {
-            make_places_in(&mut self.entries[index as usize], more)?;
-        }
-        Ok(())
+        count_move_in(&mut self.entries[index as usize], how);
     }
 
     /// Makes room for a job among the users of the buffer at an index, and notes the index for the job, where it is no user yet.
@@ -210,24 +198,14 @@ impl Slots {
 
 /// Counts a mapping that moves, of the buffer in a slot, where one is.
 #[inline(always)]
-fn count_move_in(slot: &mut Option<LiveBuffer>, how: Move, page: u64)
+fn count_move_in(slot: &mut Option<LiveBuffer>, how: Move)
     requires { IsSomeAnd (option_map (buffer_at 0) slot.old) (CanMove how) }
     ensures { (index : ℕ) → option_map (buffer_at index) slot.new
         ≡ option_map (after_move how) (option_map (buffer_at index) slot.old) }
 {
     if let Some(buffer) = slot {
-        buffer.count_move(how, page);
+        buffer.count_move(how);
     }
-}
-
-/// Makes room for the places of more mappings of the buffer in a slot, where one is.
-fn make_places_in(slot: &mut Option<LiveBuffer>, more: u64) -> Result<(), AllocError>
-    ensures { (index : ℕ) → option_map (buffer_at index) slot.new ≡ option_map (buffer_at index) slot.old }
-{
-    if let Some(buffer) = slot {
-        buffer.make_places(more)?;
-    }
-    Ok(())
 }
 
 /// Makes room for a job among the users of the buffer in a slot. Whether it is no user yet.

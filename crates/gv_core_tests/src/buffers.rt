@@ -45,10 +45,10 @@ fn count(buffers: &mut Buffers, id: &BufferId, call: &Call) -> Result<(), &'stat
     let uses = buffers.uses(*id).ok_or("no uses")?;
     let kept = buffers.kept(*id).ok_or("none kept")?;
     match call {
-        Call::CountIn if uses < 10 => buffers.count_in(*id, uses),
-        Call::CountOut if uses > 0 => buffers.count_out(*id, uses - 1),
-        Call::TakeOut if uses > 0 && kept < 10 => buffers.take_out(*id, uses - 1),
-        Call::BringBack if uses < 10 && kept > 0 => buffers.bring_back(*id, uses),
+        Call::CountIn if uses < 10 => buffers.count_in(*id),
+        Call::CountOut if uses > 0 => buffers.count_out(*id),
+        Call::TakeOut if uses > 0 && kept < 10 => buffers.take_out(*id),
+        Call::BringBack if uses < 10 && kept > 0 => buffers.bring_back(*id),
         Call::Keep if kept < 10 => buffers.keep(*id),
         Call::Unkeep if kept > 0 => buffers.unkeep(*id),
         _ => return Err("no count"),

@@ -1,7 +1,7 @@
-//! Where the mappings of a buffer begin, as the table of buffers keeps it.
+//! Where the mappings of a buffer begin, as the table of places keeps it.
 
-use gv_buffers::Buffers;
-use gv_types::BufferId;
+use gv_buffers::PlaceTable;
+use std::alloc::Global;
 use std::process::Abort;
 use std::test::Fail;
 
@@ -12,25 +12,29 @@ enum Move {
     Leaves(u64),
 }
 
-/// Counts a mapping: the pages at which the buffer's mappings begin then.
-fn places_after<'b>(
-    buffers: &'b mut Buffers,
-    id: &BufferId,
+/// So many mappings a test counts at most.
+const MANY: u64 = 100;
+
+/// A mapping of an index moves: the pages at which those of the index begin then.
+fn places_after<'t>(
+    alloc: Global,
+    table: &'t mut PlaceTable,
+    index: u32,
     step: &Move,
-) -> Result<&'b [u64], &'static str> {
-    let uses = buffers.uses(*id).ok_or("no uses")?;
-    match step {
-        Move::Comes(page) if uses < 100 => buffers.count_in(*id, *page),
-        Move::Leaves(page) if uses > 0 => buffers.count_out(*id, *page),
-        _ => return Err("no count"),
+) -> Result<&'t [u64], &'static str> {
+    if table.reserve(alloc, index).is_err() || table.count(index) >= MANY {
+        return Err("no row");
     }
-    Ok(buffers.places(*id))
+    match step {
+        Move::Comes(page) => table.come(index, *page),
+        Move::Leaves(page) => table.leave(index, *page),
+    }
+    Ok(table.places(index))
 }
 
 #[test]
 fn places_of_mappings(rt: HostRuntime) -> Result<(), Fail> {
-    let mut buffers = Buffers::new(rt.alloc(), 1)?;
-    let id = buffers.create(rt.alloc(), 8)?;
+    let mut table = PlaceTable::new(rt.alloc());
     let rows: [(Move, &[u64]); 14] = [
         (Move::Comes(5), &[5]),
         (Move::Comes(2), &[2, 5]),
@@ -38,7 +42,7 @@ fn places_of_mappings(rt: HostRuntime) -> Result<(), Fail> {
         (Move::Leaves(5), &[2, 9]),
         (Move::Comes(2), &[2, 2, 9]),
         (Move::Leaves(2), &[2, 9]),
-        // not one of its places: none is known until it has no mapping
+        // not one of these places: none is known until it has no mapping
         (Move::Leaves(7), &[]),
         (Move::Comes(3), &[]),
         (Move::Leaves(3), &[]),
@@ -49,21 +53,27 @@ fn places_of_mappings(rt: HostRuntime) -> Result<(), Fail> {
         (Move::Comes(8), &[1, 4, 6, 8]),
     ];
     for (step, wanted) in &rows {
-        assert_eq!(rt; places_after(&mut buffers, &id, step)?, *wanted);
+        assert_eq!(rt; places_after(rt.alloc(), &mut table, 1, step)?, *wanted);
     }
+    // no other index knows of them
+    assert_eq!(rt; table.places(0).len(), 0);
+    assert_eq!(rt; table.places(2).len(), 0);
+    assert_eq!(rt; table.count(1), 4);
+    table.shrink();
+    assert_eq!(rt; table.places(1), &[1, 4, 6, 8]);
     Ok(())
 }
 
 /// So many mappings come, each behind the ones before, with room asked for it or not: how many places are known then.
 fn known_after(rt: &impl AllocGlobal, many: u64, is_asked: bool) -> Result<usize, Fail> {
-    let mut buffers = Buffers::new(rt.alloc(), 1)?;
-    let id = buffers.create(rt.alloc(), 8)?;
+    let mut table = PlaceTable::new(rt.alloc());
+    table.reserve(rt.alloc(), 0)?;
     let mut known = 0;
     for page in 0..many {
         if is_asked {
-            buffers.make_places(id, 1)?;
+            table.make_room(0, 1)?;
         }
-        known = places_after(&mut buffers, &id, &Move::Comes(page))?.len();
+        known = places_after(rt.alloc(), &mut table, 0, &Move::Comes(page))?.len();
     }
     Ok(known)
 }

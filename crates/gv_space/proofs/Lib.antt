@@ -25,6 +25,10 @@ pub mod UnchangedLemmas
 pub mod UsesFound
 pub mod ReleasedLemmas
 pub mod BufferRanges
-pub mod Found
+pub mod PlaceFound
 pub mod Walked
 mod HeldAt
+pub mod PlaceMoves
+pub mod PlaceTurns
+pub mod PlaceStays
+pub mod PlaceLists

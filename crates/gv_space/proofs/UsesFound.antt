@@ -10,11 +10,14 @@ use Rattle.gv_space.proofs.CountLemmas.{same_from_is_same_id}
 use Rattle.gv_space.proofs.TableLemmas.{found_live}
 use Rattle.gv_space.proofs.Recounted.{UsesAre}
 
+-- a buffer that tells its uses is alive
+pub uses_lives : (t : BuffersState) (id : BufferId) (n : ℕ) → uses t id ≡ Some n → IsLive t id
+uses_lives t id n told = counted_lives t id (λ b. b.uses) (λ m. m ≡ n) (subst (λ (o : Option ℕ). IsSomeAnd o (λ m. m ≡ n)) (sym told) refl)
+
 -- it is how many mappings of the list are of the buffer
 pub uses_found : (t : BuffersState) (id : BufferId) (ms : List Mapping) (n : ℕ) → UsesAre ms t → uses t id ≡ Some n → n ≡ count_of id ms
 uses_found t id ms n used told =
-    let some : IsSomeAnd (uses t id) (λ m. m ≡ n) = subst (λ (o : Option ℕ). IsSomeAnd o (λ m. m ≡ n)) (sym told) refl in
-    let lives : IsLive t id = counted_lives t id (λ b. b.uses) (λ m. m ≡ n) some in
+    let lives : IsLive t id = uses_lives t id n told in
     let found = found_live (λ b. b.uses ≡ count_of b.id ms) t id used lives in
     let same : found.b.id ≡ id = same_from_is_same_id found.b.id id found.same_id in
     let here : Some found.b.uses ≡ Some n = sym (ap (option_map (λ (b : Buffer). b.uses)) found.found) ∙ told in

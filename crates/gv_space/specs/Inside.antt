@@ -1,5 +1,7 @@
 -- What an address space keeps of its parts. No public clause cites this module.
+use Rattle.std.specs.Prelude.{length}
 use Rattle.gv_space.specs.Mapped.{AreLiveNamed}
+use Rattle.gv_space.specs.Placed.{ArePlaces, HaveRows}
 use Rattle.gv_space.specs.State.{SpaceState, IsSpace}
 use Rattle.gv_space.specs.declared.space.Space.TheInside.{Inside}
 
@@ -14,7 +16,9 @@ space_of s =
       kept_count = s.kept_count;
     }
 
--- the space is sound, and its page table can name each live buffer
+-- the space is sound, its page table can name each live buffer, and the places are those of the list, with a row for each live buffer
 pub record IsSoundSpace (s : Inside) : Type 0 where
   pub space : IsSpace (space_of s)
   pub named : AreLiveNamed s.buffers s.mapped.names
+  pub places : ArePlaces s.mapped.mappings s.places
+  pub rows : HaveRows s.buffers (length s.places)

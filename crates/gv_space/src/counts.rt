@@ -7,25 +7,14 @@ ghost use Rattle.gv_space.specs.Counts.{by_count, count_of};
 ghost use Rattle.gv_space.specs.Counts.{more_used, less_used, more_kept, less_kept};
 ghost use Rattle.gv_space.specs.Counts.{moved_out, moved_in, IsFirstOf};
 ghost use Rattle.gv_space.specs.Live.{IsLiveBacking};
+ghost use Rattle.gv_space.specs.Placed.{BeginAlike};
 
 use gv_buffers::Buffers;
 use gv_packed::Packed;
 use gv_ranges::Run;
-use gv_types::{Backing, BufferId, OutOfMemory};
+use gv_types::{Backing, BufferId};
 
-/// Makes room for the places of mappings that come into the list, each in its buffer.
-pub fn make_places(buffers: &mut Buffers, mappings: &[Packed]) -> Result<(), OutOfMemory>
-    ensures { buffers.new ≡ buffers.old }
-{
-    for mapping in mappings {
-        if let Backing::Buffer { id, .. } = mapping.backing() {
-            buffers.make_places(id, mappings.len() as u64)?;
-        }
-    }
-    Ok(())
-}
-
-/// Counts mappings that come into the list, each in its buffer, with the page where it begins.
+/// Counts mappings that come into the list, each in its buffer.
 pub fn count_in(buffers: &mut Buffers, mappings: &[Packed])
     requires live { All (λ m. IsLiveBacking buffers.old m.backing) mappings.now }
     requires room { All (λ b. b.uses + count_of b.id mappings.now ≤ most_counted) buffers.old.live }
@@ -33,7 +22,7 @@ pub fn count_in(buffers: &mut Buffers, mappings: &[Packed])
 {
     for mapping in mappings {
         if let Backing::Buffer { id, .. } = mapping.backing() {
-            buffers.count_in(id, mapping.first());
+            buffers.count_in(id);
         }
     }
 }
@@ -46,12 +35,12 @@ pub fn count_out_run(buffers: &mut Buffers, run: Run<'_>)
 {
     for mapping in run {
         if let Backing::Buffer { id, .. } = mapping.backing() {
-            buffers.count_out(id, mapping.first());
+            buffers.count_out(id);
         }
     }
 }
 
-/// Counts mappings that leave the list and come into an undo value, each in its buffer, with the page where it began.
+/// Counts mappings that leave the list and come into an undo value, each in its buffer.
 fn take_out(buffers: &mut Buffers, mappings: &[Packed])
     requires live { All (λ m. IsLiveBacking buffers.old m.backing) mappings.now }
     requires counted { All (λ b. count_of b.id mappings.now ≤ b.uses) buffers.old.live }
@@ -60,12 +49,12 @@ fn take_out(buffers: &mut Buffers, mappings: &[Packed])
 {
     for mapping in mappings {
         if let Backing::Buffer { id, .. } = mapping.backing() {
-            buffers.take_out(id, mapping.first());
+            buffers.take_out(id);
         }
     }
 }
 
-/// Counts mappings that come back into the list out of an undo value, each in its buffer, with the page where it begins.
+/// Counts mappings that come back into the list out of an undo value, each in its buffer.
 fn bring_back(buffers: &mut Buffers, mappings: &[Packed])
     requires live { All (λ m. IsLiveBacking buffers.old m.backing) mappings.now }
     requires kept { All (λ b. count_of b.id mappings.now ≤ b.kept) buffers.old.live }
@@ -74,7 +63,7 @@ fn bring_back(buffers: &mut Buffers, mappings: &[Packed])
 {
     for mapping in mappings {
         if let Backing::Buffer { id, .. } = mapping.backing() {
-            buffers.bring_back(id, mapping.first());
+            buffers.bring_back(id);
         }
     }
 }
@@ -95,9 +84,10 @@ pub fn unkeep(buffers: &mut Buffers, mappings: &[Packed])
 /// The buffer of the first mapping that was taken out, where the first piece is of it too and begins at the same page, as a rest of that
 /// mapping does: then the one stands in the list in the place of the other.
 #[inline(always)]
-fn stays_first(taken: &[Packed], pieces: &[Packed]) -> Option<BufferId>
+pub fn stays_first(taken: &[Packed], pieces: &[Packed]) -> Option<BufferId>
     ensures taken { IfSome result (λ id. IsFirstOf id taken.now) }
     ensures pieces { IfSome result (λ id. IsFirstOf id pieces.now) }
+    ensures places { IfSome result (λ _. BeginAlike taken.now pieces.now) }
 {
     if taken.is_empty() || pieces.is_empty() || taken[0].first() != pieces[0].first() {
         return None;
@@ -115,7 +105,7 @@ fn stays_first(taken: &[Packed], pieces: &[Packed]) -> Option<BufferId>
 }
 
 /// Counts what was taken out of the list, where it gave way to `pieces`, and came into an undo value. Where a rest of the first mapping
-/// stays in its place, the list has as many of its buffer as before, and they begin where they began.
+/// stays in its place, the list has as many of its buffer as before.
 pub fn move_counts(buffers: &mut Buffers, taken: &[Packed], pieces: &[Packed])
     requires taken { All (λ m. IsLiveBacking buffers.old m.backing) taken.now }
     requires pieces { All (λ m. IsLiveBacking buffers.old m.backing) pieces.now }

@@ -10,7 +10,7 @@ ghost use Rattle.gv_types.specs.declared.mapping.Mapping.{Mapping};
 
 use crate::list_with_table::ListWithTable;
 use crate::ranges;
-use gv_buffers::{Buffers, Usage};
+use gv_buffers::{Buffers, PlaceTable, Usage};
 use gv_ranges::RangeList;
 use gv_split::Step;
 use gv_table::PageTable;
@@ -32,6 +32,7 @@ pub struct Space {
     limits: Limits,
     mapped: ListWithTable,
     buffers: Buffers,
+    places: PlaceTable,
     kept_count: u64,
 }
 
@@ -75,6 +76,7 @@ impl Space {
             limits,
             mapped: ListWithTable::new(alloc),
             buffers,
+            places: PlaceTable::new(alloc),
             kept_count: 0,
         })
     }
@@ -164,5 +166,6 @@ impl Space {
     {
         self.mapped.shrink();
         self.buffers.shrink();
+        self.places.shrink();
     }
 }

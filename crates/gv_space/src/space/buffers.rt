@@ -51,7 +51,7 @@ impl Space {
         let Some(count) = self.buffers.uses(id) else {
             return Err(Fault::NoBuffer);
         };
-        let places = self.buffers.places(id);
+        let places = self.places.places(id.index);
         Ok(ranges::ranges_of(alloc, self.list(), id, count, places)?)
     }
 
@@ -76,6 +76,7 @@ impl Space {
             return Err(fault);
         }
         let index = self.buffers.next_index();
+        self.places.reserve(alloc, index)?;
         self.mapped.reserve_name(index)?;
         match self.buffers.create(alloc, pages) {
             Ok(id) => {

@@ -18,17 +18,17 @@ invariant_of-self-2 c =
     (made_with_room c.self.inside c.args.self.now c.next_slot.new.self c.put_in.new.self c.in_ok-index.index c.args.pages _ c.self.invariant c.self.view_is
     room.entries room.vacant (room.kept c.self.invariant.room) room.more (omega (arith, can.room, ap (λ (t : BuffersState). t.limit) c.self.view_is)) can.some can.few room.index
     c.put_in.ensures.was_vacant c.put_in.ensures.updates c.put_in.ensures.count c.put_in.ensures.vacant c.put_in.ensures.rest c.put_in.ensures.room c.put_in.ensures.length
-    c.put_in.ensures.same_length (rw (c.new.ensures, c.new-3.ensures) refl)).sound
+    c.put_in.ensures.same_length (rw (c.new.ensures, c.new-2.ensures) refl)).sound
 
 pub returns-clause-ok : goal.returns-clause-ok
 returns-clause-ok c =
     let room = c.in_ok-index.ensures in
     let none : c.create_fault.result ≡ None = search rules in
     let can = creatable c.args.self.now c.args.pages (sym c.create_fault.ensures ∙ none) in
-    rw c.new-4.ensures (made_with_room c.self.inside c.args.self.now c.next_slot.new.self c.put_in.new.self c.in_ok-index.index c.args.pages _ c.self.invariant c.self.view_is
+    rw c.new-3.ensures (made_with_room c.self.inside c.args.self.now c.next_slot.new.self c.put_in.new.self c.in_ok-index.index c.args.pages _ c.self.invariant c.self.view_is
     room.entries room.vacant (room.kept c.self.invariant.room) room.more (omega (arith, can.room, ap (λ (t : BuffersState). t.limit) c.self.view_is)) can.some can.few room.index
     c.put_in.ensures.was_vacant c.put_in.ensures.updates c.put_in.ensures.count c.put_in.ensures.vacant c.put_in.ensures.rest c.put_in.ensures.room c.put_in.ensures.length
-    c.put_in.ensures.same_length (rw (c.new.ensures, c.new-3.ensures) refl)).created
+    c.put_in.ensures.same_length (rw (c.new.ensures, c.new-2.ensures) refl)).created
 
 pub returns-clause-table : goal.returns-clause-table
 returns-clause-table c =
@@ -38,4 +38,4 @@ returns-clause-table c =
     is_table _ _ (made_with_room c.self.inside c.args.self.now c.next_slot.new.self c.put_in.new.self c.in_ok-index.index c.args.pages _ c.self.invariant c.self.view_is
     room.entries room.vacant (room.kept c.self.invariant.room) room.more (omega (arith, can.room, ap (λ (t : BuffersState). t.limit) c.self.view_is)) can.some can.few room.index
     c.put_in.ensures.was_vacant c.put_in.ensures.updates c.put_in.ensures.count c.put_in.ensures.vacant c.put_in.ensures.rest c.put_in.ensures.room c.put_in.ensures.length
-    c.put_in.ensures.same_length (rw (c.new.ensures, c.new-3.ensures) refl)).sound refl
+    c.put_in.ensures.same_length (rw (c.new.ensures, c.new-2.ensures) refl)).sound refl

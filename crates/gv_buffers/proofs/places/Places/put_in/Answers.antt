@@ -1,4 +1,4 @@
-use Rattle.std.proofs.Common.{◌≡◌, List, ℕ, length, nat_lt, arith, rules, sym, ◌∙◌, ap, subst}
+use Rattle.std.proofs.Common.{◌≡◌, List, ℕ, length, nat_lt, arith, rules, sym, ◌∙◌, subst}
 use Rattle.std.proofs.lemmas.Bool.{eqb-true}
 use Rattle.std.proofs.lemmas.Fn.{always_returns_same}
 use Rattle.gv_buffers.specs.Places.{PlacesState, AreRising}
@@ -21,7 +21,8 @@ invariant_of-self-2 c =
 
 pub returns-clause-pages : goal.returns-clause-pages
 returns-clause-pages c =
-    let v : PlacesState = record { pages = c.self.inside.pages.items; room = c.self.inside.pages.capacity } in
+    let inside = c.self.inside in
+    let v : PlacesState = record { count = inside.count; pages = inside.pages.items; room = inside.pages.capacity } in
     let gap : IsGap v.pages c.args.page c.partition_point-index.result =
     gap_found c.as_slice.result.now v.pages c.args.page _ c.as_slice.ensures c.self.invariant c.partition_point-index.ensures.bound
     (c.partition_point-index.ensures.partitioned (λ (y : ℕ). nat_lt y c.args.page)
@@ -31,11 +32,12 @@ returns-clause-pages c =
     (c.insert-has_room.ensures.succeeds
     (omega (arith, c.len.ensures.fits, c.len.ensures.value, c.capacity.ensures.value, c.if-len-capacity.false)))
     c.insert-has_room.ensures.ok in
-    let known : length v.pages ≡ c.args.count =
-    ap (λ (p : PlacesState). length p.pages) c.self.view_is ∙ eqb-true _ _ (sym c.are_known.ensures ∙ c.if-not-are_known.false) in
-    let have : HaveRoom v c.args.count = record {
+    let known : length v.pages ≡ v.count =
+    subst (λ (p : PlacesState). length p.pages ≡ p.count) (sym c.self.view_is)
+    (eqb-true _ _ (sym c.are_known.ensures ∙ c.if-not-are_known.false)) in
+    let have : HaveRoom v = record {
       few = omega arith;
       known = known;
       room = omega (arith, known, c.len.ensures.fits, c.len.ensures.value, c.capacity.ensures.value, c.if-len-capacity.false);
     } in
-    made ∙ rw (← c.self.view_is) (placed_in_gap c.args.page c.args.count _ v have gap)
+    made ∙ rw (← c.self.view_is) (placed_in_gap c.args.page _ v have gap)

@@ -1,4 +1,4 @@
-use Rattle.std.proofs.Common.{◌≡◌, ◌≤◌, List, ℕ, length, sym, ◌∙◌, ap, subst}
+use Rattle.std.proofs.Common.{◌≡◌, ◌≤◌, List, ℕ, length, sym, ◌∙◌, subst}
 use Rattle.std.proofs.lemmas.Bool.{eqb-true, eqb-false}
 use Rattle.std.proofs.lemmas.List.Quantifiers.{all_pairs_remove}
 use Rattle.gv_buffers.specs.Places.{PlacesState, AreRising}
@@ -16,22 +16,25 @@ invariant_of-self c =
 
 pub returns-in-Ok-clause-pages : goal.returns-in-Ok-clause-pages
 returns-in-Ok-clause-pages c =
-    let pages : List ℕ = c.self.inside.pages.items in
-    let at : IsPageAt pages c.args.page c.in-Ok.index =
-    page_found _ pages c.args.page c.in-Ok.index c.as_slice.ensures c.self.invariant c.in-Ok.ensures.position in
-    let known : length pages ≡ c.args.count =
-    ap (λ (p : PlacesState). length p.pages) c.self.view_is ∙ eqb-true _ _ (sym c.are_known.ensures ∙ c.if-are_known.true) in
-    c.remove-page.ensures.items
-    ∙ rw (← c.self.view_is) (displaced_at c.args.page c.args.count c.in-Ok.index pages c.self.invariant known at)
+    let inside = c.self.inside in
+    let v : PlacesState = record { count = inside.count; pages = inside.pages.items; room = inside.pages.capacity } in
+    let at : IsPageAt v.pages c.args.page c.in-Ok.index =
+    page_found _ v.pages c.args.page c.in-Ok.index c.as_slice.ensures c.self.invariant c.in-Ok.ensures.position in
+    let known : length v.pages ≡ v.count =
+    subst (λ (p : PlacesState). length p.pages ≡ p.count) (sym c.self.view_is)
+    (eqb-true _ _ (sym c.are_known.ensures ∙ c.if-are_known.true)) in
+    c.remove-page.ensures.items ∙ rw (← c.self.view_is) (displaced_at c.args.page c.in-Ok.index v c.self.invariant known at)
 
 pub returns-in_default-clause-pages : goal.returns-in_default-clause-pages
 returns-in_default-clause-pages c =
+    let inside = c.self.inside in
+    let v : PlacesState = record { count = inside.count; pages = inside.pages.items; room = inside.pages.capacity } in
     c.clear.ensures.items ∙ (elim c.in_default.branch [
       | in_default-via-in-Ok+else-are_known w ↦
-          displaced_unknown c.args.page c.args.count c.args.self.now.pages
+          displaced_unknown c.args.page c.args.self.now
           (eqb-false _ _ (sym w.are_known.ensures ∙ w.if-are_known.false))
       | in_default-via-in_default w ↦
-          rw (← c.self.view_is) (displaced_missing c.args.page c.args.count c.self.inside.pages.items
-          (page_missed _ c.self.inside.pages.items c.args.page w.in_default.field-0
+          rw (← c.self.view_is) (displaced_missing c.args.page v
+          (page_missed _ v.pages c.args.page w.in_default.field-0
           c.as_slice.ensures c.self.invariant w.in_default.ensures.position))
     ])

@@ -25,8 +25,8 @@ returns-in_err-reserve-clause-room c =
     c.cut-cut.result.spot.index c.cut-cut.result.count c.saturating_sub.result c.self.invariant.space c.self.view_is (rw c.list.ensures.value at c.cut-cut.ensures.run) (rw c.list-2.ensures.value at c.in_ok-copy_run.ensures)
     (c.as_slice-pieces.ensures ∙ (rw c.as_slice.ensures at c.in_ok-start.ensures.pieces)) (omega (arith, c.len.ensures.value, c.saturating_sub.ensures)) c.reserve.ensures.enough c.reserve.ensures.double_or_need refl
 
-pub returns-in_err-make_places-clause-room : goal.returns-in_err-make_places-clause-room
-returns-in_err-make_places-clause-room c =
+pub returns-in_err-make_room-clause-room : goal.returns-in_err-make_room-clause-room
+returns-in_err-make_room-clause-room c =
     grown_just_for c.self.inside c.args.self.now _ c.args.range c.args.saved.now c.copy_run.new.pieces.items c.as_slice-pieces.result.now c.reserve.new.self
     c.cut-cut.result.spot.index c.cut-cut.result.count c.saturating_sub.result c.self.invariant.space c.self.view_is (rw c.list.ensures.value at c.cut-cut.ensures.run) (rw c.list-2.ensures.value at c.in_ok-copy_run.ensures)
     (c.as_slice-pieces.ensures ∙ (rw c.as_slice.ensures at c.in_ok-start.ensures.pieces)) (omega (arith, c.len.ensures.value, c.saturating_sub.ensures)) c.reserve.ensures.enough c.reserve.ensures.double_or_need refl
@@ -47,7 +47,7 @@ pub commit-requires : goal.commit-requires
 commit-requires c =
     let between = between_rests c.as_slice-pieces.result.now c.as_slice.result.now c.args.saved.now c.args.range c.in_ok-start.start c.in_ok-start.end
     (c.as_slice-pieces.ensures ∙ c.in_ok-start.ensures.pieces) c.in_ok-start.ensures.start c.in_ok-start.ensures.end in
-    rw (c.make_places.ensures, between, c.as_slice-2.ensures)
+    rw (between, c.as_slice-2.ensures)
     (made_ready c.self.inside c.args.self.now c.args.range c.args.saved.now c.self.invariant.space c.requires.laid_out c.reserve.new.self
     c.cut-cut.result.spot.index c.cut-cut.result.count c.copy_run.new.pieces.items c.as_slice-pieces.result.now c.saturating_sub.result
     c.self.view_is (rw c.list.ensures.value at c.cut-cut.ensures.run) (rw c.list-2.ensures.value at c.in_ok-copy_run.ensures) (c.as_slice-pieces.ensures ∙ (rw c.as_slice.ensures at c.in_ok-start.ensures.pieces))
@@ -68,7 +68,7 @@ returns-clause-changed c =
     c.reserve.ensures.unchanged.mappings c.in_ok-reserve.ensures.ok (omega (arith, c.len.ensures.value, c.saturating_sub.ensures)) in
     let after : List Mapping = splice list.mappings c.cut-cut.result.spot.index (c.cut-cut.result.spot.index + length c.copy_run.new.pieces.items) c.as_slice-pieces.result.now in
     let undo : OpUndoState = undo_with c.cut-cut.result.spot.index (length c.as_slice-pieces.result.now) c.copy_run.new.pieces.items c.args.range c.in_ok-tables.tables in
-    let is : IsChanged before c.commit.new.self after undo = rw (c.make_places.ensures, c.as_slice-2.ensures) at c.in_ok-tables.ensures.changed in
+    let is : IsChanged before c.commit.new.self after undo = rw c.as_slice-2.ensures at c.in_ok-tables.ensures.changed in
     subst (λ (t : SpaceState). IsChanged t c.commit.new.self (restored t.mappings c.args.range c.args.saved.now) undo) c.self.view_is
     (changed_before s list c.commit.new.self within c.args.range c.cut-cut.result.spot.index c.copy_run.new.pieces.items c.as_slice-pieces.result.now undo
     c.self.invariant.space c.reserve.ensures.unchanged.mappings c.reserve.ensures.unchanged.room ready is)

@@ -5,6 +5,8 @@ use Rattle.gv_table.specs.Table.{IsTree, gained_by}
 use Rattle.gv_table.specs.declared.page_table.PageTable.{PageTable}
 use Rattle.gv_buffers.specs.Buffers.{BuffersState, IsLive}
 use Rattle.gv_space.specs.Mapped.{AreLiveNamed}
+use Rattle.gv_space.specs.Placed.{ArePlaces}
+use Rattle.gv_space.proofs.PlaceLists.{rows_for, rows_kept, room_for_places, places_spliced}
 use Rattle.gv_space.specs.State.{SpaceState, most_kept}
 use Rattle.gv_space.specs.Counts.{by_count, more_used, less_used, more_kept}
 use Rattle.gv_space.specs.Undo.{OpUndoState}
@@ -52,6 +54,22 @@ edit-requires-clause-named c =
     subst (λ (t : SpaceState). IsReady c.args.inside.now t c.args.range c.args.spot.index c.args.taken.now c.args.pieces.now) (sym c.self.view_is) c.requires in
     (named_placed s.area s.buffers c.self.inside.mapped.names (after c.args.inside.now s c.args.range c.args.spot.index c.args.taken.now c.args.pieces.now c.self.invariant.space ready)
     c.self.invariant.space.buffers c.self.invariant.named (after_placed c.args.inside.now s c.args.range c.args.spot.index c.args.taken.now c.args.pieces.now c.self.invariant.space ready))
+
+pub change-requires-clause-rows : goal.change-requires-clause-rows
+change-requires-clause-rows c =
+    let s : SpaceState = space_of c.self.inside in
+    let ready : IsReady c.args.inside.now s c.args.range c.args.spot.index c.args.taken.now c.args.pieces.now =
+    subst (λ (t : SpaceState). IsReady c.args.inside.now t c.args.range c.args.spot.index c.args.taken.now c.args.pieces.now) (sym c.self.view_is) c.requires in
+    rows_for s.buffers (length c.self.inside.places) c.args.pieces.now c.self.invariant.rows
+    (live_from_placed s.area s.buffers c.args.pieces.now (pieces_placed c.args.inside.now s c.args.range c.args.spot.index c.args.taken.now c.args.pieces.now c.self.invariant.space ready))
+
+pub change-requires-clause-few : goal.change-requires-clause-few
+change-requires-clause-few c =
+    let s : SpaceState = space_of c.self.inside in
+    let ready : IsReady c.args.inside.now s c.args.range c.args.spot.index c.args.taken.now c.args.pieces.now =
+    subst (λ (t : SpaceState). IsReady c.args.inside.now t c.args.range c.args.spot.index c.args.taken.now c.args.pieces.now) (sym c.self.view_is) c.requires in
+    let few : length c.args.pieces.now ≤ most_kept = omega (arith, pieces_are_few c.args.inside.now s c.args.range c.args.spot.index c.args.taken.now c.args.pieces.now c.self.invariant.space ready) in
+    room_for_places s c.self.inside.places c.args.pieces.now c.self.invariant.space few c.self.invariant.places
 
 pub move_counts-requires-clause-taken : goal.move_counts-requires-clause-taken
 move_counts-requires-clause-taken c =
@@ -102,6 +120,12 @@ invariant_of-self-2 c =
       space = space_after c.args.inside.now s c.args.range c.args.spot.index c.args.taken.now c.args.pieces.now c.self.invariant.space ready new c.edit.new.self.room state;
       named = subst (AreLiveNamed c.move_counts.new.buffers) (sym c.edit.ensures.names)
           (λ id lives. c.self.invariant.named id (lived_after c.args.taken.now c.args.pieces.now s.buffers id (subst (λ (t : BuffersState). IsLive t id) buffers_is lives)));
+      places = subst (λ (ms : List Mapping). ArePlaces ms c.change.new.places) (sym list_is)
+          (places_spliced s.mappings c.args.taken.now c.args.pieces.now c.args.spot.index (length c.args.taken.now) c.self.inside.places c.change.new.places ready.taken_is
+          c.self.invariant.space.laid_out (after_laid_out c.args.inside.now s c.args.range c.args.spot.index c.args.taken.now c.args.pieces.now c.self.invariant.space ready)
+          c.change.ensures.places c.self.invariant.places);
+      rows = rows_kept s.buffers c.move_counts.new.buffers (length c.self.inside.places) (length c.change.new.places)
+          (λ id lives. lived_after c.args.taken.now c.args.pieces.now s.buffers id (subst (λ (t : BuffersState). IsLive t id) buffers_is lives)) (omega (arith, c.change.ensures.length)) c.self.invariant.rows;
     }
 
 pub returns-clause-changed : goal.returns-clause-changed

@@ -1,6 +1,9 @@
-use Rattle.std.proofs.Common.{◌≡◌, sym, subst, ap, ◌∙◌}
+use Rattle.gv_types.specs.declared.mapping.BufferId.{BufferId}
+use Rattle.std.proofs.Common.{length, ◌≡◌, arith, sym, subst, ap, ◌∙◌}
 use Rattle.gv_ranges.specs.List.{RangeListState}
 use Rattle.gv_space.specs.Mapped.{list_of}
+use Rattle.gv_space.specs.Placed.{ArePlaces}
+use Rattle.gv_space.proofs.PlaceLists.{places-alike, rows_made}
 use Rattle.gv_space.specs.State.{SpaceState, AreKept, IsSpace}
 use Rattle.gv_space.specs.Inside.{space_of}
 use Rattle.gv_space.proofs.Names.{named-same}
@@ -37,6 +40,10 @@ invariant_of-self-in-Ok c =
           (IsSpace-made s c.create.new.self c.in-Ok.id c.args.pages c.in-Ok.ensures.ok c.in-Ok.ensures.table c.self.invariant.space);
       named = named_made s.buffers c.create.new.self c.in-Ok.id c.args.pages c.reserve_name.new.self.names c.name.new.self.names c.in-Ok.ensures.ok
           (λ id lives. c.reserve_name.ensures.same id.index id (c.self.invariant.named id lives)) c.name.ensures.named c.name.ensures.others;
+      places = subst (λ (l : RangeListState). ArePlaces l.mappings c.reserve.new.self) (sym list_is)
+          (places-alike s.mappings c.self.inside.places c.reserve.new.self c.reserve.ensures.same c.self.invariant.places);
+      rows = rows_made s.buffers c.create.new.self c.in-Ok.id c.args.pages (length c.self.inside.places) (length c.reserve.new.self) c.in-Ok.ensures.ok
+          (omega (arith, c.in_ok-reserve.ensures.ok, c.next_index-index.ensures.index, ap (λ (i : BufferId). i.index) c.in-Ok.ensures.ok.id_is)) c.reserve.ensures.no_fewer c.self.invariant.rows;
     }
 
 pub returns-in-Ok-clause-kept : goal.returns-in-Ok-clause-kept

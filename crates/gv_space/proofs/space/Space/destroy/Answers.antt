@@ -1,4 +1,5 @@
-use Rattle.std.proofs.Common.{◌≡◌, Result, Ok, Err, refl, sym, subst, List, OnOk, OnErr}
+use Rattle.gv_space.proofs.PlaceLists.{rows_kept}
+use Rattle.std.proofs.Common.{arith, length, ◌≡◌, Result, Ok, Err, refl, sym, subst, List, OnOk, OnErr}
 use Rattle.std.specs.Prelude.{IsOk, MatchOption}
 use Rattle.gv_types.specs.declared.fault.Fault.{Fault}
 use Rattle.gv_types.specs.declared.mapping.BufferId.{BufferId}
@@ -28,6 +29,9 @@ invariant_of-self c =
     record {
       space = after c.destroy.result s c.destroy.new.self c.args.id c.self.invariant.space c.destroy.ensures.fault c.destroy.ensures.ok c.destroy.ensures.err;
       named = λ id lives. c.self.invariant.named id (lived c.destroy.result s.buffers c.destroy.new.self c.args.id c.destroy.ensures.ok c.destroy.ensures.err id lives);
+      places = c.self.invariant.places;
+      rows = rows_kept s.buffers c.destroy.new.self (length c.self.inside.places) (length c.self.inside.places)
+          (lived c.destroy.result s.buffers c.destroy.new.self c.args.id c.destroy.ensures.ok c.destroy.ensures.err) (omega arith) c.self.invariant.rows;
     }
 
 saves : {X : Type 0} (r : Result X Fault) (s : SpaceState) (new : BuffersState) (id : BufferId) → MatchOption (destroy_fault s.buffers id) (IsOk r) (λ f. r ≡ Err f) →

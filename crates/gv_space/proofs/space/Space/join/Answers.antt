@@ -1,4 +1,5 @@
-use Rattle.std.proofs.Common.{◌≡◌, ℕ, Result, Ok, Err, sym, subst, List, OnOk, OnErr}
+use Rattle.gv_space.proofs.PlaceLists.{rows_kept}
+use Rattle.std.proofs.Common.{arith, length, ◌≡◌, ℕ, Result, Ok, Err, sym, subst, List, OnOk, OnErr}
 use Rattle.gv_types.specs.declared.fault.Fault.{Fault}
 use Rattle.gv_types.specs.declared.mapping.BufferId.{BufferId}
 use Rattle.gv_buffers.specs.declared.usage.Usage.{Usage}
@@ -29,6 +30,9 @@ invariant_of-self c =
     record {
       space = after c.join.result s c.join.new.self c.args.id c.args.job c.args.usage c.self.invariant.space c.join.ensures.table c.join.ensures.ok c.join.ensures.err;
       named = λ id lives. c.self.invariant.named id (lived c.join.result s.buffers c.join.new.self c.args.id c.args.job c.args.usage c.join.ensures.ok c.join.ensures.err id lives);
+      places = c.self.invariant.places;
+      rows = rows_kept s.buffers c.join.new.self (length c.self.inside.places) (length c.self.inside.places)
+          (lived c.join.result s.buffers c.join.new.self c.args.id c.args.job c.args.usage c.join.ensures.ok c.join.ensures.err) (omega arith) c.self.invariant.rows;
     }
 
 saves : {X : Type 0} (r : Result X Fault) (s : SpaceState) (new : BuffersState) (id : BufferId) (job : ℕ) (usage : Usage) →

@@ -1,8 +1,10 @@
-use Rattle.std.proofs.Common.{◌≡◌, ◌-◌, refl, sym, subst, ap, ◌∙◌, List, ◌++◌}
+use Rattle.gv_space.proofs.PlaceLists.{rows_kept}
+use Rattle.std.proofs.Common.{◌≡◌, ◌-◌, arith, length, refl, sym, subst, ap, ◌∙◌, List, ◌++◌}
 use Rattle.gv_types.specs.declared.mapping.Mapping.{Mapping}
 use Rattle.gv_buffers.specs.Buffers.{BuffersState, IsLive}
 use Rattle.gv_space.specs.Counts.{by_count, less_kept}
 use Rattle.gv_space.specs.Mapped.{MappedState, AreLiveNamed}
+use Rattle.gv_space.specs.Placed.{ArePlaces}
 use Rattle.gv_space.specs.State.{SpaceState, IsSpace, IsPlaced, AreKept}
 use Rattle.gv_space.specs.Undo.{OpUndoState, released}
 use Rattle.gv_space.specs.Inside.{space_of}
@@ -45,6 +47,9 @@ invariant_of-self c =
       space = subst IsSpace (sym state) (IsSpace-released s taken c.requires.others c.self.invariant.space saved);
       named = subst (AreLiveNamed c.unkeep.new.buffers) (sym names_are)
           (λ id lives. c.self.invariant.named id (lived-by_count less_kept taken s.buffers less_kept_of_counts id (subst (λ (t : BuffersState). IsLive t id) buffers_is lives)));
+      places = subst (λ (m : MappedState). ArePlaces m.mappings c.self.inside.places) (sym c.keep.ensures.same) c.self.invariant.places;
+      rows = rows_kept s.buffers c.unkeep.new.buffers (length c.self.inside.places) (length c.self.inside.places)
+          (λ id lives. lived-by_count less_kept taken s.buffers less_kept_of_counts id (subst (λ (t : BuffersState). IsLive t id) buffers_is lives)) (omega arith) c.self.invariant.rows;
     }
 
 pub returns-clause-state : goal.returns-clause-state

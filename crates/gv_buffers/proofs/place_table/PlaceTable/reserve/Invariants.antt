@@ -1,0 +1,13 @@
+use Rattle.std.proofs.Common.{◌≡◌, ◌≤◌, ℕ, length, ◌+◌, ◌-◌}
+use Rattle.gv_buffers.specs.Places.{places_at}
+use Rattle.gv_buffers.proofs.place_table.PlaceTable.reserve.Given as goal
+
+abbrev pub invariant-loop-alloc : goal.invariant-loop-alloc
+invariant-loop-alloc l = record {
+  same : (other : ℕ) → places_at l.self-inside.rows.items other ≡ places_at l.fn.self other;
+  no_fewer : length l.fn.self ≤ length l.self-inside.rows.items;
+}
+
+-- how many rows there are too few
+abbrev pub decreases-loop-alloc : goal.decreases-loop-alloc
+decreases-loop-alloc l = l.index + 1 - length l.self-inside.rows.items
