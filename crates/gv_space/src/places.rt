@@ -27,6 +27,7 @@ pub fn make_room(places: &mut PlaceTable, mappings: &[Packed]) -> Result<(), Out
 }
 
 /// Mappings of the list leave it.
+#[inline(always)]
 fn leave(places: &mut PlaceTable, mappings: &[Packed])
     ensures places { (before behind : List Mapping) → IsLaidOut (between before mappings.now behind)
         → ArePlaces (between before mappings.now behind) places.old → ArePlaces (before ++ behind) places.new }
@@ -55,6 +56,7 @@ fn leave_run(places: &mut PlaceTable, run: Run<'_>)
 }
 
 /// Mappings come into the list.
+#[inline(always)]
 fn come(places: &mut PlaceTable, mappings: &[Packed])
     requires rows { All (λ m. HasRow (length places.old) m.backing) mappings.now }
     requires few { (index : ℕ) → (places_at places.old index).count + length mappings.now ≤ most_counted }
