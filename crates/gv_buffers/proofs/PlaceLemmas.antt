@@ -54,12 +54,12 @@ placed_between page xs ys p below above stand =
       count = count;
       pages = elim (can_be_placed p) as (λ t. can_be_placed p ≡ t → length (cond t (insert p.pages (count_lower page p.pages) page) []) ≡ p.count + 1 →
           cond t (insert p.pages (count_lower page p.pages) page) [] ≡ xs ++ page ∷ ys) [
-        | true ↦ (λ can _.
-            let known : are_known p ≡ true = (and_parts _ _ (and_parts _ _ can).0).1 in
-            let same : p.pages ≡ xs ++ ys = stand.pages (eqb-true _ _ known) in
-            rw (same, lower_before page xs ys below higher) (inserted_between page xs ys))
-        | false ↦ (λ can none. absurd (omega (arith, none)))
-      ] refl;
+            | true ↦ (λ can _.
+                let known : are_known p ≡ true = (and_parts _ _ (and_parts _ _ can).0).1 in
+                let same : p.pages ≡ xs ++ ys = stand.pages (eqb-true _ _ known) in
+                rw (same, lower_before page xs ys below higher) (inserted_between page xs ys))
+            | false ↦ (λ can none. absurd (omega (arith, none)))
+          ] refl;
     }
 
 nothing : (xs : List ℕ) → length xs ≡ 0 → [] ≡ xs
@@ -77,9 +77,9 @@ displaced_between page xs ys p below above stand =
       count = count;
       pages = elim (are_known p && is_among page p.pages) as (λ t. are_known p && is_among page p.pages ≡ t →
           length (cond t (remove p.pages (count_lower page p.pages)) []) ≡ p.count - 1 → cond t (remove p.pages (count_lower page p.pages)) [] ≡ xs ++ ys) [
-        | true ↦ (λ is _.
-            let same : p.pages ≡ xs ++ page ∷ ys = stand.pages (eqb-true _ _ (and_parts _ _ is).0) in
-            rw (same, lower_before page xs (page ∷ ys) below higher) (removed_between page xs ys))
-        | false ↦ (λ _ none. nothing (xs ++ ys) (omega (arith, none, count)))
-      ] refl;
+            | true ↦ (λ is _.
+                let same : p.pages ≡ xs ++ page ∷ ys = stand.pages (eqb-true _ _ (and_parts _ _ is).0) in
+                rw (same, lower_before page xs (page ∷ ys) below higher) (removed_between page xs ys))
+            | false ↦ (λ _ none. nothing (xs ++ ys) (omega (arith, none, count)))
+          ] refl;
     }

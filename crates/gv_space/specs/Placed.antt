@@ -1,10 +1,11 @@
 -- Where the mappings of each buffer begin, as far as it is known. No public clause cites this module.
-use Rattle.std.specs.Prelude.{◌≡◌, ℕ, ◌<◌, ◌==◌, Bool, false, List, ◌++◌, filter, map, slice_index_or}
+use Rattle.std.specs.Prelude.{◌≡◌, ℕ, ◌+◌, ◌<◌, ◌≤◌, ◌==◌, Bool, false, List, ◌++◌, filter, map, slice_index_or}
 use Rattle.gv_types.specs.declared.mapping.Backing.{Backing}
 use Rattle.gv_types.specs.declared.mapping.Backing.TheVariants.{Buffer, Zero}
 use Rattle.gv_types.specs.declared.mapping.BufferId.{BufferId}
 use Rattle.gv_types.specs.declared.mapping.Mapping.{Mapping}
-use Rattle.gv_buffers.specs.Buffers.{BuffersState, IsLive}
+use Rattle.gv_ranges.specs.List.{IsLaidOut}
+use Rattle.gv_buffers.specs.Buffers.{BuffersState, IsLive, most_counted}
 use Rattle.gv_buffers.specs.Places.{PlacesState, StandAt, places_at}
 
 -- a page of a buffer with that index stands behind a mapping
@@ -23,6 +24,27 @@ ArePlaces ms rows = (index : ℕ) → StandAt (firsts_of index ms) (places_at ro
 -- mappings between those before and behind them
 abbrev pub between : List Mapping → List Mapping → List Mapping → List Mapping
 between before ms behind = before ++ (ms ++ behind)
+
+-- the places once mappings have left a list
+abbrev pub HaveLeft : List Mapping → List PlacesState → List PlacesState → Type 0
+HaveLeft ms old new = (before behind : List Mapping) → IsLaidOut (between before ms behind) → ArePlaces (between before ms behind) old → ArePlaces (before ++ behind) new
+
+-- and once they have come into it
+abbrev pub HaveCome : List Mapping → List PlacesState → List PlacesState → Type 0
+HaveCome ms old new = (before behind : List Mapping) → IsLaidOut (between before ms behind) → ArePlaces (before ++ behind) old → ArePlaces (between before ms behind) new
+
+-- and once some have given way to others
+abbrev pub HaveGivenWay : List Mapping → List Mapping → List PlacesState → List PlacesState → Type 0
+HaveGivenWay gone come old new = (before behind : List Mapping) → IsLaidOut (between before gone behind) → IsLaidOut (between before come behind)
+    → ArePlaces (between before gone behind) old → ArePlaces (between before come behind) new
+
+-- no index has more mappings
+abbrev pub HaveNoMore : List PlacesState → List PlacesState → Type 0
+HaveNoMore old new = (index : ℕ) → (places_at new index).count ≤ (places_at old index).count
+
+-- so many more can be counted at each index
+abbrev pub CanCount : ℕ → List PlacesState → Type 0
+CanCount more rows = (index : ℕ) → (places_at rows index).count + more ≤ most_counted
 
 -- the table has a row for what stands behind a mapping
 abbrev pub HasRow : ℕ → Backing → Type 0

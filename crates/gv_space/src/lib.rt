@@ -20,7 +20,6 @@ mod counts;
 pub mod laws;
 mod list_with_table;
 mod pieces;
-mod places;
 mod ranges;
 mod space;
 mod undo;

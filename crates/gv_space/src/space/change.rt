@@ -12,8 +12,8 @@ ghost use Rattle.gv_space.specs.Ready.{IsReady};
 ghost use Rattle.gv_space.specs.Undo.{undo_with};
 
 use super::Space;
+use crate::counts;
 use crate::pieces::{Pieces, copy_run, with_rests};
-use crate::{counts, places};
 use gv_chunks::Spot;
 use gv_packed::Packed;
 use gv_table::Spares;
@@ -61,7 +61,7 @@ impl Space {
         let inside = &pieces[start..end];
         self.mapped
             .reserve(pieces.len().saturating_sub(taken.len()))?;
-        places::make_room(&mut self.places, pieces)?;
+        counts::make_room(&mut self.places, pieces)?;
         let tables = self.commit(alloc, range, spot, taken.as_slice(), pieces, inside)?;
         Ok(Made {
             index: spot.index,
@@ -90,8 +90,7 @@ impl Space {
     {
         let count = taken.len();
         let tables = self.mapped.edit(alloc, range, spot, count, pieces, inside)?;
-        places::change(&mut self.places, taken, pieces);
-        counts::move_counts(&mut self.buffers, taken, pieces);
+        counts::move_counts(&mut self.buffers, &mut self.places, taken, pieces);
         self.kept_count += count as u64;
         Ok(tables)
     }

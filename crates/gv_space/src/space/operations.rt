@@ -15,9 +15,9 @@ ghost use Rattle.gv_space.specs.Change.{IsChanged, GrowsJustFor};
 
 use super::Space;
 use super::change::Made;
+use crate::counts;
 use crate::pieces::as_pieces;
 use crate::undo::OpUndo;
-use crate::{counts, places};
 use gv_chunks::Spot;
 use gv_packed::Packed;
 use gv_types::{Fault, Op, PageOp, PageRange};
@@ -146,9 +146,12 @@ impl Space {
         let near = list.near(range.first());
         let spot = Spot { index, near };
         let pieces = list.run_at(spot, put_in);
-        counts::move_counts_back(&mut self.buffers, pieces, taken.as_slice());
-        let pieces = list.run_at(spot, put_in);
-        places::change_back(&mut self.places, pieces, taken.as_slice());
+        counts::move_counts_back(
+            &mut self.buffers,
+            &mut self.places,
+            pieces,
+            taken.as_slice(),
+        );
         self.mapped
             .put_back(range, spot, put_in, taken.as_slice(), tables);
         self.kept_count -= taken.len() as u64;

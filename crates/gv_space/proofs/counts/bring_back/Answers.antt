@@ -1,4 +1,5 @@
-use Rattle.std.proofs.Common.{◌+◌, ◌<◌, ◌≤◌, arith, sym, ◌∙◌}
+use Rattle.gv_space.proofs.PlaceTurns.{came_turn, came_none, came_end, one_more_at, has_row}
+use Rattle.std.proofs.Common.{refl, ◌+◌, ◌<◌, ◌≤◌, arith, sym, ◌∙◌}
 use Rattle.gv_buffers.specs.Buffers.{most_counted}
 use Rattle.gv_types.specs.declared.mapping.Backing.TheVariants.{Zero}
 use Rattle.gv_space.specs.Counts.{moved_in}
@@ -7,27 +8,73 @@ use Rattle.gv_space.proofs.counts.bring_back.Goals as goal
 use Rattle.gv_space.proofs.counts.bring_back.Goals.{in-Buffer, in_default}
 
 pub loop-mapping-init : goal.loop-mapping-init
-loop-mapping-init c = sym (by_count_none moved_in c.args.buffers.now moved_in_counting)
+loop-mapping-init c = record {
+  counts = sym (by_count_none moved_in c.args.buffers.now moved_in_counting);
+  places = λ before behind laid are. are;
+  few = λ index. (let less = c.requires.few index in omega (arith, less));
+  rows = refl;
+}
+
+pub come-requires-clause-row : goal.come-requires-clause-row
+come-requires-clause-row c =
+    let row = has_row c.args.mappings.now c.loop-mapping.mapping-index c.mapping-item.result c.in-Buffer.id c.in-Buffer.page _ c.loop-mapping-test.true c.mapping-item.is
+    (sym c.backing.ensures ∙ c.in-Buffer.is) c.requires.rows in
+    omega (arith, row, c.loop-mapping.invariant.rows)
+
+pub come-requires-clause-few : goal.come-requires-clause-few
+come-requires-clause-few c =
+    let less = c.loop-mapping.invariant.few c.in-Buffer.id.index in
+    omega (arith, less, c.loop-mapping-test.true)
 
 pub bring_back-requires-clause-kept : goal.bring_back-requires-clause-kept
 bring_back-requires-clause-kept c =
     can_count moved_in (λ b. b.kept) (λ b n. n ≤ b.kept) (λ n. 0 < n) moved_in_counting (λ b n k less fits. omega arith)
     c.args.buffers.now c.loop-mapping.buffers c.args.mappings.now c.loop-mapping.mapping-index c.mapping-item.result c.in-Buffer.id c.in-Buffer.page
-    c.loop-mapping-test.true c.mapping-item.is (sym c.backing.ensures ∙ c.in-Buffer.is) c.requires.live c.requires.kept c.loop-mapping.invariant
+    c.loop-mapping-test.true c.mapping-item.is (sym c.backing.ensures ∙ c.in-Buffer.is) c.requires.live c.requires.kept c.loop-mapping.invariant.counts
 
 pub bring_back-requires-clause-room : goal.bring_back-requires-clause-room
 bring_back-requires-clause-room c =
     can_count moved_in (λ b. b.uses) (λ b n. b.uses + n ≤ most_counted) (λ n. n < most_counted) moved_in_counting (λ b n k less fits. omega arith)
     c.args.buffers.now c.loop-mapping.buffers c.args.mappings.now c.loop-mapping.mapping-index c.mapping-item.result c.in-Buffer.id c.in-Buffer.page
-    c.loop-mapping-test.true c.mapping-item.is (sym c.backing.ensures ∙ c.in-Buffer.is) c.requires.live c.requires.room c.loop-mapping.invariant
+    c.loop-mapping-test.true c.mapping-item.is (sym c.backing.ensures ∙ c.in-Buffer.is) c.requires.live c.requires.room c.loop-mapping.invariant.counts
 
 pub loop-mapping-preserved : goal.loop-mapping-preserved
 loop-mapping-preserved c =
-    let turn = count_turn moved_in c.args.buffers.now c.loop-mapping.buffers c.match-backing.buffers c.args.mappings.now c.loop-mapping.mapping-index c.mapping-item.result in
+    let inv = c.loop-mapping.invariant in
+    let ms = c.args.mappings.now in
+    let turn = count_turn moved_in c.args.buffers.now c.loop-mapping.buffers c.match-backing.buffers ms c.loop-mapping.mapping-index c.mapping-item.result in
     elim c.match-backing.branch [
-      | in-Buffer w ↦ turn _ moved_in_counting c.loop-mapping-test.true c.mapping-item.is (sym c.backing.ensures ∙ w.in-Buffer.is) c.loop-mapping.invariant (w.buffers-is ∙ w.bring_back.ensures)
-      | in_default w ↦ turn Zero moved_in_counting c.loop-mapping-test.true c.mapping-item.is (sym c.backing.ensures ∙ w.in_default.is) c.loop-mapping.invariant w.buffers-is
+      | in-Buffer w ↦
+          let of = sym c.backing.ensures ∙ w.in-Buffer.is in
+          rw w.places-is record {
+            counts = turn _ moved_in_counting c.loop-mapping-test.true c.mapping-item.is of inv.counts (w.buffers-is ∙ w.bring_back.ensures);
+            places = λ before behind laid are.
+                came_turn before behind ms c.loop-mapping.mapping-index c.mapping-item.result c.loop-mapping-test.true c.mapping-item.is
+                w.in-Buffer.id w.in-Buffer.page c.loop-mapping.places w.come.new.self of laid (rw w.first.ensures.value at w.come.ensures.here) w.come.ensures.others
+                (inv.places before behind laid are);
+            few = λ index.
+                (let less = one_more_at w.in-Buffer.id.index w.first.result c.loop-mapping.places w.come.new.self w.come.ensures.here w.come.ensures.others index in
+                let so_far = inv.few index in
+                omega (arith, less, so_far, c.loop-mapping-test.true));
+            rows = w.come.ensures.length ∙ inv.rows;
+          }
+      | in_default w ↦
+          let of = sym c.backing.ensures ∙ w.in_default.is in
+          rw w.places-is record {
+            counts = turn Zero moved_in_counting c.loop-mapping-test.true c.mapping-item.is of inv.counts w.buffers-is;
+            places = λ before behind laid are.
+                came_none before behind ms c.loop-mapping.mapping-index c.mapping-item.result c.loop-mapping-test.true c.mapping-item.is
+                c.loop-mapping.places of (inv.places before behind laid are);
+            few = λ index. (let so_far = inv.few index in omega (arith, so_far));
+            rows = inv.rows;
+          }
     ]
 
-pub returns : goal.returns
-returns c = count_end moved_in c.args.buffers.now c.loop-mapping.buffers c.args.mappings.now c.loop-mapping.mapping-index c.loop-mapping-test.false c.loop-mapping.invariant
+pub returns-clause-counts : goal.returns-clause-counts
+returns-clause-counts c =
+    count_end moved_in c.args.buffers.now c.loop-mapping.buffers c.args.mappings.now c.loop-mapping.mapping-index c.loop-mapping-test.false c.loop-mapping.invariant.counts
+
+pub returns-clause-places : goal.returns-clause-places
+returns-clause-places c = λ before behind laid are.
+    came_end before behind c.args.mappings.now c.loop-mapping.mapping-index c.loop-mapping.places c.loop-mapping-test.false
+    (c.loop-mapping.invariant.places before behind laid are)

@@ -1,3 +1,4 @@
+use Rattle.gv_space.proofs.PlaceStays.{stays_between}
 use Rattle.std.proofs.Common.{◌≡◌, ◌+◌, ◌-◌, ◌<◌, ◌≤◌, take, get_or, arith, sym, subst, ap, ◌∙◌}
 use Rattle.std.specs.List.{All}
 use Rattle.std.proofs.lemmas.List.{get_or_default}
@@ -37,35 +38,46 @@ take_out-requires-clause-room c =
 pub count_in-requires-clause-live : goal.count_in-requires-clause-live
 count_in-requires-clause-live c =
     let kept : c.keep.new.self ≡ by_count more_kept (take 1 c.args.taken.now) c.args.buffers.now = first-kept c.in-Some.id c.args.taken.now c.args.buffers.now c.keep.new.self c.in-Some.ensures.taken c.keep.ensures in
-    let out = c.take_out.ensures ∙ ap (by_count moved_out (rest c.args.taken.now)) kept in
+    let out = c.take_out.ensures.counts ∙ ap (by_count moved_out (rest c.args.taken.now)) kept in
     subst (λ (t : BuffersState). All (λ m. IsLiveBacking t m.backing) (rest c.args.pieces.now)) (sym out) (pieces-live c.args.taken.now c.args.pieces.now c.args.buffers.now c.requires.pieces)
 
 pub count_in-requires-clause-room : goal.count_in-requires-clause-room
 count_in-requires-clause-room c =
     let kept : c.keep.new.self ≡ by_count more_kept (take 1 c.args.taken.now) c.args.buffers.now = first-kept c.in-Some.id c.args.taken.now c.args.buffers.now c.keep.new.self c.in-Some.ensures.taken c.keep.ensures in
-    let out = c.take_out.ensures ∙ ap (by_count moved_out (rest c.args.taken.now)) kept in
+    let out = c.take_out.ensures.counts ∙ ap (by_count moved_out (rest c.args.taken.now)) kept in
     subst (λ (t : BuffersState). All (λ b. b.uses + count_of b.id (rest c.args.pieces.now) ≤ most_counted) t.live) (sym out) (pieces-room c.args.taken.now c.args.pieces.now c.args.buffers.now c.requires.room)
 
-pub returns-in-Some : goal.returns-in-Some
-returns-in-Some c =
+pub returns-in-Some-clause-counts : goal.returns-in-Some-clause-counts
+returns-in-Some-clause-counts c =
     let kept : c.keep.new.self ≡ by_count more_kept (take 1 c.args.taken.now) c.args.buffers.now = first-kept c.in-Some.id c.args.taken.now c.args.buffers.now c.keep.new.self c.in-Some.ensures.taken c.keep.ensures in
-    c.count_in.ensures ∙ ap (by_count more_used (rest c.args.pieces.now)) (c.take_out.ensures ∙ ap (by_count moved_out (rest c.args.taken.now)) kept)
+    c.count_in.ensures.counts ∙ ap (by_count more_used (rest c.args.pieces.now)) (c.take_out.ensures.counts ∙ ap (by_count moved_out (rest c.args.taken.now)) kept)
     ∙ first-stays c.args.taken.now c.args.pieces.now c.args.buffers.now c.in-Some.id c.in-Some.ensures.taken c.in-Some.ensures.pieces c.requires.counted
     ∙ taken_out_first c.args.taken.now c.args.pieces.now c.args.buffers.now c.requires.counted
 
 pub count_in-requires-2-clause-live : goal.count_in-requires-2-clause-live
 count_in-requires-2-clause-live c =
-    subst (λ (t : BuffersState). All (λ m. IsLiveBacking t m.backing) c.args.pieces.now) (sym c.take_out-2.ensures)
+    subst (λ (t : BuffersState). All (λ m. IsLiveBacking t m.backing) c.args.pieces.now) (sym c.take_out-2.ensures.counts)
     (live-by_count moved_out c.args.taken.now c.args.buffers.now c.args.pieces.now moved_out_of_counts c.requires.pieces)
 
 pub count_in-requires-2-clause-room : goal.count_in-requires-2-clause-room
 count_in-requires-2-clause-room c =
-    subst (λ (t : BuffersState). All (λ b. b.uses + count_of b.id c.args.pieces.now ≤ most_counted) t.live) (sym c.take_out-2.ensures)
+    subst (λ (t : BuffersState). All (λ b. b.uses + count_of b.id c.args.pieces.now ≤ most_counted) t.live) (sym c.take_out-2.ensures.counts)
     (All-by_count (λ b. b.uses + count_of b.id c.args.pieces.now ≤ most_counted) moved_out c.args.taken.now c.args.buffers.now
     (All-weaker (λ b. b.uses + count_of b.id c.args.pieces.now ≤ most_counted) (λ b. b.uses - count_of b.id c.args.taken.now + count_of b.id c.args.pieces.now ≤ most_counted) (λ b fits. omega arith)
     c.args.buffers.now.live c.requires.room))
 
-pub returns : goal.returns
-returns c =
-    c.count_in-2.ensures ∙ ap (by_count more_used c.args.pieces.now) c.take_out-2.ensures
+pub returns-clause-counts : goal.returns-clause-counts
+returns-clause-counts c =
+    c.count_in-2.ensures.counts ∙ ap (by_count more_used c.args.pieces.now) c.take_out-2.ensures.counts
     ∙ taken_out_first c.args.taken.now c.args.pieces.now c.args.buffers.now c.requires.counted
+
+pub returns-in-Some-clause-places : goal.returns-in-Some-clause-places
+returns-in-Some-clause-places c = λ before behind laid laid' are.
+    let left = c.take_out.ensures.places in
+    let came = c.count_in.ensures.places in
+    stays_between before behind c.args.taken.now c.args.pieces.now c.in-Some.id c.args.places.now c.take_out.new.places c.count_in.new.places
+    c.in-Some.ensures.taken c.in-Some.ensures.pieces c.in-Some.ensures.places left came laid laid' are
+
+pub returns-clause-places : goal.returns-clause-places
+returns-clause-places c = λ before behind laid laid' are.
+    c.count_in-2.ensures.places before behind laid' (c.take_out-2.ensures.places before behind laid are)

@@ -10,22 +10,26 @@ use Rattle.gv_space.proofs.counts.move_counts_back.Goals as goal
 
 pub bring_back-requires-clause-live : goal.bring_back-requires-clause-live
 bring_back-requires-clause-live c =
-    subst (λ (t : BuffersState). All (λ m. IsLiveBacking t m.backing) c.args.taken.now) (sym c.count_out_run.ensures)
+    subst (λ (t : BuffersState). All (λ m. IsLiveBacking t m.backing) c.args.taken.now) (sym c.count_out_run.ensures.counts)
     (live-by_count less_used c.args.pieces c.args.buffers.now c.args.taken.now less_used_of_counts c.requires.taken)
 
 pub bring_back-requires-clause-kept : goal.bring_back-requires-clause-kept
 bring_back-requires-clause-kept c =
-    subst (λ (t : BuffersState). All (λ b. count_of b.id c.args.taken.now ≤ b.kept) t.live) (sym c.count_out_run.ensures)
+    subst (λ (t : BuffersState). All (λ b. count_of b.id c.args.taken.now ≤ b.kept) t.live) (sym c.count_out_run.ensures.counts)
     (All-by_count (λ b. count_of b.id c.args.taken.now ≤ b.kept) less_used c.args.pieces c.args.buffers.now c.requires.kept)
 
 pub bring_back-requires-clause-room : goal.bring_back-requires-clause-room
 bring_back-requires-clause-room c =
-    subst (λ (t : BuffersState). All (λ b. b.uses + count_of b.id c.args.taken.now ≤ most_counted) t.live) (sym c.count_out_run.ensures)
+    subst (λ (t : BuffersState). All (λ b. b.uses + count_of b.id c.args.taken.now ≤ most_counted) t.live) (sym c.count_out_run.ensures.counts)
     (All-by_count (λ b. b.uses + count_of b.id c.args.taken.now ≤ most_counted) less_used c.args.pieces c.args.buffers.now
     (All-weaker (λ b. b.uses + count_of b.id c.args.taken.now ≤ most_counted) (λ b. b.uses - count_of b.id c.args.pieces + count_of b.id c.args.taken.now ≤ most_counted) (λ b fits. omega arith)
     c.args.buffers.now.live c.requires.room))
 
-pub returns : goal.returns
-returns c =
-    c.bring_back.ensures ∙ ap (by_count moved_in c.args.taken.now) c.count_out_run.ensures
+pub returns-clause-counts : goal.returns-clause-counts
+returns-clause-counts c =
+    c.bring_back.ensures.counts ∙ ap (by_count moved_in c.args.taken.now) c.count_out_run.ensures.counts
     ∙ brought_back_last c.args.pieces c.args.taken.now c.args.buffers.now c.requires.counted
+
+pub returns-clause-places : goal.returns-clause-places
+returns-clause-places c = λ before behind laid laid' are.
+    c.bring_back.ensures.places before behind laid' (c.count_out_run.ensures.places before behind laid are)

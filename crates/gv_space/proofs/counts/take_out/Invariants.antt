@@ -1,6 +1,15 @@
-use Rattle.std.proofs.Common.{◌≡◌, take}
+use Rattle.std.proofs.Common.{◌≡◌, List, length, take, drop}
+use Rattle.gv_types.specs.declared.mapping.Mapping.{Mapping}
+use Rattle.gv_ranges.specs.List.{IsLaidOut}
 use Rattle.gv_space.specs.Counts.{by_count, moved_out}
+use Rattle.gv_space.specs.Placed.{between, ArePlaces, HaveNoMore}
 use Rattle.gv_space.proofs.counts.take_out.Given as goal
 
 abbrev pub invariant-loop-mapping : goal.invariant-loop-mapping
-invariant-loop-mapping l = l.buffers ≡ by_count moved_out (take l.mapping-index l.mappings) l.initial.buffers
+invariant-loop-mapping l = record {
+  counts : l.buffers ≡ by_count moved_out (take l.mapping-index l.mappings) l.initial.buffers;
+  places : (before behind : List Mapping) → IsLaidOut (between before l.mappings behind) → ArePlaces (between before l.mappings behind) l.initial.places →
+      ArePlaces (between before (drop l.mapping-index l.mappings) behind) l.places;
+  no_more : HaveNoMore l.initial.places l.places;
+  rows : length l.places ≡ length l.initial.places;
+}

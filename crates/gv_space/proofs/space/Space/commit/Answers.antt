@@ -55,16 +55,16 @@ edit-requires-clause-named c =
     (named_placed s.area s.buffers c.self.inside.mapped.names (after c.args.inside.now s c.args.range c.args.spot.index c.args.taken.now c.args.pieces.now c.self.invariant.space ready)
     c.self.invariant.space.buffers c.self.invariant.named (after_placed c.args.inside.now s c.args.range c.args.spot.index c.args.taken.now c.args.pieces.now c.self.invariant.space ready))
 
-pub change-requires-clause-rows : goal.change-requires-clause-rows
-change-requires-clause-rows c =
+pub move_counts-requires-clause-rows : goal.move_counts-requires-clause-rows
+move_counts-requires-clause-rows c =
     let s : SpaceState = space_of c.self.inside in
     let ready : IsReady c.args.inside.now s c.args.range c.args.spot.index c.args.taken.now c.args.pieces.now =
     subst (λ (t : SpaceState). IsReady c.args.inside.now t c.args.range c.args.spot.index c.args.taken.now c.args.pieces.now) (sym c.self.view_is) c.requires in
     rows_for s.buffers (length c.self.inside.places) c.args.pieces.now c.self.invariant.rows
     (live_from_placed s.area s.buffers c.args.pieces.now (pieces_placed c.args.inside.now s c.args.range c.args.spot.index c.args.taken.now c.args.pieces.now c.self.invariant.space ready))
 
-pub change-requires-clause-few : goal.change-requires-clause-few
-change-requires-clause-few c =
+pub move_counts-requires-clause-few : goal.move_counts-requires-clause-few
+move_counts-requires-clause-few c =
     let s : SpaceState = space_of c.self.inside in
     let ready : IsReady c.args.inside.now s c.args.range c.args.spot.index c.args.taken.now c.args.pieces.now =
     subst (λ (t : SpaceState). IsReady c.args.inside.now t c.args.range c.args.spot.index c.args.taken.now c.args.pieces.now) (sym c.self.view_is) c.requires in
@@ -113,19 +113,19 @@ invariant_of-self-2 c =
     let ready : IsReady c.args.inside.now s c.args.range c.args.spot.index c.args.taken.now c.args.pieces.now =
     subst (λ (t : SpaceState). IsReady c.args.inside.now t c.args.range c.args.spot.index c.args.taken.now c.args.pieces.now) (sym c.self.view_is) c.requires in
     let list_is : c.edit.new.self.mappings ≡ after c.args.inside.now s c.args.range c.args.spot.index c.args.taken.now c.args.pieces.now c.self.invariant.space ready = c.in_ok-tables.ensures.mappings in
-    let buffers_is : c.move_counts.new.buffers ≡ by_count less_used c.args.taken.now (by_count more_used c.args.pieces.now (by_count more_kept c.args.taken.now s.buffers)) = c.move_counts.ensures in
+    let buffers_is : c.move_counts.new.buffers ≡ by_count less_used c.args.taken.now (by_count more_used c.args.pieces.now (by_count more_kept c.args.taken.now s.buffers)) = c.move_counts.ensures.counts in
     let state = state_after c.args.inside.now s c.args.range c.args.spot.index c.args.taken.now c.args.pieces.now c.self.invariant.space ready c.edit.new.self c.move_counts.new.buffers (length c.args.taken.now) list_is buffers_is refl in
     let new : SpaceState = record s { mappings = c.edit.new.self.mappings; room = c.edit.new.self.room; buffers = c.move_counts.new.buffers; kept_count = s.kept_count + (length c.args.taken.now) } in
     record {
       space = space_after c.args.inside.now s c.args.range c.args.spot.index c.args.taken.now c.args.pieces.now c.self.invariant.space ready new c.edit.new.self.room state;
       named = subst (AreLiveNamed c.move_counts.new.buffers) (sym c.edit.ensures.names)
           (λ id lives. c.self.invariant.named id (lived_after c.args.taken.now c.args.pieces.now s.buffers id (subst (λ (t : BuffersState). IsLive t id) buffers_is lives)));
-      places = subst (λ (ms : List Mapping). ArePlaces ms c.change.new.places) (sym list_is)
-          (places_spliced s.mappings c.args.taken.now c.args.pieces.now c.args.spot.index (length c.args.taken.now) c.self.inside.places c.change.new.places ready.taken_is
+      places = subst (λ (ms : List Mapping). ArePlaces ms c.move_counts.new.places) (sym list_is)
+          (places_spliced s.mappings c.args.taken.now c.args.pieces.now c.args.spot.index (length c.args.taken.now) c.self.inside.places c.move_counts.new.places ready.taken_is
           c.self.invariant.space.laid_out (after_laid_out c.args.inside.now s c.args.range c.args.spot.index c.args.taken.now c.args.pieces.now c.self.invariant.space ready)
-          c.change.ensures.places c.self.invariant.places);
-      rows = rows_kept s.buffers c.move_counts.new.buffers (length c.self.inside.places) (length c.change.new.places)
-          (λ id lives. lived_after c.args.taken.now c.args.pieces.now s.buffers id (subst (λ (t : BuffersState). IsLive t id) buffers_is lives)) (omega (arith, c.change.ensures.length)) c.self.invariant.rows;
+          c.move_counts.ensures.places c.self.invariant.places);
+      rows = rows_kept s.buffers c.move_counts.new.buffers (length c.self.inside.places) (length c.move_counts.new.places)
+          (λ id lives. lived_after c.args.taken.now c.args.pieces.now s.buffers id (subst (λ (t : BuffersState). IsLive t id) buffers_is lives)) (omega (arith, c.move_counts.ensures.rows)) c.self.invariant.rows;
     }
 
 pub returns-clause-changed : goal.returns-clause-changed
@@ -134,7 +134,7 @@ returns-clause-changed c =
     let ready : IsReady c.args.inside.now s c.args.range c.args.spot.index c.args.taken.now c.args.pieces.now =
     subst (λ (t : SpaceState). IsReady c.args.inside.now t c.args.range c.args.spot.index c.args.taken.now c.args.pieces.now) (sym c.self.view_is) c.requires in
     let list_is : c.edit.new.self.mappings ≡ after c.args.inside.now s c.args.range c.args.spot.index c.args.taken.now c.args.pieces.now c.self.invariant.space ready = c.in_ok-tables.ensures.mappings in
-    let buffers_is : c.move_counts.new.buffers ≡ by_count less_used c.args.taken.now (by_count more_used c.args.pieces.now (by_count more_kept c.args.taken.now s.buffers)) = c.move_counts.ensures in
+    let buffers_is : c.move_counts.new.buffers ≡ by_count less_used c.args.taken.now (by_count more_used c.args.pieces.now (by_count more_kept c.args.taken.now s.buffers)) = c.move_counts.ensures.counts in
     let state = state_after c.args.inside.now s c.args.range c.args.spot.index c.args.taken.now c.args.pieces.now c.self.invariant.space ready c.edit.new.self c.move_counts.new.buffers (length c.args.taken.now) list_is buffers_is refl in
     let new : SpaceState = record s { mappings = c.edit.new.self.mappings; room = c.edit.new.self.room; buffers = c.move_counts.new.buffers; kept_count = s.kept_count + (length c.args.taken.now) } in
     let owed : (table : PageTable) → IsTree (after c.args.inside.now s c.args.range c.args.spot.index c.args.taken.now c.args.pieces.now c.self.invariant.space ready) table → gained_by s.mappings table ≡ c.in_ok-tables.tables =

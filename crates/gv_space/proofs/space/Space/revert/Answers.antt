@@ -22,27 +22,20 @@ run_at-pieces-requires c =
     let fits : CanRevert s u = fits_inside c.self.inside c.undo.inside c.args.self.now c.args.undo c.self.view_is c.undo.view_is c.requires in
     rw (ap (λ (l : RangeListState). length l.mappings) c.list-list.ensures) (within s u c.self.invariant.space fits)
 
-pub run_at-pieces-requires-2 : goal.run_at-pieces-requires-2
-run_at-pieces-requires-2 c =
+pub move_counts_back-requires-clause-rows : goal.move_counts_back-requires-clause-rows
+move_counts_back-requires-clause-rows c =
     let s : SpaceState = space_of c.self.inside in
     let u : OpUndoState = undo_of c.undo.inside in
     let fits : CanRevert s u = fits_inside c.self.inside c.undo.inside c.args.self.now c.args.undo c.self.view_is c.undo.view_is c.requires in
-    rw (ap (λ (l : RangeListState). length l.mappings) c.list-list.ensures) (within s u c.self.invariant.space fits)
-
-pub change_back-requires-clause-rows : goal.change_back-requires-clause-rows
-change_back-requires-clause-rows c =
-    let s : SpaceState = space_of c.self.inside in
-    let u : OpUndoState = undo_of c.undo.inside in
-    let fits : CanRevert s u = fits_inside c.self.inside c.undo.inside c.args.self.now c.args.undo c.self.view_is c.undo.view_is c.requires in
-    rw c.as_slice-2.ensures
+    rw c.as_slice.ensures
     (rows_for s.buffers (length c.self.inside.places) u.change.taken c.self.invariant.rows (taken_live s u c.self.invariant.space fits))
 
-pub change_back-requires-clause-few : goal.change_back-requires-clause-few
-change_back-requires-clause-few c =
+pub move_counts_back-requires-clause-few : goal.move_counts_back-requires-clause-few
+move_counts_back-requires-clause-few c =
     let s : SpaceState = space_of c.self.inside in
     let u : OpUndoState = undo_of c.undo.inside in
     let fits : CanRevert s u = fits_inside c.self.inside c.undo.inside c.args.self.now c.args.undo c.self.view_is c.undo.view_is c.requires in
-    rw c.as_slice-2.ensures
+    rw c.as_slice.ensures
     (room_for_places s c.self.inside.places u.change.taken c.self.invariant.space
     (length-taken-le-most_kept s u.change.taken fits.kept.others c.self.invariant.space fits.kept.are_kept) c.self.invariant.places)
 
@@ -102,28 +95,28 @@ put_back-requires-clause-room c =
     let s : SpaceState = space_of c.self.inside in
     let u : OpUndoState = undo_of c.undo.inside in
     let fits : CanRevert s u = fits_inside c.self.inside c.undo.inside c.args.self.now c.args.undo c.self.view_is c.undo.view_is c.requires in
-    rw c.as_slice-3.ensures (room_to_undo s u c.self.invariant.space fits)
+    rw c.as_slice-2.ensures (room_to_undo s u c.self.invariant.space fits)
 
 pub put_back-requires-clause-alike : goal.put_back-requires-clause-alike
 put_back-requires-clause-alike c =
     let s : SpaceState = space_of c.self.inside in
     let u : OpUndoState = undo_of c.undo.inside in
     let fits : CanRevert s u = fits_inside c.self.inside c.undo.inside c.args.self.now c.args.undo c.self.view_is c.undo.view_is c.requires in
-    rw c.as_slice-3.ensures (old_alike s u c.self.invariant.space fits)
+    rw c.as_slice-2.ensures (old_alike s u c.self.invariant.space fits)
 
 pub put_back-requires-clause-inside : goal.put_back-requires-clause-inside
 put_back-requires-clause-inside c =
     let s : SpaceState = space_of c.self.inside in
     let u : OpUndoState = undo_of c.undo.inside in
     let fits : CanRevert s u = fits_inside c.self.inside c.undo.inside c.args.self.now c.args.undo c.self.view_is c.undo.view_is c.requires in
-    rw c.as_slice-3.ensures (had_what_was s u c.self.invariant.space fits)
+    rw c.as_slice-2.ensures (had_what_was s u c.self.invariant.space fits)
 
 pub put_back-requires-clause-named_pieces : goal.put_back-requires-clause-named_pieces
 put_back-requires-clause-named_pieces c =
     let s : SpaceState = space_of c.self.inside in
     let u : OpUndoState = undo_of c.undo.inside in
     let fits : CanRevert s u = fits_inside c.self.inside c.undo.inside c.args.self.now c.args.undo c.self.view_is c.undo.view_is c.requires in
-    rw c.as_slice-3.ensures
+    rw c.as_slice-2.ensures
     (named_placed s.area s.buffers c.self.inside.mapped.names u.change.taken c.self.invariant.space.buffers c.self.invariant.named
     (taken_placed s u c.self.invariant.space fits))
 
@@ -132,7 +125,7 @@ put_back-requires-clause-named c =
     let s : SpaceState = space_of c.self.inside in
     let u : OpUndoState = undo_of c.undo.inside in
     let fits : CanRevert s u = fits_inside c.self.inside c.undo.inside c.args.self.now c.args.undo c.self.view_is c.undo.view_is c.requires in
-    rw c.as_slice-3.ensures
+    rw c.as_slice-2.ensures
     (named_placed s.area s.buffers c.self.inside.mapped.names (old s u c.self.invariant.space fits) c.self.invariant.space.buffers c.self.invariant.named
     (old_placed s u c.self.invariant.space fits))
 
@@ -142,21 +135,20 @@ invariant_of-self c =
     let u : OpUndoState = undo_of c.undo.inside in
     let fits : CanRevert s u = fits_inside c.self.inside c.undo.inside c.args.self.now c.args.undo c.self.view_is c.undo.view_is c.requires in
     let gone_is : c.run_at-pieces.result ≡ run s.mappings c.undo.inside.index c.undo.inside.put_in = c.run_at-pieces.ensures ∙ ap (λ (l : RangeListState). run l.mappings c.undo.inside.index c.undo.inside.put_in) c.list-list.ensures in
-    let state = state_made s u c.self.invariant.space fits c.run_at-pieces.result c.as_slice.result.now c.as_slice-3.result.now c.put_back.new.self c.move_counts_back.new.buffers c.len.result
-    gone_is c.as_slice.ensures c.as_slice-3.ensures c.put_back.ensures.mappings c.put_back.ensures.room c.move_counts_back.ensures c.len.ensures.value in
-    let list_is : c.put_back.new.self.mappings ≡ old s u c.self.invariant.space fits = rw (← c.as_slice-3.ensures) c.put_back.ensures.mappings in
-    let gone_too : c.run_at-pieces-2.result ≡ run s.mappings c.undo.inside.index c.undo.inside.put_in = c.run_at-pieces-2.ensures ∙ ap (λ (l : RangeListState). run l.mappings c.undo.inside.index c.undo.inside.put_in) c.list-list.ensures in
+    let state = state_made s u c.self.invariant.space fits c.run_at-pieces.result c.as_slice.result.now c.as_slice-2.result.now c.put_back.new.self c.move_counts_back.new.buffers c.len.result
+    gone_is c.as_slice.ensures c.as_slice-2.ensures c.put_back.ensures.mappings c.put_back.ensures.room c.move_counts_back.ensures.counts c.len.ensures.value in
+    let list_is : c.put_back.new.self.mappings ≡ old s u c.self.invariant.space fits = rw (← c.as_slice-2.ensures) c.put_back.ensures.mappings in
     record {
       space = subst IsSpace (sym state) (space_before s u c.self.invariant.space fits);
       named = subst (AreLiveNamed c.move_counts_back.new.buffers) (sym c.put_back.ensures.names)
           (λ id lives. c.self.invariant.named id
-          (lived_before c.run_at-pieces.result c.as_slice.result.now s.buffers id (subst (λ (t : BuffersState). IsLive t id) c.move_counts_back.ensures lives)));
-      places = subst (λ (ms : List Mapping). ArePlaces ms c.change_back.new.places) (sym list_is)
-          (places_spliced s.mappings c.run_at-pieces-2.result u.change.taken u.change.index u.change.put_in c.self.inside.places c.change_back.new.places gone_too
+          (lived_before c.run_at-pieces.result c.as_slice.result.now s.buffers id (subst (λ (t : BuffersState). IsLive t id) c.move_counts_back.ensures.counts lives)));
+      places = subst (λ (ms : List Mapping). ArePlaces ms c.move_counts_back.new.places) (sym list_is)
+          (places_spliced s.mappings c.run_at-pieces.result u.change.taken u.change.index u.change.put_in c.self.inside.places c.move_counts_back.new.places gone_is
           c.self.invariant.space.laid_out fits.undo.laid_out
-          (rw c.as_slice-2.ensures at c.change_back.ensures.places) c.self.invariant.places);
-      rows = rows_kept s.buffers c.move_counts_back.new.buffers (length c.self.inside.places) (length c.change_back.new.places)
-          (λ id lives. lived_before c.run_at-pieces.result c.as_slice.result.now s.buffers id (subst (λ (t : BuffersState). IsLive t id) c.move_counts_back.ensures lives)) (omega (arith, c.change_back.ensures.length)) c.self.invariant.rows;
+          (rw c.as_slice.ensures at c.move_counts_back.ensures.places) c.self.invariant.places);
+      rows = rows_kept s.buffers c.move_counts_back.new.buffers (length c.self.inside.places) (length c.move_counts_back.new.places)
+          (λ id lives. lived_before c.run_at-pieces.result c.as_slice.result.now s.buffers id (subst (λ (t : BuffersState). IsLive t id) c.move_counts_back.ensures.counts lives)) (omega (arith, c.move_counts_back.ensures.rows)) c.self.invariant.rows;
     }
 
 pub returns-clause-state : goal.returns-clause-state
@@ -165,8 +157,8 @@ returns-clause-state c =
     let u : OpUndoState = undo_of c.undo.inside in
     let fits : CanRevert s u = fits_inside c.self.inside c.undo.inside c.args.self.now c.args.undo c.self.view_is c.undo.view_is c.requires in
     let gone_is : c.run_at-pieces.result ≡ run s.mappings c.undo.inside.index c.undo.inside.put_in = c.run_at-pieces.ensures ∙ ap (λ (l : RangeListState). run l.mappings c.undo.inside.index c.undo.inside.put_in) c.list-list.ensures in
-    let state = state_made s u c.self.invariant.space fits c.run_at-pieces.result c.as_slice.result.now c.as_slice-3.result.now c.put_back.new.self c.move_counts_back.new.buffers c.len.result
-    gone_is c.as_slice.ensures c.as_slice-3.ensures c.put_back.ensures.mappings c.put_back.ensures.room c.move_counts_back.ensures c.len.ensures.value in
+    let state = state_made s u c.self.invariant.space fits c.run_at-pieces.result c.as_slice.result.now c.as_slice-2.result.now c.put_back.new.self c.move_counts_back.new.buffers c.len.result
+    gone_is c.as_slice.ensures c.as_slice-2.ensures c.put_back.ensures.mappings c.put_back.ensures.room c.move_counts_back.ensures.counts c.len.ensures.value in
     state ∙ ap (λ (t : SpaceState). reverted t u) c.self.view_is ∙ ap (λ (v : OpUndoState). reverted c.args.self.now v) c.undo.view_is
 
 pub returns-clause-undone : goal.returns-clause-undone
@@ -174,7 +166,7 @@ returns-clause-undone c =
     let s : SpaceState = space_of c.self.inside in
     let u : OpUndoState = undo_of c.undo.inside in
     let fits : CanRevert s u = fits_inside c.self.inside c.undo.inside c.args.self.now c.args.undo c.self.view_is c.undo.view_is c.requires in
-    let list_is : c.put_back.new.self.mappings ≡ old s u c.self.invariant.space fits = rw (← c.as_slice-3.ensures) c.put_back.ensures.mappings in
+    let list_is : c.put_back.new.self.mappings ≡ old s u c.self.invariant.space fits = rw (← c.as_slice-2.ensures) c.put_back.ensures.mappings in
     λ before is.
     list_is ∙ ap (λ (v : OpUndoState). undone s.mappings v.change) c.undo.view_is ∙ ap (λ (t : SpaceState). undone t.mappings c.args.undo.change) c.self.view_is
     ∙ undone_is before c.args.self.now.mappings c.args.undo is
@@ -185,8 +177,8 @@ returns-clause-kept c =
     let u : OpUndoState = undo_of c.undo.inside in
     let fits : CanRevert s u = fits_inside c.self.inside c.undo.inside c.args.self.now c.args.undo c.self.view_is c.undo.view_is c.requires in
     let gone_is : c.run_at-pieces.result ≡ run s.mappings c.undo.inside.index c.undo.inside.put_in = c.run_at-pieces.ensures ∙ ap (λ (l : RangeListState). run l.mappings c.undo.inside.index c.undo.inside.put_in) c.list-list.ensures in
-    let state = state_made s u c.self.invariant.space fits c.run_at-pieces.result c.as_slice.result.now c.as_slice-3.result.now c.put_back.new.self c.move_counts_back.new.buffers c.len.result
-    gone_is c.as_slice.ensures c.as_slice-3.ensures c.put_back.ensures.mappings c.put_back.ensures.room c.move_counts_back.ensures c.len.ensures.value in
+    let state = state_made s u c.self.invariant.space fits c.run_at-pieces.result c.as_slice.result.now c.as_slice-2.result.now c.put_back.new.self c.move_counts_back.new.buffers c.len.result
+    gone_is c.as_slice.ensures c.as_slice-2.ensures c.put_back.ensures.mappings c.put_back.ensures.room c.move_counts_back.ensures.counts c.len.ensures.value in
     λ others are_kept.
     let saved : AreKept s (u.change.taken ++ others) =
     subst (λ (v : OpUndoState). AreKept s (v.change.taken ++ others)) (sym c.undo.view_is)
