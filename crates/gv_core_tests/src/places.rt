@@ -60,7 +60,7 @@ fn places_of_mappings(rt: HostRuntime) -> Result<(), Fail> {
     assert_eq!(rt; table.places(2).len(), 0);
     assert_eq!(rt; table.count(1), 4);
     table.shrink();
-    assert_eq!(rt; table.places(1), &[1, 4, 6, 8]);
+    assert_eq!(rt; table.places(1), [1, 4, 6, 8].as_slice());
     Ok(())
 }
 
