@@ -27,6 +27,7 @@ use Rattle.gv_types.proofs.bounds.Bounds.TheSendSync.{the_send as bounds_send}
 use Rattle.gv_types.proofs.limits.Limits.TheSendSync.{the_send as limits_send}
 use Rattle.gv_types.proofs.page_range.PageRange.TheSendSync.{the_send as range_send}
 use Rattle.gv_buffers.proofs.buffers.Buffers.TheSendSync.{the_send as buffers_send}
+use Rattle.gv_buffers.proofs.place_table.PlaceTable.TheSendSync.{the_send as places_send}
 use Rattle.gv_journal.proofs.item.ItemKind.TheSendSync.{the_send as kind_send}
 use Rattle.gv_journal.proofs.columns.Columns.TheSendSync.{the_send as columns_send}
 use Rattle.gv_vm.proofs.jobs.Jobs.TheSendSync.{the_send as jobs_send}
@@ -102,7 +103,7 @@ list_with_table_send : IsSend list_with_table
 list_with_table_send = view_send list_with_table_inside _ _ _ _ (declared_send list_with_table_type (range_list_send, (page_table_send, (pool_send, tt))))
 
 space_send : IsSend space
-space_send = view_send space_inside _ _ _ _ (declared_send space_type (bounds_send, (limits_send, (list_with_table_send, (buffers_send, (wide, tt))))))
+space_send = view_send space_inside _ _ _ _ (declared_send space_type (bounds_send, (limits_send, (list_with_table_send, (buffers_send, (places_send, (wide, tt)))))))
 
 undo_send : IsSend undo
 undo_send = view_send undo_inside _ _ _ _ (declared_send undo_type (number, (number, (range_send, (search (sendable, crosses, small_vec_send, packed_send) depth 8, (spares_send, tt))))))
