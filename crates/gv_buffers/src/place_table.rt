@@ -1,5 +1,5 @@
 //! Where the mappings of each buffer begin.
-ghost use Rattle.std.specs.Prelude.{◌≡◌, ◌<◌, ◌≤◌, ℕ, length, OnOk};
+ghost use Rattle.std.specs.Prelude.{◌≡◌, ◌+◌, ◌<◌, ◌≤◌, ℕ, max, length, OnOk, OnErr};
 ghost use Rattle.gv_buffers.specs.Buffers.{most_counted};
 ghost use Rattle.gv_buffers.specs.Places.{placed, displaced, places_at, AreSameElsewhere, HasRoomFor, HaveSamePlaces};
 
@@ -34,11 +34,14 @@ impl PlaceTable {
         }
     }
 
-    /// Makes a row for an index, where it has none. `OutOfMemory` where the system refuses its room, which doubles.
+    /// Makes a row for an index, where it has none, and for none behind it. `OutOfMemory` where the system refuses its room, which
+    /// doubles, and only where that row was missing.
     pub fn reserve(&mut self, alloc: Global, index: u32) -> Result<(), OutOfMemory>
         ensures same { (other : ℕ) → places_at self.new other ≡ places_at self.old other }
         ensures no_fewer { length self.old ≤ length self.new }
+        ensures no_more { length self.new ≤ max (length self.old) (index + 1) }
         ensures ok { OnOk result (index < length self.new) }
+        ensures needed { OnErr result (length self.old ≤ index) }
     {
         while self.rows.len() <= index as usize {
             self.rows.push(Places::new(alloc))?;

@@ -7,6 +7,7 @@ pub loop-alloc-init : goal.loop-alloc-init
 loop-alloc-init c = record {
   same = λ other. ap (λ (rows : List PlacesState). places_at rows other) c.self.view_is;
   no_fewer = omega (arith, ap (λ (rows : List PlacesState). length rows) c.self.view_is);
+  no_more = omega (arith, ap (λ (rows : List PlacesState). length rows) c.self.view_is);
 }
 
 pub loop-alloc-preserved : goal.loop-alloc-preserved
@@ -17,6 +18,7 @@ loop-alloc-preserved c =
     record {
       same = λ other. rw pushed (none_pushed rows other ∙ before.same other);
       no_fewer = omega (arith, before.no_fewer, ap (λ (rows : List PlacesState). length rows) pushed);
+      no_more = omega (arith, c.loop-alloc-test.true, ap (λ (rows : List PlacesState). length rows) pushed);
     }
 
 pub returns-in_err-push-clause-same : goal.returns-in_err-push-clause-same

@@ -1,4 +1,4 @@
-use Rattle.std.proofs.Common.{◌≡◌, ◌≤◌, ℕ, length, ◌+◌, ◌-◌}
+use Rattle.std.proofs.Common.{◌≡◌, ◌≤◌, ℕ, length, max, ◌+◌, ◌-◌}
 use Rattle.gv_buffers.specs.Places.{places_at}
 use Rattle.gv_buffers.proofs.place_table.PlaceTable.reserve.Given as goal
 
@@ -6,6 +6,7 @@ abbrev pub invariant-loop-alloc : goal.invariant-loop-alloc
 invariant-loop-alloc l = record {
   same : (other : ℕ) → places_at l.self-inside.rows.items other ≡ places_at l.fn.self other;
   no_fewer : length l.fn.self ≤ length l.self-inside.rows.items;
+  no_more : length l.self-inside.rows.items ≤ max (length l.fn.self) (l.index + 1);
 }
 
 -- how many rows there are too few
