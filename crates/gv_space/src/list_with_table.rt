@@ -1,35 +1,28 @@
 //! The list of mappings with its page table.
-ghost use Rattle.std.specs.Prelude.{◌≡◌, ◌≢◌, ◌+◌, ◌*◌, ◌<◌, ◌≤◌, ℕ, [], length, List, max, Some, slice_get};
-ghost use Rattle.std.specs.Prelude.{IfOk, IsOkUnless, OnOk, OnErr};
+ghost use Rattle.std.specs.Prelude.{◌≡◌, ◌≢◌, ◌+◌, ◌*◌, ◌<◌, ◌≤◌, ℕ, [], length, max, Some, slice_get};
+ghost use Rattle.std.specs.Prelude.{IsOkUnless, OnOk, OnErr};
 ghost use Rattle.gv_types.specs.declared.mapping.BufferId.{BufferId};
 ghost use Rattle.gv_chunks.specs.declared.TheConstants.{CHUNK};
 ghost use Rattle.gv_table.specs.Names.{most_names, AreNamed};
 ghost use Rattle.gv_space.specs.Mapped.{list_of, AreApart};
-ghost use Rattle.std.specs.List.{splice};
-ghost use Rattle.gv_types.specs.PageRange.{end_of};
 ghost use Rattle.gv_types.specs.declared.mapping.Mapping.{Mapping};
-ghost use Rattle.gv_ranges.specs.List.{at, AreEnded, IsLaidOut, IsUnchangedList};
-ghost use Rattle.gv_ranges.specs.Edit.{clipped};
-ghost use Rattle.gv_table.specs.Reads.{AreAlikeOutside};
-ghost use Rattle.gv_table.specs.Kinds.{AreEnough};
-ghost use Rattle.gv_table.specs.Table.{IsTree, IsHeldAt, FitsOutside, gained_by, tables_of, tables_standing};
+ghost use Rattle.gv_ranges.specs.List.{at, IsUnchangedList};
+ghost use Rattle.gv_table.specs.Table.{IsTree, IsHeldAt, tables_of};
 ghost use Rattle.gv_table.specs.declared.page_table.PageTable.{PageTable};
 
 mod edits;
 
 use gv_ranges::RangeList;
-use gv_table::{PageTable, Pool, Spares};
+use gv_table::PageTable;
 use gv_types::{BufferId, Entry, Fault, Mapping, OutOfMemory, PageRange};
 use std::alloc::Global;
 use std::marker::Model;
 
-/// The list of mappings and the page table, which is always that of the list, with tables that left it and are kept for later: never
-/// more than stand in it, so that memory follows what is mapped.
+/// The list of mappings and the page table, which is always that of the list.
 #[derive(Drop)]
 pub struct ListWithTable {
     list: RangeList,
     table: PageTable,
-    pool: Pool,
 }
 
 impl Model for ListWithTable {
@@ -40,10 +33,7 @@ impl Model for ListWithTable {
 
     ghost view = { λ p. record { mappings = p.list.mappings; room = p.list.room; names = p.table.names } };
 
-    ghost use Rattle.std.specs.Prelude.{◌≤◌};
-    ghost use Rattle.gv_table.specs.Table.{tables_standing};
-
-    ghost invariant = { λ p. (IsTree p.list.mappings p.table) × (p.pool ≤ (tables_standing p.table).pages) };
+    ghost invariant = { λ p. IsTree p.list.mappings p.table };
 }
 
 impl ListWithTable {
@@ -55,7 +45,6 @@ impl ListWithTable {
         ListWithTable {
             list: RangeList::new(alloc),
             table: PageTable::new(alloc),
-            pool: Pool::new(),
         }
     }
 
@@ -104,7 +93,7 @@ impl ListWithTable {
         self.list.reserve(more)
     }
 
-    /// Gives room back that neither list nor table needs, and the tables that are kept. It takes no memory.
+    /// Gives room back that neither list nor table needs. It takes no memory.
     pub fn shrink(&mut self)
         ensures state { self.new ≡ record self.old { room = self.new.room } }
         ensures room { self.new.room ≤ max (length self.old.mappings) (CHUNK + 1) }
@@ -112,14 +101,6 @@ impl ListWithTable {
     {
         self.list.shrink();
         self.table.shrink();
-        self.pool.clear();
-    }
-
-    /// Keeps tables that are in no tree for later. It takes no memory.
-    pub fn keep(&mut self, tables: Spares)
-        ensures same { self.new ≡ self.old }
-    {
-        self.pool.put(tables, &self.table);
     }
 
     /// Makes room for the name of a buffer's index, where it is missing, and for none behind it. `OutOfMemory` where the system refuses

@@ -13,7 +13,6 @@ pub mod BufferIndex
 pub mod Chain
 pub mod PageChain
 pub mod Shape
-pub mod Pool
 pub mod Table
 pub mod PatchOf
 pub mod Laws

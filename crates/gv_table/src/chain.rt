@@ -83,19 +83,6 @@ impl Chain {
         }
     }
 
-    /// Takes `count` tables off, as a chain of their own. It takes no memory.
-    pub fn split(&mut self, count: u64) -> Chain
-        requires { count ≤ self.old }
-        ensures count { result ≡ count }
-        ensures rest { self.new + count ≡ self.old }
-    {
-        let mut split = Chain::new();
-        for _ in 0..count {
-            split.put(self.take());
-        }
-        split
-    }
-
     /// Adds an empty table.
     pub fn put(&mut self, mut slots: Box<[Slot; SLOTS]>)
         requires { AreEmpty slots.value }

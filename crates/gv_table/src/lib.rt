@@ -18,7 +18,6 @@ mod page_table;
 mod pages;
 mod paint;
 mod place;
-mod pool;
 mod position;
 mod release;
 mod short;
@@ -32,6 +31,5 @@ mod walk;
 mod wanted;
 
 pub use page_table::PageTable;
-pub use pool::Pool;
 pub use spares::Spares;
 pub use tables::Tables;

@@ -85,19 +85,6 @@ impl PageChain {
         }
     }
 
-    /// Takes `count` tables off, as a chain of their own. It takes no memory.
-    pub fn split(&mut self, count: u64) -> PageChain
-        requires { count ≤ self.old }
-        ensures count { result ≡ count }
-        ensures rest { self.new + count ≡ self.old }
-    {
-        let mut split = PageChain::new();
-        for _ in 0..count {
-            split.put(self.take());
-        }
-        split
-    }
-
     /// Adds an empty table.
     pub fn put(&mut self, mut table: Box<Pages>)
         requires { ArePagesEmpty table.value.0 }

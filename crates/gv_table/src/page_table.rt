@@ -14,14 +14,12 @@ use crate::names::reach;
 use crate::outline::Outline;
 use crate::paint::paint_tree;
 use crate::place::{Excerpt, Place};
-use crate::pool::Pool;
 use crate::release::give_up;
 use crate::short::paint_in_slot;
 use crate::slot::{Slot, give_back, give_pages_back};
 use crate::spare::needed_in_tree;
 use crate::spares::Spares;
 use crate::table_counts::TableCounts;
-use crate::tables::Tables;
 use crate::walk::walk_tree;
 use gv_packed::Packed;
 use gv_ranges::{RangeList, Reader};
@@ -151,20 +149,9 @@ impl PageTable {
         self.counts.descending()
     }
 
-    /// How many tables stand of each kind. The numbers are kept: nothing is walked.
-    pub fn standing(&self) -> Tables
-        ensures { result ≡ tables_standing self.now }
-    {
-        let [four, three, two, one, zero] = self.tables();
-        Tables {
-            pages: zero,
-            slots: four + three + two + one,
-        }
-    }
-
     /// Empty tables for a paint after which the list holds these pieces in the range: enough for
     /// each list that is like the one of this tree outside the range. `OutOfMemory` where the
-    /// system refuses the memory for one, so only where some are needed.
+    /// system refuses the memory for one, so only where some are needed; those made so far are given back to it.
     pub fn spare(&self, alloc: Global, range: PageRange, pieces: &[Packed]) -> Result<Spares, Fault>
         requires { IsLaidOut pieces.now }
         ensures number { IfOk result (λ spares. spares ≡ needed_for pieces.now range self.now) }
@@ -174,31 +161,8 @@ impl PageTable {
         ensures err { IfErr result (λ fault. fault ≡ OutOfMemory) }
         ensures some_needed { OnErr result (needed_for pieces.now range self.now ≢ none) }
     {
-        self.spare_from(alloc, range, pieces, &mut Pool::new())
-    }
-
-    /// The same, where tables of a pool serve before any is made: `OutOfMemory` comes only where more are needed than it has. Where
-    /// it comes, the tables that were taken so far are given back to the system.
-    pub fn spare_from(
-        &self,
-        alloc: Global,
-        range: PageRange,
-        pieces: &[Packed],
-        pool: &mut Pool,
-    ) -> Result<Spares, Fault>
-        requires { IsLaidOut pieces.now }
-        ensures number { IfOk result (λ spares. spares ≡ needed_for pieces.now range self.now) }
-        ensures enough { IfOk result (λ spares. (ms : List Mapping) → IsLaidOut ms
-            → FitsOutside ms range self.now
-            → clipped range.first (end_of range) ms ≡ pieces.now → AreEnough spares (gained_by ms self.now)) }
-        ensures err { IfErr result (λ fault. fault ≡ OutOfMemory) }
-        ensures some_needed { OnErr result ((pool.old < (needed_for pieces.now range self.now).pages)
-            ⊎ (0 < (needed_for pieces.now range self.now).slots)) }
-        ensures taken { OnOk result (pool.new ≡ pool.old - (needed_for pieces.now range self.now).pages) }
-        ensures no_more { pool.new ≤ pool.old }
-    {
         let pieces = Outline::of(Reader::of_slice(pieces));
-        Ok(pool.take(alloc, needed_in_tree(&self.root, &pieces, range))?)
+        Ok(Spares::make(alloc, needed_in_tree(&self.root, &pieces, range))?)
     }
 
     /// Paints a range that lies in one table of pages, or one of whole slots of another table, none of which is a table, and each of which

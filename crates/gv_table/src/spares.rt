@@ -1,5 +1,5 @@
 //! Tables that are in no tree.
-ghost use Rattle.std.specs.Prelude.{◌≡◌, ◌≤◌, ◌+◌, ◌↔◌, IsTrue};
+ghost use Rattle.std.specs.Prelude.{◌≡◌, ◌≢◌, ◌≤◌, ◌+◌, IfOk, OnErr};
 ghost use Rattle.gv_table.specs.Chain.{AreEmpty};
 ghost use Rattle.gv_table.specs.PageChain.{ArePagesEmpty};
 ghost use Rattle.gv_table.specs.Kinds.{Kind, of, one_of, none};
@@ -9,6 +9,8 @@ use crate::levels::SLOTS;
 use crate::page_chain::PageChain;
 use crate::page_slot::Pages;
 use crate::slot::Slot;
+use crate::tables::Tables;
+use std::alloc::{AllocError, Global};
 use std::marker::Model;
 
 /// Empty tables of both kinds: a paint takes from some and puts to others. Contracts see how many they are of each kind.
@@ -37,27 +39,19 @@ impl Spares {
         }
     }
 
-    /// Whether there is no table.
-    pub(crate) fn is_empty(&self) -> bool
-        ensures { IsTrue result ↔ (self.now ≡ none) }
+    /// So many empty tables. Where memory for one is refused, those made so far are given back to the system.
+    pub(crate) fn make(alloc: Global, need: Tables) -> Result<Spares, AllocError>
+        ensures number { IfOk result (λ spares. spares ≡ need) }
+        ensures some_needed { OnErr result (need ≢ none) }
     {
-        self.pages.is_empty() && self.slots.is_empty()
-    }
-
-    /// Those of these chains, and no other.
-    pub(crate) fn of_chains(pages: PageChain, slots: Chain) -> Spares
-        ensures pages { result.pages ≡ pages }
-        ensures slots { result.slots ≡ slots }
-    {
-        Spares { pages, slots }
-    }
-
-    /// The chain of tables of pages. The others are given back to the system.
-    pub(crate) fn into_pages(self) -> PageChain
-        ensures { result ≡ self.pages }
-    {
-        let Spares { pages, slots: _ } = self;
-        pages
+        let mut spares = Spares::new();
+        for _ in 0..need.slots {
+            spares.slots.grow(alloc)?;
+        }
+        for _ in 0..need.pages {
+            spares.pages.grow(alloc)?;
+        }
+        Ok(spares)
     }
 
     /// Adds an empty table of pages.

@@ -53,8 +53,6 @@ use Rattle.gv_table.specs.declared.slot.Slot.TheBlock.{the_members, member-Slot}
 use Rattle.gv_table.specs.contracts.page_table.PageTable.TheInside.{the_row as page_table_inside, the_type as page_table_type}
 use Rattle.gv_table.specs.contracts.page_table.PageTable.{the_row as page_table}
 use Rattle.gv_types.proofs.mapping.BufferId.TheSendSync.{the_send as id_send}
-use Rattle.gv_table.specs.contracts.pool.Pool.TheInside.{the_row as pool_inside, the_type as pool_type}
-use Rattle.gv_table.specs.contracts.pool.Pool.{the_row as pool}
 
 -- a table of single pages, with its link
 pages_send : (S : RattleType) → IsSend S → IsSend (Tuple (Array u64 tt 512 ∷ S ∷ []))
@@ -96,11 +94,8 @@ page_chain_send = view_send page_chain_inside _ _ _ _ (declared_send page_chain_
 spares_send : IsSend spares
 spares_send = view_send spares_inside _ _ _ _ (declared_send spares_type (as_row_send (row_field _) page_chain_send, (as_row_send (row_field _) chain_send, tt)))
 
-pool_send : IsSend pool
-pool_send = view_send pool_inside _ _ _ _ (declared_send pool_type (as_row_send (row_field _) page_chain_send, (wide, tt)))
-
 list_with_table_send : IsSend list_with_table
-list_with_table_send = view_send list_with_table_inside _ _ _ _ (declared_send list_with_table_type (range_list_send, (page_table_send, (pool_send, tt))))
+list_with_table_send = view_send list_with_table_inside _ _ _ _ (declared_send list_with_table_type (range_list_send, (page_table_send, tt)))
 
 space_send : IsSend space
 space_send = view_send space_inside _ _ _ _ (declared_send space_type (bounds_send, (limits_send, (list_with_table_send, (buffers_send, (places_send, (wide, tt)))))))

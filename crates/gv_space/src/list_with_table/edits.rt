@@ -9,14 +9,14 @@ ghost use Rattle.gv_table.specs.Kinds.{none, AreEnough};
 ghost use Rattle.gv_table.specs.Names.{AreNamed};
 ghost use Rattle.gv_table.specs.Patch.{HasMappingAt};
 ghost use Rattle.gv_table.specs.Reads.{AreAlikeOutside};
-ghost use Rattle.gv_table.specs.Table.{IsTree, FitsOutside, gained_by, tables_standing};
+ghost use Rattle.gv_table.specs.Table.{IsTree, FitsOutside, gained_by};
 ghost use Rattle.gv_table.specs.declared.page_table.PageTable.{PageTable};
 
 use super::ListWithTable;
 use gv_chunks::Spot;
 use gv_packed::Packed;
 use gv_ranges::RangeList;
-use gv_table::{PageTable, Pool, Spares};
+use gv_table::{PageTable, Spares};
 use gv_types::{Fault, PageRange};
 use std::alloc::Global;
 
@@ -24,8 +24,7 @@ impl ListWithTable {
     /// Replaces `out_count` mappings from a spot on by `pieces`, and paints the range. The mappings before it have to
     /// end before the range, and the list to stay as it is outside the range, and to have the pieces `inside` in it: nothing is searched.
     /// It answers the tables that left the tree: just those that the old list needs to be painted back. It takes memory for the
-    /// tables that the tree may need, and before the first change. Those that are kept serve before any is made. `OutOfMemory`
-    /// where the system refuses it.
+    /// tables that the tree may need, and before the first change. `OutOfMemory` where the system refuses it.
     pub fn edit(
         &mut self,
         alloc: Global,
@@ -138,14 +137,13 @@ impl ListWithTable {
     {
         // Tells that the list is laid out.
         let _len = self.list.len();
-        let spares = self.table.spare_from(alloc, range, inside, &mut self.pool)?;
+        let spares = self.table.spare(alloc, range, inside)?;
         self.list.splice_at(spot, out_count, pieces);
-        let (table, pool) = (&mut self.table, &mut self.pool);
-        Ok(paint(table, pool, &self.list, range, spot.index, spares))
+        Ok(paint(&mut self.table, &self.list, range, spot.index, spares))
     }
 
     /// Replaces `out_count` mappings from a spot on by `pieces`, and paints the range, as `edit` does, with tables that are enough for
-    /// it. Those that leave the tree are kept for later. It takes no memory.
+    /// it. Those that leave the tree are given back to the system. It takes no memory.
     pub fn put_back(
         &mut self,
         range: PageRange,
@@ -174,11 +172,9 @@ impl ListWithTable {
         ensures room { self.new.room ≡ self.old.room }
         ensures names { self.new.names ≡ self.old.names }
     {
-        if self.edit_ahead(range, spot, out_count, pieces, pieces) {
-            self.keep(spares);
-            return;
+        if !self.edit_ahead(range, spot, out_count, pieces, pieces) {
+            self.put_back_anywhere(range, spot, out_count, pieces, spares);
         }
-        self.put_back_anywhere(range, spot, out_count, pieces, spares);
     }
 
     /// The same, wherever the range lies. Not inlined: nearly every edit takes the short road, whose frame stays small so.
@@ -209,9 +205,7 @@ impl ListWithTable {
         // Tells that the list is laid out.
         let _len = self.list.len();
         self.list.splice_at(spot, out_count, pieces);
-        let (table, pool) = (&mut self.table, &mut self.pool);
-        let left = paint(table, pool, &self.list, range, spot.index, spares);
-        pool.put(left, table);
+        let _left = paint(&mut self.table, &self.list, range, spot.index, spares);
     }
 }
 
@@ -239,10 +233,10 @@ fn pages_of_one(
     None
 }
 
-/// Makes the table that of the list by these tables, those that are left over go to the pool. It answers the tables that left the tree.
+/// Makes the table that of the list by these tables; those that are left over are given back to the system. It answers the tables that left
+/// the tree.
 fn paint(
     table: &mut PageTable,
-    pool: &mut Pool,
     list: &RangeList,
     range: PageRange,
     position: usize,
@@ -254,13 +248,11 @@ fn paint(
     requires enough { AreEnough spares (gained_by list.now.mappings table.old) }
     ensures tree { IsTree list.now.mappings table.new }
     ensures names { table.new.names ≡ table.old.names }
-    ensures few { pool.new ≤ (tables_standing table.new).pages }
     ensures back { (ms : List Mapping) → IsLaidOut ms → IsTree ms table.old
         → gained_by ms table.new ≡ result }
 {
     let mut spares = spares;
     let mut left = Spares::new();
     table.paint(list, range, position, &mut spares, &mut left);
-    pool.put(spares, table);
     left
 }

@@ -169,10 +169,9 @@ impl Space {
             put_in: _,
             range: _,
             taken,
-            tables,
+            tables: _,
         } = undo;
         counts::unkeep(&mut self.buffers, taken.as_slice());
-        self.mapped.keep(tables);
         self.kept_count -= taken.len() as u64;
     }
 }

@@ -7,4 +7,4 @@ pub returns-clause-tables : goal.returns-clause-tables
 returns-clause-tables c = λ done table is.
     let tree : IsTree c.splice_at.new.self.mappings c.paint_within.new.self = search rules in
     tables-gained c.splice_at.new.self.mappings c.args.self.now.mappings table c.paint_within.new.self is tree ∙
-    c.if-not-paint_within.ensures.none refl c.args.self.now.mappings (rw (← c.self.view_is) c.len-len.ensures.laid_out) (rw (← c.self.view_is) c.self.invariant.0)
+    c.if-not-paint_within.ensures.none refl c.args.self.now.mappings (rw (← c.self.view_is) c.len-len.ensures.laid_out) (rw (← c.self.view_is) c.self.invariant)

@@ -6,4 +6,4 @@ pub returns-clause-tables : goal.returns-clause-tables
 returns-clause-tables c =
     λ table is.
     tables-gained c.splice_at.new.self.mappings c.args.self.now.mappings table c.paint.new.table is c.paint.ensures.tree ∙
-    c.paint.ensures.back c.args.self.now.mappings (rw (← c.self.view_is) c.len-len.ensures.laid_out) (rw (← c.self.view_is) c.self.invariant.0)
+    c.paint.ensures.back c.args.self.now.mappings (rw (← c.self.view_is) c.len-len.ensures.laid_out) (rw (← c.self.view_is) c.self.invariant)

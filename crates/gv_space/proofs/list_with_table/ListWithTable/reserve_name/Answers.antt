@@ -1,5 +1,4 @@
-use Rattle.std.proofs.Common.{◌≤◌, sym, subst}
-use Rattle.gv_table.specs.declared.tables.Tables.{Tables}
+use Rattle.std.proofs.Common.{sym, subst}
 use Rattle.gv_table.specs.Names.{AreNamed}
 use Rattle.gv_space.specs.Mapped.{MappedState}
 use Rattle.gv_space.proofs.Names.{named-same}
@@ -7,7 +6,5 @@ use Rattle.gv_space.proofs.list_with_table.ListWithTable.reserve_name.Goals as g
 
 pub invariant_of-self : goal.invariant_of-self
 invariant_of-self c =
-    let are = subst (λ (m : MappedState). AreNamed m.names m.mappings) (sym c.self.view_is) c.requires.named in (
-      c.reserve_name.ensures.tree c.self.inside.list.mappings c.self.invariant.0 (named-same c.self.inside.table.names c.reserve_name.new.self.names c.self.inside.list.mappings c.reserve_name.ensures.same are),
-      subst (λ (t : Tables). c.self.inside.pool ≤ t.pages) (sym c.reserve_name.ensures.standing) c.self.invariant.1,
-    )
+    let are = subst (λ (m : MappedState). AreNamed m.names m.mappings) (sym c.self.view_is) c.requires.named in
+    c.reserve_name.ensures.tree c.self.inside.list.mappings c.self.invariant (named-same c.self.inside.table.names c.reserve_name.new.self.names c.self.inside.list.mappings c.reserve_name.ensures.same are)

@@ -5,4 +5,4 @@ use Rattle.gv_space.proofs.list_with_table.ListWithTable.walk.Goals as goal
 
 pub returns-clause-tree : goal.returns-clause-tree
 returns-clause-tree c =
-    (c.self.inside.table, subst (λ (l : MappedState). IsTree l.mappings c.self.inside.table) c.self.view_is c.self.invariant.0, c.walk.ensures)
+    (c.self.inside.table, subst (λ (l : MappedState). IsTree l.mappings c.self.inside.table) c.self.view_is c.self.invariant, c.walk.ensures)

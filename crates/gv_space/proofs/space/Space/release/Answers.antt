@@ -3,8 +3,6 @@ use Rattle.std.proofs.Common.{◌≡◌, ◌-◌, arith, length, refl, sym, subs
 use Rattle.gv_types.specs.declared.mapping.Mapping.{Mapping}
 use Rattle.gv_buffers.specs.Buffers.{BuffersState, IsLive}
 use Rattle.gv_space.specs.Counts.{by_count, less_kept}
-use Rattle.gv_space.specs.Mapped.{MappedState, AreLiveNamed}
-use Rattle.gv_space.specs.Placed.{ArePlaces}
 use Rattle.gv_space.specs.State.{SpaceState, IsSpace, IsPlaced, AreKept}
 use Rattle.gv_space.specs.Undo.{OpUndoState, released}
 use Rattle.gv_space.specs.Inside.{space_of}
@@ -37,17 +35,13 @@ invariant_of-self c =
     let taken : List Mapping = c.args.undo.change.taken in
     let taken_is : c.undo.inside.taken.items ≡ taken = ap (λ (u : OpUndoState). u.change.taken) c.undo.view_is in
     let saved : AreKept s (taken ++ c.requires.others) = subst (λ (t : SpaceState). AreKept t (taken ++ c.requires.others)) (sym c.self.view_is) c.requires.are_kept in
-    let new : SpaceState = record s { mappings = c.keep.new.self.mappings; room = c.keep.new.self.room; buffers = c.unkeep.new.buffers; kept_count = s.kept_count - c.len.result } in
-    let made : MappedState → SpaceState =
-    λ l. record s { mappings = l.mappings; room = l.room; buffers = c.unkeep.new.buffers; kept_count = s.kept_count - c.len.result } in
-    let state : new ≡ released s taken = ap made c.keep.ensures.same ∙ rw (c.unkeep.ensures, c.len.ensures.value, c.as_slice.ensures, taken_is) refl in
+    let new : SpaceState = record s { buffers = c.unkeep.new.buffers; kept_count = s.kept_count - c.len.result } in
+    let state : new ≡ released s taken = rw (c.unkeep.ensures, c.len.ensures.value, c.as_slice.ensures, taken_is) refl in
     let buffers_is : c.unkeep.new.buffers ≡ by_count less_kept taken s.buffers = rw (c.unkeep.ensures, c.as_slice.ensures, taken_is) refl in
-    let names_are : c.keep.new.self.names ≡ c.self.inside.mapped.names = ap (λ (m : MappedState). m.names) c.keep.ensures.same in
     record {
       space = subst IsSpace (sym state) (IsSpace-released s taken c.requires.others c.self.invariant.space saved);
-      named = subst (AreLiveNamed c.unkeep.new.buffers) (sym names_are)
-          (λ id lives. c.self.invariant.named id (lived-by_count less_kept taken s.buffers less_kept_of_counts id (subst (λ (t : BuffersState). IsLive t id) buffers_is lives)));
-      places = subst (λ (m : MappedState). ArePlaces m.mappings c.self.inside.places) (sym c.keep.ensures.same) c.self.invariant.places;
+      named = λ id lives. c.self.invariant.named id (lived-by_count less_kept taken s.buffers less_kept_of_counts id (subst (λ (t : BuffersState). IsLive t id) buffers_is lives));
+      places = c.self.invariant.places;
       rows = rows_kept s.buffers c.unkeep.new.buffers (length c.self.inside.places) (length c.self.inside.places)
           (λ id lives. lived-by_count less_kept taken s.buffers less_kept_of_counts id (subst (λ (t : BuffersState). IsLive t id) buffers_is lives)) (omega arith) c.self.invariant.rows;
     }
@@ -57,10 +51,8 @@ returns-clause-state c =
     let s : SpaceState = space_of c.self.inside in
     let taken : List Mapping = c.args.undo.change.taken in
     let taken_is : c.undo.inside.taken.items ≡ taken = ap (λ (u : OpUndoState). u.change.taken) c.undo.view_is in
-    let new : SpaceState = record s { mappings = c.keep.new.self.mappings; room = c.keep.new.self.room; buffers = c.unkeep.new.buffers; kept_count = s.kept_count - c.len.result } in
-    let made : MappedState → SpaceState =
-    λ l. record s { mappings = l.mappings; room = l.room; buffers = c.unkeep.new.buffers; kept_count = s.kept_count - c.len.result } in
-    let state : new ≡ released s taken = ap made c.keep.ensures.same ∙ rw (c.unkeep.ensures, c.len.ensures.value, c.as_slice.ensures, taken_is) refl in
+    let new : SpaceState = record s { buffers = c.unkeep.new.buffers; kept_count = s.kept_count - c.len.result } in
+    let state : new ≡ released s taken = rw (c.unkeep.ensures, c.len.ensures.value, c.as_slice.ensures, taken_is) refl in
     state ∙ ap (λ (t : SpaceState). released t taken) c.self.view_is
 
 pub returns-clause-kept : goal.returns-clause-kept
@@ -68,10 +60,8 @@ returns-clause-kept c =
     let s : SpaceState = space_of c.self.inside in
     let taken : List Mapping = c.args.undo.change.taken in
     let taken_is : c.undo.inside.taken.items ≡ taken = ap (λ (u : OpUndoState). u.change.taken) c.undo.view_is in
-    let new : SpaceState = record s { mappings = c.keep.new.self.mappings; room = c.keep.new.self.room; buffers = c.unkeep.new.buffers; kept_count = s.kept_count - c.len.result } in
-    let made : MappedState → SpaceState =
-    λ l. record s { mappings = l.mappings; room = l.room; buffers = c.unkeep.new.buffers; kept_count = s.kept_count - c.len.result } in
-    let state : new ≡ released s taken = ap made c.keep.ensures.same ∙ rw (c.unkeep.ensures, c.len.ensures.value, c.as_slice.ensures, taken_is) refl in
+    let new : SpaceState = record s { buffers = c.unkeep.new.buffers; kept_count = s.kept_count - c.len.result } in
+    let state : new ≡ released s taken = rw (c.unkeep.ensures, c.len.ensures.value, c.as_slice.ensures, taken_is) refl in
     λ others are_kept.
     subst (λ (t : SpaceState). AreKept t others) (sym state)
     (AreKept-released s taken others (subst (λ (t : SpaceState). AreKept t (taken ++ others)) (sym c.self.view_is) are_kept))

@@ -1,4 +1,4 @@
-use Rattle.std.proofs.Common.{◌≡◌, ◌∙◌, ◌<◌, ◌-◌, ◌⊎◌, List, Result, Ok, Err, OnErr, arith, ap, sym, subst}
+use Rattle.std.proofs.Common.{◌≡◌, ◌≢◌, ◌∙◌, List, Result, Ok, Err, OnErr, arith, ap, sym, subst}
 use Rattle.gv_types.specs.declared.fault.Fault.{Fault}
 use Rattle.gv_types.specs.PageRange.{PageRangeState}
 use Rattle.gv_types.specs.declared.mapping.BufferId.{BufferId}
@@ -10,13 +10,13 @@ use Rattle.gv_table.specs.Counts.{needed}
 use Rattle.gv_table.specs.Named.{named}
 use Rattle.gv_table.specs.Names.{unnamed}
 use Rattle.gv_table.specs.Table.{PageTable, needed_for}
-use Rattle.gv_table.specs.Kinds.{Kind, pages, slots, of}
+use Rattle.gv_table.specs.Kinds.{Kind, pages, slots, of, none}
 use Rattle.gv_table.proofs.Foresight.{gained-needed}
 use Rattle.gv_table.proofs.PagesOf.{pages_of-top}
 use Rattle.gv_table.proofs.KindLemmas.{of-each, sums-same}
 use Rattle.gv_table.proofs.Named.{needed-named}
 use Rattle.gv_table.proofs.Unnamed.{needed-unnamed, laid_out-unnamed}
-use Rattle.gv_table.proofs.page_table.PageTable.spare_from.Goals as goal
+use Rattle.gv_table.proofs.page_table.PageTable.spare.Goals as goal
 
 -- what is needed of the tree for pieces whose buffers are told by their indexes is what is needed for the pieces
 needs : (names : List BufferId) (root : Slot) (table : PageTable) (pieces told : List Mapping) (range : PageRangeState) (need : Tables) → told ≡ unnamed pieces → named names root ≡ table.root →
@@ -35,27 +35,19 @@ on-err : (r : Result Tables Fault) (P : Type 0) → P → OnErr r P
 on-err (Ok t) P p = tt
 on-err (Err e) P p = p
 
-pub returns-in_err-take-clause-some_needed : goal.returns-in_err-take-clause-some_needed
-returns-in_err-take-clause-some_needed c =
+pub returns-in_err-make-clause-some_needed : goal.returns-in_err-make-clause-some_needed
+returns-in_err-make-clause-some_needed c =
     let need : c.needed_in_tree.result ≡ needed_for c.args.pieces.now c.args.range c.args.self.now =
     needs c.self.inside.names.items c.self.inside.root c.args.self.now c.args.pieces.now c.of-pieces.result c.args.range c.needed_in_tree.result
     (c.of-pieces.ensures ∙ ap unnamed c.of_slice.ensures) (ap (λ (t : PageTable). t.root) c.self.view_is) c.needed_in_tree.ensures in
-    let few : (c.args.pool.now < c.needed_in_tree.result.pages) ⊎ (0 < c.needed_in_tree.result.slots) = c.in_err-take.ensures.some_needed in
-    on-err c.from_residual.result _ (subst (λ (t : Tables). (c.args.pool.now < t.pages) ⊎ (0 < t.slots)) need few)
+    on-err c.from_residual.result _ (subst (λ (t : Tables). t ≢ none) need c.in_err-make.ensures.some_needed)
 
 pub returns-clause-number : goal.returns-clause-number
 returns-clause-number c =
     let need : c.needed_in_tree.result ≡ needed_for c.args.pieces.now c.args.range c.args.self.now =
     needs c.self.inside.names.items c.self.inside.root c.args.self.now c.args.pieces.now c.of-pieces.result c.args.range c.needed_in_tree.result
     (c.of-pieces.ensures ∙ ap unnamed c.of_slice.ensures) (ap (λ (t : PageTable). t.root) c.self.view_is) c.needed_in_tree.ensures in
-    c.in_ok-take.ensures.number ∙ need
-
-pub returns-clause-taken : goal.returns-clause-taken
-returns-clause-taken c =
-    let need : c.needed_in_tree.result ≡ needed_for c.args.pieces.now c.args.range c.args.self.now =
-    needs c.self.inside.names.items c.self.inside.root c.args.self.now c.args.pieces.now c.of-pieces.result c.args.range c.needed_in_tree.result
-    (c.of-pieces.ensures ∙ ap unnamed c.of_slice.ensures) (ap (λ (t : PageTable). t.root) c.self.view_is) c.needed_in_tree.ensures in
-    c.in_ok-take.ensures.taken ∙ ap (λ (t : Tables). c.args.pool.now - t.pages) need
+    c.in_ok-make.ensures.number ∙ need
 
 pub returns-clause-enough : goal.returns-clause-enough
 returns-clause-enough c = λ ms laid outside is.
@@ -63,7 +55,7 @@ returns-clause-enough c = λ ms laid outside is.
     needs c.self.inside.names.items c.self.inside.root c.args.self.now c.args.pieces.now c.of-pieces.result c.args.range c.needed_in_tree.result
     (c.of-pieces.ensures ∙ ap unnamed c.of_slice.ensures) (ap (λ (t : PageTable). t.root) c.self.view_is) c.needed_in_tree.ensures in
     let all = pages_of-top in
-    let number = c.in_ok-take.ensures.number ∙ need in
+    let number = c.in_ok-make.ensures.number ∙ need in
     let page = gained-needed pages c.args.range ms c.args.pieces.now 5 0 c.args.self.now.root outside laid is (omega (arith, all)) in
     let slot = gained-needed slots c.args.range ms c.args.pieces.now 5 0 c.args.self.now.root outside laid is (omega (arith, all)) in
     of-each _ (omega (arith, page, ap (of pages) number)) (omega (arith, slot, ap (of slots) number))

@@ -1,8 +1,0 @@
-use Rattle.std.proofs.Common.{◌≡◌, ◌+◌}
-use Rattle.gv_table.proofs.page_chain.PageChain.split.Given as goal
-
-abbrev pub invariant-loop : goal.invariant-loop
-invariant-loop l = record {
-  taken : l.split ≡ l.counter;
-  rest : l.self + l.counter ≡ l.initial.self;
-}
