@@ -6,8 +6,9 @@ use gv_plain::{Edit, Random};
 use gv_types::{BufferId, Flags, Op, PAGE_BYTES};
 use std::alloc::{AllocError, Global};
 
-/// About how many mappings there are: none, few, as many as a block of the list holds, one more or less, and many blocks.
-pub const SIZES: [u64; 9] = [0, 1, 5, 64, 127, 129, 300, 1_000, 5_000];
+/// About how many mappings there are: none, few, as many as a block of the list holds, one more or less, many blocks, and more than 64,
+/// of which the list's index makes a group.
+pub const SIZES: [u64; 10] = [0, 1, 5, 64, 127, 129, 300, 1_000, 5_000, 8_192];
 
 /// So many edits a batch has. Each takes a frame of the stack until it is taken back.
 const EDITS: usize = 20;

@@ -14,6 +14,7 @@ mod journal;
 mod play;
 mod queues;
 mod replies;
+mod restores;
 mod rows;
 mod scripts;
 mod sight;

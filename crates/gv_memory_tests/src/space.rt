@@ -1,37 +1,37 @@
 //! An address space by itself. A call whose memory is refused has changed nothing, and is done again.
-ghost use Rattle.std.specs.Prelude.{◌≡◌, IfOk, OnErr};
+ghost use Rattle.std.specs.Prelude.{◌≡◌, IfOk, OnErr, List};
+ghost use Rattle.gv_types.specs.declared.mapping.Mapping.{Mapping};
 ghost use Rattle.gv_types.specs.Operation.{in_pages};
-ghost use Rattle.gv_ranges.specs.Edit.{edited, restored};
+ghost use Rattle.gv_ranges.specs.Edit.{edited};
 ghost use Rattle.gv_space.specs.Change.{IsChanged};
-ghost use Rattle.gv_space.specs.State.{IsUnchanged};
-ghost use Rattle.gv_space.specs.Undo.{AreAmongKept};
+ghost use Rattle.gv_space.specs.State.{AreKept, IsUnchanged};
 
 use crate::fold::Fold;
 use crate::play::Wrong;
-use crate::sight;
 use crate::watch::Watch;
+use crate::{restores, sight};
 use gv_buffers::Usage;
 use gv_space::{OpUndo, Space};
-use gv_types::{Bounds, BufferId, Fault, Flags, Limits, Op, PAGE_BYTES, PageRange};
+use gv_types::{Bounds, BufferId, Fault, Flags, Limits, Op, PAGE_BYTES};
 use std::alloc::Global;
 
 /// How many mappings the list may have.
-const MOST: u64 = 200;
+const MOST: u64 = 400;
 
 /// How many mappings fit into one chunk of the list.
 const CHUNK: u32 = 128;
 
 /// All that is seen of a space and its buffer.
-fn seen(space: &Space, id: &BufferId) -> Fold {
+pub fn seen(space: &Space, id: &BufferId) -> Fold {
     sight::fold_of(space, &[Some(*id)])
 }
 
-fn bytes(pages: u32) -> u64 {
+pub fn bytes(pages: u32) -> u64 {
     u64::from(pages) * PAGE_BYTES
 }
 
 /// A map of so many pages to the first ones of a buffer.
-fn map(id: &BufferId, first: u32, count: u32) -> Op {
+pub fn map(id: &BufferId, first: u32, count: u32) -> Op {
     Op::Map {
         addr: bytes(first),
         len: bytes(count),
@@ -41,7 +41,7 @@ fn map(id: &BufferId, first: u32, count: u32) -> Op {
     }
 }
 
-fn unmap(first: u32, count: u32) -> Op {
+pub fn unmap(first: u32, count: u32) -> Op {
     Op::Unmap {
         addr: bytes(first),
         len: bytes(count),
@@ -49,8 +49,8 @@ fn unmap(first: u32, count: u32) -> Op {
 }
 
 /// A space of all pages.
-fn space_at_last(alloc: Global) -> Result<Space, Wrong> {
-    let limits = Limits::new(1, MOST, 1, 1).ok_or(Wrong::Changed)?;
+pub fn space_at_last(alloc: Global) -> Result<Space, Wrong> {
+    let limits = Limits::new(2, MOST, 1, 1).ok_or(Wrong::Changed)?;
     match Space::new(alloc, Bounds::whole(), limits) {
         Ok(space) => Ok(space),
         Err(_) => Ok(Space::new(alloc, Bounds::whole(), limits)?),
@@ -58,7 +58,7 @@ fn space_at_last(alloc: Global) -> Result<Space, Wrong> {
 }
 
 /// A buffer of so many pages. Where memory is refused, it is not made yet.
-fn create_at_last(alloc: Global, space: &mut Space, pages: u64) -> Result<BufferId, Fault> {
+pub fn create_at_last(alloc: Global, space: &mut Space, pages: u64) -> Result<BufferId, Fault> {
     match space.create(alloc, pages) {
         Err(Fault::OutOfMemory) => space.create(alloc, pages),
         made => made,
@@ -66,7 +66,7 @@ fn create_at_last(alloc: Global, space: &mut Space, pages: u64) -> Result<Buffer
 }
 
 /// Lets the job 3 read a buffer. Where memory is refused, it does not read it yet.
-fn join_at_last(watch: &mut Watch, space: &mut Space, id: &BufferId) -> Result<(), Fault> {
+pub fn join_at_last(watch: &mut Watch, space: &mut Space, id: &BufferId) -> Result<(), Fault> {
     if space.join(watch.alloc, *id, 3, Usage::Read).is_err() {
         watch.expect(space.join(watch.alloc, *id, 9, Usage::Write).is_ok());
         space.leave(9);
@@ -76,7 +76,7 @@ fn join_at_last(watch: &mut Watch, space: &mut Space, id: &BufferId) -> Result<(
 }
 
 /// Whether the job 3 still reads a buffer.
-fn is_read(alloc: Global, space: &mut Space, id: &BufferId) -> bool {
+pub fn is_read(alloc: Global, space: &mut Space, id: &BufferId) -> bool {
     space.join(alloc, *id, 9, Usage::Write) == Err(Fault::Conflict { job: 3 })
 }
 
@@ -93,7 +93,7 @@ fn apply(alloc: Global, space: &mut Space, op: &Op) -> Result<OpUndo, Fault>
 }
 
 /// Applies an operation. Where memory is refused, nothing has changed, and it is applied again.
-fn apply_at_last(
+pub fn apply_at_last(
     watch: &mut Watch,
     space: &mut Space,
     op: &Op,
@@ -114,73 +114,34 @@ fn apply_at_last(
     }
 }
 
-/// Restores a range. Where memory is refused, nothing has changed, and it is restored again.
-fn restore_at_last(
+/// Applies an operation for good: what undo values keep stays kept.
+pub fn apply_for_good(
     watch: &mut Watch,
     space: &mut Space,
-    range: PageRange,
-    saved: &OpUndo,
+    op: &Op,
     id: &BufferId,
-) -> Result<OpUndo, Fault>
-    requires { AreAmongKept space.old saved.now.change.taken }
-    ensures changed { IfOk result (λ undo. IsChanged space.old space.new
-        (restored space.old.mappings range saved.now.change.taken) undo) }
-    ensures unchanged { OnErr result (IsUnchanged space.old space.new) }
+) -> Result<(), Fault>
+    ensures { (ms : List Mapping) → AreKept space.old ms → AreKept space.new ms }
 {
-    let before = seen(space, id);
-    match space.restore(watch.alloc, range, saved) {
-        Ok(undo) => Ok(undo),
-        Err(fault) => {
-            watch.expect(fault == Fault::OutOfMemory);
-            watch.expect(seen(space, id) == before);
-            space.restore(watch.alloc, range, saved)
-        }
-    }
-}
-
-/// Restores all four mappings, and takes that back.
-fn restore_all(
-    watch: &mut Watch,
-    space: &mut Space,
-    saved: &OpUndo,
-    id: &BufferId,
-) -> Result<(), Wrong>
-    requires { AreAmongKept space.old saved.now.change.taken }
-    ensures { IsUnchanged space.old space.new }
-{
-    let before = seen(space, id);
-    let range = PageRange::new(0, 8).ok_or(Wrong::Changed)?;
-    let undo = restore_at_last(watch, space, range, saved, id)?;
-    let restored = (space.list().len(), space.uses(*id), space.kept(*id));
-    space.revert(undo);
-    watch.expect(seen(space, id) == before);
-    watch.expect(restored == (4, Some(4), Some(6)));
+    let undo = apply_at_last(watch, space, op, id)?;
+    space.release(undo);
     Ok(())
 }
 
-/// Four maps of two pages each, zeros over a part of each, and the four restored from the undo value.
-fn restore_over_zeros(watch: &mut Watch) -> Result<(), Wrong> {
-    let mut space = space_at_last(watch.alloc)?;
-    let id = &create_at_last(watch.alloc, &mut space, 2)?;
-    join_at_last(watch, &mut space, id)?;
-    for first in [0, 2, 4, 6] {
-        let undo = apply_at_last(watch, &mut space, &map(id, first, 2), id)?;
-        space.release(undo);
+/// Maps each page of a range by itself to the first one of a buffer, for good.
+pub fn map_each(
+    watch: &mut Watch,
+    space: &mut Space,
+    id: &BufferId,
+    first: u32,
+    end: u32,
+) -> Result<(), Fault>
+    ensures { (ms : List Mapping) → AreKept space.old ms → AreKept space.new ms }
+{
+    for page in first..end {
+        apply_for_good(watch, space, &map(id, page, 1), id)?;
     }
-    let before = seen(&space, id);
-    let zeros = Op::MapZero {
-        addr: bytes(1),
-        len: bytes(6),
-        flags: Flags { read_only: false },
-    };
-    let saved = apply_at_last(watch, &mut space, &zeros, id)?;
-    let outcome = restore_all(watch, &mut space, &saved, id);
-    let count = space.list().len();
-    space.revert(saved);
-    watch.expect(count == 3);
-    watch.expect(seen(&space, id) == before);
-    watch.expect(is_read(watch.alloc, &mut space, id));
-    outcome
+    Ok(())
 }
 
 /// Applies an unmap of a page, and takes it back: how many tables stand in between, and then.
@@ -203,8 +164,7 @@ fn tables_there_and_back(watch: &mut Watch) -> Result<(), Wrong> {
     let mut space = space_at_last(watch.alloc)?;
     let id = &create_at_last(watch.alloc, &mut space, 512)?;
     join_at_last(watch, &mut space, id)?;
-    let undo = apply_at_last(watch, &mut space, &map(id, 0, 1), id)?;
-    space.release(undo);
+    apply_for_good(watch, &mut space, &map(id, 0, 1), id)?;
     let tables = unmap_and_back(watch, &mut space, 0, id)?;
     watch.expect(tables == ([0, 0, 0, 0, 0], [1, 1, 1, 1, 1]));
     let undo = apply_at_last(watch, &mut space, &map(id, 0, 512), id)?;
@@ -238,14 +198,10 @@ fn apply_and_back(
 fn chunks_there_and_back(watch: &mut Watch) -> Result<(), Wrong> {
     let mut space = space_at_last(watch.alloc)?;
     let id = &create_at_last(watch.alloc, &mut space, 1)?;
-    for page in 0..CHUNK {
-        let undo = apply_at_last(watch, &mut space, &map(id, page, 1), id)?;
-        space.release(undo);
-    }
+    map_each(watch, &mut space, id, 0, CHUNK)?;
     let more = apply_and_back(watch, &mut space, &map(id, CHUNK + 9, 1), id);
     watch.expect(more == Ok(129));
-    let first = apply_at_last(watch, &mut space, &map(id, CHUNK, 1), id)?;
-    space.release(first);
+    apply_for_good(watch, &mut space, &map(id, CHUNK, 1), id)?;
     let fewer = apply_and_back(watch, &mut space, &unmap(5, 120), id);
     watch.expect(fewer == Ok(9));
     watch.expect(space.list().len() == 129);
@@ -255,7 +211,8 @@ fn chunks_there_and_back(watch: &mut Watch) -> Result<(), Wrong> {
 /// Plays the row.
 pub fn play(alloc: Global) -> Result<(), Wrong> {
     let mut watch = Watch::new(alloc);
-    restore_over_zeros(&mut watch)?;
+    restores::restore_over_zeros(&mut watch)?;
+    restores::restore_among_more(&mut watch)?;
     tables_there_and_back(&mut watch)?;
     chunks_there_and_back(&mut watch)?;
     watch.end()

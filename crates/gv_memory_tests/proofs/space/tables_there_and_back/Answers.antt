@@ -3,5 +3,5 @@ use Rattle.gv_memory_tests.proofs.space.tables_there_and_back.Goals as goal
 
 pub revert-requires : goal.revert-requires
 revert-requires c =
-    CanRevert-unchanged c.apply_at_last-2.new.space c.unmap_and_back-outcome.new.space c.in_ok-undo-2.undo
-    c.unmap_and_back-outcome.ensures c.in_ok-undo-2.ensures.changed.can_revert
+    CanRevert-unchanged c.apply_at_last.new.space c.unmap_and_back-outcome.new.space c.in_ok-undo.undo
+    c.unmap_and_back-outcome.ensures c.in_ok-undo.ensures.changed.can_revert

@@ -2,7 +2,7 @@ use Rattle.std.proofs.Common.{List, refl}
 use Rattle.gv_types.specs.declared.mapping.Mapping.{Mapping}
 use Rattle.gv_ranges.specs.Edit.{restored}
 use Rattle.gv_space.proofs.UnchangedLemmas.{changed_at_last}
-use Rattle.gv_memory_tests.proofs.space.restore_at_last.Goals as goal
+use Rattle.gv_memory_tests.proofs.restores.restore_at_last.Goals as goal
 
 pub returns-in-Err-clause-changed : goal.returns-in-Err-clause-changed
 returns-in-Err-clause-changed c =
