@@ -2,7 +2,7 @@
 ghost use Rattle.gv_space.specs.State.{IsUnchanged};
 
 use crate::failure::Failure;
-use gv_plain::Edit;
+use gv_model::Edit;
 use gv_space::Space;
 use std::alloc::Global;
 use std::time::{CpuClock, Duration};

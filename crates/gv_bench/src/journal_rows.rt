@@ -9,7 +9,7 @@ use crate::journals::{
 };
 use crate::workload::{Plan, Workload};
 use gv_journal::Journal;
-use gv_plain::Edit;
+use gv_model::Edit;
 use gv_space::Space;
 use gv_types::{BUFFER_PAGES, Bounds, Limits, Request};
 use std::alloc::{AllocError, Global};

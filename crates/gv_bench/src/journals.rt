@@ -4,7 +4,7 @@ ghost use Rattle.gv_journal.specs.State.{FitsSpace};
 use crate::edits::there_and_back;
 use crate::failure::Failure;
 use gv_journal::{Journal, ReadyRequest};
-use gv_plain::Edit;
+use gv_model::Edit;
 use gv_space::Space;
 use gv_types::Request;
 use std::alloc::{AllocError, Global};

@@ -5,7 +5,7 @@ use crate::failure::Failure;
 use crate::figures::{Figures, Least, LookUpTimes, SpaceTimes};
 use crate::timing::{time_edits, time_look_ups, time_plain_edits};
 use crate::workload::{Plan, Workload};
-use gv_plain::PlainList;
+use gv_model::PlainList;
 use gv_space::Space;
 use gv_types::{BUFFER_PAGES, Bounds, Limits};
 use std::alloc::Global;

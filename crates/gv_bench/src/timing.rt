@@ -3,7 +3,7 @@ use crate::checksum::Checksum;
 use crate::edits::{keep_all, there_and_back};
 use crate::failure::Failure;
 use crate::figures::{Least, SpaceTimes};
-use gv_plain::{Edit, PlainList};
+use gv_model::{Edit, PlainList};
 use gv_space::Space;
 use gv_types::Entry;
 use std::time::CpuClock;

@@ -1,8 +1,8 @@
 //! A list in chunks beside the same mappings in one block.
 use crate::fixtures::mapping;
 use gv_chunks::{CHUNK, ChunkList, Spot};
+use gv_model::Random;
 use gv_packed::Packed;
-use gv_plain::Random;
 use std::alloc::Global;
 use std::test::Fail;
 

@@ -1,6 +1,6 @@
 //! As many buffers as there may be, made and destroyed in any order, beside a plain list of what is alive.
 use gv_buffers::Buffers;
-use gv_plain::Random;
+use gv_model::Random;
 use gv_types::{BufferId, Fault, MAX_BUFFERS};
 use std::alloc::Global;
 use std::test::Fail;

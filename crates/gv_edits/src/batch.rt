@@ -2,8 +2,8 @@
 ghost use Rattle.gv_space.specs.State.{IsUnchanged};
 
 use crate::failure::Failure;
+use gv_model::{Edit, PlainList};
 use gv_packed::Packed;
-use gv_plain::{Edit, PlainList};
 use gv_space::Space;
 use gv_types::{BUFFER_PAGES, Backing, Bounds, BufferId, Limits};
 use std::alloc::{AllocError, Global};

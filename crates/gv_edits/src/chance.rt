@@ -2,7 +2,7 @@
 ghost use Rattle.std.specs.Prelude.{◌<◌, ◌≤◌, ◌^◌, IsTrue};
 ghost use Rattle.gv_types.specs.Operation.{has_range};
 
-use gv_plain::{Edit, Random};
+use gv_model::{Edit, Random};
 use gv_types::{BufferId, Flags, Op, PAGE_BYTES};
 use std::alloc::{AllocError, Global};
 

@@ -9,7 +9,7 @@ mod failure;
 use batch::Pair;
 use chance::{Field, SIZES};
 use failure::Failure;
-use gv_plain::Random;
+use gv_model::Random;
 use std::io;
 use std::process::ExitCode;
 

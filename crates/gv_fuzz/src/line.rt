@@ -2,7 +2,7 @@
 use crate::model::Sight;
 use crate::operation::{write_addr, write_bind, write_job, write_operation, write_raise};
 use crate::shape::{PAGE, Shape, UNITS, write_number};
-use gv_plain::Random;
+use gv_model::Random;
 use std::alloc::AllocError;
 
 /// Writes a line, without its end, that names what there is.

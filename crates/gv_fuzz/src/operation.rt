@@ -1,7 +1,7 @@
 //! Operations and requests by chance.
 use crate::model::Sight;
 use crate::shape::{PAGE, Shape, write_number};
-use gv_plain::Random;
+use gv_model::Random;
 use std::alloc::AllocError;
 use std::fmt::Write;
 

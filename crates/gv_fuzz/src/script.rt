@@ -2,7 +2,7 @@
 use crate::line::{write_limits, write_line, write_space};
 use crate::model::Model;
 use crate::shape::Shape;
-use gv_plain::Random;
+use gv_model::Random;
 use std::alloc::{AllocError, Global};
 
 /// Words and signs that a soup is made of.

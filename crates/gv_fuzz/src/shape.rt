@@ -2,7 +2,7 @@
 ghost use Rattle.std.specs.Prelude.{◌≤◌, ◌<◌, ◌^◌};
 
 use crate::model::Sight;
-use gv_plain::Random;
+use gv_model::Random;
 use std::alloc::AllocError;
 use std::fmt::Write;
 

@@ -1,7 +1,7 @@
 //! Address spaces told apart: each as it is told alone, and what is wrong with their names.
 
 use crate::play::{AMDGPU, GPUVAS, RADV, XE, play};
-use gv_plain::Random;
+use gv_model::Random;
 use gv_replay::{Form, ReplayFault, Terms};
 use gv_text::MemorySink;
 use std::alloc::{AllocError, Global};

@@ -1,6 +1,6 @@
 //! Logs by chance, and addresses to ask of them.
 
-use gv_plain::Random;
+use gv_model::Random;
 use gv_types::PAGE_BYTES;
 use std::alloc::{AllocError, Global};
 use std::fmt::Write;

@@ -4,7 +4,7 @@ use crate::made::{addresses_of, write_accepted, write_amdgpu, write_radv, write_
 use crate::mirror::Mirror;
 use crate::play::{AMDGPU, RADV, XE};
 use crate::rewound::{Past, pasts_of};
-use gv_plain::Random;
+use gv_model::Random;
 use gv_replay::{FlagBits, ReplayFault, Terms, number_of, replay, watch, write_act};
 use gv_text::{MemorySink, MemorySource};
 use gv_types::{Backing, Entry, PAGE_BYTES};

@@ -1,7 +1,7 @@
 //! Logs of VMAs by chance, against pages that are kept by the rules alone.
 
 use crate::play::{XE, has_line, play};
-use gv_plain::Random;
+use gv_model::Random;
 use gv_replay::Terms;
 use gv_text::MemorySink;
 use gv_types::PAGE_BYTES;

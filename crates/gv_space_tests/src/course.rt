@@ -1,6 +1,6 @@
 //! What the operations of a round come to by the model.
 use crate::model::{Model, PLACES, Setting};
-use gv_plain::{Random, range_of};
+use gv_model::{Random, range_of};
 use gv_types::{Backing, Flags, Mapping, Op, PAGE_BYTES, PageOp, PageRange};
 use std::alloc::Global;
 use std::test::Fail;

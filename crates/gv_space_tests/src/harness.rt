@@ -4,7 +4,7 @@ use crate::changes::{
 };
 use crate::query::{Change, Query, Reply, ask, id_of, op_of};
 use gv_buffers::Usage;
-use gv_plain::push;
+use gv_model::push;
 use gv_space::Space;
 use gv_types::{Bounds, BufferId, Fault, Limits, Op, PageRange};
 use std::alloc::Global;

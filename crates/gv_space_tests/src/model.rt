@@ -1,5 +1,5 @@
 //! What operations come to by the definitions alone: each place by itself, and the list.
-use gv_plain::{at, changed, further, range_of};
+use gv_model::{at, changed, further, range_of};
 use gv_types::{Backing, BufferId, Entry, Mapping, OutOfMemory, PageOp, PageRange};
 use std::alloc::Global;
 use std::test::Fail;

@@ -3,7 +3,7 @@ use crate::changes::{Restored, Stay, Watch, bring_back, nested};
 use crate::course::{Choice, Course, Held, State, Way, course_of, looks_of, way_of};
 use crate::model::{Model, PLACES, Setting, entry_behind};
 use crate::sight::are_listed;
-use gv_plain::{Random, count_of};
+use gv_model::{Random, count_of};
 use gv_space::Space;
 use gv_types::{Backing, Bounds, BufferId, Entry, Fault, Limits, Mapping, PageOp};
 use std::alloc::Global;

@@ -1,7 +1,7 @@
 //! Pictures in which every box and every text has room, at scripts by chance and at each width.
 
 use gv_draw::{Options, draw_script};
-use gv_plain::Random;
+use gv_model::Random;
 use std::alloc::{AllocError, Global};
 use std::fmt::Write;
 use std::process::Abort;

@@ -1,7 +1,6 @@
 //! Events by chance.
 use gv_buffers::Usage;
-use gv_plain::Random;
-use gv_reference::Model;
+use gv_model::{Model, Random};
 use gv_types::{BufferId, Flags, Op, OutOfMemory, PAGE_BYTES, Point, Request};
 use gv_vm::{Access, Event};
 use std::alloc::Global;

@@ -3,7 +3,7 @@
 use crate::chance::Chance;
 use crate::tally::Tally;
 use gv_journal::{Item, ItemKind};
-use gv_reference::{Kind, Model, Past, Setting};
+use gv_model::{Kind, Model, Past, Setting};
 use gv_types::{Bounds, Fault, Limits, OutOfMemory};
 use gv_vm::{Event, QUEUES, Reply, Sizes, World};
 use std::alloc::Global;
@@ -73,7 +73,7 @@ fn counts_buffers(alloc: Global, world: &World, model: &Model) -> Result<bool, O
     let ground = &model.ground;
     for made in &ground.buffers {
         let id = &made.id;
-        let uses = gv_plain::count_of(ground.list.as_slice(), id);
+        let uses = gv_model::count_of(ground.list.as_slice(), id);
         let kept = ground.history.kept(alloc, id)?;
         let wanted = if made.is_alive {
             (Some(made.pages), Some(uses), Some(kept))

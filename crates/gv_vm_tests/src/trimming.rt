@@ -1,7 +1,7 @@
 //! Room given back: what refuses it, and that a world goes on behind it as the definitions say, whatever came and went before.
 use crate::fixtures::{map, request};
 use crate::rounds::{agrees, is_wanted};
-use gv_reference::{Model, Setting};
+use gv_model::{Model, Setting};
 use gv_types::{Bounds, BufferId, Fault, Limits, Op, PAGE_BYTES};
 use gv_vm::{Event, Outcome, Reply, Sizes, World};
 use std::alloc::Global;

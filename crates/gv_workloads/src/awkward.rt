@@ -6,7 +6,7 @@ use crate::failure::Failure;
 use crate::holes::punch;
 use crate::machine::{closed, fresh, with};
 use crate::oldest::{unmap_few, withdraw_oldest};
-use gv_plain::Random;
+use gv_model::Random;
 use std::alloc::Global;
 
 /// All of these, on so much.

@@ -1,7 +1,7 @@
 //! Lines of scripts and dialogues, as a test bench sends them: binds of one to 256 operations with points, addresses asked, jobs,
 //! entries taken back, withdrawn and settled.
 use crate::text::Text;
-use gv_plain::Random;
+use gv_model::Random;
 use std::alloc::{AllocError, Global};
 
 /// How many buffers and timelines are declared, and how many pages each buffer has.

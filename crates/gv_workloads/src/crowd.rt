@@ -3,7 +3,7 @@ use crate::binding::{Turn, map_of, only};
 use crate::digest::Done;
 use crate::failure::Failure;
 use gv_buffers::Usage;
-use gv_plain::Random;
+use gv_model::Random;
 use gv_types::PAGE_BYTES;
 use gv_vm::{Access, Vm};
 use std::alloc::Global;

@@ -2,7 +2,7 @@
 use crate::binding::{Turn, map_of, only, sum_up, take_back, unmap_of};
 use crate::digest::Done;
 use crate::failure::Failure;
-use gv_plain::Random;
+use gv_model::Random;
 use gv_types::{BUFFER_PAGES, PAGE_BYTES};
 use gv_vm::Vm;
 use std::alloc::Global;

@@ -5,7 +5,7 @@ use crate::digest::Done;
 use crate::failure::Failure;
 use crate::looking::look;
 use crate::machine::{closed, fresh, with};
-use gv_plain::Random;
+use gv_model::Random;
 use gv_types::{BufferId, Op};
 use gv_vm::Vm;
 use std::alloc::Global;

@@ -1,7 +1,7 @@
 //! Logs as RADV writes them: memory that comes and goes, and sparse ranges that are bound to it in tiles of 64 KiB.
 use crate::failure::Failure;
 use crate::text::Text;
-use gv_plain::Random;
+use gv_model::Random;
 use std::alloc::{AllocError, Global};
 
 /// Bytes of a page, of a tile, and from the start of one slot of memory to the next.

@@ -1,6 +1,6 @@
 //! Where addresses lead, by the page table and by the list: what an edit left out of either would show.
 use crate::digest::Done;
-use gv_plain::Random;
+use gv_model::Random;
 use gv_types::PAGE_BYTES;
 use gv_vm::Vm;
 

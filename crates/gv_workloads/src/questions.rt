@@ -1,6 +1,6 @@
 //! Lines of a dialogue that asks: where addresses lead, timelines, buffers' uses, what queues were told, short lists.
 use crate::text::Text;
-use gv_plain::Random;
+use gv_model::Random;
 use std::alloc::{AllocError, Global};
 
 /// How many buffers, timelines and queues there are.

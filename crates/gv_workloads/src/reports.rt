@@ -5,7 +5,7 @@ use crate::failure::Failure;
 use crate::text::Text;
 use gv_compare::compare;
 use gv_draw::{Options, draw_script};
-use gv_plain::Random;
+use gv_model::Random;
 use std::alloc::{AllocError, Global};
 
 const PAGE: u64 = 4_096;

@@ -4,7 +4,7 @@ use crate::binding::{map_of, only, sum_up, unmap_of};
 use crate::digest::Done;
 use crate::failure::Failure;
 use gv_buffers::Usage;
-use gv_plain::Random;
+use gv_model::Random;
 use gv_types::{Bounds, BufferId, Limits, Op, PAGE_BYTES, Point, Request};
 use gv_vm::{Access, Event, Outcome, Reply, Sizes, Turn, World};
 use std::alloc::{AllocError, Global};

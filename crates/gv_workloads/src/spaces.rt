@@ -3,7 +3,7 @@ use crate::binding::{Turn, map_of, only, sum_up, take_back, unmap_of};
 use crate::digest::Done;
 use crate::failure::Failure;
 use crate::machine::{closed, fresh, with};
-use gv_plain::Random;
+use gv_model::Random;
 use gv_types::{BUFFER_PAGES, BufferId, Op, PAGE_BYTES};
 use gv_vm::Vm;
 use std::alloc::Global;

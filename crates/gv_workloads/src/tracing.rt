@@ -1,7 +1,7 @@
 //! Traces as the kernel writes them for amdgpu: objects made, mapped and unmapped, between events of others.
 use crate::failure::Failure;
 use crate::text::Text;
-use gv_plain::Random;
+use gv_model::Random;
 use std::alloc::{AllocError, Global};
 
 /// How many objects there are, and pages from the home of one to that of the next.

@@ -1,6 +1,6 @@
 //! Replies by chance to the lines that only a dialogue has.
 use super::says_the_same;
-use gv_plain::Random;
+use gv_model::Random;
 use std::alloc::{AllocError, Global};
 use std::fmt::Write;
 

@@ -1,6 +1,6 @@
 //! Counts of mappings, by counting.
 use gv_journal::{Item, ItemKind};
-use gv_plain::{count_met, count_of, range_of};
+use gv_model::{count_met, count_of, range_of};
 use gv_space::Space;
 use gv_types::{BufferId, Mapping, PageRange};
 

@@ -6,7 +6,7 @@ use crate::journal::counts::{Counts, counts_of, kept_is_counted, uses_are_counte
 use crate::journal::harness::{Harness, Reply, Step, play};
 use crate::sight::are_listed;
 use gv_journal::{Item, ItemKind, Journal};
-use gv_plain::{Random, given};
+use gv_model::{Random, given};
 use gv_space::Space;
 use gv_types::{Backing, Bounds, Entry, Limits, Mapping, OutOfMemory};
 use std::alloc::Global;

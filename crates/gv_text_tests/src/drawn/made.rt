@@ -1,6 +1,6 @@
 //! Scripts by chance, from a seed: requests, what takes them back, and now and then a line that is bad.
 
-use gv_plain::Random;
+use gv_model::Random;
 use std::alloc::{AllocError, Global};
 use std::fmt::Write;
 

@@ -1,5 +1,5 @@
 //! The entries of a journal by the definitions alone: each with the whole list before it, and no way back kept.
-use gv_plain::{at, changed, count_met, edited, edited_by_all, given, range_of};
+use crate::lists::{at, changed, count_met, edited, edited_by_all, given, range_of};
 use gv_types::{BufferId, Entry, Mapping, OutOfMemory, PageOp, Request};
 use std::alloc::Global;
 

@@ -2,7 +2,7 @@ use Rattle.std.specs.Ordering.{nat_cmp}
 use Rattle.std.specs.BTreeMap.{is_at}
 use Rattle.std.proofs.lemmas.Map.Views.{All-map-remove_entry}
 use Rattle.gv_types.specs.Mapping.{IsMapping}
-use Rattle.gv_plain.proofs.plain_list.PlainList.cut.Goals as goal
+use Rattle.gv_model.proofs.plain_list.PlainList.cut.Goals as goal
 
 pub invariant_of-self : goal.invariant_of-self
 invariant_of-self c =

@@ -1,7 +1,7 @@
 //! Running jobs by the definitions alone: which buffers each uses, and whether it writes them.
 use crate::ground::Ground;
+use crate::lists::push;
 use gv_buffers::Usage;
-use gv_plain::push;
 use gv_types::{Backing, BufferId, Fault, PAGE_BYTES};
 use gv_vm::{Access, Place, Target};
 use std::alloc::Global;

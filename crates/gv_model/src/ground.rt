@@ -1,6 +1,6 @@
 //! The list of mappings, the buffers and the entries, and what calls on them come to by the definitions alone.
 use crate::history::{History, Kind, Past};
-use gv_plain::{count_of, edited, only, push, unmaps_of};
+use crate::lists::{count_of, edited, only, push, unmaps_of};
 use gv_types::{
     BUFFER_PAGES, Backing, Bounds, BufferId, Entry, Fault, Limits, Mapping, Op, OutOfMemory,
     PageOp, PageRange, Request,

@@ -1,5 +1,5 @@
-use Rattle.gv_plain.proofs.Plain.{found_is_mapping}
-use Rattle.gv_plain.proofs.plain_list.PlainList.find.Goals as goal
+use Rattle.gv_model.proofs.Plain.{found_is_mapping}
+use Rattle.gv_model.proofs.plain_list.PlainList.find.Goals as goal
 
 pub part-requires-clause-mapping : goal.part-requires-clause-mapping
 part-requires-clause-mapping c =

@@ -1,5 +1,5 @@
-use Rattle.gv_plain.proofs.Plain.{found_is_mapping}
-use Rattle.gv_plain.proofs.plain_list.PlainList.last_below.Goals as goal
+use Rattle.gv_model.proofs.Plain.{found_is_mapping}
+use Rattle.gv_model.proofs.plain_list.PlainList.last_below.Goals as goal
 
 pub returns-clause-mapping : goal.returns-clause-mapping
 returns-clause-mapping c =
