@@ -5,7 +5,7 @@ RT ?= rt
 PROGRAM := crates/gv_cli
 SOURCES := crates.txt HANDLES $(shell find crates -type f \( -name '*.rt' -o -name '*.antt' \) -not -path '*/out/*')
 
-.PHONY: build try run test check-documents long fuzz refuse-memory measure clean lib install capi-test capi-measure
+.PHONY: build try run test check-documents long must-fail-long gate-minutes fuzz refuse-memory measure clean lib install capi-test capi-measure
 
 # The proved program, at ./vmbind.
 build: vmbind
@@ -49,11 +49,20 @@ test: check-documents
 check-documents:
 	@tools/check-documents
 
-# What the gate leaves out, each to its end: refuse-memory, ten minutes of fuzz, capi-test with ./vmbind there, and where OLD names
-# the folder of an older build, bench/run --guard beside it. The last line is 'N passed, M failed'.
+# What the gate leaves out, each to its end: must-fail-long, refuse-memory, ten minutes of fuzz, capi-test with ./vmbind there, and where
+# OLD names the folder of an older build, bench/run --guard beside it. The last line is 'N passed, M failed'.
 long: SECONDS = 600
 long:
 	@RT="$(RT)" OLD="$(OLD)" tools/long $(SECONDS)
+
+# The wrong bodies in crates/NAME/must-fail-long, which the gate doesn't try: the prover must refuse each. It takes what the gate has
+# proved on this machine. The last line is 'N passed, M failed'.
+must-fail-long:
+	@RT="$(RT)" tools/must-fail-long
+
+# Processor minutes of each crate in the gate, from a run of it.
+gate-minutes:
+	@RT="$(RT)" tools/gate-minutes
 
 # Scripts by chance, from a seed on and for so many seconds, each run by the program's own call and by a model that is written
 # from the definitions. What differs is shrunk and printed; the last line is 'N passed, M failed'. The gate runs a few.
