@@ -1,6 +1,6 @@
 //! Why a replay ends early.
 
-use gv_text::{ReadFault, WriteFault};
+use gv_io::{ReadFault, WriteFault};
 use gv_types::OutOfMemory;
 use std::alloc::{AllocError, AllocFailed};
 

@@ -1,8 +1,8 @@
 //! A log read line by line.
 
 use crate::fault::ReplayFault;
+use gv_io::Source;
 use gv_lines::split_once;
-use gv_text::Source;
 use std::alloc::{AllocError, Global};
 
 /// A line has at most so many bytes; a longer one is passed over and not kept.

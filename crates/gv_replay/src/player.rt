@@ -11,7 +11,7 @@ use crate::radv_line::RadvLine;
 use crate::terms::{Form, Format, Terms};
 use crate::vma_line::{VmaDriver, VmaLine};
 use crate::watcher::Watcher;
-use gv_text::Source;
+use gv_io::Source;
 use std::alloc::Global;
 
 /// The replay of one address space, whose it is, and how many heads there were. It has to be ended: it isn't `Drop`.

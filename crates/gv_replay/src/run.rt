@@ -11,7 +11,7 @@ use crate::space_name::SpaceName;
 use crate::spaces::{SpaceOutcome, play_each};
 use crate::terms::{Form, Terms};
 use crate::watcher::{Nobody, Watcher};
-use gv_text::{Sink, Source, write_all};
+use gv_io::{Sink, Source, write_all};
 use std::alloc::Global;
 
 /// Replays a log and writes what the terms ask for: the report, as text or as JSON, the script, or the mappings at the end. `NoLine` where no line is of

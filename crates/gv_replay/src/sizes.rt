@@ -7,7 +7,7 @@ use crate::gpuvas_line::GpuvasLine;
 use crate::line_reader::{Found, LineReader};
 use crate::objects::Objects;
 use crate::terms::{Format, Terms};
-use gv_text::Source;
+use gv_io::Source;
 use gv_types::{BUFFER_PAGES, PAGE_BYTES};
 use std::alloc::{AllocError, Global};
 use std::collections::HashMap;

@@ -11,7 +11,7 @@ use crate::space_name::SpaceName;
 use crate::terms::{Format, Terms};
 use crate::vma_line::{VmaDriver, VmaLine};
 use crate::watcher::Nobody;
-use gv_text::Source;
+use gv_io::Source;
 use std::alloc::Global;
 use std::collections::HashMap;
 

@@ -4,7 +4,7 @@ ghost use Rattle.gv_text.specs.declared.fault.ScriptFault.TheVariants as fault;
 ghost use Rattle.gv_text.specs.declared.fault.LineFault.TheVariants as line_fault;
 ghost use Rattle.gv_text.specs.Script.{fault_at};
 
-use crate::device::{ReadFault, WriteFault};
+use gv_io::{ReadFault, WriteFault};
 use gv_types::{Fault, OutOfMemory};
 use std::alloc::AllocError;
 

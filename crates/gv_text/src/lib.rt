@@ -3,12 +3,9 @@
 
 mod accesses;
 mod caps;
-mod device;
 mod fault;
 mod journal;
-mod memory;
 mod names;
-mod output;
 mod question;
 mod reply;
 mod request;
@@ -18,16 +15,16 @@ mod script;
 mod serve;
 mod session;
 mod stage;
-mod standard;
 mod timeline_names;
 mod transfer;
 mod why;
 
-pub use device::{ReadFault, Sink, Source, WriteFault};
 pub use fault::{LineFault, ScriptFault};
-pub use memory::{MemorySink, MemorySource};
+pub use gv_io::{
+    MemorySink, MemorySource, Output, Pipe, ReadCalls, ReadFault, ReadSource, SCRIPT_LIMIT, Sink,
+    Source, WriteCalls, WriteFault, WriteSink, is_broken_pipe, write_all,
+};
 pub use names::Names;
-pub use output::Output;
 pub use question::{NamedVm, answer};
 pub use reply::write_place;
 pub use request::{asked_by, point_named};
@@ -36,9 +33,8 @@ pub use said::{write_number, write_outcome_line, write_refused, write_timeline};
 pub use script::{run_script, run_script_explained};
 pub use session::Session;
 pub use stage::Stage;
-pub use standard::{Pipe, ReadCalls, ReadSource, WriteCalls, WriteSink, is_broken_pipe};
 pub use timeline_names::TimelineNames;
-pub use transfer::{SCRIPT_LIMIT, read_script, write_all};
+pub use transfer::read_script;
 pub use why::{
     Declared, at_first_word, tell_why, why_bad, why_misplaced, why_not_named, why_not_set,
 };

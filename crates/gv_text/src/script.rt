@@ -5,13 +5,12 @@ ghost use Rattle.gv_text.specs.Reading.{script_limit, most_read, TakesFew, Tells
 ghost use Rattle.gv_text.specs.State.{start};
 ghost use Rattle.gv_text.specs.Script.{IsRun, StopsAt, IsStart, Ends, LineEnds};
 
-use crate::device::{Sink, Source};
 use crate::fault::{LineFault, ScriptFault};
-use crate::output::Output;
 use crate::run::run_text;
 use crate::session::Session;
 use crate::transfer::read_script;
 use crate::why::{tell_why, why_bad};
+use gv_io::{Output, Sink, Source};
 use gv_lines::{Slip, split_once};
 use std::alloc::Global;
 

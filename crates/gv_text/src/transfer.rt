@@ -1,14 +1,11 @@
-//! Whole texts through devices.
+//! A whole script from a device.
 ghost use Rattle.std.specs.Prelude.{◌≡◌, ◌+◌, ◌≤◌, ◌<◌, ◌++◌, true, IfOk, IsOk, OnOk, OnErr, length};
-ghost use Rattle.std.specs.Io.KnownBytes.{Appends, ReadConsumes};
+ghost use Rattle.std.specs.Io.KnownBytes.{ReadConsumes};
 ghost use Rattle.gv_text.specs.Reading.{ReadsWhole, TakesFew, TellsLength, TellsReads, most_read};
 
-use crate::device::{ReadFault, Sink, Source, WriteFault};
 use crate::fault::ScriptFault;
+use gv_io::{ReadFault, SCRIPT_LIMIT, Source};
 use std::alloc::{AllocError, Global};
-
-/// The greatest number of bytes in a script.
-pub const SCRIPT_LIMIT: usize = 1_048_576;
 
 /// How many bytes one read may give.
 const CHUNK_LEN: usize = 1 << 13;
@@ -67,17 +64,4 @@ fn keep(
 {
     before?;
     script.extend_from_slice(bytes)
-}
-
-/// Writes all of the bytes.
-pub fn write_all<S: Sink>(sink: &mut S, bytes: &[u8]) -> Result<(), WriteFault>
-    ensures ok { OnOk result (Appends (S.written sink.old) (S.written sink.new) bytes.now) }
-    ensures unset { OnOk result (S.failed sink.new ≡ S.failed sink.old) }
-    ensures set { OnErr result (S.failed sink.new ≡ true) }
-{
-    let mut at = 0;
-    while at < bytes.len() {
-        at += sink.write(&bytes[at..])?;
-    }
-    Ok(())
 }

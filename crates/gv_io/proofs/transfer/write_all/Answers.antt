@@ -1,7 +1,7 @@
 use Rattle.std.proofs.Common.{◌∙◌, arith, ◌-◌, length, drop, take_all, length-drop}
 use Rattle.std.proofs.Math.Seq.{take-add}
 use Rattle.std.proofs.KnownBytes.{Appends-trans}
-use Rattle.gv_text.proofs.transfer.write_all.Goals as goal
+use Rattle.gv_io.proofs.transfer.write_all.Goals as goal
 
 pub loop-at-preserved : goal.loop-at-preserved
 loop-at-preserved g c = record {
