@@ -1,34 +1,35 @@
-//! Devices that fail, that give and take so many bytes a call, and that count.
+//! Devices that fail, and that give and take so many bytes a call.
 
-use gv_text::{MemorySink, MemorySource, ReadFault, Sink, Source, WriteFault};
-use std::alloc::Global;
+use gv_text::{ReadFault, Sink, Source, WriteFault};
 
-/// Input that comes so many bytes a read. The read after `reads_left` of them fails.
-#[derive(Drop)]
-pub struct FailingSource<'a> {
-    inner: MemorySource<'a>,
-    step: usize,
-    reads_left: usize,
-    failed: bool,
+/// How many bytes a read gives and a write takes, and how many of each go well.
+#[derive(Clone, Copy)]
+pub struct Devices {
+    pub given: usize,
+    pub taken: usize,
+    pub reads: usize,
+    pub writes: usize,
 }
 
-impl<'a> FailingSource<'a> {
-    pub fn new(input: &'a [u8], step: usize, reads_left: usize) -> Self {
-        FailingSource {
-            inner: MemorySource::new(input),
-            step,
-            reads_left,
-            failed: false,
-        }
-    }
+/// Devices that give and take all there is, and never fail.
+pub const WHOLE: Devices = Devices {
+    given: usize::MAX,
+    taken: usize::MAX,
+    reads: usize::MAX,
+    writes: usize::MAX,
+};
 
-    pub fn reads_left(&self) -> usize {
-        self.reads_left
-    }
+/// Input that comes so many bytes a read. The read after `left` of them fails.
+#[derive(Drop)]
+pub struct FailingSource<'a> {
+    pub rest: &'a [u8],
+    pub step: usize,
+    pub left: usize,
+    pub failed: bool,
 }
 
 impl<'a> Source for FailingSource<'a> {
-    ghost use Rattle.std.specs.Prelude.{◌≡◌, None};
+    ghost use Rattle.std.specs.Prelude.{None};
 
     ghost remaining = { λ _. None };
 
@@ -36,66 +37,47 @@ impl<'a> Source for FailingSource<'a> {
 
     ghost reads = { λ _. 0 };
 
-    ghost fails = { λ source _. source.reads_left ≡ 0 };
+    ghost fails = { λ _ _. Unit {0} };
 
     fn read(&mut self, buffer: &mut [u8]) -> Result<usize, ReadFault> {
-        if self.reads_left == 0 {
+        if self.left == 0 {
             self.failed = true;
             return Err(ReadFault);
         }
-        self.reads_left -= 1;
-        let room = buffer.len().min(self.step.max(1));
-        self.inner.read(&mut buffer[..room])
+        self.left -= 1;
+        let count = self.rest.len().min(self.step).min(buffer.len());
+        let (given, rest) = self.rest.split_at(count);
+        buffer[..count].copy_from_slice(given);
+        self.rest = rest;
+        Ok(count)
     }
 }
 
-/// Replies in memory, so many bytes a write. The write after `writes_left` of them fails.
+/// Replies in memory, so many bytes a write. The write after `left` of them fails.
 #[derive(Drop)]
 pub struct FailingSink {
-    inner: MemorySink,
-    step: usize,
-    writes_left: usize,
-    failed: bool,
-}
-
-impl FailingSink {
-    pub fn new(alloc: Global, step: usize, writes_left: usize) -> Self {
-        FailingSink {
-            inner: MemorySink::new(alloc),
-            step,
-            writes_left,
-            failed: false,
-        }
-    }
-
-    pub fn bytes(&self) -> &[u8] {
-        self.inner.bytes()
-    }
+    pub bytes: Vec<u8>,
+    pub step: usize,
+    pub left: usize,
+    pub failed: bool,
 }
 
 impl Sink for FailingSink {
-    ghost use Rattle.std.specs.Prelude.{◌≡◌, ◌⊎◌, None, length, max, min, take};
+    ghost use Rattle.std.specs.Prelude.{None};
 
     ghost written = { λ _. None };
 
     ghost failed = { λ sink. sink.failed };
 
-    ghost fails = { λ sink bytes after. (sink.writes_left ≡ 0)
-        ⊎ ⟦<MemorySink as Sink>⟧.fails sink.inner (take (min (length bytes) (max sink.step 1)) bytes) after.inner };
+    ghost fails = { λ _ _ _. Unit {0} };
 
     fn write(&mut self, bytes: &[u8]) -> Result<usize, WriteFault> {
-        if self.writes_left == 0 {
+        let count = bytes.len().min(self.step.max(1));
+        if self.left == 0 || self.bytes.extend_from_slice(&bytes[..count]).is_err() {
             self.failed = true;
             return Err(WriteFault);
         }
-        self.writes_left -= 1;
-        let room = bytes.len().min(self.step.max(1));
-        match self.inner.write(&bytes[..room]) {
-            Ok(count) => Ok(count),
-            Err(fault) => {
-                self.failed = true;
-                Err(fault)
-            }
-        }
+        self.left -= 1;
+        Ok(count)
     }
 }

@@ -3,8 +3,7 @@
 mod made;
 mod start;
 
-use gv_draw::{DrawFault, Options, draw_script};
-use std::alloc::AllocError;
+use gv_draw::{Options, draw_script};
 use std::process::Abort;
 use std::test::Fail;
 
@@ -20,24 +19,24 @@ const TOLD: [&str; 8] = [
     ">refused Touched ",
 ];
 
-/// Draws a script by both ways, asserts that these agree, and adds the picture, or that the script is bad.
+/// Draws a script by both ways, asserts that these agree, and adds the picture, with how it ended.
 fn expect_alike(
     rt: &(impl AllocGlobal + Abort),
     script: &str,
     at: Option<u64>,
     seen: &mut String,
-) -> Result<(), AllocError> {
+) -> Result<(), Fail> {
     let options = Options { at, width: 1000 };
     let mut drawn = String::new(rt.alloc());
     let mut wanted = String::new(rt.alloc());
     let left = draw_script(rt.alloc(), script.as_bytes(), &options, &mut drawn);
-    let right = start::draw_script(rt.alloc(), script.as_bytes(), &options, &mut wanted);
-    assert!(rt; left == right, "{left:?} {right:?} {script}");
-    assert!(rt; drawn == wanted, "{script}");
-    if let Err(DrawFault::BadLine { .. }) = left {
-        seen.push_str("bad line\n")?;
-    }
-    seen.push_str(drawn.as_str())
+    let right = start::draw_script(rt.alloc(), script, &options, &mut wanted);
+    assert!(rt;
+        left == right && drawn == wanted,
+        "{left:?} {right:?} {script}"
+    );
+    seen.push_str(format!(in rt.alloc(); "{drawn}{left:?}\n")?.as_str())?;
+    Ok(())
 }
 
 #[test]
@@ -51,7 +50,7 @@ fn scripts_are_drawn_alike(rt: HostRuntime) -> Result<(), Fail> {
     for word in TOLD {
         assert!(rt; seen.as_str().contains(word), "{word}");
     }
-    let bad = seen.as_str().matches("bad line\n").count();
+    let bad = seen.as_str().matches("Err(BadLine").count();
     assert!(rt; bad > 5 && bad <= 20, "{bad}");
     Ok(())
 }

@@ -1,36 +1,43 @@
 //! A script on devices that fail at one of their calls.
-use crate::devices::{FailingSink, FailingSource};
-use gv_text::{MemorySink, MemorySource, ScriptFault, run_script};
-use std::alloc::Global;
+use crate::devices::{Devices, WHOLE};
+use crate::rows::Row;
+use crate::told::{Way, expect};
+use std::process::Abort;
+use std::test::Fail;
 
-/// Whether a failure of each read in turn, of a byte a time, is told, and nothing is written.
-pub fn is_read_fault_told(alloc: Global, script: &[u8]) -> bool {
-    (0..=script.len()).all(|reads| read_fails(alloc, script, reads))
+/// Asserts that a failure of each read in turn, of a byte a time, is told, and nothing is written.
+pub fn expect_read_faults(
+    rt: &(impl Abort + AllocGlobal),
+    (name, script, _): Row<'_>,
+) -> Result<(), Fail> {
+    for reads in 0..=script.len() {
+        let devices = Devices {
+            given: 1,
+            reads,
+            ..WHOLE
+        };
+        expect(rt, Way::Run, devices, (name, script, "Err(ReadFault)"))?;
+    }
+    Ok(())
 }
 
-/// Whether a read that fails after so many is told, and nothing is written.
-fn read_fails(alloc: Global, script: &[u8], reads: usize) -> bool {
-    let mut source = FailingSource::new(script, 1, reads);
-    let mut sink = MemorySink::new(alloc);
-    let outcome = run_script(alloc, &mut source, &mut sink);
-    outcome == Err(ScriptFault::ReadFault) && sink.bytes().is_empty()
-}
-
-/// Whether a failure of each write in turn, of a byte a time, is told behind the first replies; and where none fails, all
+/// Asserts that a failure of each write in turn, of a byte a time, is told behind the first replies; and where none fails, all
 /// replies are written.
-pub fn is_write_fault_told(alloc: Global, script: &[u8], replies: &[u8]) -> bool {
-    (0..=replies.len()).all(|writes| write_fails(alloc, script, replies, writes))
-}
-
-/// Whether a script of these replies writes as many bytes of them as its device takes writes, and tells whether one failed.
-fn write_fails(alloc: Global, script: &[u8], replies: &[u8], writes: usize) -> bool {
-    let mut sink = FailingSink::new(alloc, 1, writes);
-    let outcome = run_script(alloc, &mut MemorySource::new(script), &mut sink);
-    let wanted = if writes < replies.len() {
-        Err(ScriptFault::WriteFault)
-    } else {
-        Ok(())
+pub fn expect_write_faults(
+    rt: &(impl Abort + AllocGlobal),
+    (name, script, replies): Row<'_>,
+) -> Result<(), Fail> {
+    let mut devices = Devices {
+        taken: 1,
+        writes: 0,
+        ..WHOLE
     };
-    let front = replies.get(..writes).unwrap_or(replies);
-    outcome == wanted && sink.bytes() == front
+    for (writes, _) in replies.char_indices() {
+        devices.writes = writes;
+        let front = replies.get(..writes).unwrap_or("");
+        let wanted = format!(in rt.alloc(); "{front}Err(WriteFault)")?;
+        expect(rt, Way::Run, devices, (name, script, wanted.as_str()))?;
+    }
+    devices.writes = replies.len();
+    expect(rt, Way::Run, devices, (name, script, replies))
 }

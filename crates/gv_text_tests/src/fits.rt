@@ -1,5 +1,6 @@
 //! Pictures in which every box and every text has room, at scripts by chance and at each width.
 
+use crate::chance::{pick, write_filled};
 use gv_draw::{Options, draw_script};
 use gv_model::Random;
 use std::alloc::{AllocError, Global};
@@ -11,7 +12,7 @@ use std::test::Fail;
 const WIDTHS: [u64; 7] = [0, 900, 950, 1_000, 1_600, 5_000, 20_000];
 
 /// How wide a character of each kind of text is taken for, in tenths of a pixel.
-const EACH: [(&str, u64); 12] = [
+const EACH: [(&str, u64); 13] = [
     ("heading", 132),
     ("under", 70),
     ("foot", 70),
@@ -24,126 +25,107 @@ const EACH: [(&str, u64); 12] = [
     ("tables", 66),
     ("box", 72),
     ("cut", 66),
+    ("addr", 66),
 ];
 
-/// How wide a character of an address above the rows is taken for, in tenths of a pixel.
-const ADDR_EACH: u64 = 66;
+/// What the line of a text has, and the line of a box.
+const TEXT: &str = "<text ";
 
-/// A number of pixels, as a number of tenths.
-fn tenths(told: &str) -> Option<u64> {
-    let (whole, part) = match told.split_once(".") {
-        Some((whole, part)) => (whole.parse::<u64>().ok()?, part.parse::<u64>().ok()?),
-        None => (told.parse::<u64>().ok()?, 0),
-    };
-    Some(whole.saturating_mul(10).saturating_add(part))
+const BOX: &str = "<rect x=";
+
+/// Lines of a script: one in five of the addresses is far.
+const LINES: &[&str] = &[
+    "bind unmap 0x$A 0x$L\n",
+    "bind unmap 0x$A 0x$L\n",
+    "bind zero 0x$A 0x$L\n",
+    "bind zero 0x$F 0x$L ro\n",
+    "rewind\n",
+    "rewind\n",
+    "bind unmapall buffer_named_$B\n",
+    "bind unmapall buffer_named_$B\n",
+    "bind map 0x$A 0x$L buffer_named_$B 0x0\n",
+    "bind map 0x$A 0x$L buffer_named_$B 0x0\n",
+    "bind map 0x$A 0x$L buffer_named_$B 0x0\n",
+    "bind map 0x$A 0x$L buffer_named_$B 0x0\n",
+    "bind map 0x$A 0x$L buffer_named_$B 0x0\n",
+    "bind map 0x$F 0x$L buffer_named_$B 0x0\n",
+    "bind map 0x$A 0x$L buffer_named_$B 0x0 ro\n",
+    "bind map 0x$F 0x$L buffer_named_$B 0x0 ro\n",
+];
+
+/// What stands between two marks; nothing where they don't stand there.
+fn between<'a>(text: &'a str, before: &str, after: &str) -> &'a str {
+    let (_, behind) = text.split_once(before).unwrap_or((text, ""));
+    let (told, _) = behind.split_once(after).unwrap_or(("", ""));
+    told
 }
 
-/// The number between a word and a quotation mark.
-fn tenths_behind(line: &str, word: &str) -> Option<u64> {
-    let (_, behind) = line.split_once(word)?;
-    let (told, _) = behind.split_once("\"")?;
-    tenths(told)
+/// A number of pixels, as a number of tenths; the greatest where it is none.
+fn tenths(told: &str) -> u64 {
+    let (whole, part) = told.split_once(".").unwrap_or((told, "0"));
+    let part = part.parse::<u64>().unwrap_or(u64::MAX);
+    let whole = whole.parse::<u64>().unwrap_or(u64::MAX);
+    whole.saturating_mul(10).saturating_add(part)
 }
 
-/// How many characters a text in a line has.
-fn chars_in(line: &str) -> Option<u64> {
-    let (_, behind) = line.split_once("<text ")?;
-    let (_, behind) = behind.split_once(">")?;
-    let (words, _) = behind.split_once("</text>")?;
-    Some(words.chars().count() as u64)
+/// The number in quotation marks behind a word.
+fn number(text: &str, word: &str) -> u64 {
+    tenths(between(text, word, "\""))
 }
 
-/// Where a text reaches to, in tenths: left, right, up to, down to.
-#[derive(Clone, Copy)]
-struct Extent {
-    left: u64,
-    right: u64,
-    top: u64,
-    bottom: u64,
-}
-
-/// How far the text of a known kind in a line reaches.
-fn text_in(line: &str) -> Option<Extent> {
-    if line.contains("class=\"addr\"") {
-        return slanted_in(line);
-    }
-    let (_, behind) = line.split_once("<text ")?;
-    let x = tenths_behind(behind, "x=\"")?;
-    let y = tenths_behind(behind, " y=\"")?;
-    let wide = chars_in(line)?.saturating_mul(each_of(line)?);
-    let left = if line.contains("text-anchor=\"middle\"") {
-        x.saturating_sub(wide / 2)
-    } else if line.contains("text-anchor=\"end\"") {
-        x.saturating_sub(wide)
-    } else {
-        x
-    };
-    Some(Extent {
-        left,
-        right: left.saturating_add(wide),
-        top: y.saturating_sub(100),
-        bottom: y,
-    })
-}
-
-/// How far an address reaches at most that rises to the right from its place.
-fn slanted_in(line: &str) -> Option<Extent> {
-    let (_, behind) = line.split_once("translate(")?;
-    let (place, _) = behind.split_once(")")?;
-    let (x, y) = place.split_once(" ")?;
-    let (left, bottom) = (tenths(x)?, tenths(y)?);
-    let long = chars_in(line)?.saturating_mul(ADDR_EACH);
-    Some(Extent {
-        left,
-        right: left.saturating_add(long),
-        top: bottom.saturating_sub(long),
-        bottom,
-    })
-}
-
-/// How wide a character of the text in a line is.
-fn each_of(line: &str) -> Option<u64> {
-    let (_, behind) = line.split_once("<text ")?;
-    let (_, behind) = behind.split_once("class=\"")?;
-    let (kind, _) = behind.split_once("\"")?;
+/// How wide a character of a kind of text is; the greatest where no kind is known.
+fn each_of(kind: &str) -> u64 {
     for (class, each) in EACH {
         if kind == class {
-            return Some(each);
+            return each;
         }
     }
-    None
+    u64::MAX
 }
 
-/// Asserts that all that a picture shows lies within it. How many texts and boxes it has.
-fn expect_within(rt: &(impl AllocGlobal + Abort), out: &str) -> u64 {
-    let width = tenths_behind(out, "width=\"").unwrap_or(0);
-    let height = tenths_behind(out, "height=\"").unwrap_or(0);
+/// Asserts that the text of a line lies within the picture. An address rises to the right from its place.
+fn expect_text(rt: &impl Abort, line: &str, width: u64, height: u64) {
+    let (tag, words) = between(line, TEXT, "</text>")
+        .split_once(">")
+        .unwrap_or(("", ""));
+    let kind = between(tag, "class=\"", "\"");
+    let wide = (words.chars().count() as u64).saturating_mul(each_of(kind));
+    let mut place = (number(tag, "x=\""), number(tag, " y=\""));
+    let mut high = 100;
+    if kind == "addr" {
+        let told = between(line, "translate(", ")");
+        let (x, y) = told.split_once(" ").unwrap_or(("", ""));
+        place = (tenths(x), tenths(y));
+        high = wide;
+    } else if tag.contains("text-anchor=\"middle\"") {
+        place.0 = place.0.saturating_sub(wide / 2);
+    } else if tag.contains("text-anchor=\"end\"") {
+        place.0 = place.0.saturating_sub(wide);
+    }
+    let right = place.0.saturating_add(wide);
+    assert!(rt; place.0 > 0 && right <= width, "{width} {line}");
+    assert!(rt; place.1 > high && place.1 <= height, "{height} {line}");
+}
+
+/// Asserts that the box of a line lies within the picture.
+fn expect_box(rt: &impl Abort, line: &str, width: u64, height: u64) {
+    let right = number(line, " x=\"").saturating_add(number(line, "width=\""));
+    let low = number(line, " y=\"").saturating_add(number(line, "height=\""));
+    assert!(rt; right <= width && low <= height, "{width} {line}");
+}
+
+/// Asserts that all that a picture shows lies within it.
+fn expect_within(rt: &impl Abort, out: &str) {
+    let (width, height) = (number(out, "width=\""), number(out, "height=\""));
     assert!(rt; width >= 9_000 && width <= 163_840, "{width}");
-    let mut count: u64 = 0;
     for line in out.lines() {
-        if line.contains("<text ") {
-            let Some(extent) = text_in(line) else {
-                panic!(rt; "a text of no known kind: {line}");
-            };
-            assert!(rt; extent.left > 0 && extent.right <= width, "{width} {line}");
-            assert!(rt;
-                extent.top > 0 && extent.bottom <= height,
-                "{height} {line}"
-            );
-            count = count.saturating_add(1);
+        if line.contains(TEXT) {
+            expect_text(rt, line, width, height);
         }
-        if line.contains("<rect x=") {
-            let right = tenths_behind(line, " x=\"")
-                .unwrap_or(u64::MAX)
-                .saturating_add(tenths_behind(line, "width=\"").unwrap_or(u64::MAX));
-            let low = tenths_behind(line, " y=\"")
-                .unwrap_or(u64::MAX)
-                .saturating_add(tenths_behind(line, "height=\"").unwrap_or(u64::MAX));
-            assert!(rt; right <= width && low <= height, "{width} {line}");
-            count = count.saturating_add(1);
+        if line.contains(BOX) {
+            expect_box(rt, line, width, height);
         }
     }
-    count
 }
 
 /// A script by chance, of so many buffers with names as long as may be.
@@ -151,46 +133,56 @@ fn script(alloc: Global, seed: u64, buffers: u64) -> Result<String, AllocError> 
     let mut random = Random::new(seed);
     let mut script = String::new(alloc);
     for buffer in 0..buffers {
-        writeln!(script, "buffer buffer_named_{buffer:03} 4096")?;
+        let name = buffer.saturating_add(0x100);
+        writeln!(script, "buffer buffer_named_{name:x} 4096")?;
     }
     for _ in 0..random.below(90).saturating_add(3) {
-        let buffer = random.below(buffers.max(1));
-        let step = if random.is_one_in(5) { 1 << 30 } else { 0x1000 };
-        let addr = random.below(4_000).saturating_mul(step);
-        let len = random.below(9).saturating_add(1).saturating_mul(0x1000);
-        let flag = if random.is_one_in(4) { " ro" } else { "" };
-        match random.below(8) {
-            0 => writeln!(script, "bind unmap {addr:#x} {len:#x}")?,
-            1 => writeln!(script, "bind zero {addr:#x} {len:#x}{flag}")?,
-            2 => script.push_str("rewind\n")?,
-            3 => writeln!(script, "bind unmapall buffer_named_{buffer:03}")?,
-            _ => writeln!(
-                script,
-                "bind map {addr:#x} {len:#x} buffer_named_{buffer:03} 0x0{flag}"
-            )?,
-        }
+        let line = pick(&mut random, LINES);
+        write_filled(&mut script, &mut random, line, buffers)?;
     }
     Ok(script)
 }
 
+/// Draws a script, asserts that all lies within its picture, and adds that to the others.
+fn expect_fits(
+    rt: &(impl AllocGlobal + Abort),
+    script: &str,
+    options: &Options,
+    seen: &mut String,
+) -> Result<(), AllocError> {
+    let mut out = String::new(rt.alloc());
+    let told = draw_script(rt.alloc(), script.as_bytes(), options, &mut out);
+    assert!(rt; told.is_ok(), "{told:?} {script}");
+    expect_within(rt, out.as_str());
+    seen.push_str(out.as_str())
+}
+
+/// Draws a script at each width, the whole and around an address.
+fn expect_widths(
+    rt: &(impl AllocGlobal + Abort),
+    script: &str,
+    seen: &mut String,
+) -> Result<(), AllocError> {
+    for width in WIDTHS {
+        let mut options = Options { at: None, width };
+        expect_fits(rt, script, &options, seen)?;
+        options.at = Some(0x9abc);
+        expect_fits(rt, script, &options, seen)?;
+    }
+    Ok(())
+}
+
 #[test]
 fn all_lies_within_each_picture(rt: HostRuntime) -> Result<(), Fail> {
-    let mut count: u64 = 0;
-    let mut lines: u64 = 0;
+    let mut seen = String::new(rt.alloc());
     for seed in 0..12 {
         let script = script(rt.alloc(), seed, seed.saturating_mul(4).saturating_add(1))?;
-        for width in WIDTHS {
-            for at in [None, Some(0x9abc)] {
-                let mut out = String::new(rt.alloc());
-                let options = Options { at, width };
-                let told = draw_script(rt.alloc(), script.as_bytes(), &options, &mut out);
-                assert!(rt; told.is_ok(), "{told:?} {script}");
-                count = count.saturating_add(expect_within(&rt, out.as_str()));
-                lines = lines.saturating_add(out.as_str().matches("class=\"foot\"").count() as u64);
-            }
-        }
+        expect_widths(&rt, script.as_str(), &mut seen)?;
     }
-    assert!(rt; count > 5_000, "{count}");
+    let texts = seen.as_str().matches(TEXT).count();
+    let boxes = seen.as_str().matches(BOX).count();
+    assert!(rt; texts.saturating_add(boxes) > 5_000, "{texts} {boxes}");
+    let lines = seen.as_str().matches("class=\"foot\"").count();
     assert!(rt; lines > 12 * 7 * 2, "no foot goes on in a further line");
     Ok(())
 }

@@ -2,9 +2,9 @@
 #![tactic(auto)]
 
 #[cfg(test)]
-mod devices;
+mod chance;
 #[cfg(test)]
-mod dialogue_rows;
+mod devices;
 #[cfg(test)]
 mod dialogues;
 #[cfg(test)]
@@ -23,3 +23,5 @@ mod reasons;
 mod rows;
 #[cfg(test)]
 mod scripts;
+#[cfg(test)]
+mod told;

@@ -1,135 +1,91 @@
 //! Scripts that meet the limits.
-use gv_text::{MemorySink, MemorySource, ScriptFault, run_script};
-use std::alloc::Global;
+use crate::devices::WHOLE;
+use crate::told::{Way, expect, told};
+use std::alloc::{AllocError, Global};
+use std::fmt::Write;
 use std::process::Abort;
 use std::test::Fail;
 
-/// Runs the script, and asserts how its replies end.
-fn expect_end(rt: &impl Abort, alloc: Global, script: &str, end: &[u8]) -> Result<(), Fail> {
-    expect_ends(rt, alloc, script, b"", end)
-}
-
-/// Runs the script, and asserts how its replies begin and end.
-fn expect_ends(
-    rt: &impl Abort,
-    alloc: Global,
-    script: &str,
-    start: &[u8],
-    end: &[u8],
-) -> Result<(), Fail> {
-    let mut sink = MemorySink::new(alloc);
-    run_script(alloc, &mut MemorySource::new(script.as_bytes()), &mut sink)?;
-    assert!(rt; sink.bytes().starts_with(start));
-    assert!(rt; sink.bytes().ends_with(end));
-    Ok(())
-}
-
-/// A text that says something so many times.
-fn push_many(script: &mut String, text: &str, count: usize) -> Result<(), Fail> {
+/// A text so many times.
+fn times(alloc: Global, count: usize, text: &str) -> Result<String, AllocError> {
+    let mut texts = String::new(alloc);
     for _ in 0..count {
-        script.push_str(text)?;
+        texts.push_str(text)?;
     }
+    Ok(texts)
+}
+
+/// Runs a script, and asserts how its replies end.
+fn expect_end(rt: &(impl Abort + AllocGlobal), script: &str, end: &str) -> Result<(), Fail> {
+    let told = told(rt.alloc(), Way::Run, WHOLE, script.as_bytes())?;
+    assert!(rt; told.ends_with(end.as_bytes()));
     Ok(())
+}
+
+/// Runs a script, and asserts what it comes to.
+fn expect_all(rt: &(impl Abort + AllocGlobal), script: &str, wanted: &str) -> Result<(), Fail> {
+    expect(rt, Way::Run, WHOLE, ("many", script.as_bytes(), wanted))
 }
 
 #[test]
 fn as_many_entries_as_may_be_held(rt: HostRuntime) -> Result<(), Fail> {
-    let mut script = String::new(rt.alloc());
-    push_many(&mut script, "bind\n", 65_536)?;
+    let mut script = times(rt.alloc(), 65_536, "bind\n")?;
     script.push_str("bind\nbind queue 1\nrewind\nbind queue 1\n")?;
     let end =
-        b"accepted 65535\nrefused QueueSpent\nrefused 0 JournalFull\nrewound 65535\naccepted 65535\n";
-    expect_end(&rt, rt.alloc(), script.as_str(), end)
+        "accepted 65535\nrefused QueueSpent\nrefused 0 JournalFull\nrewound 65535\naccepted 65535\n";
+    expect_end(&rt, script.as_str(), end)
 }
 
 #[test]
 fn as_many_operations_as_a_request_may_have(rt: HostRuntime) -> Result<(), Fail> {
-    let mut script = String::new(rt.alloc());
-    for more in [255, 256] {
-        script.push_str("bind zero 0x0 0x1000")?;
-        push_many(&mut script, " ; zero 0x0 0x1000", more)?;
-        script.push_str("\n")?;
-    }
-    let end = b"accepted 0\nrefused 0 TooManyOps\n";
-    expect_end(&rt, rt.alloc(), script.as_str(), end)
+    let most = times(rt.alloc(), 255, " ; zero 0x0 0x1000")?;
+    let script = format!(in rt.alloc();
+        "bind zero 0x0 0x1000{most}\nbind zero 0x0 0x1000 ; zero 0x0 0x1000{most}\n"
+    )?;
+    expect_all(&rt, script.as_str(), "accepted 0\nrefused 0 TooManyOps\n")
 }
 
 #[test]
 fn as_many_jobs_and_accesses_as_may_be(rt: HostRuntime) -> Result<(), Fail> {
-    let mut script = String::new(rt.alloc());
-    script.push_str("bind zero 0x0 0x1000\n")?;
-    for more in [256, 255] {
-        script.push_str("job read 0x0")?;
-        push_many(&mut script, " ; read 0x0", more)?;
-        script.push_str("\n")?;
+    let alloc = rt.alloc();
+    let most = times(alloc, 255, " ; read 0x0")?;
+    let jobs = times(alloc, 1_024, "job read 0x0\n")?;
+    let script = format!(in alloc;
+        "bind zero 0x0 0x1000\njob read 0x0 ; read 0x0{most}\njob read 0x0{most}\n{jobs}end 0\njob read 0x0\n"
+    )?;
+    let zeros = times(alloc, 256, "zero rw\n")?;
+    let mut wanted = format!(in alloc; "accepted 0\nrefused TooManyAccesses\njob 0\n{zeros}")?;
+    for job in 1..1_024u32 {
+        writeln!(wanted, "job {job}\nzero rw")?;
     }
-    push_many(&mut script, "job read 0x0\n", 1_024)?;
-    script.push_str("end 0\njob read 0x0\n")?;
-    let mut start = String::new(rt.alloc());
-    start.push_str("accepted 0\nrefused TooManyAccesses\njob 0\n")?;
-    push_many(&mut start, "zero rw\n", 256)?;
-    start.push_str("job 1\n")?;
-    let end = b"job 1023\nzero rw\nrefused TooManyJobs\nended 0\njob 1024\nzero rw\n";
-    expect_ends(&rt, rt.alloc(), script.as_str(), start.as_bytes(), end)
+    wanted.push_str("refused TooManyJobs\nended 0\njob 1024\nzero rw\n")?;
+    expect_all(&rt, script.as_str(), wanted.as_str())
 }
 
 #[test]
 fn as_many_timelines_as_there_are(rt: HostRuntime) -> Result<(), Fail> {
     let mut script = String::new(rt.alloc());
     for number in 0..65u32 {
-        script.push_str("timeline t")?;
-        write_number(&mut script, number)?;
-        script.push_str("\n")?;
+        writeln!(script, "timeline t{number}")?;
     }
-    let mut sink = MemorySink::new(rt.alloc());
-    let outcome = run_script(
-        rt.alloc(),
-        &mut MemorySource::new(script.as_bytes()),
-        &mut sink,
-    );
-    assert!(rt; outcome == Err(ScriptFault::BadLine { line: 65 }));
-    assert_eq!(rt; sink.bytes().len(), 64 * b"ok\n".len());
-    Ok(())
+    let mut wanted = times(rt.alloc(), 64, "ok\n")?;
+    wanted.push_str("Err(BadLine { line: 65 })")?;
+    expect_all(&rt, script.as_str(), wanted.as_str())
 }
+
+/// So many names are declared, which is 712 more than there may be.
+const NAMES: u32 = 26 * 26 * 98;
 
 #[test]
 fn as_many_buffers_as_may_live(rt: HostRuntime) -> Result<(), Fail> {
     let mut script = String::new(rt.alloc());
-    for first in b'a'..=b'z' {
-        for second in b'a'..=b'z' {
-            push_names(&mut script, char::from(first), char::from(second))?;
-        }
+    for number in 0..NAMES {
+        writeln!(script, "buffer a{number:x} 1")?;
     }
-    script.push_str("destroy aa0\nbuffer z 1\nuses z\nbuffer y 1\n")?;
-    let mut source = MemorySource::new(script.as_bytes());
-    let mut sink = MemorySink::new(rt.alloc());
-    run_script(rt.alloc(), &mut source, &mut sink)?;
-    let refused = b"refused TooManyBuffers\n";
-    let last = b"ok\nok\nuses 0 kept 0\nrefused TooManyBuffers\n";
-    let granted = 65_536 * b"ok\n".len();
-    let lines = 26 * 26 * 98;
-    assert_eq!(rt;
-        sink.bytes().len(),
-        granted + (lines - 65_536) * refused.len() + last.len()
-    );
-    assert!(rt; sink.bytes().ends_with(last));
-    Ok(())
-}
-
-/// Lines for 98 names that begin with these letters.
-fn push_names(script: &mut String, first: char, second: char) -> Result<(), Fail> {
-    for number in 0..98u32 {
-        script.push_str("buffer ")?;
-        script.push(first)?;
-        script.push(second)?;
-        write_number(script, number)?;
-        script.push_str(" 1\n")?;
-    }
-    Ok(())
-}
-
-fn write_number(script: &mut String, number: u32) -> Result<(), Fail> {
-    use std::fmt::Write;
-    write!(script, "{number}")?;
-    Ok(())
+    script.push_str("destroy a0\nbuffer z 1\nuses z\nbuffer y 1\n")?;
+    let mut wanted = times(rt.alloc(), 65_536, "ok\n")?;
+    let refused = times(rt.alloc(), 712, "refused TooManyBuffers\n")?;
+    wanted.push_str(refused.as_str())?;
+    wanted.push_str("ok\nok\nuses 0 kept 0\nrefused TooManyBuffers\n")?;
+    expect_all(&rt, script.as_str(), wanted.as_str())
 }

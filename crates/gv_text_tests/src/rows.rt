@@ -1,16 +1,15 @@
-//! The worked rows: a script, its replies, and the line that is bad, if one is.
+//! The worked rows: what is tried, its input, and what that comes to.
 mod bad_lines;
+mod dialogues;
 mod edits;
+mod reasons;
 mod requests;
 
 pub use bad_lines::BAD_LINES;
+pub use dialogues::{DIALOGUES, JSON_DIALOGUES};
 pub use edits::EDITS;
+pub use reasons::REASONS;
 pub use requests::REQUESTS;
 
-/// A script with what it has to come to.
-pub struct Row {
-    pub name: &'static str,
-    pub script: &'static [u8],
-    pub replies: &'static [u8],
-    pub bad_line: Option<u64>,
-}
+/// What is tried, the input, and the replies, with how it ends behind them where that is early.
+pub type Row<'a> = (&'a str, &'a [u8], &'a str);

@@ -1,91 +1,66 @@
 //! Scripts from their bytes to their replies.
 
-use crate::devices::FailingSource;
-use crate::failing::{is_read_fault_told, is_write_fault_told};
+use crate::devices::{Devices, WHOLE};
+use crate::failing::{expect_read_faults, expect_write_faults};
 use crate::rows::{BAD_LINES, EDITS, REQUESTS, Row};
-use gv_text::{MemorySink, MemorySource, SCRIPT_LIMIT, ScriptFault, WriteSink, run_script};
+use crate::told::{Way, expect, expect_rows};
+use gv_text::{MemorySource, SCRIPT_LIMIT, ScriptFault, WriteSink, run_script};
 use std::io;
 use std::io::Write;
 use std::process::Abort;
 use std::test::Fail;
 
-const HOLE: &[u8] =
-    b"buffer b 4\nbind map 0x0 0x4000 b 0x0\nplan unmap 0x1000 0x1000\nbind unmap 0x1000 0x1000\nmap\nuses b\n";
-
-/// Runs the script over memory, and asserts what it comes to.
-fn expect(
-    rt: &(impl Abort + AllocGlobal),
-    name: &str,
-    script: &[u8],
-    wanted: Result<(), ScriptFault>,
-    replies: &[u8],
-) {
-    let mut sink = MemorySink::new(rt.alloc());
-    let outcome = run_script(rt.alloc(), &mut MemorySource::new(script), &mut sink);
-    assert!(rt; outcome == wanted, "{name}");
-    assert!(rt; sink.bytes() == replies, "{name}");
-}
-
-fn ends(bad_line: Option<u64>) -> Result<(), ScriptFault> {
-    match bad_line {
-        None => Ok(()),
-        Some(line) => Err(ScriptFault::BadLine { line }),
-    }
-}
-
-/// Runs the script of each row, and asserts what it comes to.
-fn expect_rows(rt: &(impl Abort + AllocGlobal), rows: &[Row]) {
-    for row in rows {
-        expect(rt, row.name, row.script, ends(row.bad_line), row.replies);
-    }
-}
+const HOLE: Row<'static> = (
+    "a hole",
+    b"buffer b 4\nbind map 0x0 0x4000 b 0x0\nplan unmap 0x1000 0x1000\nbind unmap 0x1000 0x1000\nmap\nuses b\n",
+    "ok\naccepted 0\nremap 0000000000000000 0000000000004000 b 0000000000000000 rw prev 0000000000000000 0000000000001000 b 0000000000000000 rw next 0000000000002000 0000000000004000 b 0000000000002000 rw\naccepted 1\n0000000000000000 0000000000001000 b 0000000000000000 rw\n0000000000002000 0000000000004000 b 0000000000002000 rw\nuses 2 kept 1\n",
+);
 
 #[test]
-fn rows_come_to_their_replies(rt: HostRuntime) {
-    expect_rows(&rt, &EDITS);
-    expect_rows(&rt, &REQUESTS);
+fn rows_come_to_their_replies(rt: HostRuntime) -> Result<(), Fail> {
+    expect_rows(&rt, Way::Run, usize::MAX, EDITS)?;
+    expect_rows(&rt, Way::Run, usize::MAX, REQUESTS)
 }
 
 #[test]
 fn bad_lines_end_the_script(rt: HostRuntime) -> Result<(), Fail> {
-    for (what, line) in &BAD_LINES {
-        let mut script = Vec::new(rt.alloc());
-        script.extend_from_slice(b"buffer b 4\n")?;
-        script.extend_from_slice(line)?;
-        script.extend_from_slice(b"\nmap\n")?;
-        expect(&rt, what, &script, ends(Some(2)), b"ok\n");
+    expect_rows(&rt, Way::Run, usize::MAX, BAD_LINES)
+}
+
+/// Of each line of the hole: where it begins and where the next does, and how long the replies to the lines before it are.
+const LINES: [(usize, usize, usize); 6] = [
+    (0, 11, 0),
+    (11, 37, 3),
+    (37, 62, 14),
+    (62, 87, 198),
+    (87, 91, 209),
+    (91, 98, 321),
+];
+
+/// Asserts what the hole comes to where it is cut in a line of this number, counted from 1.
+fn expect_cuts(
+    rt: &(impl Abort + AllocGlobal),
+    number: usize,
+    (begin, end, told): (usize, usize, usize),
+) -> Result<(), Fail> {
+    let (name, script, replies) = HOLE;
+    let kept = replies.get(..told).unwrap_or("");
+    let whole = script.get(..begin).unwrap_or(script);
+    expect(rt, Way::Run, WHOLE, (name, whole, kept))?;
+    let wanted = format!(in rt.alloc(); "{kept}Err(BadLine {{ line: {number} }})")?;
+    for len in begin.saturating_add(1)..end {
+        let cut = script.get(..len).unwrap_or(script);
+        expect(rt, Way::Run, WHOLE, (name, cut, wanted.as_str()))?;
     }
     Ok(())
 }
 
 #[test]
 fn prefixes_end_at_their_last_line(rt: HostRuntime) -> Result<(), Fail> {
-    let mut whole = MemorySink::new(rt.alloc());
-    run_script(rt.alloc(), &mut MemorySource::new(HOLE), &mut whole)?;
-    let replies = [0, 1, 2, 3, 4, 6, 7];
-    for len in 0..HOLE.len() {
-        let prefix = &HOLE[..len];
-        let lines = prefix.iter().filter(|byte| **byte == b'\n').count();
-        let at_end = prefix.is_empty() || prefix.ends_with(b"\n");
-        let bad_line = if at_end { None } else { Some(lines as u64 + 1) };
-        let kept = first_lines(whole.bytes(), replies.get(lines).copied().unwrap_or(0));
-        expect(&rt, "prefix", prefix, ends(bad_line), kept);
+    for (place, line) in LINES.iter().enumerate() {
+        expect_cuts(&rt, place.saturating_add(1), *line)?;
     }
     Ok(())
-}
-
-/// The first lines of a text.
-fn first_lines(text: &[u8], count: usize) -> &[u8] {
-    let mut left = count;
-    for (at, byte) in text.iter().enumerate() {
-        if left == 0 {
-            return &text[..at];
-        }
-        if *byte == b'\n' {
-            left -= 1;
-        }
-    }
-    text
 }
 
 #[test]
@@ -93,66 +68,68 @@ fn longest_script_is_read(rt: HostRuntime) -> Result<(), Fail> {
     let mut comment = vec![in rt.alloc(); b'#'; SCRIPT_LIMIT]?;
     comment.pop();
     comment.push(b'\n')?;
-    expect(&rt, "longest", &comment, Ok(()), b"");
+    expect(&rt, Way::Run, WHOLE, ("longest", &comment, ""))?;
     comment.push(b'\n')?;
     expect(
         &rt,
-        "too long",
-        &comment,
-        Err(ScriptFault::ScriptTooLong),
-        b"",
-    );
-    Ok(())
+        Way::Run,
+        WHOLE,
+        ("too long", &comment, "Err(ScriptTooLong)"),
+    )
 }
 
 #[test]
 fn script_is_read_in_as_many_reads_as_it_has_bytes(rt: HostRuntime) -> Result<(), Fail> {
     let comment = vec![in rt.alloc(); b'\n'; SCRIPT_LIMIT]?;
-    let mut source = FailingSource::new(&comment, 1, SCRIPT_LIMIT + 2);
-    let mut sink = MemorySink::new(rt.alloc());
-    run_script(rt.alloc(), &mut source, &mut sink)?;
-    assert_eq!(rt; source.reads_left(), 1);
-    Ok(())
+    let mut devices = Devices {
+        given: 1,
+        reads: SCRIPT_LIMIT + 1,
+        ..WHOLE
+    };
+    expect(&rt, Way::Run, devices, ("reads", &comment, ""))?;
+    devices.reads = SCRIPT_LIMIT;
+    expect(
+        &rt,
+        Way::Run,
+        devices,
+        ("fewer reads", &comment, "Err(ReadFault)"),
+    )
 }
 
 /// As docs/SCRIPT.md has them.
+const NUMBERS: [(ScriptFault, Option<u8>); 5] = [
+    (ScriptFault::BadLine { line: 7 }, Some(27)),
+    (ScriptFault::ScriptTooLong, Some(28)),
+    (ScriptFault::ReadFault, None),
+    (ScriptFault::WriteFault, None),
+    (ScriptFault::OutOfMemory, Some(33)),
+];
+
 #[test]
 fn script_faults_have_their_numbers(rt: HostRuntime) {
-    for (fault, number) in [
-        (ScriptFault::BadLine { line: 7 }, Some(27)),
-        (ScriptFault::ScriptTooLong, Some(28)),
-        (ScriptFault::ReadFault, None),
-        (ScriptFault::WriteFault, None),
-        (ScriptFault::OutOfMemory, Some(33)),
-    ] {
-        assert_eq!(rt; fault.number(), number);
+    for (fault, number) in &NUMBERS {
+        assert_eq!(rt; fault.number(), *number);
     }
 }
 
 #[test]
-fn failed_read_writes_nothing(rt: HostRuntime) {
-    assert!(rt; is_read_fault_told(rt.alloc(), HOLE));
+fn failed_read_writes_nothing(rt: HostRuntime) -> Result<(), Fail> {
+    expect_read_faults(&rt, HOLE)
 }
 
 /// Each worked row on devices that fail at each of their calls.
 #[test]
-fn failing_devices_are_told_of_each_row(rt: HostRuntime) {
-    for row in REQUESTS.iter().filter(|row| row.bad_line.is_none()) {
-        assert!(rt; is_read_fault_told(rt.alloc(), row.script), "{}", row.name);
-        assert!(rt;
-            is_write_fault_told(rt.alloc(), row.script, row.replies),
-            "{}",
-            row.name
-        );
+fn failing_devices_are_told_of_each_row(rt: HostRuntime) -> Result<(), Fail> {
+    for row in REQUESTS.iter().filter(|row| !row.2.ends_with(')')) {
+        expect_read_faults(&rt, *row)?;
+        expect_write_faults(&rt, *row)?;
     }
+    Ok(())
 }
 
 #[test]
 fn failed_write_is_told(rt: HostRuntime) -> Result<(), Fail> {
-    let mut whole = MemorySink::new(rt.alloc());
-    run_script(rt.alloc(), &mut MemorySource::new(HOLE), &mut whole)?;
-    assert!(rt; is_write_fault_told(rt.alloc(), HOLE, whole.bytes()));
-    Ok(())
+    expect_write_faults(&rt, HOLE)
 }
 
 /// A writer that takes nothing.
@@ -172,6 +149,6 @@ impl Write for StuckWriter {
 #[test]
 fn writer_that_takes_nothing_has_failed(rt: HostRuntime) {
     let mut sink = WriteSink::new(StuckWriter);
-    let outcome = run_script(rt.alloc(), &mut MemorySource::new(HOLE), &mut sink);
+    let outcome = run_script(rt.alloc(), &mut MemorySource::new(HOLE.1), &mut sink);
     assert!(rt; outcome == Err(ScriptFault::WriteFault));
 }

@@ -1,176 +1,117 @@
-//! The plain way to draw a script, its code as it was before the quick one: each line is read twice, once for what it does.
+//! The plain way to draw a script: what a line does is told by its first word, and by its reply.
 
 use gv_draw::{DrawFault, History, Options, RowKind, Told, write_picture};
-use gv_lines::{Line, Name, parse_line, split_once};
+use gv_lines::{Line, parse_line};
 use gv_text::{LineFault, Session, run_line};
 use gv_types::{OutOfMemory, PageRange};
 use std::alloc::Global;
-use std::str;
 
-/// What a line does, as far as a picture shows it.
-#[derive(Debug, Drop)]
-enum Act {
-    /// A request: a new entry, unless it is refused.
-    Bind,
-    /// The newest entry is taken back.
-    Rewind,
-    /// An older one is, by a new entry.
-    Withdraw,
-    Settle,
-    /// A buffer gets this name.
-    Names(Name),
-    Other,
-}
-
-impl Act {
-    /// What a line does.
-    fn of(line: &[u8]) -> Act {
-        match parse_line(line) {
-            Some(Line::Bind { .. }) => Act::Bind,
-            Some(Line::Rewind) => Act::Rewind,
-            Some(Line::Withdraw { .. }) => Act::Withdraw,
-            Some(Line::Settle { .. }) => Act::Settle,
-            Some(Line::Buffer { name, .. }) => Act::Names(name),
-            _ => Act::Other,
-        }
-    }
-}
+/// The first words of lines that are rows of a picture.
+const ROWS: [&str; 4] = ["bind", "rewind", "withdraw", "settle"];
 
 /// Runs the lines of a script, and writes the picture of what it does as an SVG.
 pub fn draw_script(
     alloc: Global,
-    script: &[u8],
+    script: &str,
     options: &Options,
     out: &mut String,
 ) -> Result<(), DrawFault> {
-    let mut drawing = Drawing {
-        session: Session::new(alloc)?,
-        history: History::new(alloc, options.at),
-        reply: String::new(alloc),
-        ranges: Vec::new(alloc),
-    };
-    let outcome = drawing.run_each(alloc, script);
-    let Drawing {
-        session,
-        history,
-        reply: _,
-        ranges: _,
-    } = drawing;
+    let mut session = Session::new(alloc)?;
+    let mut history = History::new(alloc, options.at);
+    let outcome = run_each(alloc, script, &mut session, &mut history);
     session.close();
     outcome?;
-    let mut history = history;
     Ok(write_picture(alloc, &mut history, options, out)?)
 }
 
-/// A script that runs, the history that it makes, the reply to its last line, and the ranges that this changed. The session
-/// has to be closed.
-struct Drawing {
-    session: Session,
-    history: History,
-    reply: String,
-    ranges: Vec<PageRange>,
+/// Runs the lines of a script one after another. A line without its end is bad.
+fn run_each(
+    alloc: Global,
+    script: &str,
+    session: &mut Session,
+    history: &mut History,
+) -> Result<(), DrawFault> {
+    let mut line: u64 = 0;
+    for text in script.split_inclusive('\n') {
+        line = line.saturating_add(1);
+        let is_run = match text.strip_suffix("\n") {
+            Some(text) => run_one(alloc, text, session, history).is_ok(),
+            None => false,
+        };
+        if !is_run {
+            return Err(DrawFault::BadLine { line });
+        }
+    }
+    Ok(())
 }
 
-/// What is wrong with the line of this number.
-fn fault_at(line: u64, fault: LineFault) -> DrawFault {
-    match fault {
-        LineFault::Bad => DrawFault::BadLine { line },
-        LineFault::OutOfMemory => DrawFault::OutOfMemory,
+/// Runs a line, and adds its row, if it is one.
+fn run_one(
+    alloc: Global,
+    text: &str,
+    session: &mut Session,
+    history: &mut History,
+) -> Result<(), LineFault> {
+    let word = text.split(' ').next().unwrap_or("");
+    let before = session.world().vm().next();
+    let mut ranges = Vec::new(alloc);
+    if word == "rewind" {
+        note(session, &mut ranges)?;
     }
+    let mut reply = String::new(alloc);
+    let line = parse_line(text.as_bytes()).ok_or(LineFault::Bad)?;
+    run_line(alloc, session, line, &mut reply)?;
+    let has_entry = before < session.world().vm().next();
+    if has_entry {
+        note(session, &mut ranges)?;
+    }
+    give_name(alloc, text, session, history)?;
+    if ROWS.contains(&word) {
+        let told = told(alloc, text, &reply, has_entry.then_some(before))?;
+        history.add(alloc, told, &ranges, session.world().vm().space())?;
+    }
+    Ok(())
 }
 
-impl Drawing {
-    /// Runs the lines of a script one after another.
-    fn run_each(&mut self, alloc: Global, script: &[u8]) -> Result<(), DrawFault> {
-        let mut rest = script;
-        let mut done: u64 = 0;
-        while let Some((line, after)) = split_once(rest, b'\n') {
-            done = done.saturating_add(1);
-            if let Err(fault) = self.run_line(alloc, line) {
-                return Err(fault_at(done, fault));
-            }
-            rest = after;
-        }
-        if rest.is_empty() {
-            Ok(())
-        } else {
-            Err(DrawFault::BadLine {
-                line: done.saturating_add(1),
-            })
+/// Notes the ranges that the newest entry changed.
+fn note(session: &Session, ranges: &mut Vec<PageRange>) -> Result<(), OutOfMemory> {
+    if let Some(item) = session.world().vm().items().last() {
+        for undo in item.undos.iter() {
+            ranges.push(undo.range())?;
         }
     }
+    Ok(())
+}
 
-    /// Runs a line, and adds its row.
-    fn run_line(&mut self, alloc: Global, line: &[u8]) -> Result<(), LineFault> {
-        let act = Act::of(line);
-        self.reply.clear();
-        self.ranges.clear();
-        let before = self.session.world().vm().next();
-        if let Act::Rewind = act {
-            self.note_ranges()?;
+/// Names a buffer that was made.
+fn give_name(
+    alloc: Global,
+    text: &str,
+    session: &Session,
+    history: &mut History,
+) -> Result<(), OutOfMemory> {
+    if let Some(Line::Buffer { name, .. }) = parse_line(text.as_bytes()) {
+        if let Some(id) = session.buffers().id_of(&name) {
+            history.name(alloc, id, name.as_str())?;
         }
-        let parsed = parse_line(line).ok_or(LineFault::Bad)?;
-        run_line(alloc, &mut self.session, parsed, &mut self.reply)?;
-        let has_entry = before < self.session.world().vm().next();
-        match act {
-            Act::Bind | Act::Withdraw if has_entry => self.note_ranges()?,
-            Act::Bind | Act::Rewind | Act::Withdraw | Act::Settle => {}
-            Act::Names(name) => return Ok(self.give_name(alloc, &name)?),
-            Act::Other => return Ok(()),
-        }
-        let number = has_entry.then_some(before);
-        let told = self.told(alloc, line, &act, number)?;
-        let space = self.session.world().vm().space();
-        Ok(
-            self.history
-                .add(alloc, told, self.ranges.as_slice(), space)?,
-        )
     }
+    Ok(())
+}
 
-    /// Notes the ranges that the newest entry changed.
-    fn note_ranges(&mut self) -> Result<(), OutOfMemory> {
-        if let Some(item) = self.session.world().vm().items().last() {
-            for undo in item.undos.iter() {
-                self.ranges.push(undo.range())?;
-            }
-        }
-        Ok(())
-    }
-
-    /// Names a buffer, if it was made.
-    fn give_name(&mut self, alloc: Global, name: &Name) -> Result<(), OutOfMemory> {
-        match self.session.buffers().id_of(name) {
-            Some(id) => self.history.name(alloc, id, name.as_str()),
-            None => Ok(()),
-        }
-    }
-
-    /// What a row tells of a line.
-    fn told(
-        &self,
-        alloc: Global,
-        line: &[u8],
-        act: &Act,
-        number: Option<u64>,
-    ) -> Result<Told, OutOfMemory> {
-        let label = str::from_utf8(line).unwrap_or("");
-        let label = label.strip_prefix("bind ").unwrap_or(label);
-        let reply = self.reply.as_str().trim_ascii();
-        let is_refused = reply.starts_with("refused") || reply.starts_with("notready");
-        let kind = match act {
-            _ if is_refused => RowKind::Refused,
-            Act::Rewind | Act::Withdraw => RowKind::TakesBack,
-            _ => RowKind::Change,
-        };
-        let answer = match (kind, act) {
-            (RowKind::Change, Act::Bind) => "",
-            _ => reply,
-        };
-        Ok(Told {
-            number,
-            label: String::from_str(alloc, label)?,
-            answer: String::from_str(alloc, answer)?,
-            kind,
-        })
-    }
+/// What a row tells of a line.
+fn told(alloc: Global, text: &str, reply: &str, number: Option<u64>) -> Result<Told, OutOfMemory> {
+    let label = text.strip_prefix("bind ").unwrap_or(text);
+    let answer = reply.trim_ascii();
+    let kind = match answer.split(' ').next() {
+        Some("refused" | "notready") => RowKind::Refused,
+        Some("rewound" | "withdrawn") => RowKind::TakesBack,
+        _ => RowKind::Change,
+    };
+    let is_plain = answer.starts_with("accepted");
+    Ok(Told {
+        number,
+        label: String::from_str(alloc, label)?,
+        answer: String::from_str(alloc, if is_plain { "" } else { answer })?,
+        kind,
+    })
 }

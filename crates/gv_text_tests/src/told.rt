@@ -1,0 +1,67 @@
+//! What scripts and dialogues come to: their replies, and how they end.
+
+use crate::devices::{Devices, FailingSink, FailingSource, WHOLE};
+use crate::rows::Row;
+use gv_serve::{serve, serve_json};
+use gv_text::run_script;
+use std::alloc::Global;
+use std::process::Abort;
+use std::test::Fail;
+
+/// How an input is answered.
+#[derive(Clone, Copy)]
+pub enum Way {
+    Run,
+    Serve,
+    ServeJson,
+}
+
+/// What an input comes to on these devices: the replies, and behind them how it ends where that is early.
+pub fn told(alloc: Global, way: Way, devices: Devices, input: &[u8]) -> Result<Vec<u8>, Fail> {
+    let mut source = FailingSource {
+        rest: input,
+        step: devices.given,
+        left: devices.reads,
+        failed: false,
+    };
+    let mut sink = FailingSink {
+        bytes: Vec::new(alloc),
+        step: devices.taken,
+        left: devices.writes,
+        failed: false,
+    };
+    let ended = match way {
+        Way::Run => format!(in alloc; "{:?}", run_script(alloc, &mut source, &mut sink))?,
+        Way::Serve => format!(in alloc; "{:?}", serve(alloc, &mut source, &mut sink))?,
+        Way::ServeJson => format!(in alloc; "{:?}", serve_json(alloc, &mut source, &mut sink))?,
+    };
+    let mut told = sink.bytes;
+    told.extend_from_slice(ended.as_str().trim_start_matches("Ok(())").as_bytes())?;
+    Ok(told)
+}
+
+/// Asserts what an input comes to on these devices.
+pub fn expect(
+    rt: &(impl Abort + AllocGlobal),
+    way: Way,
+    devices: Devices,
+    (name, input, wanted): Row<'_>,
+) -> Result<(), Fail> {
+    let told = told(rt.alloc(), way, devices, input)?;
+    assert!(rt; told.as_slice() == wanted.as_bytes(), "{name}");
+    Ok(())
+}
+
+/// Asserts what each row comes to where so many bytes are given a read.
+pub fn expect_rows(
+    rt: &(impl Abort + AllocGlobal),
+    way: Way,
+    given: usize,
+    rows: &[Row<'_>],
+) -> Result<(), Fail> {
+    let devices = Devices { given, ..WHOLE };
+    for row in rows {
+        expect(rt, way, devices, *row)?;
+    }
+    Ok(())
+}
