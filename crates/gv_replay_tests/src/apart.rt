@@ -1,219 +1,164 @@
 //! Address spaces told apart: each as it is told alone, and what is wrong with their names.
 
-use crate::play::{AMDGPU, GPUVAS, RADV, XE, play};
-use gv_model::Random;
-use gv_replay::{Form, ReplayFault, Terms};
-use gv_text::MemorySink;
-use std::alloc::{AllocError, Global};
-use std::fmt::Write;
-use std::str;
+use crate::made::Drawn;
+use crate::told::{expect_told, told};
+use std::process::Abort;
 use std::test::Fail;
 
-/// Pages, pointers, spaces and lines of a log by chance.
-const PAGES: u64 = 8;
-
-const POINTERS: u64 = 3;
-
-const SPACES: u64 = 4;
-
+/// How many lines a log by chance has, and how many such logs are told.
 const LINES: u64 = 60;
 
-/// A log by chance of spaces 0x20 on, whose pointers and ranges are the same.
-fn log_of(alloc: Global, seed: u64) -> Result<String, AllocError> {
-    let mut random = Random::new(seed);
-    let mut log = String::new(alloc);
-    for _line in 0..LINES {
-        let space = 0x20 + random.below(SPACES);
-        let pointer = random.below(POINTERS);
-        let start = 0x20_0000 + random.below(PAGES) * 0x1000;
-        let end = start + 0xfff;
-        match random.below(8) {
-            0 => writeln!(log, "xe_vm_free: vm=00000000aa, asid=0x{space:05x}")?,
-            1..=4 => writeln!(
-                log,
-                "xe_vma_bind: vma=f{pointer}, asid=0x{space:05x}, start=0x{start:x}, end=0x{end:x}, userptr=0x0,"
-            )?,
-            5 => writeln!(log, "no event")?,
-            _ => writeln!(
-                log,
-                "xe_vma_unbind: vma=f{pointer}, asid=0x{space:05x}, start=0x{start:x}, end=0x{end:x}, userptr=0x0,"
-            )?,
-        }
-    }
-    Ok(log)
+const LOGS: u64 = 12;
+
+/// How spaces of a log are told apart: the words that ask it, the option that asks one of them, what stands before a name, the names,
+/// and the lines of a log by chance. Pointers and ranges are the same in each.
+struct Kind {
+    words: &'static str,
+    option: &'static str,
+    head: &'static str,
+    names: [&'static str; 4],
+    forms: &'static [&'static str],
 }
 
-/// A log by chance of processes 0x20 on, whose pointers and ranges are the same, and some of whose objects are larger in one.
-fn events_of(alloc: Global, seed: u64) -> Result<String, AllocError> {
-    let mut random = Random::new(seed);
-    let mut log = String::new(alloc);
-    for _line in 0..LINES {
-        let process = 0x20 + random.below(SPACES);
-        let pointer = random.below(POINTERS);
-        let first = random.below(PAGES);
-        let last = first + random.below(2);
-        let name = match random.below(8) {
-            0 => {
-                writeln!(
-                    log,
-                    "game-1 ({process:>6}) [000] 1.0: amdgpu_bo_create: bo=0xf{pointer}, pages={last}, type=1"
-                )?;
-                continue;
-            }
-            1 => "no_event",
-            2..=5 => "map",
-            _ => "unmap",
-        };
-        writeln!(
-            log,
-            "game-1 ({process:>6}) [000] 1.0: amdgpu_vm_bo_{name}: bo=0xf{pointer}, start={first:x}, last={last:x}, offset=0000000000, flags=40"
-        )?;
+const SPACES: Kind = Kind {
+    words: "--format xe",
+    option: "--space",
+    head: "space",
+    names: ["0x20", "0x21", "0x22", "0x23"],
+    forms: &[
+        "xe_vm_free: vm=00000000aa, asid=0x0002$s\n",
+        "xe_vma_bind: vma=f$w, asid=0x0002$s, start=0x$C, end=0x$X, userptr=0x0,\n",
+        "xe_vma_bind: vma=f$w, asid=0x0002$s, start=0x$C, end=0x$X, userptr=0x0,\n",
+        "xe_vma_bind: vma=f$w, asid=0x0002$s, start=0x$C, end=0x$X, userptr=0x0,\n",
+        "xe_vma_bind: vma=f$w, asid=0x0002$s, start=0x$C, end=0x$X, userptr=0x0,\n",
+        "no event\n",
+        "xe_vma_unbind: vma=f$w, asid=0x0002$s, start=0x$C, end=0x$X, userptr=0x0,\n",
+        "xe_vma_unbind: vma=f$w, asid=0x0002$s, start=0x$C, end=0x$X, userptr=0x0,\n",
+    ],
+};
+
+/// Some objects are larger in one process than in another.
+const PROCESSES: Kind = Kind {
+    words: "--format amdgpu",
+    option: "--pid",
+    head: "process",
+    names: ["32", "33", "34", "35"],
+    forms: &[
+        "game-1 (    3$q) [000] 1.0: amdgpu_bo_create: bo=0xf$w, pages=$i, type=1\n",
+        "game-1 (    3$q) [000] 1.0: amdgpu_vm_bo_no_event: bo=0xf$w, start=$H, last=$I, offset=0000000000, flags=40\n",
+        "game-1 (    3$q) [000] 1.0: amdgpu_vm_bo_map: bo=0xf$w, start=$H, last=$I, offset=0000000000, flags=40\n",
+        "game-1 (    3$q) [000] 1.0: amdgpu_vm_bo_map: bo=0xf$w, start=$H, last=$I, offset=0000000000, flags=40\n",
+        "game-1 (    3$q) [000] 1.0: amdgpu_vm_bo_map: bo=0xf$w, start=$H, last=$I, offset=0000000000, flags=40\n",
+        "game-1 (    3$q) [000] 1.0: amdgpu_vm_bo_map: bo=0xf$w, start=$H, last=$I, offset=0000000000, flags=40\n",
+        "game-1 (    3$q) [000] 1.0: amdgpu_vm_bo_unmap: bo=0xf$w, start=$H, last=$I, offset=0000000000, flags=40\n",
+        "game-1 (    3$q) [000] 1.0: amdgpu_vm_bo_unmap: bo=0xf$w, start=$H, last=$I, offset=0000000000, flags=40\n",
+    ],
+};
+
+/// Asserts that below its name each space of a log is told as it is told where it alone is asked, or else is named among those in
+/// which nothing was found. How many are told.
+fn expect_apart(rt: &(impl Abort + AllocGlobal), log: &str, kind: &Kind) -> Result<u64, Fail> {
+    let mut found: u64 = 0;
+    let (head, option, words) = (kind.head, kind.option, kind.words);
+    let whole = told(rt.alloc(), words, log.as_bytes())?;
+    let others = whole.as_str().lines().next_back().unwrap_or("");
+    for name in kind.names {
+        let asked = format!(in rt.alloc(); "{words} {option} {name}")?;
+        let alone = told(rt.alloc(), asked.as_str(), log.as_bytes())?;
+        let section = format!(in rt.alloc(); "{head} {name}:\n{alone}")?;
+        let is_told = whole.as_str().contains(section.as_str());
+        assert!(rt; is_told || others.contains(name), "{name} {whole}");
+        found = found.saturating_add(u64::from(is_told));
     }
-    Ok(log)
+    Ok(found)
 }
 
-/// What is told of a log.
-fn told(alloc: Global, log: &str, terms: &Terms<'_>) -> Result<String, Fail> {
-    let mut sink = MemorySink::new(alloc);
-    if play(alloc, log.as_bytes(), terms, &mut sink).is_err() {
-        return Ok(String::new(alloc));
+/// Asserts it for logs by chance, of which many spaces are told.
+fn expect_logs_apart(rt: &(impl Abort + AllocGlobal), kind: &Kind) -> Result<(), Fail> {
+    let mut found: u64 = 0;
+    for seed in 0..LOGS {
+        let mut log = String::new(rt.alloc());
+        Drawn::new(seed).write_lines(&mut log, kind.forms, LINES)?;
+        found = found.saturating_add(expect_apart(rt, log.as_str(), kind)?);
     }
-    Ok(String::from_str(alloc, str::from_utf8(sink.bytes()).unwrap_or(""))?)
+    assert!(rt; found > 20, "{found}");
+    Ok(())
 }
 
 /// Below its name each space of a log is told as it is told where it alone is asked.
 #[test]
 fn each_space_is_told_as_alone(rt: HostRuntime) -> Result<(), Fail> {
-    let mut found = 0u64;
-    for seed in 0..12 {
-        let log = log_of(rt.alloc(), seed)?;
-        let whole = told(rt.alloc(), log.as_str(), &XE)?;
-        for space in 0x20..0x20 + SPACES {
-            let name = format!(in rt.alloc(); "0x{space:x}")?;
-            let terms = Terms {
-                space: Some(name.as_str()),
-                ..XE
-            };
-            let alone = told(rt.alloc(), log.as_str(), &terms)?;
-            let section = format!(in rt.alloc(); "space {name}:\n{alone}")?;
-            if whole.as_str().contains(section.as_str()) {
-                found = found.wrapping_add(1);
-            } else {
-                let others = whole.as_str().lines().next_back().unwrap_or("");
-                assert!(rt; others.contains(name.as_str()), "{seed} {name} {whole}");
-            }
-        }
-    }
-    assert!(rt; found > 20, "{found}");
-    Ok(())
+    expect_logs_apart(&rt, &SPACES)
 }
 
 /// Below its name each process of a log is told as it is told where it alone is asked.
 #[test]
 fn each_process_is_told_as_alone(rt: HostRuntime) -> Result<(), Fail> {
-    let mut found = 0u64;
-    for seed in 0..12 {
-        let log = events_of(rt.alloc(), seed)?;
-        let whole = told(rt.alloc(), log.as_str(), &AMDGPU)?;
-        for process in 0x20..0x20 + SPACES {
-            let terms = Terms {
-                pid: Some(process),
-                ..AMDGPU
-            };
-            let alone = told(rt.alloc(), log.as_str(), &terms)?;
-            let section = format!(in rt.alloc(); "process {process}:\n{alone}")?;
-            let name = format!(in rt.alloc(); "{process}")?;
-            if whole.as_str().contains(section.as_str()) {
-                found = found.wrapping_add(1);
-            } else {
-                let others = whole.as_str().lines().next_back().unwrap_or("");
-                assert!(rt; others.contains(name.as_str()), "{seed} {name} {whole}");
-            }
-        }
-    }
-    assert!(rt; found > 20, "{found}");
-    Ok(())
+    expect_logs_apart(&rt, &PROCESSES)
 }
 
-const TWO: &[u8] =
-    b"xe_vma_bind: vma=f0, asid=0x00021, start=0x200000, end=0x200fff, userptr=0x0,\n\
+const TWO: &str = "xe_vma_bind: vma=f0, asid=0x00021, start=0x200000, end=0x200fff, userptr=0x0,\n\
     xe_vma_bind: vma=f0, asid=0x00022, start=0x200000, end=0x200fff, userptr=0x0,\n";
 
-#[test]
-fn names_of_no_space_are_a_fault(rt: HostRuntime) {
-    for name in ["0x23", "", "0x", "0x21 ", "two", "0x00000000000000021"] {
-        let terms = Terms {
-            space: Some(name),
-            ..XE
-        };
-        let mut sink = MemorySink::new(rt.alloc());
-        let played = play(rt.alloc(), TWO, &terms, &mut sink);
-        assert!(rt; played == Err(ReplayFault::NoSpace), "{name}");
-        assert!(rt; sink.bytes().is_empty());
-    }
-    let rows = [
-        (
-            RADV,
-            b"timestamp=1, VA=0000000000010000-0000000000030000, destroyed=0, is_virtual=0\n" as &[u8],
-        ),
-        (
-            AMDGPU,
-            b"amdgpu_vm_bo_map: bo=0xf0, start=100, last=100, offset=0000000000, flags=40\n",
-        ),
-        (GPUVAS, b"| 0x3000 | 0x4000 | 0x7000 | 0xf0 | 0x0\n"),
-    ];
-    for (terms, log) in rows {
-        let terms = Terms {
-            space: Some("21"),
-            ..terms
-        };
-        let mut sink = MemorySink::new(rt.alloc());
-        let played = play(rt.alloc(), log, &terms, &mut sink);
-        assert!(rt; played == Err(ReplayFault::NoSpace));
-    }
-}
-
-/// Processes of amdgpu, where the log tells them, and lists with rows of two spaces.
-const OTHERS: [(Terms<'static>, &[u8]); 3] = [
-    (XE, TWO),
+/// Words that ask for a space that isn't there, and a log.
+const UNNAMED: [(&str, &str); 9] = [
+    ("--format xe --space 0x23", TWO),
+    ("--format xe --space ", TWO),
+    ("--format xe --space 0x", TWO),
+    ("--format xe --space 0x21 ", TWO),
+    ("--format xe --space two", TWO),
+    ("--format xe --space 0x00000000000000021", TWO),
     (
-        AMDGPU,
-        b"game-1 (   42) [000] 1.0: amdgpu_vm_bo_map: bo=0xf0, start=100, last=100, offset=0000000000, flags=40\n\
-        game-2 (   42) [000] 1.0: amdgpu_vm_bo_map: bo=0xf0, start=101, last=101, offset=0000000000, flags=40\n\
-        Xorg-7 (    7) [000] 1.0: amdgpu_vm_bo_map: bo=0xf0, start=102, last=102, offset=0000000000, flags=40\n",
+        "--format radv --space 21",
+        "timestamp=1, VA=0000000000010000-0000000000030000, destroyed=0, is_virtual=0\n",
     ),
     (
-        GPUVAS,
-        b"DRM GPU VA space (a) [0x0;0x1]\n\
-        | 0x3000 | 0x4000 | 0x7000 | 0xf0 | 0x0\n\
-        DRM GPU VA space (b) [0x0;0x1]\n\
-        | 0x3000 | 0x4000 | 0x7000 | 0xf0 | 0x0\n",
+        "--format amdgpu --space 21",
+        "amdgpu_vm_bo_map: bo=0xf0, start=100, last=100, offset=0000000000, flags=40\n",
+    ),
+    (
+        "--format gpuvas --space 21",
+        "| 0x3000 | 0x4000 | 0x7000 | 0xf0 | 0x0\n",
     ),
 ];
 
-/// Whether the mappings at the end of a log are told.
-fn are_listed(alloc: Global, log: &[u8], terms: &Terms<'_>) -> Result<bool, ReplayFault> {
-    let mut sink = MemorySink::new(alloc);
-    play(alloc, log, terms, &mut sink)?;
-    Ok(!sink.bytes().is_empty())
+#[test]
+fn names_of_no_space_are_a_fault(rt: HostRuntime) -> Result<(), Fail> {
+    for (words, log) in UNNAMED {
+        expect_told(&rt, words, log.as_bytes(), "Err(NoSpace)")?;
+    }
+    Ok(())
 }
 
+/// Two processes of amdgpu.
+const EVENTS: &str =
+    "game-1 (   42) [000] 1.0: amdgpu_vm_bo_map: bo=0xf0, start=100, last=100, offset=0000000000, flags=40\n\
+    game-2 (   42) [000] 1.0: amdgpu_vm_bo_map: bo=0xf0, start=101, last=101, offset=0000000000, flags=40\n\
+    Xorg-7 (    7) [000] 1.0: amdgpu_vm_bo_map: bo=0xf0, start=102, last=102, offset=0000000000, flags=40\n";
+
+/// Processes of amdgpu, where the log tells them, and lists with rows of two spaces; and one process, of which there is one space.
+const LISTED: [(&str, &str, bool); 4] = [
+    ("--format xe --mappings", TWO, false),
+    ("--format amdgpu --mappings", EVENTS, false),
+    (
+        "--format gpuvas --mappings",
+        "DRM GPU VA space (a) [0x0;0x1]\n\
+        | 0x3000 | 0x4000 | 0x7000 | 0xf0 | 0x0\n\
+        DRM GPU VA space (b) [0x0;0x1]\n\
+        | 0x3000 | 0x4000 | 0x7000 | 0xf0 | 0x0\n",
+        false,
+    ),
+    ("--format amdgpu --mappings --pid 42", EVENTS, true),
+];
+
 #[test]
-fn mappings_of_several_spaces_are_a_fault(rt: HostRuntime) {
-    for (terms, log) in OTHERS {
-        let terms = Terms {
-            form: Form::Mappings,
-            ..terms
-        };
-        let told = are_listed(rt.alloc(), log, &terms);
-        assert!(rt; told == Err(ReplayFault::ManySpaces));
+fn mappings_of_several_spaces_are_a_fault(rt: HostRuntime) -> Result<(), Fail> {
+    for (words, log, is_listed) in LISTED {
+        let told = told(rt.alloc(), words, log.as_bytes())?;
+        assert!(rt; !told.is_empty(), "{words}");
+        let is_fault = told.as_str().ends_with("Err(ManySpaces)");
+        assert!(rt; told.as_str().contains("Err(") != is_listed, "{words}");
+        assert!(rt; is_fault != is_listed, "{words}");
     }
-    // Of one process of the second log there is one space.
-    let (terms, log) = OTHERS[1];
-    let terms = Terms {
-        form: Form::Mappings,
-        pid: Some(42),
-        ..terms
-    };
-    assert!(rt; are_listed(rt.alloc(), log, &terms) == Ok(true));
+    Ok(())
 }

@@ -1,11 +1,10 @@
 //! Devices that fail.
 
-use crate::play::RADV;
-use gv_replay::{Form, ReplayFault, Terms, replay};
+use crate::told::terms_of;
+use gv_replay::{ReplayFault, replay};
 use gv_text::{MemorySink, MemorySource, ReadSource, WriteSink};
 use std::io;
 use std::io::{Read, Write};
-use std::test::Fail;
 
 const MADE: &[u8] =
     b"timestamp=1, VA=0000000000010000-0000000000030000, destroyed=0, is_virtual=0\n";
@@ -13,17 +12,18 @@ const MADE: &[u8] =
 /// A reader that gives a line and then fails.
 #[derive(Drop)]
 struct Cut {
-    is_read: bool,
+    rest: &'static [u8],
 }
 
 impl Read for Cut {
     fn read(&mut self, buffer: &mut [u8]) -> io::Result<usize> {
-        if self.is_read || buffer.is_empty() {
+        let count = self.rest.len().min(buffer.len());
+        if count == 0 {
             return Err(io::Error::other("cut"));
         }
-        self.is_read = true;
-        let count = MADE.len().min(buffer.len());
-        buffer[..count].copy_from_slice(&MADE[..count]);
+        let (given, rest) = self.rest.split_at(count);
+        buffer[..count].copy_from_slice(given);
+        self.rest = rest;
         Ok(count)
     }
 }
@@ -44,26 +44,19 @@ impl Write for Stuck {
 
 #[test]
 fn a_failed_read_is_told(rt: HostRuntime) {
-    let mut source = ReadSource::new(Cut { is_read: false });
+    let mut source = ReadSource::new(Cut { rest: MADE });
     let mut sink = MemorySink::new(rt.alloc());
-    let played = replay(rt.alloc(), &mut source, &mut sink, &RADV);
-    assert!(rt; played == Err(ReplayFault::ReadFault));
-    assert!(rt; sink.bytes().is_empty());
+    let terms = terms_of("--format radv", &[]);
+    let played = replay(rt.alloc(), &mut source, &mut sink, &terms);
+    assert!(rt; played == Err(ReplayFault::ReadFault) && sink.bytes().is_empty());
 }
 
 #[test]
 fn a_failed_write_is_told(rt: HostRuntime) {
-    let script = Terms {
-        form: Form::Script,
-        ..RADV
-    };
-    let json = Terms {
-        form: Form::Json,
-        ..RADV
-    };
-    for terms in [RADV, script, json] {
+    for words in ["", "--script", "--json"] {
         let mut sink = WriteSink::new(Stuck);
-        let played = replay(rt.alloc(), &mut MemorySource::new(MADE), &mut sink, &terms);
-        assert!(rt; played == Err(ReplayFault::WriteFault));
+        let mut source = MemorySource::new(MADE);
+        let played = replay(rt.alloc(), &mut source, &mut sink, &terms_of(words, &[]));
+        assert!(rt; played == Err(ReplayFault::WriteFault), "{words}");
     }
 }

@@ -1,20 +1,21 @@
 //! Logs that are no logs, or that end anywhere.
 
-use crate::play::{AMDGPU, GPUVAS, I915, RADV, XE, has_line, play};
-use gv_replay::{ReplayFault, Terms};
-use gv_text::MemorySink;
-use std::alloc::Global;
+use crate::told::{expect_lines, expect_told, told};
 use std::test::Fail;
 
 const MADE: &[u8] =
     b"timestamp=1, VA=0000000000010000-0000000000030000, destroyed=0, is_virtual=0\n";
 
-const EACH: [Terms<'static>; 5] = [RADV, AMDGPU, XE, I915, GPUVAS];
+/// The formats, of which the first is that of the line.
+const EACH: [&str; 5] = [
+    "--format radv",
+    "--format amdgpu",
+    "--format xe",
+    "--format i915",
+    "--format gpuvas",
+];
 
-/// What a log comes to, whatever it reports.
-fn outcome(alloc: Global, log: &[u8], terms: &Terms<'_>) -> Result<(), ReplayFault> {
-    play(alloc, log, terms, &mut MemorySink::new(alloc))
-}
+const NO_LINE: &str = "Err(NoLine)";
 
 #[test]
 fn logs_without_a_line_of_the_format_are_a_fault(rt: HostRuntime) -> Result<(), Fail> {
@@ -22,36 +23,31 @@ fn logs_without_a_line_of_the_format_are_a_fault(rt: HostRuntime) -> Result<(), 
     for number in 0..40_000u32 {
         noise.push((number.wrapping_mul(2_654_435_761) >> 24) as u8)?;
     }
-    for terms in &EACH {
-        assert!(rt; outcome(rt.alloc(), b"", terms) == Err(ReplayFault::NoLine));
-        assert!(rt; outcome(rt.alloc(), b"\n\n", terms) == Err(ReplayFault::NoLine));
-        assert!(rt; outcome(rt.alloc(), &noise, terms) == Err(ReplayFault::NoLine));
+    for words in EACH {
+        expect_told(&rt, words, b"", NO_LINE)?;
+        expect_told(&rt, words, b"\n\n", NO_LINE)?;
+        expect_told(&rt, words, &noise, NO_LINE)?;
     }
-    for terms in &EACH[1..] {
-        assert!(rt; outcome(rt.alloc(), MADE, terms) == Err(ReplayFault::NoLine));
+    for words in EACH.iter().skip(1) {
+        expect_told(&rt, words, MADE, NO_LINE)?;
     }
     Ok(())
 }
 
 #[test]
-fn nothing_is_written_for_a_log_without_a_line(rt: HostRuntime) {
-    let mut sink = MemorySink::new(rt.alloc());
-    let played = play(rt.alloc(), b"noise\n", &RADV, &mut sink);
-    assert!(rt; played == Err(ReplayFault::NoLine));
-    assert!(rt; sink.bytes().is_empty());
+fn nothing_is_written_for_a_log_without_a_line(rt: HostRuntime) -> Result<(), Fail> {
+    expect_told(&rt, "--format radv", b"noise\n", NO_LINE)
 }
 
 #[test]
-fn prefixes_end_with_a_report_or_a_fault(rt: HostRuntime) {
+fn prefixes_end_with_a_report_or_a_fault(rt: HostRuntime) -> Result<(), Fail> {
     for len in 0..MADE.len() {
-        let whole = len + 1 >= MADE.len();
-        let wanted = if whole {
-            Ok(())
-        } else {
-            Err(ReplayFault::NoLine)
-        };
-        assert!(rt; outcome(rt.alloc(), &MADE[..len], &RADV) == wanted);
+        let told = told(rt.alloc(), "--format radv", &MADE[..len])?;
+        let is_whole = len + 1 >= MADE.len();
+        assert!(rt; told.as_str().contains("Err(") != is_whole, "{len}");
+        assert!(rt; told.as_str().ends_with(NO_LINE) != is_whole, "{len}");
     }
+    Ok(())
 }
 
 #[test]
@@ -59,13 +55,8 @@ fn a_long_line_is_passed_over(rt: HostRuntime) -> Result<(), Fail> {
     let mut log = vec![in rt.alloc(); b'0'; 200_000]?;
     log.push(b'\n')?;
     log.extend_from_slice(MADE)?;
-    let mut sink = MemorySink::new(rt.alloc());
-    assert!(rt; play(rt.alloc(), &log, &RADV, &mut sink) == Ok(()));
-    assert!(rt;
-        has_line(
-            sink.bytes(),
-            "     1 binds of 1 buffers, 1 lines passed over"
-        )
-    );
+    let told = told(rt.alloc(), "--format radv", &log)?;
+    let wanted = "     1 binds of 1 buffers, 1 lines passed over";
+    expect_lines(&rt, "a long line", told.as_str(), wanted);
     Ok(())
 }

@@ -1,22 +1,26 @@
 //! Rows for each kind of finding and of place as JSON. The lines that are wanted are written from the rules.
 
-use crate::play::{Asked, OF_AMDGPU, OF_RADV, Row};
-use gv_replay::{FlagBits, Form};
+use crate::told::Row;
 
-pub static ROWS: [Row; 3] = [
-    Row {
-        name: "maps over live mappings and unmaps of nothing",
-        asked: Asked {
-            form: Form::Json,
-            ..OF_RADV
-        },
-        log: "timestamp=1, VA=0000000000010000-0000000000030000, destroyed=0, is_virtual=0\n\
+/// Memory that is reached when it is freed, and what is bound past its end and after it.
+pub const FREED: &str =
+    "timestamp=1, VA=0000000000010000-0000000000012000, destroyed=0, is_virtual=0\n\
+    timestamp=2, VA=0000000000800000-0000000000801000, mapped_to=0000000000010000\n\
+    timestamp=3, VA=0000000000800000-0000000000802000, mapped_to=0000000000011000\n\
+    timestamp=4, VA=0000000000010000-0000000000012000, destroyed=1, is_virtual=0\n\
+    timestamp=5, VA=0000000000800000-0000000000801000, mapped_to=0000000000010000\n\
+    timestamp=6, VA=0000000000020000-0000000000020000, destroyed=0, is_virtual=0\n";
+
+pub const ROWS: &[Row<'static>] = &[
+    (
+        "maps over live mappings and unmaps of nothing",
+        "--format radv --json",
+        "timestamp=1, VA=0000000000010000-0000000000030000, destroyed=0, is_virtual=0\n\
             timestamp=2, VA=0000000000018000-0000000000019000, destroyed=0, is_virtual=1\n\
             timestamp=3, VA=0000000000040000-0000000000050000, destroyed=1, is_virtual=1\n\
             noise\n\
             timestamp=81209238242001, VA=0000000000050000-0000000000060000, destroyed=1, is_virtual=0\n",
-        wanted: &[
-            "{\"binds\":3,\"buffers\":1,\"passed_over\":1,\
+        "{\"binds\":3,\"buffers\":1,\"passed_over\":1,\
             \"over_live\":{\"count\":1,\"places\":[{\"line\":2,\"time\":\"0.000000\",\
             \"op\":\"zero 0x18000 0x1000\",\"cause\":\"sparse range made\",\"mappings\":1}]},\
             \"of_nothing\":{\"count\":2,\"places\":[{\"line\":3,\"time\":\"0.000000\",\
@@ -26,18 +30,12 @@ pub static ROWS: [Row; 3] = [
             \"to_no_memory\":{\"count\":0,\"places\":[]},\
             \"refused\":{\"count\":0,\"places\":[]},\
             \"alive\":{\"mappings\":3,\"buffers\":1,\"bytes\":131072,\"tables\":[1,1,1,1,1]},\"at\":[]}",
-        ],
-    },
-    Row {
-        name: "memory that is freed and reached, a bind to none, refusals, and a past",
-        asked: Asked {
-            form: Form::Json,
-            addresses: &[0x80_0010],
-            ..OF_RADV
-        },
-        log: FREED,
-        wanted: &[
-            "{\"binds\":3,\"buffers\":1,\"passed_over\":0,\
+    ),
+    (
+        "memory that is freed and reached, a bind to none, refusals, and a past",
+        "--format radv --json --at 0x800010",
+        FREED,
+        "{\"binds\":3,\"buffers\":1,\"passed_over\":0,\
             \"over_live\":{\"count\":0,\"places\":[]},\
             \"of_nothing\":{\"count\":0,\"places\":[]},\
             \"still_reached\":{\"count\":1,\"places\":[{\"line\":4,\"time\":\"0.000000\",\
@@ -53,20 +51,13 @@ pub static ROWS: [Row; 3] = [
             \"place\":{\"buffer\":\"b1\",\"offset\":\"0x10\",\"ro\":false}},\
             {\"line\":2,\"time\":\"0.000000\",\"op\":\"map 0x800000 0x1000 b1 0x0\",\
             \"cause\":\"sparse bound\",\"place\":null}]}]}",
-        ],
-    },
-    Row {
-        name: "lines without times, read-only pages and zeros",
-        asked: Asked {
-            form: Form::Json,
-            flag_bits: FlagBits::Entry,
-            addresses: &[0x10_0010, 0x20_0000],
-            ..OF_AMDGPU
-        },
-        log: "amdgpu_vm_bo_map: bo=0xf0, start=100, last=100, offset=0000000000, flags=10\n\
+    ),
+    (
+        "lines without times, read-only pages and zeros",
+        "--format amdgpu --json --flags entry --at 0x100010 --at 0x200000",
+        "amdgpu_vm_bo_map: bo=0xf0, start=100, last=100, offset=0000000000, flags=10\n\
             amdgpu_vm_bo_map: bo=(nil), start=200, last=200, offset=0000000000, flags=40\n",
-        wanted: &[
-            "{\"binds\":2,\"buffers\":1,\"passed_over\":0,\
+        "{\"binds\":2,\"buffers\":1,\"passed_over\":0,\
             \"over_live\":{\"count\":0,\"places\":[]},\
             \"of_nothing\":{\"count\":0,\"places\":[]},\
             \"still_reached\":{\"count\":0,\"places\":[]},\
@@ -78,15 +69,5 @@ pub static ROWS: [Row; 3] = [
             {\"addr\":\"0x200000\",\"place\":{\"zero\":true,\"ro\":false},\
             \"before\":[{\"line\":2,\"op\":\"zero 0x200000 0x1000\",\
             \"cause\":\"sparse range made\",\"place\":null}]}]}",
-        ],
-    },
+    ),
 ];
-
-/// Memory that is reached when it is freed, and what is bound past its end and after it.
-pub const FREED: &str =
-    "timestamp=1, VA=0000000000010000-0000000000012000, destroyed=0, is_virtual=0\n\
-    timestamp=2, VA=0000000000800000-0000000000801000, mapped_to=0000000000010000\n\
-    timestamp=3, VA=0000000000800000-0000000000802000, mapped_to=0000000000011000\n\
-    timestamp=4, VA=0000000000010000-0000000000012000, destroyed=1, is_virtual=0\n\
-    timestamp=5, VA=0000000000800000-0000000000801000, mapped_to=0000000000010000\n\
-    timestamp=6, VA=0000000000020000-0000000000020000, destroyed=0, is_virtual=0\n";

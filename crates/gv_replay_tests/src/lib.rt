@@ -5,7 +5,11 @@
 #[cfg(test)]
 mod apart;
 #[cfg(test)]
+mod counts;
+#[cfg(test)]
 mod devices;
+#[cfg(test)]
+mod forms;
 #[cfg(test)]
 mod going;
 #[cfg(test)]
@@ -36,6 +40,8 @@ mod rows;
 mod scripts;
 #[cfg(test)]
 mod space_rows;
+#[cfg(test)]
+mod told;
 #[cfg(test)]
 mod vmas;
 #[cfg(test)]

@@ -1,9 +1,8 @@
 //! Logs by chance, and addresses to ask of them.
 
+use crate::forms::{Numbers, write_form};
 use gv_model::Random;
-use gv_types::PAGE_BYTES;
 use std::alloc::{AllocError, Global};
-use std::fmt::Write;
 
 /// Where memory lies, where sparse ranges do, and the last 43 pages of RADV's addresses.
 const MEMORY: u64 = 0x1_0000;
@@ -35,140 +34,165 @@ const EDGES: [u64; 16] = [
 /// So many more are asked, in the areas.
 const INSIDE: u64 = 16;
 
-/// The byte where a page is that comes so many behind a first one.
-fn at(first: u64, pages: u64) -> u64 {
-    first.wrapping_add(pages.wrapping_mul(PAGE_BYTES))
+/// Where a sparse range may lie.
+const AREAS: [u64; 6] = [MEMORY, SPARSE, SPARSE, SPARSE, SPARSE, LAST];
+
+/// Lines of RADV's: memory is made or freed, sparse ranges are made or go, and parts of them are bound to memory or unbound.
+pub const OF_RADV: &[&str] = &[
+    "timestamp=$l, VA=$M-$N, destroyed=0, is_virtual=0\n",
+    "timestamp=$l, VA=$M-$N, destroyed=0, is_virtual=0\n",
+    "timestamp=$l, VA=$M-$N, destroyed=1, is_virtual=0\n",
+    "timestamp=$l, VA=$M-$N, destroyed=1, is_virtual=0\n",
+    "timestamp=$l, VA=$S-$E, destroyed=0, is_virtual=1\n",
+    "timestamp=$l, VA=$S-$E, destroyed=1, is_virtual=1\n",
+    "timestamp=$l, VA=$S-$E, mapped_to=0000000000000000\n",
+    "timestamp=$l, VA=$S-$E, mapped_to=$T\n",
+    "timestamp=$l, VA=$S-$E, mapped_to=$T\n",
+    "timestamp=$l, VA=$S-$E, mapped_to=$T\n",
+    "timestamp=$l, VA=$S-$E, mapped_to=$T\n",
+    "timestamp=$l, VA=$S-$E, mapped_to=$T\n",
+];
+
+/// Events of amdgpu's, on a few objects and on none.
+pub const OF_AMDGPU: &[&str] = &[
+    "game-1 [000] $l.5: amdgpu_bo_create: bo=0x$o, pages=$p, type=1\n",
+    "game-1 [000] $l.5: amdgpu_vm_bo_map: bo=0x$o, start=$F, last=$G, offset=$O, flags=30\n",
+    "game-1 [000] $l.5: amdgpu_vm_bo_map: bo=0x$o, start=$F, last=$G, offset=$O, flags=30\n",
+    "game-1 [000] $l.5: amdgpu_vm_bo_map: bo=0x$o, start=$F, last=$G, offset=$O, flags=70\n",
+    "game-1 [000] $l.5: amdgpu_vm_bo_map: bo=0x$o, start=$F, last=$G, offset=$O, flags=70\n",
+    "game-1 [000] $l.5: amdgpu_vm_bo_map: bo=0x$o, start=$F, last=$G, offset=$O, flags=70\n",
+    "game-1 [000] $l.5: amdgpu_vm_bo_unmap: bo=0x$o, start=$F, last=$G, offset=$O, flags=30\n",
+    "game-1 [000] $l.5: amdgpu_vm_bo_unmap: bo=0x$o, start=$F, last=$G, offset=$O, flags=70\n",
+];
+
+/// Events of xe's, on a few VMAs.
+pub const OF_XE: &[&str] = &[
+    "game-1 [000] $l.5: xe_vm_free: vm=00000000aa, asid=0x00021\n",
+    "game-1 [000] $l.5: xe_vma_bind: vma=f$v, asid=0x00021, start=0x$B, end=0x$D, userptr=0x0,\n",
+    "game-1 [000] $l.5: xe_vma_bind: vma=f$v, asid=0x00021, start=0x$B, end=0x$D, userptr=0x0,\n",
+    "game-1 [000] $l.5: xe_vma_bind: vma=f$v, asid=0x00021, start=0x$B, end=0x$D, userptr=0x0,\n",
+    "game-1 [000] $l.5: xe_vma_bind: vma=f$v, asid=0x00021, start=0x$B, end=0x$D, userptr=0x0,\n",
+    "game-1 [000] $l.5: xe_vma_bind: vma=f$v, asid=0x00021, start=0x$B, end=0x$D, userptr=0x0,\n",
+    "game-1 [000] $l.5: xe_vma_bind: vma=f$v, asid=0x00021, start=0x$B, end=0x$D, userptr=0x0,\n",
+    "game-1 [000] $l.5: xe_vma_bind: vma=f$v, asid=0x00021, start=0x$B, end=0x$D, userptr=0x0,\n",
+    "game-1 [000] $l.5: xe_vma_bind: vma=f$v, asid=0x00021, start=0x$B, end=0x$D, userptr=0x0,\n",
+    "game-1 [000] $l.5: xe_vma_bind: vma=f$v, asid=0x00021, start=0x$B, end=0x$D, userptr=0x0,\n",
+    "game-1 [000] $l.5: xe_vma_bind: vma=f$v, asid=0x00021, start=0x$B, end=0x$D, userptr=0x0,\n",
+    "game-1 [000] $l.5: xe_vma_unbind: vma=f$v, asid=0x00021, start=0x$B, end=0x$D, userptr=0x0,\n",
+    "game-1 [000] $l.5: xe_vma_unbind: vma=f$v, asid=0x00021, start=0x$B, end=0x$D, userptr=0x0,\n",
+    "game-1 [000] $l.5: xe_vma_unbind: vma=f$v, asid=0x00021, start=0x$B, end=0x$D, userptr=0x0,\n",
+    "game-1 [000] $l.5: xe_vma_unbind: vma=f$v, asid=0x00021, start=0x$B, end=0x$D, userptr=0x0,\n",
+    "game-1 [000] $l.5: xe_vma_unbind: vma=f$v, asid=0x00021, start=0x$B, end=0x$D, userptr=0x0,\n",
+];
+
+/// Numbers by chance: of the line of this number, where a range began at the last.
+#[derive(Drop)]
+pub struct Drawn {
+    pub random: Random,
+    pub line: u64,
+    pub last: u64,
 }
 
-/// How far behind its page's first byte a range begins: seldom not there.
-fn shift(random: &mut Random) -> u64 {
-    if random.is_one_in(16) { 0x800 } else { 0 }
-}
-
-/// The addresses to ask of a log.
-pub fn addresses_of(alloc: Global, random: &mut Random) -> Result<Vec<u64>, AllocError> {
-    let mut addresses = Vec::from_slice(alloc, &EDGES)?;
-    for _address in 0..INSIDE {
-        let area = random.among(&[MEMORY, MEMORY, SPARSE, LAST]);
-        let page = at(area, random.below(40));
-        addresses.push(page.wrapping_add(random.below(PAGE_BYTES)))?;
-    }
-    Ok(addresses)
-}
-
-/// Writes a log of so many lines of RADV's.
-pub fn write_radv(log: &mut String, random: &mut Random, lines: u64) -> Result<(), AllocError> {
-    for line in 0..lines {
-        if random.is_one_in(3) {
-            write_memory(log, random, line)?;
-        } else {
-            write_sparse(log, random, line)?;
+impl Drawn {
+    /// Those of a seed.
+    pub fn new(seed: u64) -> Drawn {
+        Drawn {
+            random: Random::new(seed),
+            line: 0,
+            last: 0,
         }
     }
-    Ok(())
+
+    /// Writes so many more lines by chance.
+    pub fn write_lines(
+        &mut self,
+        log: &mut String,
+        forms: &[&str],
+        lines: u64,
+    ) -> Result<(), AllocError> {
+        for _ in 0..lines {
+            let place = self.random.below((forms.len() as u64).max(1));
+            let form = forms.get(place as usize).copied().unwrap_or("");
+            write_form(log, form, self)?;
+            self.line = self.line.saturating_add(1);
+        }
+        Ok(())
+    }
+
+    /// The addresses to ask of a log.
+    pub fn addresses(&mut self, alloc: Global) -> Result<Vec<u64>, AllocError> {
+        let mut addresses = Vec::from_slice(alloc, &EDGES)?;
+        for _address in 0..INSIDE {
+            let area = self.random.among(&[MEMORY, MEMORY, SPARSE, LAST]);
+            let byte = self.random.below(0x2_8000);
+            addresses.push(area.wrapping_add(byte))?;
+        }
+        Ok(addresses)
+    }
 }
 
-/// Writes that memory was made or freed. Ranges begin at few places and overlap.
-fn write_memory(log: &mut String, random: &mut Random, time: u64) -> Result<(), AllocError> {
-    let start = at(MEMORY, random.below(12).wrapping_mul(4));
-    let end = at(start, random.below(8).wrapping_add(1));
-    let gone = random.below(2);
-    writeln!(
-        log,
-        "timestamp={time}, VA={start:016x}-{end:016x}, destroyed={gone}, is_virtual=0"
-    )
+/// What a number begins at, before one by chance is added.
+#[derive(Clone, Copy)]
+enum Start {
+    /// This number.
+    Here(u64),
+    /// The page behind the last number, or the last byte before that.
+    Next(u64),
+    /// The last number.
+    Last,
+    /// One of the areas.
+    Area,
 }
 
-/// Writes that a sparse range was made or went, or that a part of one was bound to memory or unbound.
-fn write_sparse(log: &mut String, random: &mut Random, time: u64) -> Result<(), AllocError> {
-    let area = random.among(&[MEMORY, SPARSE, SPARSE, SPARSE, SPARSE, LAST]);
-    let first = at(area, random.below(32));
-    let end = at(first, random.below(12).wrapping_add(1));
-    let start = first.wrapping_add(shift(random));
-    write!(log, "timestamp={time}, VA={start:016x}-{end:016x}, ")?;
-    match random.below(8) {
-        0 => writeln!(log, "destroyed=0, is_virtual=1"),
-        1 => writeln!(log, "destroyed=1, is_virtual=1"),
-        2 => writeln!(log, "mapped_to=0000000000000000"),
-        _ => {
-            let page = at(MEMORY, random.below(56));
-            let to = page.wrapping_add(shift(random));
-            writeln!(log, "mapped_to={to:016x}")
+/// What letters stand for: what a number begins at, and so many times a number below a bound.
+const LETTERS: [(u8, Start, u64, u64); 21] = [
+    (b'M', Start::Here(MEMORY), 0x4000, 12),
+    (b'B', Start::Here(MEMORY), 0x4000, 12),
+    (b'N', Start::Next(0), 0x1000, 8),
+    (b'S', Start::Area, 0x1000, 32),
+    (b'E', Start::Next(0), 0x1000, 12),
+    (b'T', Start::Here(MEMORY), 0x1000, 56),
+    (b'D', Start::Next(1), 0x1000, 8),
+    (b'F', Start::Here(0x10), 1, 40),
+    (b'G', Start::Last, 1, 8),
+    (b'O', Start::Here(0), 0x1000, 16),
+    (b'o', Start::Here(0), 1, 5),
+    (b'p', Start::Here(1), 1, 24),
+    (b'v', Start::Here(0), 1, 6),
+    (b'C', Start::Here(0x20_0000), 0x1000, 8),
+    (b'X', Start::Next(1), 0, 1),
+    (b'H', Start::Here(0), 1, 8),
+    (b'I', Start::Last, 1, 2),
+    (b'i', Start::Here(0), 1, 9),
+    (b's', Start::Here(0), 1, 4),
+    (b'q', Start::Here(2), 1, 4),
+    (b'w', Start::Here(0), 1, 3),
+];
+
+impl Drawn {
+    /// Where a number begins.
+    fn first(&mut self, start: Start) -> u64 {
+        match start {
+            Start::Here(number) => number,
+            Start::Next(less) => (self.last & !0xfff).wrapping_add(0x1000).wrapping_sub(less),
+            Start::Last => self.last,
+            Start::Area => self.random.among(&AREAS),
         }
     }
 }
 
-/// Writes a log of so many events of amdgpu's, on a few objects and on none.
-pub fn write_amdgpu(log: &mut String, random: &mut Random, lines: u64) -> Result<(), AllocError> {
-    for line in 0..lines {
-        let object = random.below(5);
-        write!(log, "game-1 [000] {line}.5: ")?;
-        if random.is_one_in(8) {
-            let pages = random.below(24).wrapping_add(1);
-            writeln!(
-                log,
-                "amdgpu_bo_create: bo=0x{object:x}, pages={pages}, type=1"
-            )?;
-        } else {
-            write_event(log, random, object)?;
+impl Numbers for Drawn {
+    /// Ranges begin at few places and overlap; seldom they begin behind their page's first byte.
+    fn number(&mut self, letter: u8) -> u64 {
+        for (other, start, step, bound) in LETTERS {
+            if other == letter {
+                let far = self.random.below(bound.max(1)).wrapping_mul(step);
+                let is_shifted = b"BST".contains(&letter) && self.random.is_one_in(16);
+                let shift = if is_shifted { 0x800 } else { 0 };
+                self.last = self.first(start).wrapping_add(far).wrapping_add(shift);
+                return self.last;
+            }
         }
+        self.line
     }
-    Ok(())
-}
-
-/// Writes that pages of an object were mapped or unmapped.
-fn write_event(log: &mut String, random: &mut Random, object: u64) -> Result<(), AllocError> {
-    let word = if random.is_one_in(4) { "unmap" } else { "map" };
-    let first = random.below(40).wrapping_add(MEMORY / PAGE_BYTES);
-    let last = first.wrapping_add(random.below(8));
-    let offset = at(0, random.below(16));
-    let flags = random.among(&[0x30, 0x70]);
-    write!(
-        log,
-        "amdgpu_vm_bo_{word}: bo=0x{object:x}, start={first:x}, last={last:x}, "
-    )?;
-    writeln!(log, "offset={offset:010x}, flags={flags:x}")
-}
-
-/// Writes a log of so many events of xe's, on a few VMAs.
-pub fn write_xe(log: &mut String, random: &mut Random, lines: u64) -> Result<(), AllocError> {
-    for line in 0..lines {
-        write!(log, "game-1 [000] {line}.5: ")?;
-        if random.is_one_in(16) {
-            writeln!(log, "xe_vm_free: vm=00000000aa, asid=0x00021")?;
-        } else {
-            write_vma(log, random)?;
-        }
-    }
-    Ok(())
-}
-
-/// Writes that a VMA was bound or unbound. Ranges begin at few places and overlap.
-fn write_vma(log: &mut String, random: &mut Random) -> Result<(), AllocError> {
-    let word = if random.is_one_in(3) {
-        "unbind"
-    } else {
-        "bind"
-    };
-    let pointer = random.below(6);
-    let start = at(MEMORY, random.below(12).wrapping_mul(4)).wrapping_add(shift(random));
-    let end = at(start, random.below(8).wrapping_add(1)).wrapping_sub(1);
-    writeln!(
-        log,
-        "xe_vma_{word}: vma=f{pointer}, asid=0x00021, start=0x{start:012x}, end=0x{end:012x}, userptr=0x0,"
-    )
-}
-
-/// Writes a log of so many lines of RADV's, each of which is accepted.
-pub fn write_accepted(log: &mut String, lines: u64) -> Result<(), AllocError> {
-    for line in 0..lines {
-        let start = at(SPARSE, line % 512);
-        let end = at(start, 2);
-        let gone = line / 512 % 2;
-        writeln!(
-            log,
-            "timestamp={line}, VA={start:016x}-{end:016x}, destroyed={gone}, is_virtual=1"
-        )?;
-    }
-    Ok(())
 }

@@ -1,15 +1,13 @@
 //! What a replay tells of addresses, against what comes of taking its entries back one by one.
 
-use crate::made::{addresses_of, write_accepted, write_amdgpu, write_radv, write_xe};
-use crate::mirror::Mirror;
-use crate::play::{AMDGPU, RADV, XE};
-use crate::rewound::{Past, pasts_of};
-use gv_model::Random;
-use gv_replay::{FlagBits, ReplayFault, Terms, number_of, replay, watch, write_act};
+use crate::forms::{Given, write_form};
+use crate::made::{Drawn, OF_AMDGPU, OF_RADV, OF_XE};
+use crate::rewound::rewound;
+use crate::told::terms_of;
+use gv_replay::{ReplayFault, Terms, replay};
 use gv_text::{MemorySink, MemorySource};
-use gv_types::{Backing, Entry, PAGE_BYTES};
 use std::alloc::{AllocError, Global};
-use std::fmt::Write;
+use std::process::Abort;
 use std::str;
 use std::test::Fail;
 
@@ -22,87 +20,24 @@ const AROUND: u64 = 3_000;
 /// So many entries are held at most.
 const HELD: u64 = 65_536;
 
-/// A log of one line, which is refused, and one of a line that is accepted.
-const REFUSED: &[u8] =
-    b"timestamp=1, VA=0000000000010800-0000000000011000, destroyed=1, is_virtual=1\n";
+const RADV: &str = "--format radv";
 
-const ACCEPTED: &[u8] =
-    b"timestamp=1, VA=0000000000010000-0000000000011000, destroyed=0, is_virtual=1\n";
+const AMDGPU: &str = "--format amdgpu --flags entry";
 
-/// Writes what an address reaches.
-fn write_entry(out: &mut String, entry: Option<Entry>, addr: u64) -> Result<(), AllocError> {
-    let Some(Entry { backing, flags }) = entry else {
-        return out.push_str("none");
-    };
-    match backing {
-        Backing::Buffer { id, page } => {
-            let number = number_of(&id);
-            let byte = page
-                .wrapping_mul(PAGE_BYTES)
-                .wrapping_add(addr % PAGE_BYTES);
-            write!(out, "b{number} 0x{byte:x}")?;
-        }
-        Backing::Zero => out.push_str("zero")?,
-    }
-    out.push_str(if flags.read_only { " ro" } else { "" })
-}
+const XE: &str = "--format xe";
 
-/// Writes what an address reaches and reached before, as the report has it.
-fn write_past(out: &mut String, past: &Past, first: u64) -> Result<(), AllocError> {
-    let addr = past.addr;
-    write!(out, "0x{addr:x}: ")?;
-    write_entry(out, past.now, addr)?;
-    out.push_str("\n")?;
-    for before in &past.before {
-        out.push_str("  ")?;
-        write_act(out, &before.act)?;
-        out.push_str(": ")?;
-        write_entry(out, before.entry, addr)?;
-        out.push_str(" before\n")?;
-    }
-    if first > 0 {
-        writeln!(out, "  the first {first} binds are no longer held")?;
-    }
-    Ok(())
-}
+/// A line that tells the address space of xe's events.
+const HEAD: &str = "xe_vma_flush: vma=f0, asid=0x00021, start=0x0, end=0xfff, userptr=0x0,\n";
 
-/// What the report has to say of the addresses that are asked.
-fn write_pasts(out: &mut String, pasts: &[Past], first: u64) -> Result<(), AllocError> {
-    for past in pasts {
-        write_past(out, past, first)?;
-    }
-    Ok(())
-}
-
-/// The addresses that are asked, as the format writes them.
-fn asked(alloc: Global, terms: &Terms<'_>) -> Result<Vec<u64>, AllocError> {
-    let mut addresses = Vec::new(alloc);
-    for addr in terms.addresses {
-        addresses.push(terms.format.address(*addr))?;
-    }
-    Ok(addresses)
-}
-
-/// The pasts that come of a log where its entries are taken back, as the report has them.
-fn rewound(alloc: Global, log: &[u8], terms: &Terms<'_>) -> Result<String, ReplayFault> {
-    let addresses = asked(alloc, terms)?;
-    let mut mirror = Mirror::new(alloc)?;
-    let watched = watch(alloc, &mut MemorySource::new(log), terms, &mut mirror);
-    let (mut machine, mut acts) = mirror.end();
-    let first = machine.first();
-    let pasts = pasts_of(alloc, &mut machine, &mut acts, &addresses);
-    machine.close();
-    watched?;
-    let mut out = String::new(alloc);
-    write_pasts(&mut out, &pasts?, first)?;
-    Ok(out)
-}
+/// Logs of one line, one that is refused and one that is accepted.
+const ONES: [&[u8]; 2] = [
+    b"timestamp=1, VA=0000000000010800-0000000000011000, destroyed=1, is_virtual=1\n",
+    b"timestamp=1, VA=0000000000010000-0000000000011000, destroyed=0, is_virtual=1\n",
+];
 
 /// Whether a replay's report ends with these pasts, and has no other line of an address.
 fn ends_with(report: &[u8], pasts: &str) -> bool {
-    let Ok(report) = str::from_utf8(report) else {
-        return false;
-    };
+    let report = str::from_utf8(report).unwrap_or("");
     match report.split_once("\n0x") {
         Some((_, told)) => pasts.strip_prefix("0x") == Some(told),
         None => false,
@@ -114,85 +49,36 @@ fn agrees(alloc: Global, log: &[u8], terms: &Terms<'_>) -> Result<bool, ReplayFa
     let mut sink = MemorySink::new(alloc);
     replay(alloc, &mut MemorySource::new(log), &mut sink, terms)?;
     let pasts = rewound(alloc, log, terms)?;
-    Ok(ends_with(sink.bytes(), &pasts))
+    Ok(ends_with(sink.bytes(), pasts.as_str()))
 }
 
-/// Whether it does for a log of RADV's by chance.
-fn agrees_on_radv(alloc: Global, seed: u64, lines: u64) -> Result<bool, ReplayFault> {
-    let mut random = Random::new(seed);
-    let mut log = String::new(alloc);
-    write_radv(&mut log, &mut random, lines)?;
-    let addresses = addresses_of(alloc, &mut random)?;
-    let terms = Terms {
-        addresses: &addresses,
-        ..RADV
-    };
-    agrees(alloc, log.as_bytes(), &terms)
-}
-
-/// Whether it does for a log of amdgpu's by chance.
-fn agrees_on_amdgpu(alloc: Global, seed: u64, lines: u64) -> Result<bool, ReplayFault> {
-    let mut random = Random::new(seed);
-    let mut log = String::new(alloc);
-    write_amdgpu(&mut log, &mut random, lines)?;
-    let addresses = addresses_of(alloc, &mut random)?;
-    let terms = Terms {
-        addresses: &addresses,
-        flag_bits: FlagBits::Entry,
-        ..AMDGPU
-    };
-    agrees(alloc, log.as_bytes(), &terms)
-}
-
-/// Whether it does for a log of xe's by chance, whose first line tells the address space.
-fn agrees_on_xe(alloc: Global, seed: u64, lines: u64) -> Result<bool, ReplayFault> {
-    let mut random = Random::new(seed);
-    let mut log = String::new(alloc);
-    writeln!(
-        log,
-        "xe_vma_flush: vma=f0, asid=0x00021, start=0x0, end=0xfff, userptr=0x0,"
-    )?;
-    write_xe(&mut log, &mut random, lines)?;
-    let addresses = addresses_of(alloc, &mut random)?;
-    let terms = Terms {
-        addresses: &addresses,
-        ..XE
-    };
-    agrees(alloc, log.as_bytes(), &terms)
-}
-
-/// Whether it does for a log of RADV's with as many accepted lines as entries may be held, and others by chance on both sides: those
-/// before are settled by those behind.
-fn agrees_on_long(alloc: Global) -> Result<bool, ReplayFault> {
-    let mut random = Random::new(LOGS);
-    let mut log = String::new(alloc);
-    write_radv(&mut log, &mut random, AROUND)?;
-    write_accepted(&mut log, HELD)?;
-    write_radv(&mut log, &mut random, AROUND)?;
-    let addresses = addresses_of(alloc, &mut random)?;
-    let terms = Terms {
-        addresses: &addresses,
-        ..RADV
-    };
-    agrees(alloc, log.as_bytes(), &terms)
+/// Asserts it for a log of so many lines as its seed and one, behind this first one.
+fn expect_past(
+    rt: &(impl Abort + AllocGlobal),
+    words: &str,
+    head: &str,
+    forms: &[&str],
+    seed: u64,
+) -> Result<(), Fail> {
+    let mut drawn = Drawn::new(seed);
+    let mut log = String::from_str(rt.alloc(), head)?;
+    drawn.write_lines(&mut log, forms, seed.saturating_add(1))?;
+    let addresses = drawn.addresses(rt.alloc())?;
+    let is_alike = agrees(rt.alloc(), log.as_bytes(), &terms_of(words, &addresses))?;
+    assert!(rt; is_alike, "{words}, seed {seed}");
+    Ok(())
 }
 
 /// No entry is held, or one, or few.
 #[test]
 fn pasts_are_those_of_entries_taken_back(rt: HostRuntime) -> Result<(), Fail> {
-    let terms = Terms {
-        addresses: &[0, 0x1_0800],
-        ..RADV
-    };
-    for log in [REFUSED, ACCEPTED] {
-        let of_line = agrees(rt.alloc(), log, &terms)?;
-        assert!(rt; of_line, "a log of one line");
+    for log in ONES {
+        let is_alike = agrees(rt.alloc(), log, &terms_of(RADV, &[0, 0x1_0800]))?;
+        assert!(rt; is_alike, "a log of one line");
     }
     for seed in 0..LOGS {
-        let of_radv = agrees_on_radv(rt.alloc(), seed, seed + 1)?;
-        assert!(rt; of_radv, "RADV, seed {seed}");
-        let of_amdgpu = agrees_on_amdgpu(rt.alloc(), seed, seed + 1)?;
-        assert!(rt; of_amdgpu, "amdgpu, seed {seed}");
+        expect_past(&rt, RADV, "", OF_RADV, seed)?;
+        expect_past(&rt, AMDGPU, "", OF_AMDGPU, seed)?;
     }
     Ok(())
 }
@@ -201,16 +87,36 @@ fn pasts_are_those_of_entries_taken_back(rt: HostRuntime) -> Result<(), Fail> {
 #[test]
 fn pasts_of_vmas_are_those_of_entries_taken_back(rt: HostRuntime) -> Result<(), Fail> {
     for seed in 0..LOGS {
-        let of_xe = agrees_on_xe(rt.alloc(), seed, seed + 1)?;
-        assert!(rt; of_xe, "seed {seed}");
+        expect_past(&rt, XE, HEAD, OF_XE, seed)?;
     }
     Ok(())
 }
 
-/// As many entries are held as may be, and older ones are settled.
+/// Writes as many lines of RADV's as entries may be held, each of which is accepted.
+fn write_accepted(log: &mut String) -> Result<(), AllocError> {
+    for line in 0..HELD {
+        let start = (line % 512)
+            .saturating_mul(0x1000)
+            .saturating_add(0x80_0000);
+        let end = start.saturating_add(0x2000);
+        let gone = line / 512 % 2;
+        let numbers = [(b'l', line), (b'S', start), (b'E', end), (b'g', gone)];
+        let form = "timestamp=$l, VA=$S-$E, destroyed=$g, is_virtual=1\n";
+        write_form(log, form, &mut Given(&numbers))?;
+    }
+    Ok(())
+}
+
+/// As many entries are held as may be, and older ones are settled: lines that are accepted, and others by chance on both sides.
 #[test]
 fn pasts_are_those_of_all_that_are_held(rt: HostRuntime) -> Result<(), Fail> {
-    let of_long = agrees_on_long(rt.alloc())?;
-    assert!(rt; of_long);
+    let mut drawn = Drawn::new(LOGS);
+    let mut log = String::new(rt.alloc());
+    drawn.write_lines(&mut log, OF_RADV, AROUND)?;
+    write_accepted(&mut log)?;
+    drawn.write_lines(&mut log, OF_RADV, AROUND)?;
+    let addresses = drawn.addresses(rt.alloc())?;
+    let is_alike = agrees(rt.alloc(), log.as_bytes(), &terms_of(RADV, &addresses))?;
+    assert!(rt; is_alike);
     Ok(())
 }

@@ -1,95 +1,139 @@
 //! What addresses reached before, as it was told before the journal was asked: the held entries are taken back one after another, the
 //! newest first.
 
-use crate::mirror::Machine;
-use gv_replay::Act;
-use gv_types::{Entry, Op, PAGE_BYTES, PageOp};
+use crate::mirror::{DIFFERS, Mirror};
+use gv_journal::{Item, ItemKind};
+use gv_replay::{Act, ReplayFault, Terms, number_of, watch, write_act};
+use gv_text::MemorySource;
+use gv_types::{Backing, Entry, Op, PAGE_BYTES, PageOp};
+use gv_vm::Vm;
 use std::alloc::{AllocError, Global};
 use std::collections::VecDeque;
+use std::fmt::Write;
 
-/// An entry that covers an address, and what the address reached before it.
-#[derive(Clone, Copy)]
-pub struct Before {
-    pub act: Act,
-    pub entry: Option<Entry>,
-}
-
-/// An address: what it reaches, and what it reached before each entry that covers it, the newest first.
+/// An address, and what the report has to say of it.
 #[derive(Drop)]
-pub struct Past {
-    pub addr: u64,
-    pub now: Option<Entry>,
-    pub before: Vec<Before>,
+struct Past {
+    addr: u64,
+    told: String,
 }
 
 impl Past {
-    fn of(alloc: Global, machine: &Machine, addr: u64) -> Past {
-        Past {
-            addr,
-            now: machine.space().walk(addr / PAGE_BYTES),
-            before: Vec::new(alloc),
+    /// Writes what the address reaches.
+    fn write_entry(&mut self, vm: &Vm) -> Result<(), AllocError> {
+        let addr = self.addr;
+        let Some(Entry { backing, flags }) = vm.space().walk(addr / PAGE_BYTES) else {
+            return self.told.push_str("none");
+        };
+        match backing {
+            Backing::Buffer { id, page } => {
+                let number = number_of(&id);
+                let byte = page
+                    .wrapping_mul(PAGE_BYTES)
+                    .wrapping_add(addr % PAGE_BYTES);
+                write!(self.told, "b{number} 0x{byte:x}")?;
+            }
+            Backing::Zero => self.told.push_str("zero")?,
         }
+        self.told.push_str(if flags.read_only { " ro" } else { "" })
     }
 
-    /// What it reaches now that the newest entry, which was this, is taken back.
-    fn add(&mut self, machine: &Machine, act: &Act) -> Result<(), AllocError> {
+    /// Writes what it reaches now that the newest entry, which did this, is taken back, if that covers it.
+    fn add(&mut self, vm: &Vm, act: &Act, done: &[PageOp]) -> Result<(), AllocError> {
         // The borrow checker proves this only where the function names the types inside the act.
         let _op = Op::Unmap { addr: 0, len: 0 };
-        let entry = machine.space().walk(self.addr / PAGE_BYTES);
-        self.before.push(Before { act: *act, entry })?;
-        Ok(())
+        if !covers(done, self.addr / PAGE_BYTES) {
+            return Ok(());
+        }
+        self.told.push_str("  ")?;
+        write_act(&mut self.told, act)?;
+        self.told.push_str(": ")?;
+        self.write_entry(vm)?;
+        self.told.push_str(" before\n")
     }
 }
 
-/// The past of each address. The machine is rewound as far as its entries are held, but for no address not at all.
-pub fn pasts_of(
-    alloc: Global,
-    machine: &mut Machine,
-    acts: &mut VecDeque<Act>,
-    addresses: &[u64],
-) -> Result<Vec<Past>, AllocError> {
-    let mut pasts = Vec::new(alloc);
-    for addr in addresses {
-        pasts.push(Past::of(alloc, machine, *addr))?;
-    }
-    if pasts.is_empty() {
-        return Ok(pasts);
-    }
-    for _entry in 0..machine.held() {
-        let Some(act) = acts.pop_back() else {
-            return Ok(pasts);
-        };
-        let covered = covered_by(alloc, machine, &pasts)?;
-        if !machine.rewind() {
-            return Ok(pasts);
-        }
-        for (past, is_covered) in pasts.iter_mut().zip(covered) {
-            if is_covered {
-                past.add(machine, &act)?;
+/// Whether an operation covers the page.
+fn covers(done: &[PageOp], page: u64) -> bool {
+    for op in done {
+        if let PageOp::Map { range, .. } | PageOp::Unmap { range } = op {
+            if range.covers(page) {
+                return true;
             }
         }
+    }
+    false
+}
+
+/// The operations of the newest entry as they were done: an unmap of a whole buffer is the unmaps that it stood for.
+fn newest(alloc: Global, vm: &Vm) -> Result<Vec<PageOp>, AllocError> {
+    match vm.items().last() {
+        Some(
+            Item {
+                kind: ItemKind::Bind { done, .. },
+                ..
+            },
+        ) => Vec::from_slice(alloc, done.as_slice()),
+        _ => Ok(Vec::new(alloc)),
+    }
+}
+
+/// Each address that is asked, as the format writes it, and what it reaches.
+fn asked(alloc: Global, vm: &Vm, terms: &Terms<'_>) -> Result<Vec<Past>, AllocError> {
+    let mut pasts = Vec::new(alloc);
+    for addr in terms.addresses {
+        let addr = terms.format.address(*addr);
+        let told = format!(in alloc; "0x{addr:x}: ")?;
+        let mut past = Past { addr, told };
+        past.write_entry(vm)?;
+        past.told.push_str("\n")?;
+        pasts.push(past)?;
     }
     Ok(pasts)
 }
 
-/// Of each address, whether the newest entry covers it.
-fn covered_by(alloc: Global, machine: &Machine, pasts: &[Past]) -> Result<Vec<bool>, AllocError> {
-    let mut covered = Vec::new(alloc);
-    for past in pasts {
-        covered.push(is_covered(machine, past.addr / PAGE_BYTES))?;
+/// What the report has to say of the addresses. Each entry that is held is taken back.
+fn pasts_of(
+    alloc: Global,
+    vm: &mut Vm,
+    acts: VecDeque<Act>,
+    terms: &Terms<'_>,
+) -> Result<String, ReplayFault> {
+    let first = vm.first();
+    let mut pasts = asked(alloc, vm, terms)?;
+    for act in acts.iter().rev() {
+        let done = newest(alloc, vm)?;
+        if vm.rewind().is_err() {
+            return Err(DIFFERS);
+        }
+        for past in pasts.iter_mut() {
+            past.add(vm, act, &done)?;
+        }
     }
-    Ok(covered)
+    let mut told = String::new(alloc);
+    for past in &pasts {
+        told.push_str(past.told.as_str())?;
+        if first > 0 {
+            writeln!(told, "  the first {first} binds are no longer held")?;
+        }
+    }
+    Ok(told)
 }
 
-/// Whether an operation of the newest entry covers the page.
-fn is_covered(machine: &Machine, page: u64) -> bool {
-    machine.newest().iter().any(|op| covers(op, page))
-}
-
-/// Whether an operation covers the page.
-fn covers(op: &PageOp, page: u64) -> bool {
-    match op {
-        PageOp::Map { range, .. } | PageOp::Unmap { range } => range.covers(page),
-        PageOp::UnmapBuffer { .. } => false,
-    }
+/// The pasts that come of a log where its entries are taken back, as the report has them.
+pub fn rewound(alloc: Global, log: &[u8], terms: &Terms<'_>) -> Result<String, ReplayFault> {
+    let mut mirror = Mirror::new(alloc)?;
+    let watched = watch(alloc, &mut MemorySource::new(log), terms, &mut mirror);
+    let Mirror {
+        vm,
+        acts,
+        made: _,
+        requests: _,
+        alloc: _,
+    } = mirror;
+    let mut vm = vm;
+    let pasts = pasts_of(alloc, &mut vm, acts, terms);
+    vm.close();
+    watched?;
+    pasts
 }

@@ -1,16 +1,11 @@
 //! Logs written as scripts.
 
-use crate::play::{RADV, XE, play};
-use gv_replay::{Form, Terms};
+use crate::told::{expect_ends, expect_told, times};
 use gv_text::{MemorySink, MemorySource, run_script};
+use std::process::Abort;
 use std::test::Fail;
 
-const SCRIPT: Terms<'static> = Terms {
-    form: Form::Script,
-    ..RADV
-};
-
-const LOG: &[u8] = b"timestamp=1, VA=0000000000010000-0000000000030000, destroyed=0, is_virtual=0\n\
+const LOG: &str = "timestamp=1, VA=0000000000010000-0000000000030000, destroyed=0, is_virtual=0\n\
     timestamp=2, VA=0000000000800000-0000000000810000, destroyed=0, is_virtual=1\n\
     noise\n\
     timestamp=3, VA=0000000000800000-0000000000801000, mapped_to=000000000001f000\n\
@@ -18,7 +13,7 @@ const LOG: &[u8] = b"timestamp=1, VA=0000000000010000-0000000000030000, destroye
     timestamp=5, VA=0000000000010000-0000000000030000, destroyed=1, is_virtual=0\n\
     timestamp=6, VA=0000000000800000-0000000000810000, destroyed=1, is_virtual=1\n";
 
-const WANTED: &[u8] = b"buffer b1 32\n\
+const WANTED: &str = "buffer b1 32\n\
     bind map 0x10000 0x20000 b1 0x0\n\
     bind zero 0x800000 0x10000\n\
     bind map 0x800000 0x1000 b1 0xf000\n\
@@ -29,65 +24,51 @@ const WANTED: &[u8] = b"buffer b1 32\n\
 const REPLIES: &[u8] =
     b"ok\naccepted 0\naccepted 1\naccepted 2\naccepted 3\naccepted 4\naccepted 5\n";
 
-const SCRIPT_OF_XE: Terms<'static> = Terms {
-    form: Form::Script,
-    ..XE
-};
-
-const OF_XE: &[u8] =
-    b"xe_vma_bind: vma=f0, asid=0x00021, start=0x200000, end=0x201fff, userptr=0x0,\n\
+const OF_XE: &str =
+    "xe_vma_bind: vma=f0, asid=0x00021, start=0x200000, end=0x201fff, userptr=0x0,\n\
     xe_vma_evict: vma=f0, asid=0x00021, start=0x200000, end=0x201fff, userptr=0x0,\n\
     xe_vma_unbind: vma=f1, asid=0x00021, start=0x201000, end=0x201fff, userptr=0x0,\n\
     xe_vm_free: vm=00000000aa, asid=0x00021\n";
 
-const WANTED_OF_XE: &[u8] = b"buffer b1 2\n\
+const WANTED_OF_XE: &str = "buffer b1 2\n\
     bind map 0x200000 0x2000 b1 0x0\n\
     bind unmap 0x201000 0x1000\n\
     bind unmap 0x0 0x200000000000000\n";
 
 const REPLIES_OF_XE: &[u8] = b"ok\naccepted 0\naccepted 1\naccepted 2\n";
 
+/// Runs a script, and asserts its replies.
+fn expect_replies(
+    rt: &(impl Abort + AllocGlobal),
+    script: &str,
+    wanted: &[u8],
+) -> Result<(), Fail> {
+    let mut replies = MemorySink::new(rt.alloc());
+    let mut source = MemorySource::new(script.as_bytes());
+    run_script(rt.alloc(), &mut source, &mut replies)?;
+    assert!(rt; replies.bytes() == wanted);
+    Ok(())
+}
+
 #[test]
 fn a_log_is_a_script_that_runs(rt: HostRuntime) -> Result<(), Fail> {
-    let mut script = MemorySink::new(rt.alloc());
-    assert!(rt; play(rt.alloc(), LOG, &SCRIPT, &mut script) == Ok(()));
-    assert!(rt; script.bytes() == WANTED);
-    let mut replies = MemorySink::new(rt.alloc());
-    run_script(
-        rt.alloc(),
-        &mut MemorySource::new(script.bytes()),
-        &mut replies,
-    )?;
-    assert!(rt; replies.bytes() == REPLIES);
-    Ok(())
+    expect_told(&rt, "--format radv --script", LOG.as_bytes(), WANTED)?;
+    expect_replies(&rt, WANTED, REPLIES)
 }
 
 /// An address space that goes is an unmap of all of it.
 #[test]
 fn a_log_of_xe_is_a_script_that_runs(rt: HostRuntime) -> Result<(), Fail> {
-    let mut script = MemorySink::new(rt.alloc());
-    assert!(rt; play(rt.alloc(), OF_XE, &SCRIPT_OF_XE, &mut script) == Ok(()));
-    assert!(rt; script.bytes() == WANTED_OF_XE);
-    let mut replies = MemorySink::new(rt.alloc());
-    run_script(
-        rt.alloc(),
-        &mut MemorySource::new(script.bytes()),
-        &mut replies,
-    )?;
-    assert!(rt; replies.bytes() == REPLIES_OF_XE);
-    Ok(())
+    expect_told(&rt, "--format xe --script", OF_XE.as_bytes(), WANTED_OF_XE)?;
+    expect_replies(&rt, WANTED_OF_XE, REPLIES_OF_XE)
 }
 
 #[test]
 fn a_script_that_run_refuses_says_so(rt: HostRuntime) -> Result<(), Fail> {
-    let mut log = Vec::new(rt.alloc());
-    for _times in 0..7_000 {
-        log.extend_from_slice(LOG)?;
-    }
-    let mut script = MemorySink::new(rt.alloc());
-    assert!(rt; play(rt.alloc(), &log, &SCRIPT, &mut script) == Ok(()));
-    let head = b"# more bytes than vmbind run takes: for vmbind serve\nbuffer b1 32\n";
-    assert!(rt; script.bytes().starts_with(head));
-    assert!(rt; script.bytes().ends_with(b"bind unmap 0x800000 0x10000\n"));
-    Ok(())
+    let log = times(rt.alloc(), 7_000, LOG)?;
+    let ends = (
+        "# more bytes than vmbind run takes: for vmbind serve\nbuffer b1 32\n",
+        "bind unmap 0x800000 0x10000\n",
+    );
+    expect_ends(&rt, "--format radv --script", log.as_bytes(), ends)
 }

@@ -1,27 +1,53 @@
 //! Logs of VMAs by chance, against pages that are kept by the rules alone.
 
-use crate::play::{XE, has_line, play};
+use crate::forms::{Given, write_form};
+use crate::told::{expect_lines, told_at};
 use gv_model::Random;
-use gv_replay::Terms;
-use gv_text::MemorySink;
-use gv_types::PAGE_BYTES;
-use std::alloc::{AllocError, Global};
+use std::alloc::AllocError;
 use std::fmt::Write;
 use std::test::Fail;
 
-/// The pages that VMAs lie in, the first byte of them, and how many pointers there are.
+/// The pages that VMAs lie in, and how many pointers there are.
 const PAGES: u64 = 16;
 
-const FIRST: u64 = 0x20_0000;
-
 const POINTERS: u64 = 5;
+
+/// The first byte of each page.
+const ADDRESSES: [u64; 16] = [
+    0x20_0000, 0x20_1000, 0x20_2000, 0x20_3000, 0x20_4000, 0x20_5000, 0x20_6000, 0x20_7000,
+    0x20_8000, 0x20_9000, 0x20_a000, 0x20_b000, 0x20_c000, 0x20_d000, 0x20_e000, 0x20_f000,
+];
 
 /// So many logs, of so many lines.
 const LOGS: u64 = 60;
 
 const LINES: u64 = 40;
 
-/// A VMA: its first page, how many it has, and the number of its buffer.
+/// The event that a log begins with, which tells its address space.
+const HEAD: &str =
+    "xe_vma_flush: vma=f0, asid=0x00021, start=0x000000200000, end=0x000000200fff, userptr=0x0,\n";
+
+/// Events.
+const EVENTS: [&str; 16] = [
+    "xe_vm_free: vm=00000000aa, asid=0x00021\n",
+    "xe_vm_create: vm=00000000aa, asid=0x00021\n",
+    "xe_vma_evict: vma=f$p, asid=0x00021, start=0x$S, end=0x$E, userptr=0x0,\n",
+    "xe_vma_evict: vma=f$p, asid=0x00021, start=0x$S, end=0x$E, userptr=0x0,\n",
+    "xe_vma_unbind: vma=f$p, asid=0x00021, start=0x$S, end=0x$E, userptr=0x0,\n",
+    "xe_vma_unbind: vma=f$p, asid=0x00021, start=0x$S, end=0x$E, userptr=0x0,\n",
+    "xe_vma_unbind: vma=f$p, asid=0x00021, start=0x$S, end=0x$E, userptr=0x0,\n",
+    "xe_vma_unbind: vma=f$p, asid=0x00021, start=0x$S, end=0x$E, userptr=0x0,\n",
+    "xe_vma_unbind: vma=f$p, asid=0x00021, start=0x$S, end=0x$E, userptr=0x0,\n",
+    "xe_vma_bind: vma=f$p, asid=0x00021, start=0x$S, end=0x$E, userptr=0x0,\n",
+    "xe_vma_bind: vma=f$p, asid=0x00021, start=0x$S, end=0x$E, userptr=0x0,\n",
+    "xe_vma_bind: vma=f$p, asid=0x00021, start=0x$S, end=0x$E, userptr=0x0,\n",
+    "xe_vma_bind: vma=f$p, asid=0x00021, start=0x$S, end=0x$E, userptr=0x0,\n",
+    "xe_vma_bind: vma=f$p, asid=0x00021, start=0x$S, end=0x$E, userptr=0x0,\n",
+    "xe_vma_bind: vma=f$p, asid=0x00021, start=0x$S, end=0x$E, userptr=0x0,\n",
+    "xe_vma_bind: vma=f$p, asid=0x00021, start=0x$S, end=0x$E, userptr=0x0,\n",
+];
+
+/// A VMA: its first page, how many it has, and the number of its buffer; buffer 0 where none is known.
 #[derive(Clone, Copy)]
 struct Known {
     first: u64,
@@ -29,261 +55,190 @@ struct Known {
     buffer: u64,
 }
 
-/// What a page reaches: a buffer by its number, and a page of it.
-#[derive(Clone, Copy, PartialEq, Eq)]
+const UNKNOWN: Known = Known {
+    first: 0,
+    count: 0,
+    buffer: 0,
+};
+
+/// What a page reaches: a buffer by its number, and a page of it; buffer 0 where it reaches nothing.
+#[derive(Clone, Copy)]
 struct Reached {
     buffer: u64,
     page: u64,
 }
 
+const NOTHING: Reached = Reached { buffer: 0, page: 0 };
+
 /// What each page reaches, the VMA that each pointer is, and what was counted.
-#[derive(Drop)]
+#[derive(Clone, Copy)]
 struct Rules {
-    pages: Vec<Option<Reached>>,
-    known: Vec<Option<Known>>,
+    pages: [Reached; 16],
+    known: [Known; 5],
     buffers: u64,
     touched: u64,
     of_nothing: u64,
 }
 
+const EMPTY: Rules = Rules {
+    pages: [NOTHING; 16],
+    known: [UNKNOWN; 5],
+    buffers: 0,
+    touched: 1,
+    of_nothing: 0,
+};
+
 impl Rules {
-    fn new(alloc: Global) -> Result<Rules, AllocError> {
-        Ok(Rules {
-            pages: vec![in alloc; None; PAGES as usize]?,
-            known: vec![in alloc; None; POINTERS as usize]?,
-            buffers: 0,
-            touched: 0,
-            of_nothing: 0,
-        })
+    fn known(&self, pointer: u64) -> Known {
+        self.known.get(pointer as usize).copied().unwrap_or(UNKNOWN)
     }
 
-    fn known(&self, pointer: u64) -> Option<Known> {
-        self.known.get(pointer as usize).copied().flatten()
-    }
-
-    fn set_known(&mut self, pointer: u64, known: Option<Known>) {
+    fn set_known(&mut self, pointer: u64, known: Known) {
         if let Some(slot) = self.known.get_mut(pointer as usize) {
             *slot = known;
         }
     }
 
-    fn reached(&self, page: u64) -> Option<Reached> {
-        self.pages.get(page as usize).copied().flatten()
-    }
-
-    fn set_reached(&mut self, page: u64, reached: Option<Reached>) {
-        if let Some(slot) = self.pages.get_mut(page as usize) {
-            *slot = reached;
+    /// How many pages of a range reach anything, and how many just their page of the buffer.
+    fn reached(&self, range: Known) -> (u64, u64) {
+        let (mut anything, mut standing) = (0u64, 0u64);
+        for page in 0..range.count {
+            let at = range.first.wrapping_add(page) as usize;
+            let reached = self.pages.get(at).copied().unwrap_or(NOTHING);
+            let is_there = reached.buffer == range.buffer && reached.page == page;
+            anything = anything.wrapping_add(u64::from(reached.buffer != 0));
+            standing = standing.wrapping_add(u64::from(is_there));
         }
+        (anything, standing)
     }
 
-    /// How many pages of a VMA reach just what it is bound to.
-    fn standing(&self, known: Known) -> u64 {
-        let mut standing: u64 = 0;
-        for page in 0..known.count {
-            let reached = Some(Reached {
-                buffer: known.buffer,
-                page,
-            });
-            if self.reached(known.first.wrapping_add(page)) == reached {
-                standing = standing.wrapping_add(1);
+    /// The pages of a range reach those of the buffer.
+    fn reach(&mut self, range: Known) {
+        for page in 0..range.count {
+            if let Some(slot) = self.pages.get_mut(range.first.wrapping_add(page) as usize) {
+                let buffer = range.buffer;
+                *slot = Reached { buffer, page };
             }
         }
-        standing
-    }
-
-    /// Whether a page in a range reaches anything.
-    fn is_anything_in(&self, first: u64, count: u64) -> bool {
-        for page in 0..count {
-            if self.reached(first.wrapping_add(page)).is_some() {
-                return true;
-            }
-        }
-        false
     }
 
     /// A buffer is reached nowhere.
     fn drop_buffer(&mut self, buffer: u64) {
-        for page in 0..PAGES {
-            match self.reached(page) {
-                Some(reached) if reached.buffer == buffer => self.set_reached(page, None),
-                _ => {}
+        for reached in self.pages.iter_mut() {
+            if reached.buffer == buffer {
+                *reached = NOTHING;
             }
         }
     }
 
     fn bind(&mut self, pointer: u64, first: u64, count: u64) {
-        if let Some(known) = self.known(pointer) {
-            let is_there = known.first == first && known.count == count;
-            if is_there && self.standing(known) == count {
-                self.touched = self.touched.wrapping_add(1);
-                return;
-            }
-            self.drop_buffer(known.buffer);
+        let known = self.known(pointer);
+        let is_there = known.buffer != 0 && known.first == first && known.count == count;
+        if is_there && self.reached(known).1 == count {
+            self.touched = self.touched.wrapping_add(1);
+            return;
         }
-        let buffer = self.buffers.wrapping_add(1);
-        self.buffers = buffer;
+        self.drop_buffer(known.buffer);
+        self.buffers = self.buffers.wrapping_add(1);
         let known = Known {
             first,
             count,
-            buffer,
+            buffer: self.buffers,
         };
-        self.set_known(pointer, Some(known));
-        for page in 0..count {
-            self.set_reached(first.wrapping_add(page), Some(Reached { buffer, page }));
-        }
+        self.set_known(pointer, known);
+        self.reach(known);
     }
 
     fn unbind(&mut self, pointer: u64, first: u64, count: u64) {
-        let is_good = match self.known(pointer) {
-            Some(known) if known.first == first && known.count == count => {
-                self.is_anything_in(first, count)
-            }
-            Some(known) => {
-                self.drop_buffer(known.buffer);
-                false
-            }
-            None => false,
-        };
-        if !is_good {
-            self.of_nothing = self.of_nothing.wrapping_add(1);
+        let known = self.known(pointer);
+        let is_there = known.buffer != 0 && known.first == first && known.count == count;
+        if !is_there {
+            self.drop_buffer(known.buffer);
         }
-        self.set_known(pointer, None);
-        for page in 0..count {
-            self.set_reached(first.wrapping_add(page), None);
-        }
+        let is_good = is_there && self.reached(known).0 > 0;
+        self.of_nothing = self.of_nothing.wrapping_add(u64::from(!is_good));
+        self.set_known(pointer, UNKNOWN);
+        let buffer = 0;
+        self.reach(Known {
+            first,
+            count,
+            buffer,
+        });
     }
 
-    fn clear(&mut self) {
-        for pointer in 0..POINTERS {
-            self.set_known(pointer, None);
-        }
-        for page in 0..PAGES {
-            self.set_reached(page, None);
-        }
-    }
-}
-
-/// The byte where a page begins.
-fn byte_of(page: u64) -> u64 {
-    FIRST.wrapping_add(page.wrapping_mul(PAGE_BYTES))
-}
-
-/// Writes an event of a VMA.
-fn write_event(
-    log: &mut String,
-    name: &str,
-    pointer: u64,
-    range: (u64, u64),
-) -> Result<(), AllocError> {
-    let (first, count) = range;
-    let start = byte_of(first);
-    let end = byte_of(first.wrapping_add(count)).wrapping_sub(1);
-    writeln!(
-        log,
-        "xe_vma_{name}: vma=f{pointer}, asid=0x00021, start=0x{start:012x}, end=0x{end:012x}, userptr=0x0,"
-    )
-}
-
-/// A range of pages: half of the time that of the VMA, if it is known.
-fn range_of(random: &mut Random, known: Option<Known>) -> (u64, u64) {
-    match known {
-        Some(known) if random.is_one_in(2) => (known.first, known.count),
-        _ => {
-            let first = random.below(PAGES);
-            let count = random
-                .below(6)
-                .min(PAGES.wrapping_sub(first).wrapping_sub(1));
-            (first, count.wrapping_add(1))
+    /// An event is carried out.
+    fn take(&mut self, event: &str, pointer: u64, first: u64, count: u64) {
+        if event.contains("_bind") {
+            self.bind(pointer, first, count);
+        } else if event.contains("_unbind") {
+            self.unbind(pointer, first, count);
+        } else if event.contains("_evict") {
+            self.touched = self.touched.wrapping_add(1);
+        } else {
+            self.pages = EMPTY.pages;
+            self.known = EMPTY.known;
         }
     }
 }
 
-/// Writes a line, and carries it out by the rules.
+/// Writes a line, and carries it out by the rules. Half of the ranges are those of the VMA.
 fn write_line(log: &mut String, random: &mut Random, rules: &mut Rules) -> Result<(), AllocError> {
     let pointer = random.below(POINTERS);
-    let (first, count) = range_of(random, rules.known(pointer));
-    match random.below(16) {
-        0 => {
-            rules.clear();
-            writeln!(log, "xe_vm_free: vm=00000000aa, asid=0x00021")
-        }
-        1 => {
-            rules.clear();
-            writeln!(log, "xe_vm_create: vm=00000000aa, asid=0x00021")
-        }
-        2 | 3 => {
-            rules.touched = rules.touched.wrapping_add(1);
-            write_event(log, "evict", pointer, (first, count))
-        }
-        4..=8 => {
-            rules.unbind(pointer, first, count);
-            write_event(log, "unbind", pointer, (first, count))
-        }
-        _ => {
-            rules.bind(pointer, first, count);
-            write_event(log, "bind", pointer, (first, count))
-        }
+    let known = rules.known(pointer);
+    let mut first = random.below(PAGES);
+    let most = PAGES.wrapping_sub(first).min(6);
+    let mut count = random.below(most.max(1)).wrapping_add(1);
+    if known.buffer != 0 && random.is_one_in(2) {
+        (first, count) = (known.first, known.count);
+    }
+    let event = EVENTS.get(random.below(16) as usize).copied().unwrap_or("");
+    rules.take(event, pointer, first, count);
+    let start = first.wrapping_mul(0x1000).wrapping_add(0x20_0000);
+    let end = count
+        .wrapping_mul(0x1000)
+        .wrapping_add(start)
+        .wrapping_sub(1);
+    let numbers = [(b'p', pointer), (b'S', start), (b'E', end)];
+    write_form(log, event, &mut Given(&numbers))
+}
+
+/// Writes the line of the report that the page of an address comes to.
+fn write_page(wanted: &mut String, addr: u64, reached: Reached) -> Result<(), AllocError> {
+    let Reached { buffer, page } = reached;
+    let offset = page.wrapping_mul(0x1000);
+    if buffer == 0 {
+        writeln!(wanted, "0x{addr:x}: none")
+    } else {
+        writeln!(wanted, "0x{addr:x}: b{buffer} 0x{offset:x}")
     }
 }
 
-/// Writes the line of the report that a page comes to.
-fn write_wanted(out: &mut String, rules: &Rules, page: u64) -> Result<(), AllocError> {
-    let addr = byte_of(page);
-    match rules.reached(page) {
-        Some(Reached { buffer, page }) => {
-            let offset = page.wrapping_mul(PAGE_BYTES);
-            write!(out, "0x{addr:x}: b{buffer} 0x{offset:x}")
-        }
-        None => write!(out, "0x{addr:x}: none"),
-    }
-}
-
-/// The addresses of all pages.
-fn addresses_of(alloc: Global) -> Result<Vec<u64>, AllocError> {
-    let mut addresses = Vec::new(alloc);
-    for page in 0..PAGES {
-        addresses.push(byte_of(page))?;
-    }
-    Ok(addresses)
-}
-
-/// A log by chance, which begins with an event that tells its address space.
-fn write_log(log: &mut String, random: &mut Random, rules: &mut Rules) -> Result<(), AllocError> {
-    write_event(log, "flush", 0, (0, 1))?;
-    rules.touched = 1;
-    for _line in 0..LINES {
-        write_line(log, random, rules)?;
+/// Writes the lines of the report that counts and pages come to.
+fn write_wanted(wanted: &mut String, rules: &Rules) -> Result<(), AllocError> {
+    let (touched, of_nothing) = (rules.touched, rules.of_nothing);
+    writeln!(
+        wanted,
+        "{touched:>6} events that only touch what stands\n{of_nothing:>6} unmaps of nothing"
+    )?;
+    for (addr, reached) in ADDRESSES.iter().zip(rules.pages.iter()) {
+        write_page(wanted, *addr, *reached)?;
     }
     Ok(())
 }
 
 #[test]
 fn logs_of_xe_come_to_what_the_rules_say(rt: HostRuntime) -> Result<(), Fail> {
-    let addresses = addresses_of(rt.alloc())?;
-    let terms = Terms {
-        addresses: &addresses,
-        ..XE
-    };
     for seed in 0..LOGS {
-        let mut rules = Rules::new(rt.alloc())?;
-        let mut log = String::new(rt.alloc());
-        write_log(&mut log, &mut Random::new(seed), &mut rules)?;
-        let mut sink = MemorySink::new(rt.alloc());
-        assert!(rt; play(rt.alloc(), log.as_bytes(), &terms, &mut sink) == Ok(()));
-        let (touched, of_nothing) = (rules.touched, rules.of_nothing);
-        let touches = format!(in rt.alloc(); "{touched:>6} events that only touch what stands")?;
-        assert!(rt; has_line(sink.bytes(), &touches), "seed {seed}: {touches}");
-        let findings = format!(in rt.alloc(); "{of_nothing:>6} unmaps of nothing")?;
-        assert!(rt;
-            has_line(sink.bytes(), &findings),
-            "seed {seed}: {findings}"
-        );
-        for page in 0..PAGES {
-            let mut wanted = String::new(rt.alloc());
-            write_wanted(&mut wanted, &rules, page)?;
-            assert!(rt; has_line(sink.bytes(), &wanted), "seed {seed}: {wanted}");
+        let mut rules = EMPTY;
+        let mut random = Random::new(seed);
+        let mut log = String::from_str(rt.alloc(), HEAD)?;
+        for _ in 0..LINES {
+            write_line(&mut log, &mut random, &mut rules)?;
         }
+        let told = told_at(rt.alloc(), "--format xe", &ADDRESSES, log.as_bytes())?;
+        let mut wanted = String::new(rt.alloc());
+        write_wanted(&mut wanted, &rules)?;
+        expect_lines(&rt, log.as_str(), told.as_str(), wanted.as_str());
     }
     Ok(())
 }
