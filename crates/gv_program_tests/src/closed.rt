@@ -1,51 +1,50 @@
 //! A standard output that nobody reads any more.
 
-use crate::fake::{Fake, Stream};
-use crate::whole::{TWO_QUEUES, ended};
+use crate::trial::{PLAIN, Trial, expect};
+use std::io::ErrorKind;
+use std::test::Fail;
+
+const LOG: &str = "timestamp=1, VA=0000000000010000-0000000000012000, destroyed=0, is_virtual=0\n";
+
+const SCRIPT: &str = "buffer a 4\nbind zero 0x0 0x1000\n";
+
+/// Words that write to standard output, and their input.
+const WORDS: [(&str, &str); 13] = [
+    ("vmbind run", SCRIPT),
+    ("vmbind run --explain", SCRIPT),
+    ("vmbind serve", SCRIPT),
+    ("vmbind serve --json", SCRIPT),
+    ("vmbind threads --queues 2", SCRIPT),
+    ("vmbind draw", SCRIPT),
+    ("vmbind replay --format radv", LOG),
+    ("vmbind replay --format radv --json", LOG),
+    ("vmbind replay --format radv --script", LOG),
+    ("vmbind replay --format radv --draw", LOG),
+    ("vmbind compare /dev/null /dev/null", SCRIPT),
+    ("vmbind draw --help", SCRIPT),
+    ("vmbind --version", SCRIPT),
+];
+
+/// How a write fails, and what is told then.
+const FAILURES: [(ErrorKind, &str); 2] = [
+    (ErrorKind::BrokenPipe, "----\n3"),
+    (ErrorKind::Other, "--vmbind: write fault\n--\n3"),
+];
 
 /// Where the reader of standard output has gone, as behind `| head -1`, each word ends with the status of a failed write and says
 /// nothing; where a write fails for another reason, it says so.
 #[test]
-fn says_nothing_to_a_reader_that_has_gone(rt: HostRuntime) {
-    let log = Stream::Text(
-        b"timestamp=1, VA=0000000000010000-0000000000012000, destroyed=0, is_virtual=0\n",
-    );
-    let script = Stream::Text(b"buffer a 4\nbind zero 0x0 0x1000\n");
-    let rows: [(&[&[u8]], Stream); 13] = [
-        (&[b"vmbind", b"run"], script),
-        (&[b"vmbind", b"run", b"--explain"], script),
-        (&[b"vmbind", b"serve"], script),
-        (&[b"vmbind", b"serve", b"--json"], script),
-        (&TWO_QUEUES, script),
-        (&[b"vmbind", b"draw"], script),
-        (&[b"vmbind", b"replay", b"--format", b"radv"], log),
-        (
-            &[b"vmbind", b"replay", b"--format", b"radv", b"--json"],
-            log,
-        ),
-        (
-            &[b"vmbind", b"replay", b"--format", b"radv", b"--script"],
-            log,
-        ),
-        (
-            &[b"vmbind", b"replay", b"--format", b"radv", b"--draw"],
-            log,
-        ),
-        (&[b"vmbind", b"compare", b"/dev/null", b"/dev/null"], script),
-        (&[b"vmbind", b"draw", b"--help"], script),
-        (&[b"vmbind", b"--version"], script),
-    ];
-    for (row, (words, input)) in rows.iter().enumerate() {
-        let closed = Fake::new(rt.alloc(), words, *input).with_closed_output();
-        let got = ended(&rt, closed);
-        assert_eq!(rt; got.status, 3, "at {row}");
-        assert!(rt; got.errors.is_empty(), "at {row}");
-        let broken = Fake::new(rt.alloc(), words, *input).with_broken_output();
-        let got = ended(&rt, broken);
-        assert_eq!(rt; got.status, 3, "at {row}");
-        assert!(rt;
-            got.errors.as_slice() == b"vmbind: write fault\n".as_slice(),
-            "at {row}"
-        );
+fn says_nothing_to_a_reader_that_has_gone(rt: HostRuntime) -> Result<(), Fail> {
+    for (words, input) in WORDS {
+        for (kind, wanted) in FAILURES {
+            let trial = Trial {
+                words,
+                input: input.as_bytes(),
+                failure: Some(kind),
+                ..PLAIN
+            };
+            expect(&rt, &trial, wanted)?;
+        }
     }
+    Ok(())
 }

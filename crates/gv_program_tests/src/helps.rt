@@ -1,86 +1,77 @@
 //! What is told of each word to who asks for help.
 
-use crate::fake::{Fake, Stream};
-use crate::whole::{ended, holds};
+use crate::trial::{Trial, UNREAD, told};
+use std::process::Abort;
+use std::rt::Files;
+use std::sync::Wait;
+use std::test::Fail;
+use std::thread::Threads;
 
-#[test]
-fn helps(rt: HostRuntime) {
-    let rows: [&[&[u8]]; 5] = [
-        &[b"vmbind", b"--help"],
-        &[b"vmbind", b"help"],
-        &[b"vmbind", b"run", b"--help"],
-        &[b"vmbind", b"help", b"run"],
-        &[b"vmbind", b"-h"],
-    ];
-    for (row, words) in rows.iter().enumerate() {
-        let got = ended(&rt, Fake::new(rt.alloc(), words, Stream::Broken));
-        assert_eq!(rt; got.status, 0, "at {row}");
-        assert!(rt; got.errors.is_empty(), "at {row}");
-        assert_eq!(rt;
-            holds(got.output.as_slice(), b"accepted 1\n"),
-            row < 4,
-            "at {row}"
-        );
-        assert!(rt; holds(got.output.as_slice(), b"Usage: vmbind"), "at {row}");
+/// Asserts that the help which these words ask for has each of some parts, and that nothing is read for it.
+fn expect_help<R: AllocGlobal + Threads + Wait + Sync + Files + Abort>(
+    rt: &R,
+    words: &str,
+    parts: &[&str],
+) -> Result<String, Fail> {
+    let told = told(rt, &Trial { words, ..UNREAD })?;
+    assert!(rt; told.as_str().ends_with("----\n0"), "{words}: {told}");
+    for part in parts {
+        assert!(rt; told.as_str().contains(*part), "{words}: {part}");
     }
+    Ok(told)
 }
 
 #[test]
-fn helps_with_threads(rt: HostRuntime) {
-    let rows: [&[&[u8]]; 2] = [
-        &[b"vmbind", b"threads", b"--help"],
-        &[b"vmbind", b"help", b"threads"],
-    ];
-    for words in &rows {
-        let got = ended(&rt, Fake::new(rt.alloc(), words, Stream::Broken));
-        assert_eq!(rt; got.status, 0);
-        assert!(rt; got.errors.is_empty());
-        let output = got.output.as_slice();
-        assert!(rt; holds(output, b"queue 0 put 1 told 1 left 0\n"));
-        assert!(rt; holds(output, b"--queues <N>"));
-        assert!(rt; holds(output, b"--turns <T>"));
+fn helps(rt: HostRuntime) -> Result<(), Fail> {
+    for words in [
+        "vmbind --help",
+        "vmbind help",
+        "vmbind run --help",
+        "vmbind help run",
+    ] {
+        expect_help(&rt, words, &["accepted 1\n", "Usage: vmbind"])?;
     }
+    let short = expect_help(&rt, "vmbind -h", &["Usage: vmbind"])?;
+    assert!(rt; !short.as_str().contains("accepted 1\n"));
+    Ok(())
 }
+
+#[test]
+fn helps_with_threads(rt: HostRuntime) -> Result<(), Fail> {
+    let parts = [
+        "queue 0 put 1 told 1 left 0\n",
+        "--queues <N>",
+        "--turns <T>",
+    ];
+    expect_help(&rt, "vmbind threads --help", &parts)?;
+    expect_help(&rt, "vmbind help threads", &parts)?;
+    Ok(())
+}
+
+/// How a status stands in a help.
+const STATUSES: [&str; 6] = [
+    "\n  0  ", "\n  1  ", "\n  2  ", "\n  3  ", "\n  4  ", "\n  5  ",
+];
+
+/// The words whose help tells the first five.
+const FIVE: [&str; 4] = [
+    "vmbind run --help",
+    "vmbind replay --help",
+    "vmbind draw --help",
+    "vmbind compare --help",
+];
 
 /// The help of each word tells each status that the word may end with.
 #[test]
-fn helps_with_statuses(rt: HostRuntime) {
-    let rows: [(&[u8], &[u8]); 30] = [
-        (b"run", b"\n  0  "),
-        (b"run", b"\n  1  "),
-        (b"run", b"\n  2  "),
-        (b"run", b"\n  3  "),
-        (b"run", b"\n  4  "),
-        (b"serve", b"\n  0  "),
-        (b"serve", b"\n  2  "),
-        (b"serve", b"\n  3  "),
-        (b"serve", b"\n  4  "),
-        (b"threads", b"\n  0  "),
-        (b"threads", b"\n  1  "),
-        (b"threads", b"\n  2  "),
-        (b"threads", b"\n  3  "),
-        (b"threads", b"\n  4  "),
-        (b"threads", b"\n  5  "),
-        (b"replay", b"\n  0  "),
-        (b"replay", b"\n  1  "),
-        (b"replay", b"\n  2  "),
-        (b"replay", b"\n  3  "),
-        (b"replay", b"\n  4  "),
-        (b"draw", b"\n  0  "),
-        (b"draw", b"\n  1  "),
-        (b"draw", b"\n  2  "),
-        (b"draw", b"\n  3  "),
-        (b"draw", b"\n  4  "),
-        (b"compare", b"\n  0  "),
-        (b"compare", b"\n  1  "),
-        (b"compare", b"\n  2  "),
-        (b"compare", b"\n  3  "),
-        (b"compare", b"\n  4  "),
-    ];
-    for (word, status) in rows {
-        let words: [&[u8]; 3] = [b"vmbind", word, b"--help"];
-        let got = ended(&rt, Fake::new(rt.alloc(), &words, Stream::Broken));
-        assert_eq!(rt; got.status, 0);
-        assert!(rt; holds(got.output.as_slice(), status), "{word:?} {status:?}");
+fn helps_with_statuses(rt: HostRuntime) -> Result<(), Fail> {
+    for words in FIVE {
+        expect_help(&rt, words, STATUSES.get(..5).unwrap_or(&[]))?;
     }
+    expect_help(
+        &rt,
+        "vmbind serve --help",
+        &["\n  0  ", "\n  2  ", "\n  3  ", "\n  4  "],
+    )?;
+    expect_help(&rt, "vmbind threads --help", &STATUSES)?;
+    Ok(())
 }

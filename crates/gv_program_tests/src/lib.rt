@@ -12,6 +12,8 @@ mod helps;
 #[cfg(test)]
 mod telling;
 #[cfg(test)]
+mod trial;
+#[cfg(test)]
 mod whole;
 #[cfg(test)]
 mod wrong;
