@@ -6,7 +6,7 @@ use std::alloc::{AllocError, Global};
 use std::collections::HashSet;
 
 /// How many mappings are alive, of how many buffers, how many bytes they map, and the tables of the levels 4 to 0.
-#[derive(Clone, Copy, Debug, PartialEq, Eq)]
+#[derive(Clone, Copy)]
 pub struct Alive {
     pub mappings: u64,
     pub buffers: u64,

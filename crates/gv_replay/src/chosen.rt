@@ -1,13 +1,12 @@
 //! The one address space of a log that is taken.
 
-use crate::cursor::{Cursor, decimal_of};
 use crate::fault::ReplayFault;
-use crate::terms::{Format, Terms};
-use crate::vma_line::VmaLine;
+use crate::terms::Terms;
+use gv_logs::VmaLine;
 
 /// Which address space is taken: the one that was asked for, once a VMA of it comes up, or the first one in which the process
 /// has a VMA.
-#[derive(Clone, Copy, Debug, PartialEq, Eq)]
+#[derive(Clone, Copy)]
 pub struct Chosen {
     wanted: Option<u64>,
     taken: Option<u64>,
@@ -18,7 +17,7 @@ impl Chosen {
     /// None is taken yet. `NoSpace` where no address space of the format can have the name that is asked.
     pub fn new(terms: &Terms<'_>) -> Result<Chosen, ReplayFault> {
         let wanted = match terms.space {
-            Some(name) => Some(number_of(terms.format, name).ok_or(ReplayFault::NoSpace)?),
+            Some(name) => Some(terms.format.space_number(name).ok_or(ReplayFault::NoSpace)?),
             None => None,
         };
         Ok(Chosen {
@@ -78,17 +77,4 @@ impl Chosen {
         };
         may_be && line.event.is_of_vma()
     }
-}
-
-/// The number of an address space by its name in a format, where the format has such names.
-fn number_of(format: Format, name: &str) -> Option<u64> {
-    match format {
-        Format::Xe | Format::I915 => {}
-        Format::Gpuvas => return decimal_of(name.as_bytes()),
-        Format::Radv | Format::Amdgpu => return None,
-    }
-    let mut cursor = Cursor::new(name.as_bytes());
-    let _is_marked = cursor.passes(b"0x");
-    let number = cursor.hex()?;
-    cursor.is_done().then_some(number)
 }

@@ -1,6 +1,7 @@
 //! Why a replay ends early.
 
-use gv_io::{ReadFault, WriteFault};
+use gv_io::WriteFault;
+use gv_logs::LogFault;
 use gv_types::OutOfMemory;
 use std::alloc::{AllocError, AllocFailed};
 
@@ -18,9 +19,12 @@ pub enum ReplayFault {
     OutOfMemory,
 }
 
-impl From<ReadFault> for ReplayFault {
-    fn from(_fault: ReadFault) -> ReplayFault {
-        ReplayFault::ReadFault
+impl From<LogFault> for ReplayFault {
+    fn from(fault: LogFault) -> ReplayFault {
+        match fault {
+            LogFault::ReadFault => ReplayFault::ReadFault,
+            LogFault::OutOfMemory => ReplayFault::OutOfMemory,
+        }
     }
 }
 

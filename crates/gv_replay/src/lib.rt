@@ -7,19 +7,12 @@
 #![tactic(auto)]
 
 mod alive;
-mod amdgpu_line;
 mod binder;
 mod chosen;
-mod cursor;
-mod event_head;
 mod fault;
-mod fields;
-mod gpuvas_line;
-mod i915_line;
 mod json_place;
 mod json_report;
 mod left;
-mod line_reader;
 mod machine;
 mod mapper;
 mod mappings;
@@ -29,7 +22,6 @@ mod past;
 mod player;
 mod playing;
 mod radv;
-mod radv_line;
 mod replaying;
 mod report;
 mod row;
@@ -41,16 +33,15 @@ mod spaces;
 mod tally;
 mod terms;
 mod text;
-mod vma_line;
 mod waiting;
 mod watcher;
 mod whereabouts;
-mod xe_line;
 
 pub use fault::ReplayFault;
+pub use gv_logs::Format;
 pub use row::{Act, Cause, Moment};
 pub use run::{replay, watch};
 pub use sizes::{Sizes, measure};
-pub use terms::{FlagBits, Form, Format, Terms};
+pub use terms::{FlagBits, Form, Terms};
 pub use text::{number_of, write_act, write_op, write_time};
 pub use watcher::{Nobody, Watcher};

@@ -1,12 +1,12 @@
 //! Mappings of objects that a log knows by pointers.
 
-use crate::amdgpu_line::{AmdgpuEvent, AmdgpuLine};
 use crate::fault::ReplayFault;
 use crate::objects::Objects;
 use crate::replaying::{Freed, Replay};
 use crate::row::{Act, Cause, Moment};
 use crate::terms::Terms;
 use crate::watcher::Watcher;
+use gv_logs::{AmdgpuEvent, AmdgpuLine};
 use gv_types::{BUFFER_PAGES, BufferId, Flags, Op};
 use std::alloc::Global;
 

@@ -1,17 +1,13 @@
 //! The lines of a log, carried out one after another.
 
-use crate::amdgpu_line::AmdgpuLine;
 use crate::chosen::Chosen;
 use crate::fault::ReplayFault;
-use crate::gpuvas_line::GpuvasLine;
 use crate::left::Left;
-use crate::line_reader::{Found, LineReader};
 use crate::playing::Playing;
-use crate::radv_line::RadvLine;
-use crate::terms::{Form, Format, Terms};
-use crate::vma_line::{VmaDriver, VmaLine};
+use crate::terms::{Form, Terms};
 use crate::watcher::Watcher;
 use gv_io::Source;
+use gv_logs::{AmdgpuLine, Found, GpuvasLine, LineReader, LogLine};
 use std::alloc::Global;
 
 /// The replay of one address space, whose it is, and how many heads there were. It has to be ended: it isn't `Drop`.
@@ -82,7 +78,7 @@ impl Player {
         Ok(())
     }
 
-    /// Carries out a line. Whether it is of the format and of the process.
+    /// Carries out a line. Whether it is of the format, and of the process and the address space that are taken.
     fn take<V: Watcher>(
         &mut self,
         alloc: Global,
@@ -91,104 +87,39 @@ impl Player {
         watcher: &mut V,
     ) -> Result<bool, ReplayFault> {
         let (number, text) = line;
-        match terms.format {
-            Format::Radv => self.take_radv(alloc, number, RadvLine::parse(text), watcher),
-            Format::Amdgpu => {
-                let event = (number, AmdgpuLine::parse(text));
-                self.take_event(alloc, event, terms, watcher)
-            }
-            Format::Xe => {
-                let event = (number, VmaLine::parse(text, VmaDriver::Xe));
-                self.take_vma(alloc, event, terms, watcher)
-            }
-            Format::I915 => {
-                let event = (number, VmaLine::parse(text, VmaDriver::I915));
-                self.take_vma(alloc, event, terms, watcher)
-            }
-            Format::Gpuvas => {
-                let row = (number, GpuvasLine::parse(text));
-                self.take_row(alloc, row, terms, watcher)
-            }
-        }
-    }
-
-    fn take_radv<V: Watcher>(
-        &mut self,
-        alloc: Global,
-        number: u64,
-        line: Option<RadvLine>,
-        watcher: &mut V,
-    ) -> Result<bool, ReplayFault> {
-        let Some(line) = line else {
+        let Some(line) = terms.format.parse(text) else {
             return Ok(false);
         };
         self.playing.replay.tally.count_line();
-        self.playing.take_radv(alloc, (number, &line), watcher)?;
+        if !self.chooses(&line, terms.pid) {
+            return Ok(false);
+        }
+        self.playing.take(alloc, (number, &line), terms, watcher)?;
         Ok(true)
     }
 
-    fn take_event<V: Watcher>(
-        &mut self,
-        alloc: Global,
-        line: (u64, Option<AmdgpuLine>),
-        terms: &Terms<'_>,
-        watcher: &mut V,
-    ) -> Result<bool, ReplayFault> {
-        let (number, Some(line)) = line else {
-            return Ok(false);
-        };
-        self.playing.replay.tally.count_line();
-        if !line.head.is_of(terms.pid) {
-            return Ok(false);
+    /// Whether a line is of the process and the address space that are taken; those of others are passed over.
+    fn chooses(&mut self, line: &LogLine, pid: Option<u64>) -> bool {
+        match *line {
+            LogLine::Radv(_) => true,
+            LogLine::Amdgpu(line) => self.chooses_event(&line, pid),
+            LogLine::Vma(line) => self.chosen.takes(&line, pid),
+            LogLine::Gpuvas(GpuvasLine::Head) => {
+                self.heads = self.heads.saturating_add(1);
+                self.chosen.takes_head(self.heads)
+            }
+            LogLine::Gpuvas(GpuvasLine::Mapping(_)) => self.chosen.takes_rows(self.heads.max(1)),
+        }
+    }
+
+    /// Whether an event is of the process.
+    fn chooses_event(&mut self, line: &AmdgpuLine, pid: Option<u64>) -> bool {
+        if !line.head.is_of(pid) {
+            return false;
         }
         if let Some(process) = line.head.process {
             self.chosen.meet(process);
         }
-        self.playing
-            .take_event(alloc, (number, &line), terms, watcher)?;
-        Ok(true)
-    }
-
-    /// An event of one address space; those of others are passed over.
-    fn take_vma<V: Watcher>(
-        &mut self,
-        alloc: Global,
-        line: (u64, Option<VmaLine>),
-        terms: &Terms<'_>,
-        watcher: &mut V,
-    ) -> Result<bool, ReplayFault> {
-        let (number, Some(line)) = line else {
-            return Ok(false);
-        };
-        self.playing.replay.tally.count_line();
-        if !self.chosen.takes(&line, terms.pid) {
-            return Ok(false);
-        }
-        self.playing.take_vma(alloc, (number, &line), watcher)?;
-        Ok(true)
-    }
-
-    /// A row of the address space that is taken; those of others are passed over.
-    fn take_row<V: Watcher>(
-        &mut self,
-        alloc: Global,
-        line: (u64, Option<GpuvasLine>),
-        terms: &Terms<'_>,
-        watcher: &mut V,
-    ) -> Result<bool, ReplayFault> {
-        let (number, Some(line)) = line else {
-            return Ok(false);
-        };
-        self.playing.replay.tally.count_line();
-        let GpuvasLine::Mapping(row) = line else {
-            self.heads = self.heads.saturating_add(1);
-            return Ok(self.chosen.takes_head(self.heads));
-        };
-        if !self.chosen.takes_rows(self.heads.max(1)) {
-            return Ok(false);
-        }
-        self.playing
-            .take_row(alloc, (number, &row), terms, watcher)?;
-        Ok(true)
+        true
     }
 }

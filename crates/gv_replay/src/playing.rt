@@ -1,18 +1,15 @@
 //! The lines of one address space, carried out one after another.
 
-use crate::amdgpu_line::AmdgpuLine;
 use crate::binder::Binder;
 use crate::fault::ReplayFault;
-use crate::gpuvas_line::GpuvasRow;
 use crate::left::Left;
 use crate::mapper::{Mapper, Part};
 use crate::radv::Radv;
-use crate::radv_line::RadvLine;
 use crate::replaying::Replay;
 use crate::row::Moment;
 use crate::terms::Terms;
-use crate::vma_line::VmaLine;
 use crate::watcher::Watcher;
+use gv_logs::{EventHead, GpuvasLine, GpuvasRow, LogLine};
 use gv_types::Flags;
 use std::alloc::Global;
 
@@ -35,48 +32,38 @@ impl Playing {
         })
     }
 
-    pub fn take_radv<V: Watcher>(
+    /// Carries out the line of this number. The head of a list does nothing.
+    pub fn take<V: Watcher>(
         &mut self,
         alloc: Global,
-        line: (u64, &RadvLine),
-        watcher: &mut V,
-    ) -> Result<(), ReplayFault> {
-        self.radv.take(alloc, &mut self.replay, line, watcher)
-    }
-
-    pub fn take_event<V: Watcher>(
-        &mut self,
-        alloc: Global,
-        line: (u64, &AmdgpuLine),
+        line: (u64, &LogLine),
         terms: &Terms<'_>,
         watcher: &mut V,
     ) -> Result<(), ReplayFault> {
         let (number, line) = line;
-        let moment = Moment {
-            line: number,
-            time: line.head.time,
-        };
-        self.mapper
-            .take(alloc, &mut self.replay, (moment, line), terms, watcher)
-    }
-
-    pub fn take_vma<V: Watcher>(
-        &mut self,
-        alloc: Global,
-        line: (u64, &VmaLine),
-        watcher: &mut V,
-    ) -> Result<(), ReplayFault> {
-        let (number, line) = line;
-        let moment = Moment {
-            line: number,
-            time: line.head.time,
-        };
-        self.binder
-            .take(alloc, &mut self.replay, (moment, &line.event), watcher)
+        match *line {
+            LogLine::Radv(line) => {
+                let line = (number, &line);
+                self.radv.take(alloc, &mut self.replay, line, watcher)
+            }
+            LogLine::Amdgpu(line) => {
+                let event = (moment_of(number, &line.head), &line);
+                self.mapper
+                    .take(alloc, &mut self.replay, event, terms, watcher)
+            }
+            LogLine::Vma(line) => {
+                let event = (moment_of(number, &line.head), &line.event);
+                self.binder.take(alloc, &mut self.replay, event, watcher)
+            }
+            LogLine::Gpuvas(GpuvasLine::Mapping(row)) => {
+                self.take_row(alloc, (number, &row), terms, watcher)
+            }
+            LogLine::Gpuvas(GpuvasLine::Head) => Ok(()),
+        }
     }
 
     /// A row of a list of mappings. It tells no flags.
-    pub fn take_row<V: Watcher>(
+    fn take_row<V: Watcher>(
         &mut self,
         alloc: Global,
         row: (u64, &GpuvasRow),
@@ -108,5 +95,13 @@ impl Playing {
             binder: _,
         } = self;
         replay.end()
+    }
+}
+
+/// When the event of this number was.
+fn moment_of(number: u64, head: &EventHead) -> Moment {
+    Moment {
+        line: number,
+        time: head.time,
     }
 }

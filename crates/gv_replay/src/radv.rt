@@ -1,11 +1,11 @@
 //! RADV's log, replayed.
 
 use crate::fault::ReplayFault;
-use crate::radv_line::{RadvEvent, RadvLine};
 use crate::replaying::{Freed, Replay};
 use crate::row::{Act, Cause, Moment};
 use crate::tally::Place;
 use crate::watcher::Watcher;
+use gv_logs::{RadvEvent, RadvLine};
 use gv_types::{BufferId, Flags, Op, PAGE_BYTES};
 use std::alloc::Global;
 use std::collections::BTreeMap;

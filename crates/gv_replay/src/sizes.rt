@@ -1,13 +1,11 @@
 //! How large the objects of a log are.
 
-use crate::amdgpu_line::{AmdgpuEvent, AmdgpuLine};
 use crate::chosen::Chosen;
 use crate::fault::ReplayFault;
-use crate::gpuvas_line::GpuvasLine;
-use crate::line_reader::{Found, LineReader};
 use crate::objects::Objects;
-use crate::terms::{Format, Terms};
+use crate::terms::Terms;
 use gv_io::Source;
+use gv_logs::{AmdgpuEvent, AmdgpuLine, Found, GpuvasLine, LineReader, LogLine};
 use gv_types::{BUFFER_PAGES, PAGE_BYTES};
 use std::alloc::{AllocError, Global};
 use std::collections::HashMap;
@@ -101,13 +99,15 @@ fn pages_of(alloc: Global, objects: Objects<Size>) -> Result<Vec<u64>, AllocErro
 
 impl Measured {
     fn take(&mut self, alloc: Global, line: &[u8], terms: &Terms<'_>) -> Result<(), AllocError> {
-        match terms.format {
-            Format::Radv | Format::Xe | Format::I915 => Ok(()),
-            Format::Amdgpu => match AmdgpuLine::parse(line) {
-                Some(line) if line.head.is_of(terms.pid) => self.take_event(alloc, &line),
-                _ => Ok(()),
-            },
-            Format::Gpuvas => self.take_row(alloc, GpuvasLine::parse(line)),
+        if !terms.format.wants_sizes() {
+            return Ok(());
+        }
+        match terms.format.parse(line) {
+            Some(LogLine::Amdgpu(line)) if line.head.is_of(terms.pid) => {
+                self.take_event(alloc, &line)
+            }
+            Some(LogLine::Gpuvas(line)) => self.take_row(alloc, line),
+            _ => Ok(()),
         }
     }
 
@@ -129,14 +129,10 @@ impl Measured {
     }
 
     /// A row of an address space that is taken.
-    fn take_row(&mut self, alloc: Global, line: Option<GpuvasLine>) -> Result<(), AllocError> {
-        let row = match line {
-            Some(GpuvasLine::Mapping(row)) => row,
-            Some(GpuvasLine::Head) => {
-                self.heads = self.heads.saturating_add(1);
-                return Ok(());
-            }
-            None => return Ok(()),
+    fn take_row(&mut self, alloc: Global, line: GpuvasLine) -> Result<(), AllocError> {
+        let GpuvasLine::Mapping(row) = line else {
+            self.heads = self.heads.saturating_add(1);
+            return Ok(());
         };
         let number = self.heads.max(1);
         if self.are_apart {

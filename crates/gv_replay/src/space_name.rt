@@ -1,11 +1,11 @@
 //! What address spaces of a log are called.
 
-use crate::terms::Format;
+use gv_logs::Format;
 use std::alloc::AllocError;
 use std::fmt::Write;
 
 /// An address space of a log, by what its format tells.
-#[derive(Clone, Copy, Debug, PartialEq, Eq)]
+#[derive(Clone, Copy)]
 pub enum SpaceName {
     /// The number that the driver's events have for it, which is told in hexadecimal digits.
     Numbered(u64),

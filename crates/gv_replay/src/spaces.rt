@@ -1,17 +1,14 @@
 //! The lines of a log of several address spaces, each of which has a replay of its own.
 
-use crate::amdgpu_line::AmdgpuLine;
 use crate::fault::ReplayFault;
-use crate::gpuvas_line::GpuvasLine;
 use crate::left::Left;
-use crate::line_reader::{Found, LineReader};
 use crate::outcome::Outcome;
 use crate::playing::Playing;
 use crate::space_name::SpaceName;
-use crate::terms::{Format, Terms};
-use crate::vma_line::{VmaDriver, VmaLine};
+use crate::terms::Terms;
 use crate::watcher::Nobody;
 use gv_io::Source;
+use gv_logs::{Found, GpuvasLine, LineReader, LogLine};
 use std::alloc::Global;
 use std::collections::HashMap;
 
@@ -85,7 +82,7 @@ impl Spaces {
         Ok(())
     }
 
-    /// Carries out a line in its space.
+    /// Carries out a line in its space. The head before the first row of a list counts as a line of the space.
     fn take(
         &mut self,
         alloc: Global,
@@ -93,93 +90,40 @@ impl Spaces {
         terms: &Terms<'_>,
     ) -> Result<(), ReplayFault> {
         let (number, text) = line;
-        match terms.format {
-            Format::Radv => Ok(()),
-            Format::Xe => {
-                let event = (number, VmaLine::parse(text, VmaDriver::Xe));
-                self.take_vma(alloc, event, terms)
-            }
-            Format::I915 => {
-                let event = (number, VmaLine::parse(text, VmaDriver::I915));
-                self.take_vma(alloc, event, terms)
-            }
-            Format::Amdgpu => self.take_event(alloc, (number, AmdgpuLine::parse(text)), terms),
-            Format::Gpuvas => self.take_row(alloc, (number, GpuvasLine::parse(text)), terms),
-        }
-    }
-
-    /// Before a VMA of a space came up its lines do nothing.
-    fn take_vma(
-        &mut self,
-        alloc: Global,
-        line: (u64, Option<VmaLine>),
-        terms: &Terms<'_>,
-    ) -> Result<(), ReplayFault> {
-        let (number, Some(line)) = line else {
+        let Some(line) = terms.format.parse(text) else {
             return Ok(());
         };
         self.lines = self.lines.saturating_add(1);
-        if !line.event.is_of_vma() && !self.places.contains_key(&line.space) {
+        let Some(of) = self.space_of(&line) else {
             return Ok(());
-        }
-        let place = self.place_of(alloc, line.space, terms)?;
+        };
+        let is_below_head = self.heads > 0 && !self.places.contains_key(&of);
+        let place = self.place_of(alloc, of, terms)?;
         let Some(space) = self.all.get_mut(place) else {
             return Ok(());
         };
-        space.count_line(true);
-        space.playing.take_vma(alloc, (number, &line), &mut Nobody)
-    }
-
-    /// An event of a process, whose space begins with the first one of a mapping: those before tell sizes alone.
-    fn take_event(
-        &mut self,
-        alloc: Global,
-        line: (u64, Option<AmdgpuLine>),
-        terms: &Terms<'_>,
-    ) -> Result<(), ReplayFault> {
-        let (number, Some(line)) = line else {
-            return Ok(());
-        };
-        self.lines = self.lines.saturating_add(1);
-        let process = line.head.process.unwrap_or(0);
-        let place = self.place_of(alloc, process, terms)?;
-        let Some(space) = self.all.get_mut(place) else {
-            return Ok(());
-        };
-        space.count_line(line.event.is_of_mapping());
+        space.count_line(line.is_of_mapping(), is_below_head);
         space
             .playing
-            .take_event(alloc, (number, &line), terms, &mut Nobody)
+            .take(alloc, (number, &line), terms, &mut Nobody)
     }
 
-    /// A row is of the head before it, which counts as a line of the space.
-    fn take_row(
-        &mut self,
-        alloc: Global,
-        line: (u64, Option<GpuvasLine>),
-        terms: &Terms<'_>,
-    ) -> Result<(), ReplayFault> {
-        let (number, Some(line)) = line else {
-            return Ok(());
-        };
-        self.lines = self.lines.saturating_add(1);
-        let GpuvasLine::Mapping(row) = line else {
-            self.heads = self.heads.saturating_add(1);
-            return Ok(());
-        };
-        let head = self.heads.max(1);
-        let is_new = !self.places.contains_key(&head);
-        let place = self.place_of(alloc, head, terms)?;
-        let Some(space) = self.all.get_mut(place) else {
-            return Ok(());
-        };
-        if is_new && self.heads > 0 {
-            space.count_line(true);
+    /// The number of the space that a line does something in: of a VMA's line none before a VMA of the space came up, and of an event
+    /// of amdgpu that of its process.
+    fn space_of(&mut self, line: &LogLine) -> Option<u64> {
+        match *line {
+            LogLine::Radv(_) => None,
+            LogLine::Amdgpu(line) => Some(line.head.process.unwrap_or(0)),
+            LogLine::Vma(line) => {
+                let is_known = line.event.is_of_vma() || self.places.contains_key(&line.space);
+                is_known.then_some(line.space)
+            }
+            LogLine::Gpuvas(GpuvasLine::Head) => {
+                self.heads = self.heads.saturating_add(1);
+                None
+            }
+            LogLine::Gpuvas(GpuvasLine::Mapping(_)) => Some(self.heads.max(1)),
         }
-        space.count_line(true);
-        space
-            .playing
-            .take_row(alloc, (number, &row), terms, &mut Nobody)
     }
 
     /// The place of a space, which comes up where it isn't known.
@@ -241,9 +185,9 @@ impl Spaces {
 }
 
 impl OneSpace {
-    /// A line is of the space, and may be one of a mapping.
-    fn count_line(&mut self, begins: bool) {
-        self.taken = self.taken.saturating_add(1);
+    /// A line is of the space, and may be one of a mapping, or have a head before it.
+    fn count_line(&mut self, begins: bool, is_below_head: bool) {
+        self.taken = self.taken.saturating_add(1 + u64::from(is_below_head));
         self.has_begun = self.has_begun || begins;
     }
 

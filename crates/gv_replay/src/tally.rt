@@ -9,7 +9,7 @@ use std::alloc::Global;
 const PLACES: usize = 3;
 
 /// One place where a finding was made.
-#[derive(Clone, Copy, Debug, PartialEq, Eq)]
+#[derive(Clone, Copy)]
 pub enum Place {
     /// The operation, and how many live mappings its range met.
     Over {

@@ -1,40 +1,7 @@
 //! What is asked of a replay.
 
-use crate::radv_line::cut;
 use crate::sizes::Sizes;
-
-/// Who wrote the log.
-#[derive(Clone, Copy, Debug, PartialEq, Eq)]
-pub enum Format {
-    /// The `bo_history.log` that RADV writes into a hang report.
-    Radv,
-    /// The kernel's trace events of amdgpu, as text of trace-cmd, of perf or of the kernel's own trace file.
-    Amdgpu,
-    /// The kernel's trace events of xe, as the same texts.
-    Xe,
-    /// The kernel's trace events of i915, as the same texts.
-    I915,
-    /// The kernel's list of mappings in debugfs. It is a state and no history.
-    Gpuvas,
-}
-
-impl Format {
-    /// Whether no line tells how large an object is, so that `measure` has to read the log first.
-    pub fn wants_sizes(self) -> bool {
-        match self {
-            Format::Radv | Format::Xe | Format::I915 => false,
-            Format::Amdgpu | Format::Gpuvas => true,
-        }
-    }
-
-    /// An address as the format writes it: RADV cuts it to 48 bits.
-    pub fn address(self, addr: u64) -> u64 {
-        match self {
-            Format::Radv => cut(addr),
-            Format::Amdgpu | Format::Xe | Format::I915 | Format::Gpuvas => addr,
-        }
-    }
-}
+use gv_logs::Format;
 
 /// What the flags of amdgpu's events mean, which changed between kernels.
 #[derive(Clone, Copy, Debug, PartialEq, Eq)]

@@ -1,6 +1,6 @@
 //! A log read line by line.
 
-use crate::fault::ReplayFault;
+use crate::fault::LogFault;
 use gv_io::Source;
 use gv_lines::split_once;
 use std::alloc::{AllocError, Global};
@@ -44,7 +44,7 @@ impl LineReader {
     }
 
     /// Finds the next line. One without an end, at the end of the log, is a line too.
-    pub fn find_next<R: Source>(&mut self, reader: &mut R) -> Result<Found, ReplayFault> {
+    pub fn find_next<R: Source>(&mut self, reader: &mut R) -> Result<Found, LogFault> {
         self.line.clear();
         let mut found = Found::End;
         for _parts in 0..u64::MAX {
@@ -61,7 +61,7 @@ impl LineReader {
     }
 
     /// Reads on. Whether anything was there to read.
-    fn fill<R: Source>(&mut self, reader: &mut R) -> Result<bool, ReplayFault> {
+    fn fill<R: Source>(&mut self, reader: &mut R) -> Result<bool, LogFault> {
         if self.chunk.is_empty() {
             return Ok(false);
         }

@@ -1,12 +1,46 @@
 //! Lines of RADV's `bo_history.log`.
 
-use crate::cursor::Cursor;
+use crate::cursor::{Cursor, Field, Kind};
 
 /// Addresses are cut to 48 bits.
 const ADDRESS_END: u64 = 1 << 48;
 
+/// What each line begins with: its time, and its first byte and the one past its end.
+const FRONT: [Field; 3] = [
+    Field {
+        before: "timestamp=",
+        kind: Kind::Decimal,
+    },
+    Field {
+        before: ", VA=",
+        kind: Kind::Hex,
+    },
+    Field {
+        before: "-",
+        kind: Kind::Hex,
+    },
+];
+
+/// Behind that, where a part of a sparse range is bound to.
+const TARGET: [Field; 1] = [Field {
+    before: ", mapped_to=",
+    kind: Kind::Hex,
+}];
+
+/// Or whether memory goes, and whether it is a sparse range: each 0 or 1.
+const STATE: [Field; 2] = [
+    Field {
+        before: ", destroyed=",
+        kind: Kind::Decimal,
+    },
+    Field {
+        before: ", is_virtual=",
+        kind: Kind::Decimal,
+    },
+];
+
 /// What a line says.
-#[derive(Clone, Copy, Debug, PartialEq, Eq)]
+#[derive(Clone, Copy)]
 pub enum RadvEvent {
     MemoryMade,
     MemoryFreed,
@@ -18,7 +52,7 @@ pub enum RadvEvent {
 }
 
 /// A line: its time in nanoseconds, and the bytes that it is about.
-#[derive(Clone, Copy, Debug, PartialEq, Eq)]
+#[derive(Clone, Copy)]
 pub struct RadvLine {
     pub time: u64,
     pub start: u64,
@@ -30,14 +64,10 @@ impl RadvLine {
     /// The line that a text is, if it is one. A range that ends before it starts is none.
     pub fn parse(text: &[u8]) -> Option<RadvLine> {
         let mut cursor = Cursor::new(text.trim_ascii_end());
-        cursor.text(b"timestamp=")?;
-        let time = cursor.decimal()?;
-        cursor.text(b", VA=")?;
-        let start = cut(cursor.hex()?);
-        cursor.text(b"-")?;
-        let end = cut_end(start, cursor.hex()?);
-        cursor.text(b", ")?;
+        let [time, start, end] = cursor.numbers::<3>(&FRONT)?;
         let event = parse_event(&mut cursor)?;
+        let start = cut(start);
+        let end = cut_end(start, end);
         (start <= end && cursor.is_done()).then_some(RadvLine {
             time,
             start,
@@ -61,29 +91,19 @@ fn cut_end(start: u64, end: u64) -> u64 {
 }
 
 fn parse_event(cursor: &mut Cursor<'_>) -> Option<RadvEvent> {
-    if cursor.passes(b"mapped_to=") {
-        return Some(match cut(cursor.hex()?) {
+    if let Some(to) = cursor.numbers::<1>(&TARGET) {
+        let [to] = to;
+        return Some(match cut(to) {
             0 => RadvEvent::SparseUnbound,
             to => RadvEvent::SparseBound { to },
         });
     }
-    cursor.text(b"destroyed=")?;
-    let is_gone = parse_bit(cursor)?;
-    cursor.text(b", is_virtual=")?;
-    let is_sparse = parse_bit(cursor)?;
-    Some(match (is_gone, is_sparse) {
-        (false, false) => RadvEvent::MemoryMade,
-        (true, false) => RadvEvent::MemoryFreed,
-        (false, true) => RadvEvent::SparseMade,
-        (true, true) => RadvEvent::SparseGone,
-    })
-}
-
-/// 0 or 1.
-fn parse_bit(cursor: &mut Cursor<'_>) -> Option<bool> {
-    match cursor.decimal()? {
-        0 => Some(false),
-        1 => Some(true),
+    let [gone, sparse] = cursor.numbers::<2>(&STATE)?;
+    match (gone, sparse) {
+        (0, 0) => Some(RadvEvent::MemoryMade),
+        (1, 0) => Some(RadvEvent::MemoryFreed),
+        (0, 1) => Some(RadvEvent::SparseMade),
+        (1, 1) => Some(RadvEvent::SparseGone),
         _ => None,
     }
 }

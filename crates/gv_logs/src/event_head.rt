@@ -8,7 +8,7 @@ const SECOND: u64 = 1_000_000_000;
 const FRACTION_DIGITS: usize = 9;
 
 /// What stands before an event, as far as it is said: its time in nanoseconds, its thread and its process.
-#[derive(Clone, Copy, Debug, PartialEq, Eq)]
+#[derive(Clone, Copy)]
 pub struct EventHead {
     pub time: Option<u64>,
     pub thread: Option<u64>,

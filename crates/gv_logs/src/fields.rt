@@ -1,13 +1,14 @@
 //! Fields of a trace event, which stand in any order.
 
-use crate::cursor::Cursor;
+use crate::cursor::{Cursor, hex_of};
 
-/// The number of the field of a name: hexadecimal, with or without `0x`.
-pub fn hex_field(fields: &[u8], name: &[u8]) -> Option<u64> {
-    let mut cursor = Cursor::new(field(fields, name)?);
-    let _prefix = cursor.passes(b"0x");
-    let number = cursor.hex()?;
-    cursor.is_done().then_some(number)
+/// The numbers of the fields of these names: hexadecimal, with or without `0x`.
+pub fn hex_fields<const N: usize>(fields: &[u8], names: &[&str]) -> Option<[u64; N]> {
+    let mut numbers = [0; N];
+    for (number, name) in numbers.iter_mut().zip(names) {
+        *number = hex_of(field(fields, name.as_bytes())?)?;
+    }
+    Some(numbers)
 }
 
 /// What the field of a name holds: `NAME=VALUE`, up to a space or a comma.
