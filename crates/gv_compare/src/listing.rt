@@ -11,6 +11,7 @@ use crate::fault::{CompareFault, Which};
 use crate::objects::Objects;
 use crate::row::Row;
 use gv_lines::split_once;
+use gv_logs::GPUVAS_HEAD;
 use gv_types::{BUFFER_PAGES, Backing, BufferId, Flags, Mapping};
 use std::alloc::Global;
 use std::str;
@@ -239,7 +240,7 @@ fn is_of_dump(line: &[u8]) -> bool {
         return false;
     };
     let text = text.trim_ascii();
-    text.starts_with("DRM GPU VA space") || text.starts_with("|")
+    text.starts_with(GPUVAS_HEAD) || text.starts_with("|")
 }
 
 /// Whether a line of a `gpuvas` stands above its rows or between them: the name of a space, its reserved region, the names
@@ -247,7 +248,7 @@ fn is_of_dump(line: &[u8]) -> bool {
 fn is_head(line: &str) -> bool {
     let text = line.trim_ascii();
     text.is_empty()
-        || text.starts_with("DRM GPU VA space")
+        || text.starts_with(GPUVAS_HEAD)
         || text.starts_with("Kernel reserved")
         || text.starts_with("VAs |")
         || text.starts_with("---")

@@ -5,9 +5,7 @@ mod spaces;
 
 use crate::fault::{CompareFault, Which};
 use gv_lines::{number_of, split_once};
-
-/// What the head of an address space begins with, before its name in parentheses.
-const HEAD: &[u8] = b"DRM GPU VA space";
+use gv_logs::GPUVAS_HEAD;
 
 /// A part of a text, and how many lines stand before it.
 #[derive(Clone, Copy, Debug, PartialEq, Eq)]
@@ -91,13 +89,13 @@ impl<'a> Part<'a> {
 
 /// Whether a line, or a text, begins with the head of an address space.
 fn is_head(line: &[u8]) -> bool {
-    line.trim_ascii_start().starts_with(HEAD)
+    line.trim_ascii_start().starts_with(GPUVAS_HEAD.as_bytes())
 }
 
 /// Whether a head has this name.
 fn is_named(head: &[u8], name: &[u8]) -> bool {
     match head
-        .strip_prefix(HEAD)
+        .strip_prefix(GPUVAS_HEAD.as_bytes())
         .and_then(|rest| rest.strip_prefix(b" ("))
     {
         Some(rest) => rest

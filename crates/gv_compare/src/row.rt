@@ -2,10 +2,11 @@
 
 use crate::objects::Object;
 use gv_lines::{Name, split_once};
+use gv_logs::GpuvasRow;
 use gv_types::{PAGE_BYTES, PageRange};
 use std::str;
 
-/// The base of the numbers of both forms.
+/// The base of the numbers of a `map`.
 const HEX: u32 = 16;
 
 /// How many digits a number of a `map` has.
@@ -69,25 +70,15 @@ impl Row {
         })
     }
 
-    /// The mapping of a row of a `gpuvas`: a bar, then start, length, end, object and offset with bars between them. An
-    /// object of 0 is none.
+    /// The mapping of a row of a `gpuvas`. An object of 0 is none.
     pub fn of_dump(line: &str) -> Option<Row> {
-        let rest = line.trim_ascii().strip_prefix("|")?;
-        let (first, rest) = rest.split_once('|')?;
-        let (len, rest) = rest.split_once('|')?;
-        let (end, rest) = rest.split_once('|')?;
-        let (object, offset) = rest.split_once('|')?;
-        let first = prefixed(first)?;
-        let end = prefixed(end)?;
-        if first.checked_add(prefixed(len)?)? != end {
-            return None;
-        }
-        let object = prefixed(object)?;
-        let page = page_of(prefixed(offset)?)?;
+        let row = GpuvasRow::parse(line.as_bytes())?;
+        let first = page_of(row.start)?;
+        let page = page_of(row.offset)?;
         Some(Row {
-            range: pages_between(first, end)?,
-            object: (object != 0).then_some(Object::Address(object)),
-            page: if object == 0 { 0 } else { page },
+            range: PageRange::new(first, page_of(row.len)?)?,
+            object: (row.object != 0).then_some(Object::Address(row.object)),
+            page: if row.object == 0 { 0 } else { page },
             read_only: false,
         })
     }
@@ -138,15 +129,6 @@ fn digit_value(byte: u8) -> Option<u64> {
 /// A number as a `map` writes it.
 fn digits(word: &str) -> Option<u64> {
     if word.len() != DIGITS || word.starts_with('+') {
-        return None;
-    }
-    u64::from_str_radix(word, HEX).ok()
-}
-
-/// A number behind `0x`, with spaces around it.
-fn prefixed(field: &str) -> Option<u64> {
-    let word = field.trim_ascii().strip_prefix("0x")?;
-    if word.starts_with('+') {
         return None;
     }
     u64::from_str_radix(word, HEX).ok()
