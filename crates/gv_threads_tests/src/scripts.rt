@@ -4,11 +4,10 @@ mod reasons;
 
 use gv_text::{MemorySink, MemorySource};
 use gv_threads::{RunTerms, run_threads};
+use std::alloc::{AllocError, Global};
 use std::fmt::Write;
 use std::process::Abort;
-use std::str;
 use std::sync::Wait;
-use std::test::Fail;
 use std::thread::Threads;
 
 const TURNS: u64 = 100_000;
@@ -17,23 +16,33 @@ const TURNS: u64 = 100_000;
 /// is one.
 type Row<'a> = (&'a str, u64, u64, &'a str);
 
+/// Runs a script, and gives its replies, and behind them the fault, if there is one.
+fn told<R: Threads + Wait + Sync>(
+    rt: &R,
+    alloc: Global,
+    script: &str,
+    terms: RunTerms,
+) -> Result<Vec<u8>, AllocError> {
+    let mut told = Vec::new(alloc);
+    if terms.queues == 0 || terms.queues > 16 {
+        return Ok(told);
+    }
+    let mut sink = MemorySink::new(alloc);
+    let mut source = MemorySource::new(script.as_bytes());
+    let ended = run_threads(rt, alloc, &mut source, &mut sink, terms);
+    let ended = format!(in alloc; "{ended:?}")?;
+    told.extend_from_slice(sink.bytes())?;
+    told.extend_from_slice(ended.as_str().trim_start_matches("Ok(())").as_bytes())?;
+    Ok(told)
+}
+
 /// Runs a script, and asserts what it comes to.
 fn expect<R: Threads + Wait + Sync + Abort + AllocGlobal>(
     rt: &R,
     (script, queues, turns, wanted): Row<'_>,
-) -> Result<(), Fail> {
-    let alloc = rt.alloc();
-    if queues == 0 || queues > 16 {
-        return Ok(());
-    }
-    let mut sink = MemorySink::new(alloc);
-    let mut source = MemorySource::new(script.as_bytes());
-    let terms = RunTerms { queues, turns };
-    let outcome = run_threads(rt, alloc, &mut source, &mut sink, terms);
-    let ended = format!(in alloc; "{outcome:?}")?;
-    let mut told = String::from_str(alloc, str::from_utf8(sink.bytes())?)?;
-    told.push_str(ended.as_str().trim_start_matches("Ok(())"))?;
-    assert!(rt; told.as_str() == wanted, "{told}");
+) -> Result<(), AllocError> {
+    let told = told(rt, rt.alloc(), script, RunTerms { queues, turns })?;
+    assert!(rt; told.as_slice() == wanted.as_bytes(), "{wanted}");
     Ok(())
 }
 
@@ -47,7 +56,7 @@ const TWO_QUEUES_MAP_APART: Row<'static> = (
 );
 
 #[test]
-fn two_queues_map_apart(rt: HostRuntime) -> Result<(), Fail> {
+fn two_queues_map_apart(rt: HostRuntime) -> Result<(), AllocError> {
     expect(&rt, TWO_QUEUES_MAP_APART)
 }
 
@@ -59,7 +68,7 @@ const EMPTY_SCRIPT_CLOSES_ITS_QUEUES: Row<'static> = (
 );
 
 #[test]
-fn empty_script_closes_its_queues(rt: HostRuntime) -> Result<(), Fail> {
+fn empty_script_closes_its_queues(rt: HostRuntime) -> Result<(), AllocError> {
     expect(&rt, EMPTY_SCRIPT_CLOSES_ITS_QUEUES)
 }
 
@@ -77,7 +86,7 @@ told 0\njournal\n",
 
 /// Each line of the third part, on what stands when the workers have ended.
 #[test]
-fn questions_are_answered_behind_the_workers(rt: HostRuntime) -> Result<(), Fail> {
+fn questions_are_answered_behind_the_workers(rt: HostRuntime) -> Result<(), AllocError> {
     expect(&rt, QUESTIONS_ARE_ANSWERED_BEHIND_THE_WORKERS)
 }
 
@@ -90,7 +99,7 @@ const REQUESTS_COME_IN_THE_ORDER_OF_THEIR_LINES: Row<'static> = (
 
 /// The requests of one queue are served in the order of their lines.
 #[test]
-fn requests_come_in_the_order_of_their_lines(rt: HostRuntime) -> Result<(), Fail> {
+fn requests_come_in_the_order_of_their_lines(rt: HostRuntime) -> Result<(), AllocError> {
     expect(&rt, REQUESTS_COME_IN_THE_ORDER_OF_THEIR_LINES)
 }
 
@@ -104,7 +113,7 @@ told 0\ntold 1\nvalue t\n",
 
 /// A request on one queue waits for the signal of one on another, whichever is served first.
 #[test]
-fn one_queue_waits_for_another(rt: HostRuntime) -> Result<(), Fail> {
+fn one_queue_waits_for_another(rt: HostRuntime) -> Result<(), AllocError> {
     expect(&rt, ONE_QUEUE_WAITS_FOR_ANOTHER)
 }
 
@@ -117,13 +126,13 @@ const REQUEST_IS_GIVEN_UP_AT_ITS_TURNS: Row<'static> = (
 
 /// Nothing raises the timeline, so the request is given up at the limit of turns, and the next one is served.
 #[test]
-fn request_is_given_up_at_its_turns(rt: HostRuntime) -> Result<(), Fail> {
+fn request_is_given_up_at_its_turns(rt: HostRuntime) -> Result<(), AllocError> {
     expect(&rt, REQUEST_IS_GIVEN_UP_AT_ITS_TURNS)
 }
 
 /// All 64 timelines: one that nobody raised is 0, and the last is what a signal raised it to.
 #[test]
-fn values_of_the_first_and_the_last_timeline(rt: HostRuntime) -> Result<(), Fail> {
+fn values_of_the_first_and_the_last_timeline(rt: HostRuntime) -> Result<(), AllocError> {
     let mut script = String::new(rt.alloc());
     let mut replies = String::new(rt.alloc());
     for timeline in 10..74u32 {
@@ -137,7 +146,7 @@ fn values_of_the_first_and_the_last_timeline(rt: HostRuntime) -> Result<(), Fail
 
 /// Over 65,536 requests on one queue: it takes that number and no more.
 #[test]
-fn queue_is_spent_at_its_limit(rt: HostRuntime) -> Result<(), Fail> {
+fn queue_is_spent_at_its_limit(rt: HostRuntime) -> Result<(), AllocError> {
     let mut script = String::new(rt.alloc());
     for _ in 0..65_540 {
         script.push_str("bind\n")?;

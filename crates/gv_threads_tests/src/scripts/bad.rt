@@ -1,8 +1,11 @@
 //! Bad lines of threads scripts, with what is written before them.
 use super::{Row, TURNS, expect};
 use gv_text::SCRIPT_LIMIT;
+use std::alloc::AllocError;
 use std::fmt::Write;
-use std::test::Fail;
+use std::process::Abort;
+use std::sync::Wait;
+use std::thread::Threads;
 
 /// Bad by anything but a buffer's name: nothing is written, also where a buffer's name is at fault before.
 const UNREAD: &[(&str, &str)] = &[
@@ -110,18 +113,25 @@ const UNNAMED: &[(&str, &str)] = &[
     ),
 ];
 
-#[test]
-fn bad_lines_are_told(rt: HostRuntime) -> Result<(), Fail> {
-    for rows in [UNREAD, UNNAMED] {
-        for (script, wanted) in rows {
-            expect(&rt, (script, 2, TURNS, wanted))?;
-        }
+/// Asserts what scripts come to on two queues.
+fn expect_each(
+    rt: &(impl Threads + Wait + Sync + Abort + AllocGlobal),
+    rows: &[(&str, &str)],
+) -> Result<(), AllocError> {
+    for (script, wanted) in rows {
+        expect(rt, (script, 2, TURNS, wanted))?;
     }
     Ok(())
 }
 
 #[test]
-fn more_timelines_than_there_are_is_a_bad_line(rt: HostRuntime) -> Result<(), Fail> {
+fn bad_lines_are_told(rt: HostRuntime) -> Result<(), AllocError> {
+    expect_each(&rt, UNREAD)?;
+    expect_each(&rt, UNNAMED)
+}
+
+#[test]
+fn more_timelines_than_there_are_is_a_bad_line(rt: HostRuntime) -> Result<(), AllocError> {
     let mut script = String::new(rt.alloc());
     for timeline in 0..65u32 {
         writeln!(script, "timeline t{timeline:02}")?;
@@ -131,7 +141,7 @@ fn more_timelines_than_there_are_is_a_bad_line(rt: HostRuntime) -> Result<(), Fa
 }
 
 #[test]
-fn long_script_is_refused(rt: HostRuntime) -> Result<(), Fail> {
+fn long_script_is_refused(rt: HostRuntime) -> Result<(), AllocError> {
     let mut script = String::new(rt.alloc());
     for _ in 0..=SCRIPT_LIMIT {
         script.push_str("\n")?;
