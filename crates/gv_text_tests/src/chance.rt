@@ -30,7 +30,7 @@ pub fn write_filled(
 }
 
 /// What letters stand for: a number below a bound, to which a share of the given number is added, so many times, and so much more.
-const LETTERS: [(u8, u64, u64, u64, u64); 11] = [
+const LETTERS: &[(u8, u64, u64, u64, u64)] = &[
     (b'a', 64, 0, 0x1000, 0),
     (b'l', 9, 0, 0x1000, 0),
     (b'o', 4, 0, 0x1000, 0),
@@ -47,10 +47,13 @@ const LETTERS: [(u8, u64, u64, u64, u64); 11] = [
 /// The number that a letter stands for; the given one where it isn't known.
 fn number_of(random: &mut Random, letter: u8, given: u64) -> u64 {
     for (other, bound, share, times, more) in LETTERS {
-        if other == letter {
-            let bound = given.checked_div(share).unwrap_or(0).saturating_add(bound);
+        if *other == letter {
+            let bound = given
+                .checked_div(*share)
+                .unwrap_or(0)
+                .saturating_add(*bound);
             let number = random.below(bound.max(1));
-            return number.saturating_mul(times).saturating_add(more);
+            return number.saturating_mul(*times).saturating_add(*more);
         }
     }
     given

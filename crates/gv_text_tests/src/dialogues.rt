@@ -3,10 +3,10 @@ use crate::devices::{Devices, WHOLE};
 use crate::rows::{DIALOGUES, JSON_DIALOGUES};
 use crate::told::{Way, expect, expect_rows, told};
 use gv_serve::LINE_LIMIT;
-use std::test::Fail;
+use std::alloc::AllocError;
 
 #[test]
-fn rows_come_to_their_answers(rt: HostRuntime) -> Result<(), Fail> {
+fn rows_come_to_their_answers(rt: HostRuntime) -> Result<(), AllocError> {
     for given in [usize::MAX, 1, 2, 7] {
         expect_rows(&rt, Way::Serve, given, DIALOGUES)?;
     }
@@ -14,7 +14,7 @@ fn rows_come_to_their_answers(rt: HostRuntime) -> Result<(), Fail> {
 }
 
 #[test]
-fn rows_come_to_their_json(rt: HostRuntime) -> Result<(), Fail> {
+fn rows_come_to_their_json(rt: HostRuntime) -> Result<(), AllocError> {
     for given in [1, 7, 1_000] {
         expect_rows(&rt, Way::ServeJson, given, JSON_DIALOGUES)?;
     }
@@ -22,7 +22,7 @@ fn rows_come_to_their_json(rt: HostRuntime) -> Result<(), Fail> {
 }
 
 #[test]
-fn a_dialogue_without_bad_lines_is_a_run(rt: HostRuntime) -> Result<(), Fail> {
+fn a_dialogue_without_bad_lines_is_a_run(rt: HostRuntime) -> Result<(), AllocError> {
     let input = DIALOGUES.first().map_or(b"" as &[u8], |row| row.1);
     let ran = told(rt.alloc(), Way::Run, WHOLE, input)?;
     let served = told(rt.alloc(), Way::Serve, WHOLE, input)?;
@@ -41,7 +41,7 @@ fn fours(reads: usize, writes: usize) -> Devices {
 }
 
 #[test]
-fn answers_are_written_before_the_next_read(rt: HostRuntime) -> Result<(), Fail> {
+fn answers_are_written_before_the_next_read(rt: HostRuntime) -> Result<(), AllocError> {
     let row = (
         "read",
         b"map\nmap\nm" as &[u8],
@@ -51,7 +51,7 @@ fn answers_are_written_before_the_next_read(rt: HostRuntime) -> Result<(), Fail>
 }
 
 #[test]
-fn a_failed_write_ends_it(rt: HostRuntime) -> Result<(), Fail> {
+fn a_failed_write_ends_it(rt: HostRuntime) -> Result<(), AllocError> {
     let row = (
         "write",
         b"map\nmap\nmap\n" as &[u8],
@@ -61,7 +61,7 @@ fn a_failed_write_ends_it(rt: HostRuntime) -> Result<(), Fail> {
 }
 
 #[test]
-fn failed_devices_end_it_in_json(rt: HostRuntime) -> Result<(), Fail> {
+fn failed_devices_end_it_in_json(rt: HostRuntime) -> Result<(), AllocError> {
     let row = ("read", b"idle" as &[u8], "Err(ReadFault)");
     expect(&rt, Way::ServeJson, fours(1, 100), row)?;
     let wanted = "{\"line\":1,\"mappings\":[]}\nErr(WriteFault)";
@@ -70,7 +70,7 @@ fn failed_devices_end_it_in_json(rt: HostRuntime) -> Result<(), Fail> {
 }
 
 #[test]
-fn lines_of_the_greatest_length(rt: HostRuntime) -> Result<(), Fail> {
+fn lines_of_the_greatest_length(rt: HostRuntime) -> Result<(), AllocError> {
     let mut input = Vec::new(rt.alloc());
     input.extend_from_slice(b"map\n#")?;
     input.resize(4 + LINE_LIMIT, b'x')?;

@@ -71,7 +71,7 @@ fn shows_what_is_near(rt: HostRuntime) {
 }
 
 /// Scripts, and the line of each that is bad.
-const BAD: [(&str, u64); 4] = [
+const BAD: &[(&str, u64)] = &[
     ("bind map 0x0 0x1000 b 0x0\n", 1),
     ("buffer b 1\nbuffer b 1\n", 2),
     ("# a comment\n\nbind\x01\n", 3),
@@ -84,7 +84,7 @@ fn names_the_line_that_is_bad(rt: HostRuntime) {
         let mut out = String::new(rt.alloc());
         let told = draw_script(rt.alloc(), script.as_bytes(), &Options::default(), &mut out);
         assert!(rt;
-            told == Err(DrawFault::BadLine { line }) && out.is_empty(),
+            told == Err(DrawFault::BadLine { line: *line }) && out.is_empty(),
             "{script}"
         );
     }

@@ -8,7 +8,7 @@ use std::process::Abort;
 use std::test::Fail;
 
 /// What pictures tell of the lines that are run.
-const TOLD: [&str; 8] = [
+const TOLD: &[&str] = &[
     " of0 0x",
     ">rewound ",
     ">withdrawn ",
@@ -48,7 +48,7 @@ fn scripts_are_drawn_alike(rt: HostRuntime) -> Result<(), Fail> {
         expect_alike(&rt, script.as_str(), Some(0x9abc), &mut seen)?;
     }
     for word in TOLD {
-        assert!(rt; seen.as_str().contains(word), "{word}");
+        assert!(rt; seen.as_str().contains(*word), "{word}");
     }
     let bad = seen.as_str().matches("Err(BadLine").count();
     assert!(rt; bad > 5 && bad <= 20, "{bad}");

@@ -2,14 +2,14 @@
 use crate::devices::{Devices, WHOLE};
 use crate::rows::Row;
 use crate::told::{Way, expect};
+use std::alloc::AllocError;
 use std::process::Abort;
-use std::test::Fail;
 
 /// Asserts that a failure of each read in turn, of a byte a time, is told, and nothing is written.
 pub fn expect_read_faults(
     rt: &(impl Abort + AllocGlobal),
     (name, script, _): Row<'_>,
-) -> Result<(), Fail> {
+) -> Result<(), AllocError> {
     for reads in 0..=script.len() {
         let devices = Devices {
             given: 1,
@@ -26,7 +26,7 @@ pub fn expect_read_faults(
 pub fn expect_write_faults(
     rt: &(impl Abort + AllocGlobal),
     (name, script, replies): Row<'_>,
-) -> Result<(), Fail> {
+) -> Result<(), AllocError> {
     let mut devices = Devices {
         taken: 1,
         writes: 0,

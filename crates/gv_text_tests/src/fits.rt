@@ -9,10 +9,10 @@ use std::process::Abort;
 use std::test::Fail;
 
 /// How wide pictures are asked for, in pixels.
-const WIDTHS: [u64; 7] = [0, 900, 950, 1_000, 1_600, 5_000, 20_000];
+const WIDTHS: &[u64] = &[0, 900, 950, 1_000, 1_600, 5_000, 20_000];
 
 /// How wide a character of each kind of text is taken for, in tenths of a pixel.
-const EACH: [(&str, u64); 13] = [
+const EACH: &[(&str, u64)] = &[
     ("heading", 132),
     ("under", 70),
     ("foot", 70),
@@ -76,8 +76,8 @@ fn number(text: &str, word: &str) -> u64 {
 /// How wide a character of a kind of text is; the greatest where no kind is known.
 fn each_of(kind: &str) -> u64 {
     for (class, each) in EACH {
-        if kind == class {
-            return each;
+        if kind == *class {
+            return *each;
         }
     }
     u64::MAX
@@ -164,7 +164,10 @@ fn expect_widths(
     seen: &mut String,
 ) -> Result<(), AllocError> {
     for width in WIDTHS {
-        let mut options = Options { at: None, width };
+        let mut options = Options {
+            at: None,
+            width: *width,
+        };
         expect_fits(rt, script, &options, seen)?;
         options.at = Some(0x9abc);
         expect_fits(rt, script, &options, seen)?;

@@ -4,7 +4,6 @@ use crate::told::{Way, expect, told};
 use std::alloc::{AllocError, Global};
 use std::fmt::Write;
 use std::process::Abort;
-use std::test::Fail;
 
 /// A text so many times.
 fn times(alloc: Global, count: usize, text: &str) -> Result<String, AllocError> {
@@ -16,19 +15,23 @@ fn times(alloc: Global, count: usize, text: &str) -> Result<String, AllocError> 
 }
 
 /// Runs a script, and asserts how its replies end.
-fn expect_end(rt: &(impl Abort + AllocGlobal), script: &str, end: &str) -> Result<(), Fail> {
+fn expect_end(rt: &(impl Abort + AllocGlobal), script: &str, end: &str) -> Result<(), AllocError> {
     let told = told(rt.alloc(), Way::Run, WHOLE, script.as_bytes())?;
     assert!(rt; told.ends_with(end.as_bytes()));
     Ok(())
 }
 
 /// Runs a script, and asserts what it comes to.
-fn expect_all(rt: &(impl Abort + AllocGlobal), script: &str, wanted: &str) -> Result<(), Fail> {
+fn expect_all(
+    rt: &(impl Abort + AllocGlobal),
+    script: &str,
+    wanted: &str,
+) -> Result<(), AllocError> {
     expect(rt, Way::Run, WHOLE, ("many", script.as_bytes(), wanted))
 }
 
 #[test]
-fn as_many_entries_as_may_be_held(rt: HostRuntime) -> Result<(), Fail> {
+fn as_many_entries_as_may_be_held(rt: HostRuntime) -> Result<(), AllocError> {
     let mut script = times(rt.alloc(), 65_536, "bind\n")?;
     script.push_str("bind\nbind queue 1\nrewind\nbind queue 1\n")?;
     let end =
@@ -37,7 +40,7 @@ fn as_many_entries_as_may_be_held(rt: HostRuntime) -> Result<(), Fail> {
 }
 
 #[test]
-fn as_many_operations_as_a_request_may_have(rt: HostRuntime) -> Result<(), Fail> {
+fn as_many_operations_as_a_request_may_have(rt: HostRuntime) -> Result<(), AllocError> {
     let most = times(rt.alloc(), 255, " ; zero 0x0 0x1000")?;
     let script = format!(in rt.alloc();
         "bind zero 0x0 0x1000{most}\nbind zero 0x0 0x1000 ; zero 0x0 0x1000{most}\n"
@@ -46,7 +49,7 @@ fn as_many_operations_as_a_request_may_have(rt: HostRuntime) -> Result<(), Fail>
 }
 
 #[test]
-fn as_many_jobs_and_accesses_as_may_be(rt: HostRuntime) -> Result<(), Fail> {
+fn as_many_jobs_and_accesses_as_may_be(rt: HostRuntime) -> Result<(), AllocError> {
     let alloc = rt.alloc();
     let most = times(alloc, 255, " ; read 0x0")?;
     let jobs = times(alloc, 1_024, "job read 0x0\n")?;
@@ -63,7 +66,7 @@ fn as_many_jobs_and_accesses_as_may_be(rt: HostRuntime) -> Result<(), Fail> {
 }
 
 #[test]
-fn as_many_timelines_as_there_are(rt: HostRuntime) -> Result<(), Fail> {
+fn as_many_timelines_as_there_are(rt: HostRuntime) -> Result<(), AllocError> {
     let mut script = String::new(rt.alloc());
     for number in 0..65u32 {
         writeln!(script, "timeline t{number}")?;
@@ -77,7 +80,7 @@ fn as_many_timelines_as_there_are(rt: HostRuntime) -> Result<(), Fail> {
 const NAMES: u32 = 26 * 26 * 98;
 
 #[test]
-fn as_many_buffers_as_may_live(rt: HostRuntime) -> Result<(), Fail> {
+fn as_many_buffers_as_may_live(rt: HostRuntime) -> Result<(), AllocError> {
     let mut script = String::new(rt.alloc());
     for number in 0..NAMES {
         writeln!(script, "buffer a{number:x} 1")?;

@@ -5,10 +5,10 @@ use crate::failing::{expect_read_faults, expect_write_faults};
 use crate::rows::{BAD_LINES, EDITS, REQUESTS, Row};
 use crate::told::{Way, expect, expect_rows};
 use gv_text::{MemorySource, SCRIPT_LIMIT, ScriptFault, WriteSink, run_script};
+use std::alloc::AllocError;
 use std::io;
 use std::io::Write;
 use std::process::Abort;
-use std::test::Fail;
 
 const HOLE: Row<'static> = (
     "a hole",
@@ -17,13 +17,13 @@ const HOLE: Row<'static> = (
 );
 
 #[test]
-fn rows_come_to_their_replies(rt: HostRuntime) -> Result<(), Fail> {
+fn rows_come_to_their_replies(rt: HostRuntime) -> Result<(), AllocError> {
     expect_rows(&rt, Way::Run, usize::MAX, EDITS)?;
     expect_rows(&rt, Way::Run, usize::MAX, REQUESTS)
 }
 
 #[test]
-fn bad_lines_end_the_script(rt: HostRuntime) -> Result<(), Fail> {
+fn bad_lines_end_the_script(rt: HostRuntime) -> Result<(), AllocError> {
     expect_rows(&rt, Way::Run, usize::MAX, BAD_LINES)
 }
 
@@ -42,7 +42,7 @@ fn expect_cuts(
     rt: &(impl Abort + AllocGlobal),
     number: usize,
     (begin, end, told): (usize, usize, usize),
-) -> Result<(), Fail> {
+) -> Result<(), AllocError> {
     let (name, script, replies) = HOLE;
     let kept = replies.get(..told).unwrap_or("");
     let whole = script.get(..begin).unwrap_or(script);
@@ -56,7 +56,7 @@ fn expect_cuts(
 }
 
 #[test]
-fn prefixes_end_at_their_last_line(rt: HostRuntime) -> Result<(), Fail> {
+fn prefixes_end_at_their_last_line(rt: HostRuntime) -> Result<(), AllocError> {
     for (place, line) in LINES.iter().enumerate() {
         expect_cuts(&rt, place.saturating_add(1), *line)?;
     }
@@ -64,7 +64,7 @@ fn prefixes_end_at_their_last_line(rt: HostRuntime) -> Result<(), Fail> {
 }
 
 #[test]
-fn longest_script_is_read(rt: HostRuntime) -> Result<(), Fail> {
+fn longest_script_is_read(rt: HostRuntime) -> Result<(), AllocError> {
     let mut comment = vec![in rt.alloc(); b'#'; SCRIPT_LIMIT]?;
     comment.pop();
     comment.push(b'\n')?;
@@ -79,7 +79,7 @@ fn longest_script_is_read(rt: HostRuntime) -> Result<(), Fail> {
 }
 
 #[test]
-fn script_is_read_in_as_many_reads_as_it_has_bytes(rt: HostRuntime) -> Result<(), Fail> {
+fn script_is_read_in_as_many_reads_as_it_has_bytes(rt: HostRuntime) -> Result<(), AllocError> {
     let comment = vec![in rt.alloc(); b'\n'; SCRIPT_LIMIT]?;
     let mut devices = Devices {
         given: 1,
@@ -97,7 +97,7 @@ fn script_is_read_in_as_many_reads_as_it_has_bytes(rt: HostRuntime) -> Result<()
 }
 
 /// As docs/SCRIPT.md has them.
-const NUMBERS: [(ScriptFault, Option<u8>); 5] = [
+const NUMBERS: &[(ScriptFault, Option<u8>)] = &[
     (ScriptFault::BadLine { line: 7 }, Some(27)),
     (ScriptFault::ScriptTooLong, Some(28)),
     (ScriptFault::ReadFault, None),
@@ -107,19 +107,19 @@ const NUMBERS: [(ScriptFault, Option<u8>); 5] = [
 
 #[test]
 fn script_faults_have_their_numbers(rt: HostRuntime) {
-    for (fault, number) in &NUMBERS {
+    for (fault, number) in NUMBERS {
         assert_eq!(rt; fault.number(), *number);
     }
 }
 
 #[test]
-fn failed_read_writes_nothing(rt: HostRuntime) -> Result<(), Fail> {
+fn failed_read_writes_nothing(rt: HostRuntime) -> Result<(), AllocError> {
     expect_read_faults(&rt, HOLE)
 }
 
 /// Each worked row on devices that fail at each of their calls.
 #[test]
-fn failing_devices_are_told_of_each_row(rt: HostRuntime) -> Result<(), Fail> {
+fn failing_devices_are_told_of_each_row(rt: HostRuntime) -> Result<(), AllocError> {
     for row in REQUESTS.iter().filter(|row| !row.2.ends_with(')')) {
         expect_read_faults(&rt, *row)?;
         expect_write_faults(&rt, *row)?;
@@ -128,7 +128,7 @@ fn failing_devices_are_told_of_each_row(rt: HostRuntime) -> Result<(), Fail> {
 }
 
 #[test]
-fn failed_write_is_told(rt: HostRuntime) -> Result<(), Fail> {
+fn failed_write_is_told(rt: HostRuntime) -> Result<(), AllocError> {
     expect_write_faults(&rt, HOLE)
 }
 

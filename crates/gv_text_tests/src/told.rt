@@ -4,9 +4,9 @@ use crate::devices::{Devices, FailingSink, FailingSource, WHOLE};
 use crate::rows::Row;
 use gv_serve::{serve, serve_json};
 use gv_text::run_script;
-use std::alloc::Global;
+use std::alloc::{AllocError, Global};
+use std::fmt::Debug;
 use std::process::Abort;
-use std::test::Fail;
 
 /// How an input is answered.
 #[derive(Clone, Copy)]
@@ -16,8 +16,21 @@ pub enum Way {
     ServeJson,
 }
 
+/// How an input ends; nothing where it is not early.
+fn said<F: Debug + Copy>(alloc: Global, ended: Result<(), F>) -> Result<String, AllocError> {
+    match ended {
+        Ok(()) => Ok(String::new(alloc)),
+        Err(fault) => format!(in alloc; "Err({fault:?})"),
+    }
+}
+
 /// What an input comes to on these devices: the replies, and behind them how it ends where that is early.
-pub fn told(alloc: Global, way: Way, devices: Devices, input: &[u8]) -> Result<Vec<u8>, Fail> {
+pub fn told(
+    alloc: Global,
+    way: Way,
+    devices: Devices,
+    input: &[u8],
+) -> Result<Vec<u8>, AllocError> {
     let mut source = FailingSource {
         rest: input,
         step: devices.given,
@@ -31,12 +44,12 @@ pub fn told(alloc: Global, way: Way, devices: Devices, input: &[u8]) -> Result<V
         failed: false,
     };
     let ended = match way {
-        Way::Run => format!(in alloc; "{:?}", run_script(alloc, &mut source, &mut sink))?,
-        Way::Serve => format!(in alloc; "{:?}", serve(alloc, &mut source, &mut sink))?,
-        Way::ServeJson => format!(in alloc; "{:?}", serve_json(alloc, &mut source, &mut sink))?,
-    };
+        Way::Run => said(alloc, run_script(alloc, &mut source, &mut sink)),
+        Way::Serve => said(alloc, serve(alloc, &mut source, &mut sink)),
+        Way::ServeJson => said(alloc, serve_json(alloc, &mut source, &mut sink)),
+    }?;
     let mut told = sink.bytes;
-    told.extend_from_slice(ended.as_str().trim_start_matches("Ok(())").as_bytes())?;
+    told.extend_from_slice(ended.as_str().as_bytes())?;
     Ok(told)
 }
 
@@ -46,7 +59,7 @@ pub fn expect(
     way: Way,
     devices: Devices,
     (name, input, wanted): Row<'_>,
-) -> Result<(), Fail> {
+) -> Result<(), AllocError> {
     let told = told(rt.alloc(), way, devices, input)?;
     assert!(rt; told.as_slice() == wanted.as_bytes(), "{name}");
     Ok(())
@@ -58,7 +71,7 @@ pub fn expect_rows(
     way: Way,
     given: usize,
     rows: &[Row<'_>],
-) -> Result<(), Fail> {
+) -> Result<(), AllocError> {
     let devices = Devices { given, ..WHOLE };
     for row in rows {
         expect(rt, way, devices, *row)?;
