@@ -1,7 +1,7 @@
 //! Logs in each of the forms in which they are told.
 
 use crate::trial::{Row, expect_parts, expect_rows};
-use std::test::Fail;
+use std::alloc::AllocError;
 
 const LOG: &str = "timestamp=1, VA=0000000000010000-0000000000012000, destroyed=0, is_virtual=0\n\
     timestamp=2, VA=0000000000800000-0000000000802000, mapped_to=0000000000011000\n\
@@ -35,7 +35,7 @@ const REPORT: &str = "     3 binds of 2 buffers, 0 lines passed over
 0";
 
 #[test]
-fn reports_logs_of_xe_and_i915(rt: HostRuntime) -> Result<(), Fail> {
+fn reports_logs_of_xe_and_i915(rt: HostRuntime) -> Result<(), AllocError> {
     let rows: [Row<'_>; 2] = [
         ("vmbind replay --format xe --at 0x210000", XE, REPORT),
         ("vmbind replay --format i915 --at 0x210000", I915, REPORT),
@@ -44,7 +44,7 @@ fn reports_logs_of_xe_and_i915(rt: HostRuntime) -> Result<(), Fail> {
 }
 
 #[test]
-fn tells_a_log_as_json(rt: HostRuntime) -> Result<(), Fail> {
+fn tells_a_log_as_json(rt: HostRuntime) -> Result<(), AllocError> {
     let row = (
         "vmbind replay --format radv --json",
         LOG,
@@ -65,7 +65,7 @@ const DRAWN: &[&str] = &[
 
 /// A row for each line, with its number, its operation, and what became of it; and the mappings with their buffers' names.
 #[test]
-fn draws_a_log(rt: HostRuntime) -> Result<(), Fail> {
+fn draws_a_log(rt: HostRuntime) -> Result<(), AllocError> {
     let words = "vmbind replay --format radv --draw --width 1200";
     let row = (words, LOG, "</svg>\n----\n0");
     expect_parts(&rt, row, "<svg ", DRAWN)
@@ -73,7 +73,7 @@ fn draws_a_log(rt: HostRuntime) -> Result<(), Fail> {
 
 /// Sizes are measured first where the format wants it, and the picture is around the first address.
 #[test]
-fn draws_a_log_around_an_address(rt: HostRuntime) -> Result<(), Fail> {
+fn draws_a_log_around_an_address(rt: HostRuntime) -> Result<(), AllocError> {
     let words = "vmbind replay --format amdgpu --draw --at 0x101000 --at 0x0";
     let log = "amdgpu_vm_bo_map: bo=0xf0, start=100, last=101, offset=0000000000, flags=70\n";
     let parts = [">Around 0x101000<", ">line 1: map 0x100000 0x2000 b1 0x0<"];
@@ -83,7 +83,7 @@ fn draws_a_log_around_an_address(rt: HostRuntime) -> Result<(), Fail> {
 const TWO_FORMS: &str = "--vmbind: more than one form\n--\n2";
 
 #[test]
-fn refuses_two_forms(rt: HostRuntime) -> Result<(), Fail> {
+fn refuses_two_forms(rt: HostRuntime) -> Result<(), AllocError> {
     let rows: [Row<'_>; 3] = [
         (
             "vmbind replay --format radv --json --script",

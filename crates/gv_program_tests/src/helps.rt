@@ -1,10 +1,10 @@
 //! What is told of each word to who asks for help.
 
 use crate::trial::{Trial, UNREAD, told};
+use std::alloc::AllocError;
 use std::process::Abort;
 use std::rt::Files;
 use std::sync::Wait;
-use std::test::Fail;
 use std::thread::Threads;
 
 /// Asserts that the help which these words ask for has each of some parts, and that nothing is read for it.
@@ -12,7 +12,7 @@ fn expect_help<R: AllocGlobal + Threads + Wait + Sync + Files + Abort>(
     rt: &R,
     words: &str,
     parts: &[&str],
-) -> Result<String, Fail> {
+) -> Result<String, AllocError> {
     let told = told(rt, &Trial { words, ..UNREAD })?;
     assert!(rt; told.as_str().ends_with("----\n0"), "{words}: {told}");
     for part in parts {
@@ -22,7 +22,7 @@ fn expect_help<R: AllocGlobal + Threads + Wait + Sync + Files + Abort>(
 }
 
 #[test]
-fn helps(rt: HostRuntime) -> Result<(), Fail> {
+fn helps(rt: HostRuntime) -> Result<(), AllocError> {
     for words in [
         "vmbind --help",
         "vmbind help",
@@ -37,7 +37,7 @@ fn helps(rt: HostRuntime) -> Result<(), Fail> {
 }
 
 #[test]
-fn helps_with_threads(rt: HostRuntime) -> Result<(), Fail> {
+fn helps_with_threads(rt: HostRuntime) -> Result<(), AllocError> {
     let parts = [
         "queue 0 put 1 told 1 left 0\n",
         "--queues <N>",
@@ -49,12 +49,12 @@ fn helps_with_threads(rt: HostRuntime) -> Result<(), Fail> {
 }
 
 /// How a status stands in a help.
-const STATUSES: [&str; 6] = [
+const STATUSES: &[&str] = &[
     "\n  0  ", "\n  1  ", "\n  2  ", "\n  3  ", "\n  4  ", "\n  5  ",
 ];
 
 /// The words whose help tells the first five.
-const FIVE: [&str; 4] = [
+const FIVE: &[&str] = &[
     "vmbind run --help",
     "vmbind replay --help",
     "vmbind draw --help",
@@ -63,7 +63,7 @@ const FIVE: [&str; 4] = [
 
 /// The help of each word tells each status that the word may end with.
 #[test]
-fn helps_with_statuses(rt: HostRuntime) -> Result<(), Fail> {
+fn helps_with_statuses(rt: HostRuntime) -> Result<(), AllocError> {
     for words in FIVE {
         expect_help(&rt, words, STATUSES.get(..5).unwrap_or(&[]))?;
     }
@@ -72,6 +72,6 @@ fn helps_with_statuses(rt: HostRuntime) -> Result<(), Fail> {
         "vmbind serve --help",
         &["\n  0  ", "\n  2  ", "\n  3  ", "\n  4  "],
     )?;
-    expect_help(&rt, "vmbind threads --help", &STATUSES)?;
+    expect_help(&rt, "vmbind threads --help", STATUSES)?;
     Ok(())
 }

@@ -1,10 +1,10 @@
 //! How far a reading is, told on standard error.
 
 use crate::trial::{PLAIN, Row, Trial, expect_parts, expect_rows, told};
+use std::alloc::AllocError;
 use std::process::Abort;
 use std::rt::Files;
 use std::sync::Wait;
-use std::test::Fail;
 use std::thread::Threads;
 
 /// Three lines of 232 bytes.
@@ -28,7 +28,7 @@ fn expect_end<R: AllocGlobal + Threads + Wait + Sync + Files + Abort>(
     (words, input, end): (&str, &[u8], &str),
     pace: u64,
     is_terminal: bool,
-) -> Result<(), Fail> {
+) -> Result<(), AllocError> {
     let trial = Trial {
         words,
         input,
@@ -43,7 +43,7 @@ fn expect_end<R: AllocGlobal + Threads + Wait + Sync + Files + Abort>(
 
 /// From the second second on, and wiped at the end of what is read, before anything is written.
 #[test]
-fn tells_how_far_it_is(rt: HostRuntime) -> Result<(), Fail> {
+fn tells_how_far_it_is(rt: HostRuntime) -> Result<(), AllocError> {
     // The log is read by one read, at 1.0 seconds.
     let end = "--\r\x1b[K3 lines, 232 bytes, 3 lines a second\r\x1b[K--\n0";
     expect_end(&rt, (REPLAY, LOG, end), 1_000, true)?;
@@ -58,7 +58,7 @@ fn tells_how_far_it_is(rt: HostRuntime) -> Result<(), Fail> {
 
 /// It isn't told before the second second, where it isn't wanted, and where nobody sits.
 #[test]
-fn tells_nobody(rt: HostRuntime) -> Result<(), Fail> {
+fn tells_nobody(rt: HostRuntime) -> Result<(), AllocError> {
     let quiet = "vmbind replay --format radv --quiet";
     expect_end(&rt, (REPLAY, LOG, NOTHING), 999, true)?;
     expect_end(&rt, (quiet, LOG, NOTHING), 1_000, true)?;
@@ -68,7 +68,7 @@ fn tells_nobody(rt: HostRuntime) -> Result<(), Fail> {
 
 /// A fault comes behind what is wiped.
 #[test]
-fn a_fault_stands_alone(rt: HostRuntime) -> Result<(), Fail> {
+fn a_fault_stands_alone(rt: HostRuntime) -> Result<(), AllocError> {
     let end =
         "--\r\x1b[K1 lines, 5 bytes, 1 lines a second\r\x1b[Kvmbind: no line of this format\n--\n1";
     expect_end(&rt, (REPLAY, b"none\n", end), 1_000, true)
@@ -79,7 +79,7 @@ const TWO: &str = "xe_vma_bind: vma=f0, asid=0x00021, start=0x200000, end=0x200f
 
 /// The address space that is taken, and a name of none.
 #[test]
-fn takes_an_address_space(rt: HostRuntime) -> Result<(), Fail> {
+fn takes_an_address_space(rt: HostRuntime) -> Result<(), AllocError> {
     let first = "     1 binds of 1 buffers, 1 lines passed over\n";
     let row = ("vmbind replay --format xe --space 0x21", TWO, "--\n0");
     expect_parts(&rt, row, first, &[])?;

@@ -5,7 +5,7 @@ use crate::trial::{PLAIN, Row, Trial, UNREAD, UNWRITTEN, expect, expect_parts, e
 use gv_program::ProgramFault;
 use gv_queues::QueuesFault;
 use gv_threads::ThreadsFault;
-use std::test::Fail;
+use std::alloc::AllocError;
 
 const READ_FAULT: &str = "--vmbind: read fault\n--\n3";
 
@@ -20,19 +20,19 @@ const RUNS: &[Row<'static>] = &[
 ];
 
 #[test]
-fn runs_a_script(rt: HostRuntime) -> Result<(), Fail> {
+fn runs_a_script(rt: HostRuntime) -> Result<(), AllocError> {
     expect_rows(&rt, RUNS)
 }
 
 #[test]
-fn stops_at_a_bad_line(rt: HostRuntime) -> Result<(), Fail> {
+fn stops_at_a_bad_line(rt: HostRuntime) -> Result<(), AllocError> {
     let script = "buffer a 4\nbuffers b 4\nbuffer c 4\n";
     let wanted = "ok\n--vmbind: bad line 2\n--\n1";
     expect_rows(&rt, &[("vmbind run", script, wanted)])
 }
 
 #[test]
-fn refuses_a_long_script(rt: HostRuntime) -> Result<(), Fail> {
+fn refuses_a_long_script(rt: HostRuntime) -> Result<(), AllocError> {
     let script = vec![in rt.alloc(); b'#'; 1_048_577]?;
     let trial = Trial {
         words: "vmbind run",
@@ -43,7 +43,7 @@ fn refuses_a_long_script(rt: HostRuntime) -> Result<(), Fail> {
 }
 
 #[test]
-fn tells_of_broken_streams(rt: HostRuntime) -> Result<(), Fail> {
+fn tells_of_broken_streams(rt: HostRuntime) -> Result<(), AllocError> {
     let words = "vmbind run";
     expect(&rt, &Trial { words, ..UNREAD }, READ_FAULT)?;
     for words in ["vmbind run", "vmbind --help"] {
@@ -60,7 +60,7 @@ fn tells_of_broken_streams(rt: HostRuntime) -> Result<(), Fail> {
 const TWO_QUEUES: &str = "vmbind threads --queues 2";
 
 #[test]
-fn runs_a_threads_script(rt: HostRuntime) -> Result<(), Fail> {
+fn runs_a_threads_script(rt: HostRuntime) -> Result<(), AllocError> {
     let script =
         "buffer a 8\nbind queue 0 ; map 0x0 0x2000 a 0x0\nbind queue 1 ; map 0x4000 0x2000 a 0x2000\nmap\n";
     let wanted = "ok\nqueue 0 put 1 told 1 left 0\nqueue 1 put 1 told 1 left 0\n\
@@ -70,7 +70,7 @@ fn runs_a_threads_script(rt: HostRuntime) -> Result<(), Fail> {
 
 /// The greatest numbers are taken, and a request is given up at its turns.
 #[test]
-fn takes_queues_and_turns(rt: HostRuntime) -> Result<(), Fail> {
+fn takes_queues_and_turns(rt: HostRuntime) -> Result<(), AllocError> {
     let words = "vmbind threads --turns=1 --queues 16 --";
     let script = "timeline t\nbind queue 15 ; wait t 1\ntold 15\n";
     let end = "queue 15 put 1 told 1 left 0\n0 notready t 1 have 0\n----\n0";
@@ -91,19 +91,19 @@ const BAD_THREADS: &[Row<'static>] = &[
 ];
 
 #[test]
-fn threads_script_ends_at_a_bad_line(rt: HostRuntime) -> Result<(), Fail> {
+fn threads_script_ends_at_a_bad_line(rt: HostRuntime) -> Result<(), AllocError> {
     expect_rows(&rt, BAD_THREADS)
 }
 
 #[test]
-fn threads_script_tells_of_broken_streams(rt: HostRuntime) -> Result<(), Fail> {
+fn threads_script_tells_of_broken_streams(rt: HostRuntime) -> Result<(), AllocError> {
     let words = TWO_QUEUES;
     expect(&rt, &Trial { words, ..UNREAD }, READ_FAULT)?;
     expect(&rt, &Trial { words, ..UNWRITTEN }, WRITE_FAULT)
 }
 
 /// Faults of queues, which no test of the program can bring about.
-const FAULTS: [(QueuesFault, u8, &str); 3] = [
+const FAULTS: &[(QueuesFault, u8, &str)] = &[
     (QueuesFault::NotMade, 4, "vmbind: out of memory"),
     (
         QueuesFault::NotStarted { queue: 3 },
@@ -118,17 +118,20 @@ const FAULTS: [(QueuesFault, u8, &str); 3] = [
 ];
 
 #[test]
-fn tells_of_queues(rt: HostRuntime) -> Result<(), Fail> {
+fn tells_of_queues(rt: HostRuntime) -> Result<(), AllocError> {
     for (fault, status, line) in FAULTS {
-        let told = ProgramFault::from(ThreadsFault::Queues(fault));
+        let told = ProgramFault::from(ThreadsFault::Queues(*fault));
         let text = told.to_string(rt.alloc())?;
-        assert!(rt; told.status() == status && text.as_str() == line, "{line}");
+        assert!(rt;
+            told.status() == *status && text.as_str() == *line,
+            "{line}"
+        );
     }
     Ok(())
 }
 
 #[test]
-fn tells_its_version(rt: HostRuntime) -> Result<(), Fail> {
+fn tells_its_version(rt: HostRuntime) -> Result<(), AllocError> {
     for words in ["vmbind --version", "vmbind -V"] {
         expect(&rt, &Trial { words, ..UNREAD }, "vmbind 0.1.0\n----\n0")?;
     }
@@ -140,7 +143,7 @@ fn tells_its_version(rt: HostRuntime) -> Result<(), Fail> {
     expect(&rt, &broken, WRITE_FAULT)
 }
 
-const REFUSED: [&str; 20] = [
+const REFUSED: &[&str] = &[
     "vmbind",
     "vmbind walk",
     "vmbind run file extra",
@@ -164,7 +167,7 @@ const REFUSED: [&str; 20] = [
 ];
 
 #[test]
-fn refuses_words(rt: HostRuntime) -> Result<(), Fail> {
+fn refuses_words(rt: HostRuntime) -> Result<(), AllocError> {
     for words in REFUSED {
         expect_parts(&rt, (words, "buffer a 4\n", "--\n2"), "--error: ", &[])?;
     }

@@ -1,7 +1,7 @@
 //! What is told of lines, files and words that are wrong.
 
 use crate::trial::{Row, Trial, UNREAD, expect, expect_rows};
-use std::test::Fail;
+use std::alloc::AllocError;
 
 const BAD_LINES: &[Row<'static>] = &[
     (
@@ -18,7 +18,7 @@ const BAD_LINES: &[Row<'static>] = &[
 
 /// What is wrong with a bad line, on a second line.
 #[test]
-fn explains_a_bad_line(rt: HostRuntime) -> Result<(), Fail> {
+fn explains_a_bad_line(rt: HostRuntime) -> Result<(), AllocError> {
     expect_rows(&rt, BAD_LINES)
 }
 
@@ -69,7 +69,7 @@ const FAULTS: &[Row<'static>] = &[
 
 /// Words whose faults no parser of words finds, and files that are not there.
 #[test]
-fn tells_of_files_and_numbers(rt: HostRuntime) -> Result<(), Fail> {
+fn tells_of_files_and_numbers(rt: HostRuntime) -> Result<(), AllocError> {
     expect_rows(&rt, FAULTS)
 }
 
@@ -91,7 +91,7 @@ const DIALOGUES: &[Row<'static>] = &[
 
 /// A dialogue, in text and in JSON.
 #[test]
-fn holds_a_dialogue(rt: HostRuntime) -> Result<(), Fail> {
+fn holds_a_dialogue(rt: HostRuntime) -> Result<(), AllocError> {
     expect_rows(&rt, DIALOGUES)?;
     let unread = Trial {
         words: "vmbind serve --json",
