@@ -74,6 +74,14 @@ impl Scale {
         u64::from(doublings).saturating_mul(2).saturating_add(3)
     }
 
+    /// What a segment weighs, which is nothing where it isn't to scale.
+    fn weight_of(&self, segment: &Segment) -> u64 {
+        match segment.kind {
+            Kind::Used | Kind::Open => self.weight(segment.pages()),
+            Kind::Cut | Kind::Many => 0,
+        }
+    }
+
     /// How wide a segment becomes.
     fn width(&self, segment: &Segment) -> u64 {
         match segment.kind {
@@ -126,24 +134,22 @@ impl Axis {
         let fixed = scale.cut.saturating_mul(cuts);
         let fixed = fixed.saturating_add(scale.many.saturating_mul(manies));
         scale.rest = area.saturating_sub(fixed);
-        let mut weights: u64 = 0;
-        for segment in &self.segments {
-            if segment.kind == Kind::Used || segment.kind == Kind::Open {
-                weights = weights.saturating_add(scale.weight(segment.pages()));
-            }
-        }
-        scale.weights = weights;
+        scale.weights = self.weights(&scale);
         scale
     }
 
-    fn count(&self, kind: Kind) -> u64 {
-        let mut count: u64 = 0;
+    /// What all segments weigh that are to scale.
+    fn weights(&self, scale: &Scale) -> u64 {
+        let mut weights: u64 = 0;
         for segment in &self.segments {
-            if segment.kind == kind {
-                count = count.saturating_add(1);
-            }
+            weights = weights.saturating_add(scale.weight_of(segment));
         }
-        count
+        weights
+    }
+
+    fn count(&self, kind: Kind) -> u64 {
+        let of_kind = self.segments.iter().filter(|segment| segment.kind == kind);
+        of_kind.count() as u64
     }
 
     /// Opens the gaps that to scale would take no more than a cut.
@@ -215,17 +221,8 @@ fn segments_of(
     boxes: &[Boxed],
     at: Option<u64>,
 ) -> Result<Vec<Segment>, OutOfMemory> {
-    let mut points = Vec::new(alloc);
-    for item in boxes {
-        points.push(item.piece.first)?;
-        points.push(item.piece.end)?;
-    }
     let page = at.map(|addr| addr / PAGE_BYTES);
-    if let Some(page) = page {
-        points.push(page)?;
-        points.push(page.saturating_add(1))?;
-    }
-    points.sort_unstable();
+    let points = points_of(alloc, boxes, page)?;
     let mut sweep = Sweep {
         boxes,
         next: 0,
@@ -234,16 +231,33 @@ fn segments_of(
         page,
     };
     let mut segments = Vec::new(alloc);
-    let mut last: Option<u64> = None;
+    let mut first = u64::MAX;
     for point in &points {
-        if let Some(first) = last {
-            if first < *point {
-                segments.push(sweep.segment(first, *point))?;
-            }
+        if first < *point {
+            segments.push(sweep.segment(first, *point))?;
         }
-        last = Some(*point);
+        first = *point;
     }
     Ok(segments)
+}
+
+/// The boundaries of boxes and of a page, ascending.
+fn points_of(alloc: Global, boxes: &[Boxed], page: Option<u64>) -> Result<Vec<u64>, OutOfMemory> {
+    let mut points = Vec::new(alloc);
+    for item in boxes {
+        push_both(&mut points, item.piece.first, item.piece.end)?;
+    }
+    if let Some(page) = page {
+        push_both(&mut points, page, page.saturating_add(1))?;
+    }
+    points.sort_unstable();
+    Ok(points)
+}
+
+fn push_both(points: &mut Vec<u64>, first: u64, end: u64) -> Result<(), OutOfMemory> {
+    points.push(first)?;
+    points.push(end)?;
+    Ok(())
 }
 
 /// Boxes in order of their addresses, of which some have begun: how far those reach, and where mappings drawn together

@@ -37,20 +37,22 @@ pub fn choose(
         return Ok(());
     }
     demote(rows);
-    let mut keys = Vec::new(alloc);
-    for row in rows.iter() {
-        keys.push((row.rank, row.serial))?;
-    }
-    keys.sort_unstable();
-    let place = keys.len().saturating_sub(SHOWN);
-    let least = match keys.get(place) {
-        Some(key) => *key,
-        None => (0, 0),
-    };
+    let least = least_shown(alloc, rows)?;
     rows.retain(|row| (row.rank, row.serial) >= least);
     let shown = rows.as_slice();
     stood.retain(|stood| rows_before(shown, stood.from) < rows_before(shown, stood.to));
     Ok(())
+}
+
+/// The rank and the serial number of the row that matters least of those that are shown.
+fn least_shown(alloc: Global, rows: &[Row]) -> Result<(u8, u64), OutOfMemory> {
+    let mut keys = Vec::new(alloc);
+    for row in rows {
+        keys.push((row.rank, row.serial))?;
+    }
+    keys.sort_unstable();
+    let place = keys.len().saturating_sub(SHOWN);
+    Ok(keys.get(place).copied().unwrap_or((0, 0)))
 }
 
 /// Has all but the newest special rows matter as plain ones do.

@@ -237,11 +237,7 @@ impl<'a> Shapes<'a> {
         write!(out, "<path d=\"M{middle} {top}")?;
         let turns = self.rows.bottom.saturating_sub(top) / 6;
         for turn in 0..turns {
-            if turn % 2 == 0 {
-                out.push_str("l4 6")?;
-            } else {
-                out.push_str("l-4 6")?;
-            }
+            out.push_str(if turn % 2 == 0 { "l4 6" } else { "l-4 6" })?;
         }
         out.push_str("\" class=\"zigzag\"/>\n")
     }

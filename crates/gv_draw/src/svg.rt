@@ -25,16 +25,24 @@ pub struct Text<'a> {
 /// Writes text so that it is text in an SVG: what would be markup is escaped, and characters that XML has not are left out.
 pub fn write_escaped(out: &mut String, text: &str) -> Result<(), AllocError> {
     for c in text.chars() {
-        match c {
-            '<' => out.push_str("&lt;")?,
-            '>' => out.push_str("&gt;")?,
-            '&' => out.push_str("&amp;")?,
-            '"' => out.push_str("&quot;")?,
-            '\u{0}'..='\u{1f}' | '\u{fffe}' | '\u{ffff}' => out.push(' ')?,
-            _ => out.push(c)?,
+        match escape_of(c) {
+            Some(escape) => out.push_str(escape)?,
+            None => out.push(c)?,
         }
     }
     Ok(())
+}
+
+/// What stands for a character that can't stand for itself.
+fn escape_of(c: char) -> Option<&'static str> {
+    match c {
+        '<' => Some("&lt;"),
+        '>' => Some("&gt;"),
+        '&' => Some("&amp;"),
+        '"' => Some("&quot;"),
+        '\u{0}'..='\u{1f}' | '\u{fffe}' | '\u{ffff}' => Some(" "),
+        _ => None,
+    }
 }
 
 /// Writes a rectangle with these further attributes.

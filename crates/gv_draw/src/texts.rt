@@ -64,20 +64,21 @@ pub fn write_number(
 
 /// A text of at most so many characters: of a longer one the first, and a sign that there are more.
 pub fn shortened(alloc: Global, text: &str, room: usize) -> Result<String, AllocError> {
-    let mut shown = String::new(alloc);
-    let is_long = text.chars().count() > room;
-    let kept = if is_long {
-        room.saturating_sub(1)
-    } else {
-        room
-    };
-    for c in text.chars().take(kept) {
-        shown.push(c)?;
+    if text.chars().count() <= room {
+        return first_of(alloc, text, room);
     }
-    if is_long {
-        shown.push_str("…")?;
-    }
+    let mut shown = first_of(alloc, text, room.saturating_sub(1))?;
+    shown.push_str("…")?;
     Ok(shown)
+}
+
+/// The first characters of a text, at most so many.
+fn first_of(alloc: Global, text: &str, count: usize) -> Result<String, AllocError> {
+    let mut first = String::new(alloc);
+    for c in text.chars().take(count) {
+        first.push(c)?;
+    }
+    Ok(first)
 }
 
 /// Writes a label of at most so many characters, and answers where it ends.
