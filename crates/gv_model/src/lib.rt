@@ -1,7 +1,8 @@
 //! For tests and figures: what the program does by the definitions alone. Lists of mappings, each mapping cut by itself; a world of
-//! whole lists, plain queues and entries with the list before them; and seeded numbers.
+//! whole lists, plain queues and entries with the list before them; events as text; and seeded numbers.
 #![tactic(auto)]
 
+mod asking;
 mod edit;
 mod ground;
 mod history;
@@ -13,6 +14,7 @@ mod random;
 mod running;
 mod told;
 
+pub use asking::{event_in, number_of, request_in};
 pub use edit::Edit;
 pub use ground::{Ground, Made, Turn};
 pub use history::{History, Kind, Past};
