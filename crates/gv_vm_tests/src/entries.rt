@@ -1,119 +1,70 @@
 //! Entries taken back, withdrawn and settled.
-use crate::fixtures::{bind, map_run, whole, zero};
-use gv_types::{BufferId, Fault, Flags};
-use gv_vm::{Outcome, Place, Target, Vm};
-use std::alloc::Global;
-use std::process::Abort;
+use crate::play::{WIDE, play_text};
 use std::test::Fail;
 
-fn byte_of(id: BufferId, byte: u64) -> Option<Place> {
-    Some(Place {
-        target: Target::Buffer { id, byte },
-        flags: Flags { read_only: false },
-    })
-}
+const WITHDRAWALS: &str = "\
+create 4\n\
+create 2\n\
+put 0 ; map 0 4 0 0\n\
+take 0\n\
+bind 0 = Told { number: 0, outcome: Accepted { entry: 0 } }\n\
+put 0 ; map 1 2 1 0\n\
+take 0\n\
+bind 0 = Told { number: 1, outcome: Accepted { entry: 1 } }\n\
+withdraw 0 = Refused { fault: Touched { by: 1 } }\n\
+withdraw 1 = Withdrawn { item: 2 }\n\
+at 0x1abc = Found { place: Some(Place { target: Buffer { id: b0, byte: 6844 }, flags: Flags { read_only: false } }) }\n\
+withdraw 0 = Withdrawn { item: 3 }\n\
+at 0x1abc = Found { place: None }\n\
+held = 4 entries, 0 mappings\n\
+withdraw 1 = Refused { fault: Withdrawn }\n\
+withdraw 2 = Refused { fault: NotABind }\n\
+withdraw 9 = Refused { fault: NoEntry }\n\
+rewind = Rewound { item: 3 }\n\
+rewind = Rewound { item: 2 }\n\
+at 0x1abc = Found { place: Some(Place { target: Buffer { id: b1, byte: 2748 }, flags: Flags { read_only: false } }) }\n\
+at 0x3abc = Found { place: Some(Place { target: Buffer { id: b0, byte: 15036 }, flags: Flags { read_only: false } }) }\n\
+at 0x200000000000000 = Found { place: None }\n";
 
 #[test]
 fn withdrawals_follow_what_touches(rt: HostRuntime) -> Result<(), Fail> {
-    let mut vm = whole(rt.alloc())?;
-    let end = withdrawals(&rt, rt.alloc(), &mut vm);
-    vm.close();
-    end
+    play_text(&rt, &WIDE, WITHDRAWALS)
 }
 
-fn withdrawals(rt: &impl Abort, alloc: Global, vm: &mut Vm) -> Result<(), Fail> {
-    let a = vm.create(alloc, 4)?;
-    let b = vm.create(alloc, 2)?;
-    let bound = [
-        bind(alloc, vm, 0, &[map_run(0, 4, &a, 0)])?,
-        bind(alloc, vm, 1, &[map_run(1, 2, &b, 0)])?,
-    ];
-    assert_eq!(rt;
-        bound,
-        [
-            Outcome::Accepted { entry: 0 },
-            Outcome::Accepted { entry: 1 }
-        ]
-    );
-    let touched = [vm.withdraw(alloc, 0), vm.withdraw(alloc, 1)];
-    assert_eq!(rt; touched, [Err(Fault::Touched { by: 1 }), Ok(2)]);
-    assert_eq!(rt; vm.translate(0x1abc), byte_of(a, 0x1abc));
-    assert_eq!(rt; vm.withdraw(alloc, 0), Ok(3));
-    assert_eq!(rt; (vm.translate(0x1abc), vm.space().list().len()), (None, 0));
-    withdrawals_back(rt, alloc, vm, a, b);
-    Ok(())
-}
-
-/// Both are withdrawn: what else is refused, and what comes back.
-fn withdrawals_back(rt: &impl Abort, alloc: Global, vm: &mut Vm, a: BufferId, b: BufferId) {
-    let refused = [
-        vm.withdraw(alloc, 1),
-        vm.withdraw(alloc, 2),
-        vm.withdraw(alloc, 9),
-    ];
-    let faults = [
-        Err(Fault::Withdrawn),
-        Err(Fault::NotABind),
-        Err(Fault::NoEntry),
-    ];
-    assert_eq!(rt; refused, faults);
-    assert_eq!(rt; [vm.rewind(), vm.rewind()], [Ok(3), Ok(2)]);
-    let found = [
-        vm.translate(0x1abc),
-        vm.translate(0x3abc),
-        vm.translate(1 << 57),
-    ];
-    assert_eq!(rt; found, [byte_of(b, 0xabc), byte_of(a, 0x3abc), None]);
-}
+const SETTLINGS: &str = "\
+put 0 ; zero 0\n\
+take 0\n\
+bind 0 = Told { number: 0, outcome: Accepted { entry: 0 } }\n\
+withdraw 0 = Withdrawn { item: 1 }\n\
+settle 1 = Refused { fault: Crossed { by: 1 } }\n\
+settle 3 = Refused { fault: NoEntry }\n\
+settle 2 = Settled { count: 2 }\n\
+settle 2 = Settled { count: 0 }\n\
+settle 1 = Refused { fault: NoEntry }\n\
+held = 0 entries, 0 mappings\n\
+put 0 ; zero 0\n\
+take 0\n\
+bind 0 = Told { number: 1, outcome: Accepted { entry: 2 } }\n";
 
 #[test]
 fn settled_entries_are_gone(rt: HostRuntime) -> Result<(), Fail> {
-    let mut vm = whole(rt.alloc())?;
-    let end = settlings(&rt, rt.alloc(), &mut vm);
-    vm.close();
-    end
+    play_text(&rt, &WIDE, SETTLINGS)
 }
 
-fn settlings(rt: &impl Abort, alloc: Global, vm: &mut Vm) -> Result<(), Fail> {
-    let first = bind(alloc, vm, 0, &[zero(0)])?;
-    assert_eq!(rt;
-        (first, vm.withdraw(alloc, 0)),
-        (Outcome::Accepted { entry: 0 }, Ok(1))
-    );
-    let refused = [vm.settle(1), vm.settle(3)];
-    assert_eq!(rt;
-        refused,
-        [Err(Fault::Crossed { by: 1 }), Err(Fault::NoEntry)]
-    );
-    let settled = [vm.settle(2), vm.settle(2), vm.settle(1)];
-    assert_eq!(rt; settled, [Ok(2), Ok(0), Err(Fault::NoEntry)]);
-    assert_eq!(rt; vm.items().len(), 0);
-    let next = bind(alloc, vm, 1, &[zero(0)])?;
-    assert_eq!(rt; next, Outcome::Accepted { entry: 2 });
-    Ok(())
-}
+const SETTLED_MAP: &str = "\
+create 1\n\
+put 0 ; map 0\n\
+take 0\n\
+bind 0 = Told { number: 0, outcome: Accepted { entry: 0 } }\n\
+settle 1 = Settled { count: 1 }\n\
+put 0 ; zero 0\n\
+take 0\n\
+bind 0 = Told { number: 1, outcome: Accepted { entry: 1 } }\n\
+withdraw 1 = Withdrawn { item: 2 }\n\
+at 0 = Found { place: Some(Place { target: Buffer { id: b0, byte: 0 }, flags: Flags { read_only: false } }) }\n\
+destroy 0 = Refused { fault: Mapped { count: 1 } }\n";
 
 #[test]
 fn settled_mapping_stands(rt: HostRuntime) -> Result<(), Fail> {
-    let mut vm = whole(rt.alloc())?;
-    let end = settled_map(&rt, rt.alloc(), &mut vm);
-    vm.close();
-    end
-}
-
-fn settled_map(rt: &impl Abort, alloc: Global, vm: &mut Vm) -> Result<(), Fail> {
-    let id = vm.create(alloc, 1)?;
-    assert_eq!(rt;
-        bind(alloc, vm, 0, &[map_run(0, 1, &id, 0)])?,
-        Outcome::Accepted { entry: 0 }
-    );
-    assert_eq!(rt; vm.settle(1), Ok(1));
-    let next = bind(alloc, vm, 1, &[zero(0)])?;
-    assert_eq!(rt;
-        (next, vm.withdraw(alloc, 1)),
-        (Outcome::Accepted { entry: 1 }, Ok(2))
-    );
-    assert_eq!(rt; vm.translate(0), byte_of(id, 0));
-    assert_eq!(rt; vm.destroy(id), Err(Fault::Mapped { count: 1 }));
-    Ok(())
+    play_text(&rt, &WIDE, SETTLED_MAP)
 }

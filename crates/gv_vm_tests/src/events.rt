@@ -1,246 +1,66 @@
-//! Rows of events, each with the replies that a world gives.
-use crate::fixtures::{empty, map_run, read, request, timed, write, zero};
-use gv_types::{Bounds, BufferId, Fault, Flags, Limits, Op, Point};
-use gv_vm::{Event, Outcome, Place, Reply, Sizes, Stopped, Target, World};
-use std::alloc::{AllocError, Global};
-use std::process::Abort;
+//! Rows of events, each with the reply that a world gives.
+use crate::play::{SMALL, play, play_text};
+use crate::stage::Act;
 use std::test::Fail;
 
-fn at(timeline: u64, value: u64) -> Point {
-    Point { timeline, value }
-}
-
-/// Runs the events, and asserts that the replies are these.
-fn play(
-    rt: &impl Abort,
-    alloc: Global,
-    world: &mut World,
-    events: Vec<Event>,
-    replies: &[Reply],
-) -> Result<(), Fail> {
-    match world.run_events(alloc, events) {
-        Ok(given) => assert!(rt; given.as_slice() == replies),
-        Err(Stopped { replies: _ }) => return Err("memory".into()),
-    }
-    Ok(())
-}
-
-/// A world with two queues of depth 1 and one timeline.
-fn small(alloc: Global) -> Result<World, Fail> {
-    let sizes = Sizes {
-        queues: 2,
-        depth: 1,
-        timelines: 1,
-    };
-    match World::new(alloc, Bounds::whole(), Limits::full(), sizes) {
-        Ok(world) => Ok(world),
-        Err(_) => Err("memory".into()),
-    }
-}
-
-fn raised(value: u64, now: u64) -> Reply {
-    Reply::Raised {
-        point: at(0, value),
-        now,
-    }
-}
-
-fn told(number: u64, outcome: Outcome) -> Reply {
-    Reply::Told { number, outcome }
-}
-
-fn accepted(number: u64, entry: u64) -> Reply {
-    told(number, Outcome::Accepted { entry })
-}
+/// A queue's turns, whole.
+pub const TURNS: &str = "\
+take 0 = Idle\n\
+put 0 ; zero 0 ; wait 0 2 ; signal 0 3 = Put { number: 0 }\n\
+put 0 = NotPut { fault: QueueFull, request: Request { ops: [], waits: [], signals: [] } }\n\
+bind 0 = Idle\n\
+take 0 = Taken { number: 0 }\n\
+put 0 = Put { number: 1 }\n\
+bind 0 = Idle\n\
+look 0 = Lacking { point: Point { timeline: 0, value: 2 }, have: 0 }\n\
+raise 0 2 = Raised { point: Point { timeline: 0, value: 2 }, now: 2 }\n\
+look 0 = Reached { point: Point { timeline: 0, value: 2 }, seen: 2 }\n\
+give_up 0 = Idle\n\
+bind 0 = Told { number: 0, outcome: Accepted { entry: 0 } }\n\
+take 0 = Idle\n\
+pay 0 = Raised { point: Point { timeline: 0, value: 3 }, now: 3 }\n\
+pay 0 = Idle\n\
+rewind = Rewound { item: 0 }\n\
+rewind = Refused { fault: NoEntry }\n\
+at 0 = Found { place: None }\n";
 
 #[test]
 fn queue_takes_its_turns(rt: HostRuntime) -> Result<(), Fail> {
-    let mut world = small(rt.alloc())?;
-    let end = turns(&rt, rt.alloc(), &mut world);
-    world.close();
-    end
-}
-
-fn turns(rt: &impl Abort, alloc: Global, world: &mut World) -> Result<(), Fail> {
-    let events = turn_events(alloc)?;
-    let replies = turn_replies(alloc)?;
-    play(rt, alloc, world, events, &replies)
-}
-
-/// What these events answer.
-pub fn turn_replies(alloc: Global) -> Result<Vec<Reply>, AllocError> {
-    let full = Reply::NotPut {
-        fault: Fault::QueueFull,
-        request: request(alloc, &[])?,
-    };
-    let replies = vec![in alloc;
-        Reply::Idle,
-        Reply::Put { number: 0 },
-        full,
-        Reply::Idle,
-        Reply::Taken { number: 0 },
-        Reply::Put { number: 1 },
-        Reply::Idle,
-        Reply::Lacking {
-            point: at(0, 2),
-            have: 0
-        },
-        raised(2, 2),
-        Reply::Reached {
-            point: at(0, 2),
-            seen: 2
-        },
-        Reply::Idle,
-        accepted(0, 0),
-        Reply::Idle,
-        raised(3, 3),
-        Reply::Idle,
-        Reply::Rewound { item: 0 },
-        Reply::Refused {
-            fault: Fault::NoEntry
-        },
-        Reply::Found { place: None },
-    ]?;
-    Ok(replies)
-}
-
-/// A queue's turns, whole.
-pub fn turn_events(alloc: Global) -> Result<Vec<Event>, AllocError> {
-    let queue = 0;
-    let waiting = timed(alloc, &[zero(0)], &[at(0, 2)], &[at(0, 3)])?;
-    let second = request(alloc, &[])?;
-    let third = request(alloc, &[])?;
-    let events = vec![in alloc;
-        Event::Take { queue },
-        Event::Put {
-            queue,
-            request: waiting
-        },
-        Event::Put {
-            queue,
-            request: second
-        },
-        Event::Bind { queue },
-        Event::Take { queue },
-        Event::Put {
-            queue,
-            request: third
-        },
-        Event::Bind { queue },
-        Event::Look { queue },
-        Event::Raise { point: at(0, 2) },
-        Event::Look { queue },
-        Event::GiveUp { queue },
-        Event::Bind { queue },
-        Event::Take { queue },
-        Event::Pay { queue },
-        Event::Pay { queue },
-        Event::Rewind,
-        Event::Rewind,
-        Event::Translate { addr: 0 },
-    ]?;
-    Ok(events)
-}
-
-#[test]
-fn only_what_is_accepted_signals(rt: HostRuntime) -> Result<(), Fail> {
-    let mut world = small(rt.alloc())?;
-    let end = signals(&rt, rt.alloc(), &mut world);
-    world.close();
-    end
-}
-
-fn signals(rt: &impl Abort, alloc: Global, world: &mut World) -> Result<(), Fail> {
-    let events = signal_events(alloc)?;
-    let lacks = Outcome::NotReady {
-        point: at(0, 3),
-        have: 1,
-    };
-    let refused = Outcome::Refused {
-        op: 1,
-        fault: Fault::Empty,
-    };
-    let replies = vec![in alloc;
-        raised(1, 1),
-        Reply::Idle,
-        Reply::Put { number: 0 },
-        Reply::Taken { number: 0 },
-        Reply::Lacking {
-            point: at(0, 3),
-            have: 1
-        },
-        told(0, lacks),
-        Reply::Idle,
-        Reply::Put { number: 1 },
-        Reply::Taken { number: 1 },
-        told(1, refused),
-        Reply::Idle,
-        raised(5, 5),
-        Reply::Put { number: 2 },
-        Reply::Taken { number: 2 },
-        Reply::Reached {
-            point: at(0, 3),
-            seen: 5
-        },
-        accepted(2, 0),
-        raised(7, 7),
-        raised(4, 7),
-        Reply::Rewound { item: 0 },
-        raised(0, 7),
-    ]?;
-    play(rt, alloc, world, events, &replies)
+    play_text(&rt, &SMALL, TURNS)
 }
 
 /// A request that waits for what isn't reached, and is given up: it pays nothing.
-fn given_up_events(alloc: Global) -> Result<Vec<Event>, Fail> {
-    let queue = 1;
-    let request = timed(alloc, &[zero(0)], &[at(0, 3)], &[at(0, 9)])?;
-    let events = vec![in alloc;
-        Event::Raise { point: at(0, 1) },
-        Event::Raise { point: at(1, 1) },
-        Event::Put { queue, request },
-        Event::Take { queue },
-        Event::Look { queue },
-        Event::GiveUp { queue },
-        Event::Pay { queue },
-    ]?;
-    Ok(events)
-}
+const GIVEN_UP: &str = "\
+raise 0 1 = Raised { point: Point { timeline: 0, value: 1 }, now: 1 }\n\
+raise 1 1 = Idle\n\
+put 1 ; zero 0 ; wait 0 3 ; signal 0 9 = Put { number: 0 }\n\
+take 1 = Taken { number: 0 }\n\
+look 1 = Lacking { point: Point { timeline: 0, value: 3 }, have: 1 }\n\
+give_up 1 = Told { number: 0, outcome: NotReady { point: Point { timeline: 0, value: 3 }, have: 1 } }\n\
+pay 1 = Idle\n";
 
 /// A request that is refused: it pays nothing.
-fn refused_events(alloc: Global) -> Result<Vec<Event>, Fail> {
-    let queue = 1;
-    let request = timed(alloc, &[zero(0), empty(0)], &[], &[at(0, 9)])?;
-    let events = vec![in alloc;
-        Event::Put { queue, request },
-        Event::Take { queue },
-        Event::Bind { queue },
-        Event::Pay { queue },
-        Event::Raise { point: at(0, 5) },
-    ]?;
-    Ok(events)
-}
+const REFUSED: &str = "\
+put 1 ; zero 0 ; zero 0 0 ; signal 0 9 = Put { number: 1 }\n\
+take 1 = Taken { number: 1 }\n\
+bind 1 = Told { number: 1, outcome: Refused { op: 1, fault: Empty } }\n\
+pay 1 = Idle\n\
+raise 0 5 = Raised { point: Point { timeline: 0, value: 5 }, now: 5 }\n";
 
 /// A request whose wait is reached: it pays its two signals, which stay when it is taken back.
-fn paid_events(alloc: Global) -> Result<Vec<Event>, Fail> {
-    let queue = 1;
-    let request = timed(alloc, &[zero(0)], &[at(0, 3)], &[at(0, 7), at(0, 4)])?;
-    let events = vec![in alloc;
-        Event::Put { queue, request },
-        Event::Take { queue },
-        Event::Look { queue },
-        Event::Bind { queue },
-        Event::Pay { queue },
-        Event::Pay { queue },
-        Event::Rewind,
-        Event::Raise { point: at(0, 0) },
-    ]?;
-    Ok(events)
-}
+const PAID: &str = "\
+put 1 ; zero 0 ; wait 0 3 ; signal 0 7 ; signal 0 4 = Put { number: 2 }\n\
+take 1 = Taken { number: 2 }\n\
+look 1 = Reached { point: Point { timeline: 0, value: 3 }, seen: 5 }\n\
+bind 1 = Told { number: 2, outcome: Accepted { entry: 0 } }\n\
+pay 1 = Raised { point: Point { timeline: 0, value: 7 }, now: 7 }\n\
+pay 1 = Raised { point: Point { timeline: 0, value: 4 }, now: 7 }\n\
+rewind = Rewound { item: 0 }\n\
+raise 0 0 = Raised { point: Point { timeline: 0, value: 0 }, now: 7 }\n";
 
-fn signal_events(alloc: Global) -> Result<Vec<Event>, Fail> {
-    let mut events = given_up_events(alloc)?;
-    events.extend(refused_events(alloc)?)?;
-    events.extend(paid_events(alloc)?)?;
-    Ok(events)
+const SIGNALS: &[Act] = &[Act(0, 1, GIVEN_UP), Act(0, 1, REFUSED), Act(0, 1, PAID)];
+
+#[test]
+fn only_what_is_accepted_signals(rt: HostRuntime) -> Result<(), Fail> {
+    play(&rt, &SMALL, SIGNALS)
 }

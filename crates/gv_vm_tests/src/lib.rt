@@ -3,6 +3,10 @@
 #![tactic(auto)]
 
 #[cfg(test)]
+mod agreement;
+#[cfg(test)]
+mod asking;
+#[cfg(test)]
 mod calls;
 #[cfg(test)]
 mod chance;
@@ -13,8 +17,6 @@ mod entries;
 #[cfg(test)]
 mod events;
 #[cfg(test)]
-mod fixtures;
-#[cfg(test)]
 mod forgetting;
 #[cfg(test)]
 mod jobs;
@@ -23,11 +25,15 @@ mod limits;
 #[cfg(test)]
 mod past;
 #[cfg(test)]
+mod play;
+#[cfg(test)]
 mod refusals;
 #[cfg(test)]
 mod rounds;
 #[cfg(test)]
 mod rows;
+#[cfg(test)]
+mod stage;
 #[cfg(test)]
 mod tally;
 #[cfg(test)]

@@ -1,57 +1,36 @@
 //! The greatest numbers of jobs and accesses.
-use crate::fixtures::{accept, bind, read, whole, zero};
-use gv_types::Fault;
-use gv_vm::{Access, Job, MAX_ACCESSES, MAX_RUNNING, Outcome, Vm};
-use std::alloc::Global;
-use std::process::Abort;
+use crate::play::{WIDE, play};
+use crate::stage::Act;
 use std::test::Fail;
 
-fn number_of(begun: &Result<Job, Fault>) -> Result<u64, Fault> {
-    match begun {
-        Ok(job) => Ok(job.number),
-        Err(fault) => Err(*fault),
-    }
-}
+const MAPPED: &str = "\
+put 0 ; zero 0\n\
+take 0\n\
+bind 0 = Told { number: 0, outcome: Accepted { entry: 0 } }\n";
+
+const BEGUN: &str = "\
+job ; read 0 = Begun { job: {n}, places: [Place { target: Zero, flags: Flags { read_only: false } }] }\n";
+
+const FULL: &str = "\
+job ; read 0 = Refused { fault: TooManyJobs }\n\
+end 0 = Ended { job: 0 }\n\
+job ; read 0 = Begun { job: 1024, places: [Place { target: Zero, flags: Flags { read_only: false } }] }\n\
+end 0 = Refused { fault: NoJob }\n";
+
+const NO_MORE_JOBS_RUN: &[Act] = &[Act(0, 1, MAPPED), Act(0, 1024, BEGUN), Act(0, 1, FULL)];
 
 #[test]
 fn no_more_jobs_run(rt: HostRuntime) -> Result<(), Fail> {
-    let mut vm = whole(rt.alloc())?;
-    let end = many_jobs(&rt, rt.alloc(), &mut vm);
-    vm.close();
-    end
+    play(&rt, &WIDE, NO_MORE_JOBS_RUN)
 }
 
-fn many_jobs(rt: &impl Abort, alloc: Global, vm: &mut Vm) -> Result<(), Fail> {
-    accept(rt, alloc, vm, (0, 0), &[zero(0)])?;
-    for number in 0..MAX_RUNNING as u64 {
-        assert_eq!(rt; number_of(&vm.job_begin(alloc, &[read(0, 0)])), Ok(number));
-    }
-    let full = number_of(&vm.job_begin(alloc, &[read(0, 0)]));
-    assert_eq!(rt; (full, vm.job_end(0)), (Err(Fault::TooManyJobs), Ok(())));
-    let next = number_of(&vm.job_begin(alloc, &[read(0, 0)]));
-    assert_eq!(rt; (next, vm.job_end(0)), (Ok(1024), Err(Fault::NoJob)));
-    Ok(())
-}
+const ACCESSES: &str = "\
+job ; read 0 0 0 0 256 = Begun 0 at 256 of Some(Place { target: Zero, flags: Flags { read_only: false } })\n\
+job ; read 0 0 0 0 257 = Refused { fault: TooManyAccesses }\n";
+
+const NO_JOB_HAS_MORE_ACCESSES: &[Act] = &[Act(0, 1, MAPPED), Act(0, 1, ACCESSES)];
 
 #[test]
 fn no_job_has_more_accesses(rt: HostRuntime) -> Result<(), Fail> {
-    let mut vm = whole(rt.alloc())?;
-    let end = many_accesses(&rt, rt.alloc(), &mut vm);
-    vm.close();
-    end
-}
-
-fn many_accesses(rt: &impl Abort, alloc: Global, vm: &mut Vm) -> Result<(), Fail> {
-    assert_eq!(rt;
-        bind(alloc, vm, 0, &[zero(0)])?,
-        Outcome::Accepted { entry: 0 }
-    );
-    let mut accesses: Vec<Access> = vec![in alloc; read(0, 0); MAX_ACCESSES]?;
-    assert_eq!(rt; number_of(&vm.job_begin(alloc, &accesses)), Ok(0));
-    accesses.push(read(0, 0)).map_err(|_| "memory")?;
-    assert_eq!(rt;
-        number_of(&vm.job_begin(alloc, &accesses)),
-        Err(Fault::TooManyAccesses)
-    );
-    Ok(())
+    play(&rt, &WIDE, NO_JOB_HAS_MORE_ACCESSES)
 }

@@ -1,178 +1,84 @@
-//! What the entries say of an address.
-use crate::fixtures::{bind, map, map_run, whole, zero};
-use gv_types::{BufferId, Flags, Op, PAGE_BYTES};
-use gv_vm::{Outcome, PastItem, Place, Target, Vm};
-use std::alloc::Global;
-use std::process::Abort;
+//! What the entries say of an address, the newest first, and what lies under them.
+use crate::play::{WIDE, play};
+use crate::stage::Act;
 use std::test::Fail;
 
-fn byte_of(id: BufferId, byte: u64) -> Option<Place> {
-    Some(Place {
-        target: Target::Buffer { id, byte },
-        flags: Flags { read_only: false },
-    })
-}
+/// At last two operations on page 1: the last one decides, and page 0 is covered by the first alone.
+const OVER_ONE_ANOTHER: &str = "\
+past 0x1abc = [] over None\n\
+create 4\n\
+create 2\n\
+put 0 ; map 0 4 0 0\n\
+take 0\n\
+bind 0 = Told { number: 0, outcome: Accepted { entry: 0 } }\n\
+put 0 ; map 1 1 1 1\n\
+take 0\n\
+bind 0 = Told { number: 1, outcome: Accepted { entry: 1 } }\n\
+put 0 ; unmap 1 2\n\
+take 0\n\
+bind 0 = Told { number: 2, outcome: Accepted { entry: 2 } }\n\
+put 0 ; map 0 2 1 0 ; zero 1\n\
+take 0\n\
+bind 0 = Told { number: 3, outcome: Accepted { entry: 3 } }\n\
+past 0x1abc = [PastItem { entry: 3, is_withdrawn: false, place: Some(Place { target: Zero, flags: Flags { read_only: false } }) }, PastItem { entry: 2, is_withdrawn: false, place: None }, PastItem { entry: 1, is_withdrawn: false, place: Some(Place { target: Buffer { id: b1, byte: 6844 }, flags: Flags { read_only: false } }) }, PastItem { entry: 0, is_withdrawn: false, place: Some(Place { target: Buffer { id: b0, byte: 6844 }, flags: Flags { read_only: false } }) }] over None\n\
+past 0 = [PastItem { entry: 3, is_withdrawn: false, place: Some(Place { target: Buffer { id: b1, byte: 0 }, flags: Flags { read_only: false } }) }, PastItem { entry: 0, is_withdrawn: false, place: Some(Place { target: Buffer { id: b0, byte: 0 }, flags: Flags { read_only: false } }) }] over None\n\
+past 0x3fff = [PastItem { entry: 0, is_withdrawn: false, place: Some(Place { target: Buffer { id: b0, byte: 16383 }, flags: Flags { read_only: false } }) }] over None\n\
+past 0x4000 = [] over None\n\
+past 0x200000000000000 = [] over None\n\
+past 0xffffffffffffffff = [] over None\n\
+rewind = Rewound { item: 3 }\n\
+past 0x1abc = [PastItem { entry: 2, is_withdrawn: false, place: None }, PastItem { entry: 1, is_withdrawn: false, place: Some(Place { target: Buffer { id: b1, byte: 6844 }, flags: Flags { read_only: false } }) }, PastItem { entry: 0, is_withdrawn: false, place: Some(Place { target: Buffer { id: b0, byte: 6844 }, flags: Flags { read_only: false } }) }] over None\n\
+settle 2 = Settled { count: 2 }\n";
 
-fn zeros() -> Option<Place> {
-    Some(Place {
-        target: Target::Zero,
-        flags: Flags { read_only: false },
-    })
-}
+/// What is settled lies under the rest: now page 1 was the second buffer's, and pages 2 and 3 are still the first's there.
+const UNDER_SETTLED: &str = "\
+past 0x1abc = [PastItem { entry: 2, is_withdrawn: false, place: None }] over Some(Place { target: Buffer { id: b1, byte: 6844 }, flags: Flags { read_only: false } })\n\
+past 0x2000 = [PastItem { entry: 2, is_withdrawn: false, place: None }] over Some(Place { target: Buffer { id: b0, byte: 8192 }, flags: Flags { read_only: false } })\n\
+past 0x3000 = [] over Some(Place { target: Buffer { id: b0, byte: 12288 }, flags: Flags { read_only: false } })\n";
 
-fn unmap(page: u32, count: u32) -> Op {
-    Op::Unmap {
-        addr: u64::from(page) * PAGE_BYTES,
-        len: u64::from(count) * PAGE_BYTES,
-    }
-}
-
-fn accepted<const N: usize>(entries: [u64; N]) -> [Outcome; N] {
-    entries.map(|entry| Outcome::Accepted { entry })
-}
-
-fn live(entry: u64, place: Option<Place>) -> PastItem {
-    PastItem {
-        entry,
-        is_withdrawn: false,
-        place,
-    }
-}
-
-fn withdrawn(entry: u64, place: Option<Place>) -> PastItem {
-    PastItem {
-        entry,
-        is_withdrawn: true,
-        place,
-    }
-}
-
-/// The entries say this of an address, the newest first, and this lies under them.
-fn says(
-    rt: &impl Abort,
-    alloc: Global,
-    vm: &Vm,
-    addr: u64,
-    wanted: &[PastItem],
-    under: Option<Place>,
-) -> Result<(), Fail> {
-    assert_eq!(rt; vm.past(alloc, addr)?.as_slice(), wanted);
-    assert_eq!(rt; vm.base_at(addr), under);
-    Ok(())
-}
+const ENTRIES_OVER_ONE_ANOTHER: &[Act] = &[Act(0, 1, OVER_ONE_ANOTHER), Act(0, 1, UNDER_SETTLED)];
 
 #[test]
 fn entries_over_one_another(rt: HostRuntime) -> Result<(), Fail> {
-    let mut vm = whole(rt.alloc())?;
-    let end = over_one_another(&rt, rt.alloc(), &mut vm);
-    vm.close();
-    end
+    play(&rt, &WIDE, ENTRIES_OVER_ONE_ANOTHER)
 }
 
-fn over_one_another(rt: &impl Abort, alloc: Global, vm: &mut Vm) -> Result<(), Fail> {
-    says(rt, alloc, vm, 0x1abc, &[], None)?;
-    let a = vm.create(alloc, 4)?;
-    let b = vm.create(alloc, 2)?;
-    let (old, new) = (live(0, byte_of(a, 0x1abc)), live(1, byte_of(b, 0x1abc)));
-    let at_start = [live(3, byte_of(b, 0)), live(0, byte_of(a, 0))];
-    let at_end = [live(0, byte_of(a, 0x3fff))];
-    let unders = [byte_of(b, 0x1abc), byte_of(a, 0x2000), byte_of(a, 0x3000)];
-    // Two operations on page 1: the last one decides, and page 0 is covered by the first alone.
-    let twice = [map_run(0, 2, &b, 0), zero(1)];
-    let bound = [
-        bind(alloc, vm, 0, &[map_run(0, 4, &a, 0)])?,
-        bind(alloc, vm, 1, &[map(1, &b, 1, false)])?,
-        bind(alloc, vm, 2, &[unmap(1, 2)])?,
-        bind(alloc, vm, 3, &twice)?,
-    ];
-    assert_eq!(rt; bound, accepted([0, 1, 2, 3]));
-    let all = [live(3, zeros()), live(2, None), new, old];
-    says(rt, alloc, vm, 0x1abc, &all, None)?;
-    says(rt, alloc, vm, 0x0, &at_start, None)?;
-    says(rt, alloc, vm, 0x3fff, &at_end, None)?;
-    for addr in [0x4000, 1 << 57, u64::MAX] {
-        says(rt, alloc, vm, addr, &[], None)?;
-    }
-    assert_eq!(rt; vm.rewind(), Ok(3));
-    says(rt, alloc, vm, 0x1abc, &[live(2, None), new, old], None)?;
-    assert_eq!(rt; vm.settle(2), Ok(2));
-    under_settled(rt, alloc, vm, &unders)?;
-    Ok(())
-}
+const WHOLE: &str = "\
+create 2\n\
+create 1\n\
+put 0 ; map 0 1 0 1 ; map 4 1 0 0 1 1 0 1 ; map 2 1 1 0\n\
+take 0\n\
+bind 0 = Told { number: 0, outcome: Accepted { entry: 0 } }\n\
+settle 1 = Settled { count: 1 }\n\
+put 0 ; unmap_all 0\n\
+take 0\n\
+bind 0 = Told { number: 1, outcome: Accepted { entry: 1 } }\n\
+past 0x5 = [PastItem { entry: 1, is_withdrawn: false, place: None }] over Some(Place { target: Buffer { id: b0, byte: 4101 }, flags: Flags { read_only: false } })\n\
+past 0x4005 = [PastItem { entry: 1, is_withdrawn: false, place: None }] over Some(Place { target: Buffer { id: b0, byte: 5 }, flags: Flags { read_only: true } })\n";
 
-/// What is settled lies under the rest: now page 1 was b's, and pages 2 and 3 are still a's there.
-fn under_settled(
-    rt: &impl Abort,
-    alloc: Global,
-    vm: &Vm,
-    unders: &[Option<Place>; 3],
-) -> Result<(), Fail> {
-    says(rt, alloc, vm, 0x1abc, &[live(2, None)], unders[0])?;
-    says(rt, alloc, vm, 0x2000, &[live(2, None)], unders[1])?;
-    says(rt, alloc, vm, 0x3000, &[], unders[2])
-}
+/// The pages between were not covered by the unmap of the whole buffer.
+const BETWEEN: &str = "\
+past 0x2005 = [] over Some(Place { target: Buffer { id: b1, byte: 5 }, flags: Flags { read_only: false } })\n\
+withdraw 1 = Withdrawn { item: 2 }\n\
+past 0x5 = [PastItem { entry: 1, is_withdrawn: true, place: None }] over Some(Place { target: Buffer { id: b0, byte: 4101 }, flags: Flags { read_only: false } })\n";
+
+/// Over a withdrawn one: what it took out is not asked.
+const OVER_WITHDRAWN: &str = "\
+put 0 ; unmap 0 8 ; map 0 1 1 0\n\
+take 0\n\
+bind 0 = Told { number: 2, outcome: Accepted { entry: 3 } }\n\
+past 0x5 = [PastItem { entry: 3, is_withdrawn: false, place: Some(Place { target: Buffer { id: b1, byte: 5 }, flags: Flags { read_only: false } }) }, PastItem { entry: 1, is_withdrawn: true, place: None }] over Some(Place { target: Buffer { id: b0, byte: 4101 }, flags: Flags { read_only: false } })\n\
+past 0x4005 = [PastItem { entry: 3, is_withdrawn: false, place: None }, PastItem { entry: 1, is_withdrawn: true, place: None }] over Some(Place { target: Buffer { id: b0, byte: 5 }, flags: Flags { read_only: true } })\n\
+settle 3 = Settled { count: 2 }\n\
+past 0x4005 = [PastItem { entry: 3, is_withdrawn: false, place: None }] over Some(Place { target: Buffer { id: b0, byte: 5 }, flags: Flags { read_only: true } })\n";
+
+const WITHDRAWN: &[Act] = &[
+    Act(0, 1, WHOLE),
+    Act(0, 1, BETWEEN),
+    Act(0, 1, OVER_WITHDRAWN),
+];
 
 #[test]
 fn entries_withdrawn_and_whole_buffers(rt: HostRuntime) -> Result<(), Fail> {
-    let mut vm = whole(rt.alloc())?;
-    let end = withdrawn_and_whole(&rt, rt.alloc(), &mut vm);
-    vm.close();
-    end
-}
-
-fn withdrawn_and_whole(rt: &impl Abort, alloc: Global, vm: &mut Vm) -> Result<(), Fail> {
-    let a = vm.create(alloc, 2)?;
-    let b = vm.create(alloc, 1)?;
-    let apart = [
-        map(0, &a, 1, false),
-        map(4, &a, 0, true),
-        map(2, &b, 0, false),
-    ];
-    assert_eq!(rt; bind(alloc, vm, 0, &apart)?, Outcome::Accepted { entry: 0 });
-    assert_eq!(rt; vm.settle(1), Ok(1));
-    assert_eq!(rt;
-        bind(alloc, vm, 1, &[Op::UnmapBuffer { buffer: a }])?,
-        Outcome::Accepted { entry: 1 }
-    );
-    let read_only = Some(Place {
-        target: Target::Buffer { id: a, byte: 5 },
-        flags: Flags { read_only: true },
-    });
-    says(rt, alloc, vm, 0x5, &[live(1, None)], byte_of(a, 0x1005))?;
-    says(rt, alloc, vm, 0x4005, &[live(1, None)], read_only)?;
-    // The pages between were not covered by the unmap of the whole buffer.
-    says(rt, alloc, vm, 0x2005, &[], byte_of(b, 0x5))?;
-    assert_eq!(rt; vm.withdraw(alloc, 1), Ok(2));
-    says(
-        rt,
-        alloc,
-        vm,
-        0x5,
-        &[withdrawn(1, None)],
-        byte_of(a, 0x1005),
-    )?;
-    // Over a withdrawn one: what it took out is not asked.
-    assert_eq!(rt;
-        bind(alloc, vm, 2, &[unmap(0, 8), map(0, &b, 0, false)])?,
-        Outcome::Accepted { entry: 3 }
-    );
-    says(
-        rt,
-        alloc,
-        vm,
-        0x5,
-        &[live(3, byte_of(b, 0x5)), withdrawn(1, None)],
-        byte_of(a, 0x1005),
-    )?;
-    says(
-        rt,
-        alloc,
-        vm,
-        0x4005,
-        &[live(3, None), withdrawn(1, None)],
-        read_only,
-    )?;
-    assert_eq!(rt; vm.settle(3), Ok(2));
-    says(rt, alloc, vm, 0x4005, &[live(3, None)], read_only)?;
-    Ok(())
+    play(&rt, &WIDE, WITHDRAWN)
 }

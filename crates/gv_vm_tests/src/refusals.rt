@@ -1,10 +1,14 @@
 //! Requests for memory that are refused. In a run where none is, each step is answered at once.
-use crate::events::{turn_events, turn_replies};
-use gv_types::{Bounds, Fault, Limits};
-use gv_vm::{Event, Outcome, Reply, Sizes, World};
+use crate::events::TURNS;
+use gv_model::event_in;
+use gv_types::{Bounds, Limits};
+use gv_vm::{Reply, Sizes, World};
 use std::alloc::{AllocError, Global};
 use std::process::Abort;
 use std::test::Fail;
+
+/// A request was refused for want of memory, which its queue was told.
+const WANTED_MEMORY: &str = "Told { number: 0, outcome: Refused { op: 0, fault: OutOfMemory } }";
 
 /// A world with two queues of depth 1 and one timeline. Where memory is refused, it is made again.
 fn small_at_last(alloc: Global) -> Result<World, Fail> {
@@ -21,13 +25,12 @@ fn small_at_last(alloc: Global) -> Result<World, Fail> {
     Err("memory".into())
 }
 
-/// One of the events. Where memory is refused, they are made again.
-fn event_at_last(alloc: Global, place: usize) -> Result<Option<Event>, AllocError> {
-    let events = match turn_events(alloc) {
-        Ok(events) => events,
-        Err(_) => turn_events(alloc)?,
-    };
-    Ok(events.into_iter().nth(place))
+/// A reply as text. Where memory is refused, it is written again.
+fn text_at_last(alloc: Global, reply: &Reply) -> Result<String, AllocError> {
+    match format!(in alloc; "{reply:?}") {
+        Ok(text) => Ok(text),
+        Err(_) => format!(in alloc; "{reply:?}"),
+    }
 }
 
 /// How many outcomes the first queue was told, how many entries and mappings there are, and whether the first byte leads
@@ -42,38 +45,22 @@ fn sight(world: &World) -> (usize, usize, usize, bool) {
     )
 }
 
-/// Whether a request was refused for want of memory, which its queue was told.
-fn wanted_memory(reply: &Reply) -> bool {
-    match reply {
-        Reply::Told { outcome, .. } => {
-            *outcome
-                == Outcome::Refused {
-                    op: 0,
-                    fault: Fault::OutOfMemory,
-                }
-        }
-        _ => false,
-    }
-}
-
-/// One event, and again where its memory is refused: nothing changed meanwhile.
-fn step_at_last(
+/// What the event of a line answers. None where its memory is refused, and then nothing changed.
+fn step(
     rt: &impl Abort,
     alloc: Global,
     world: &mut World,
-    place: usize,
-) -> Result<Reply, Fail> {
-    for _ in 0..2 {
-        let before = sight(world);
-        let Some(event) = event_at_last(alloc, place)? else {
-            return Err("event".into());
-        };
-        match world.step(alloc, event) {
-            Ok(reply) => return Ok(reply),
-            Err(_) => assert!(rt; sight(world) == before),
-        }
-    }
-    Err("memory".into())
+    line: &str,
+) -> Result<Option<String>, Fail> {
+    let Ok(event) = event_in(alloc, &[], line) else {
+        return Ok(None);
+    };
+    let before = sight(world);
+    let Ok(reply) = world.step(alloc, event.ok_or("event")?) else {
+        assert!(rt; sight(world) == before);
+        return Ok(None);
+    };
+    Ok(Some(text_at_last(alloc, &reply)?))
 }
 
 #[test]
@@ -84,17 +71,18 @@ fn refused_step_changes_nothing(rt: HostRuntime) -> Result<(), Fail> {
     end
 }
 
+/// Each event of a queue's turns, and again where its memory is refused.
 fn each_step(rt: &impl Abort, alloc: Global, world: &mut World) -> Result<(), Fail> {
-    let replies = match turn_replies(alloc) {
-        Ok(replies) => replies,
-        Err(_) => turn_replies(alloc)?,
-    };
-    for (place, wanted) in replies.iter().enumerate() {
-        let reply = step_at_last(rt, alloc, world, place)?;
-        if wanted_memory(&reply) {
+    for line in TURNS.lines() {
+        let (asked, wanted) = line.split_once(" = ").ok_or("line")?;
+        let reply = match step(rt, alloc, world, asked)? {
+            Some(reply) => reply,
+            None => step(rt, alloc, world, asked)?.ok_or("memory")?,
+        };
+        if reply.as_str() == WANTED_MEMORY {
             return Ok(());
         }
-        assert!(rt; reply == *wanted);
+        assert_eq!(rt; reply.as_str(), wanted);
     }
     Ok(())
 }
