@@ -5,15 +5,15 @@ ghost use Rattle.gv_types.specs.Limits.{greatest};
 ghost use Rattle.gv_space.specs.State.{new_space};
 ghost use Rattle.gv_journal.specs.State.{FitsSpace};
 
-use crate::act::{BUFFERS, Change, Ids, op_of};
 use crate::fold::Fold;
 use crate::play::Wrong;
 use crate::sight::{fold_of, list_of};
 use crate::watch::Watch;
 use gv_journal::{Journal, ReadyRequest};
+use gv_model::request_in;
 use gv_space::Space;
-use gv_types::{Bounds, Fault, Limits, Op, Request};
-use std::alloc::{AllocError, Global};
+use gv_types::{Bounds, BufferId, Fault, Limits, OutOfMemory, Request};
+use std::alloc::Global;
 
 /// All that is seen of a space and its journal; of it the list, and the counts of the buffer.
 #[derive(Clone, Copy, Debug, PartialEq, Eq)]
@@ -25,19 +25,15 @@ struct Sight {
     next: u64,
 }
 
-fn sight_of(space: &Space, journal: &Journal, ids: &Ids) -> Sight {
-    let mut all = fold_of(space, ids);
+fn sight_of(space: &Space, journal: &Journal, id: &BufferId) -> Sight {
+    let mut all = fold_of(space, &[*id]);
     all.take(journal.first());
     all.take(journal.next());
-    let (uses, kept) = match &ids[0] {
-        Some(id) => (space.uses(*id), space.kept(*id)),
-        None => (None, None),
-    };
     Sight {
         all,
         list: list_of(space),
-        uses,
-        kept,
+        uses: space.uses(*id),
+        kept: space.kept(*id),
         next: journal.next(),
     }
 }
@@ -54,33 +50,25 @@ fn space_at_last(alloc: Global) -> Result<Space, Fault>
 }
 
 /// A buffer of eight pages. Where memory is refused, it is made again.
-fn create_at_last(alloc: Global, space: &mut Space, journal: &Journal) -> Result<Ids, Fault>
+fn create_at_last(alloc: Global, space: &mut Space, journal: &Journal) -> Result<BufferId, Fault>
     requires { FitsSpace space.old journal.now }
     ensures { FitsSpace space.new journal.now }
 {
-    let mut ids: Ids = [None; BUFFERS];
-    ids[0] = match space.create(alloc, 8) {
-        Ok(id) => Some(id),
-        Err(_) => Some(space.create(alloc, 8)?),
-    };
-    Ok(ids)
-}
-
-fn ops_of(alloc: Global, ids: &Ids, changes: &[Change]) -> Result<Vec<Op>, AllocError> {
-    let mut ops = Vec::new(alloc);
-    for change in changes {
-        if let Some(op) = op_of(ids, *change) {
-            ops.push(op)?;
-        }
+    match space.create(alloc, 8) {
+        Ok(id) => Ok(id),
+        Err(_) => space.create(alloc, 8),
     }
-    Ok(ops)
 }
 
-/// A request of these changes, the first of its queue. Where memory is refused, it is made again.
-fn ready_at_last(alloc: Global, ids: &Ids, changes: &[Change]) -> Result<ReadyRequest, AllocError> {
-    let ops = match ops_of(alloc, ids, changes) {
-        Ok(ops) => ops,
-        Err(_) => ops_of(alloc, ids, changes)?,
+/// The request of a line, the first of its queue. Where memory is refused, it is made again.
+fn ready_at_last(alloc: Global, id: &BufferId, line: &str) -> Result<ReadyRequest, OutOfMemory> {
+    let Request {
+        ops,
+        waits: _,
+        signals: _,
+    } = match request_in(alloc, &[*id], line) {
+        Ok(request) => request,
+        Err(_) => request_in(alloc, &[*id], line)?,
     };
     let request = Request {
         ops,
@@ -100,14 +88,14 @@ fn bind_at_last(
     watch: &mut Watch,
     space: &mut Space,
     journal: &mut Journal,
-    ids: &Ids,
-    changes: &[Change],
+    id: &BufferId,
+    line: &str,
 ) -> Result<(), Wrong>
     requires { FitsSpace space.old journal.old }
     ensures { FitsSpace space.new journal.new }
 {
-    let before = sight_of(space, journal, ids);
-    let ready = ready_at_last(watch.alloc, ids, changes)?;
+    let before = sight_of(space, journal, id);
+    let ready = ready_at_last(watch.alloc, id, line)?;
     match journal.bind(watch.alloc, space, ready) {
         Ok(entry) => {
             watch.expect(entry == before.next);
@@ -115,8 +103,8 @@ fn bind_at_last(
         }
         Err(refusal) => watch.expect(refusal.fault == Fault::OutOfMemory),
     }
-    watch.expect(sight_of(space, journal, ids) == before);
-    let ready = ready_at_last(watch.alloc, ids, changes)?;
+    watch.expect(sight_of(space, journal, id) == before);
+    let ready = ready_at_last(watch.alloc, id, line)?;
     let bound = journal.bind(watch.alloc, space, ready);
     watch.expect(bound.is_ok());
     Ok(())
@@ -127,57 +115,46 @@ fn withdraw_at_last(
     watch: &mut Watch,
     space: &mut Space,
     journal: &mut Journal,
-    ids: &Ids,
+    id: &BufferId,
     entry: u64,
 )
     requires { FitsSpace space.old journal.old }
     ensures { FitsSpace space.new journal.new }
 {
-    let before = sight_of(space, journal, ids);
+    let before = sight_of(space, journal, id);
     match journal.withdraw(watch.alloc, space, entry) {
         Ok(_) => return,
         Err(fault) => watch.expect(fault == Fault::OutOfMemory),
     }
-    watch.expect(sight_of(space, journal, ids) == before);
+    watch.expect(sight_of(space, journal, id) == before);
     let withdrawn = journal.withdraw(watch.alloc, space, entry);
     watch.expect(withdrawn.is_ok());
 }
 
-/// So many pages of the buffer from its page `page` on.
-const fn map(first: u32, count: u32, page: u32) -> Change {
-    Change::Map {
-        first,
-        count,
-        buffer: 0,
-        page,
-        read_only: false,
-    }
-}
+/// The requests that are bound: three operations, another three, and an unmap of the whole buffer.
+const FIRST: &str = "put ; map 0 4 0 0 ; map 5 1 0 5 ; map 7 1 0 7";
 
-const fn unmap(first: u32, count: u32) -> Change {
-    Change::Unmap { first, count }
-}
+const SECOND: &str = "put ; unmap 0 1 ; map 1 2 0 4 ; unmap 2 2";
 
-/// A bind of three operations, another three, and an unmap of the whole buffer: what is seen before each and behind all.
+const THIRD: &str = "put ; unmap_all 0";
+
+/// The three binds: what is seen before each and behind all.
 fn bind_all(
     watch: &mut Watch,
     space: &mut Space,
     journal: &mut Journal,
-    ids: &Ids,
+    id: &BufferId,
 ) -> Result<[Sight; 4], Wrong>
     requires { FitsSpace space.old journal.old }
     ensures { FitsSpace space.new journal.new }
 {
-    let empty = sight_of(space, journal, ids);
-    let changes = [map(0, 4, 0), map(5, 1, 5), map(7, 1, 7)];
-    bind_at_last(watch, space, journal, ids, &changes)?;
-    let first = sight_of(space, journal, ids);
-    let changes = [unmap(0, 1), map(1, 2, 4), unmap(2, 2)];
-    bind_at_last(watch, space, journal, ids, &changes)?;
-    let second = sight_of(space, journal, ids);
-    let all = [Change::UnmapAll { buffer: 0 }];
-    bind_at_last(watch, space, journal, ids, &all)?;
-    Ok([empty, first, second, sight_of(space, journal, ids)])
+    let empty = sight_of(space, journal, id);
+    bind_at_last(watch, space, journal, id, FIRST)?;
+    let first = sight_of(space, journal, id);
+    bind_at_last(watch, space, journal, id, SECOND)?;
+    let second = sight_of(space, journal, id);
+    bind_at_last(watch, space, journal, id, THIRD)?;
+    Ok([empty, first, second, sight_of(space, journal, id)])
 }
 
 /// The binds, a withdrawal of the last one, and all of them taken back.
@@ -185,16 +162,16 @@ fn there_and_back(watch: &mut Watch, space: &mut Space, journal: &mut Journal) -
     requires { FitsSpace space.old journal.old }
     ensures { FitsSpace space.new journal.new }
 {
-    let ids = &create_at_last(watch.alloc, space, journal)?;
-    let [empty, first, second, third] = bind_all(watch, space, journal, ids)?;
+    let id = &create_at_last(watch.alloc, space, journal)?;
+    let [empty, first, second, third] = bind_all(watch, space, journal, id)?;
     watch.expect((second.uses, second.kept) == (Some(3), Some(4)));
     watch.expect((third.uses, third.kept) == (Some(0), Some(7)));
-    withdraw_at_last(watch, space, journal, ids, 2);
+    withdraw_at_last(watch, space, journal, id, 2);
     watch.expect(list_of(space) == second.list);
     for wanted in [third, second, first, empty] {
         let rewound = journal.rewind(space);
         watch.expect(rewound == Ok(wanted.next));
-        watch.expect(sight_of(space, journal, ids) == wanted);
+        watch.expect(sight_of(space, journal, id) == wanted);
     }
     Ok(())
 }

@@ -7,7 +7,6 @@
 //! themselves, `replies` and `dialogue`, lines whose answers are written by hand, and `trimming`, events whose memory is refused unseen.
 #![tactic(auto)]
 
-mod act;
 mod dialogue;
 mod fold;
 mod journal;
@@ -165,7 +164,7 @@ fn of_apart<R: Threads + Wait + Sync>(
 
 /// Plays a row, and once more: both come to the same. Whether something was refused is said of the first.
 fn of_row(alloc: Global, row: &Row) -> Verdict {
-    let (Ok(first), Ok(second)) = (play(alloc, row.acts), play(alloc, row.acts)) else {
+    let (Ok(first), Ok(second)) = (play(alloc, row.lines), play(alloc, row.lines)) else {
         return Verdict::Otherwise;
     };
     if first.fold != second.fold {

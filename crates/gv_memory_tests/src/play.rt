@@ -1,11 +1,25 @@
-//! Rows of acts on a world. An act whose memory is refused has changed nothing, and is done again.
-use crate::act::{Act, Ask, BUFFERS, Ids, event_of, may_grow, request_of};
+//! Rows of lines on a world. An event whose memory is refused has changed nothing, and comes again.
 use crate::fold::Fold;
-use crate::sight::{Sight, sight_of, take_reply};
+use crate::sight::{BUFFERS, Sight, sight_of, take_reply};
+use gv_model::event_in;
 use gv_sync::SyncFault;
-use gv_types::{Bounds, Fault, Limits, OutOfMemory};
-use gv_vm::{Event, Outcome, Reply, Sizes, World};
+use gv_types::{Bounds, BufferId, Fault, Limits, OutOfMemory};
+use gv_vm::{Looked, Outcome, Reply, Sizes, World};
 use std::alloc::{AllocError, Global};
+
+/// The events of the two queues behind a put.
+const TAKE: [&str; 2] = ["take 0", "take 1"];
+
+const LOOK: [&str; 2] = ["look 0", "look 1"];
+
+const BIND: [&str; 2] = ["bind 0", "bind 1"];
+
+const GIVE_UP: [&str; 2] = ["give_up 0", "give_up 1"];
+
+const PAY: [&str; 2] = ["pay 0", "pay 1"];
+
+/// More waits and more signals than a request of these rows has.
+const MOST_POINTS: u32 = 4;
 
 /// What went wrong at a refusal.
 #[derive(Clone, Copy, Debug, PartialEq, Eq)]
@@ -57,14 +71,24 @@ impl From<Fault> for Wrong {
 }
 
 /// Plays a row on a world of its own.
-pub fn play(alloc: Global, acts: &[Act]) -> Result<Course, Wrong> {
+pub fn play(alloc: Global, lines: &str) -> Result<Course, Wrong> {
     let mut world = match new_world(alloc) {
         Some(world) => world,
         None => new_world(alloc).ok_or(Wrong::Twice)?,
     };
-    let course = play_on(alloc, &mut world, acts);
+    let mut run = Run {
+        alloc,
+        ids: [BufferId::new(u32::MAX, 0); BUFFERS],
+        made: 0,
+        course: Course {
+            fold: Fold::new(),
+            refused: 0,
+        },
+    };
+    let end = run.play_all(&mut world, lines);
     world.close();
-    course
+    end?;
+    Ok(run.course)
 }
 
 /// A world of two queues of depth 1 and one timeline.
@@ -77,137 +101,137 @@ fn new_world(alloc: Global) -> Option<World> {
     World::new(alloc, Bounds::whole(), Limits::full(), sizes).ok()
 }
 
-fn play_on(alloc: Global, world: &mut World, acts: &[Act]) -> Result<Course, Wrong> {
-    let mut ids: Ids = [None; BUFFERS];
-    let mut course = Course {
-        fold: Fold::new(),
-        refused: 0,
-    };
-    for act in acts {
-        if !is_done(alloc, world, &mut ids, *act, &mut course)? {
-            course.refused = course.refused.saturating_add(1);
-            if !is_done(alloc, world, &mut ids, *act, &mut course)? {
-                return Err(Wrong::Twice);
+/// A row that is played: the ids of the buffers that were made, in order, and what it came to so far.
+#[derive(Drop)]
+struct Run {
+    alloc: Global,
+    ids: [BufferId; BUFFERS],
+    made: usize,
+    course: Course,
+}
+
+impl Run {
+    fn play_all(&mut self, world: &mut World, lines: &str) -> Result<(), Wrong> {
+        for line in lines.lines() {
+            self.play(world, line)?;
+            let seen = self.sight(world);
+            self.course.fold.take_all(seen.state);
+        }
+        Ok(())
+    }
+
+    fn sight(&self, world: &World) -> Sight {
+        sight_of(world, &self.ids)
+    }
+
+    /// One event, and for a put all that comes behind it.
+    fn play(&mut self, world: &mut World, line: &str) -> Result<(), Wrong> {
+        let before = self.sight(world);
+        if line.starts_with("put") {
+            let queue = usize::from(line.starts_with("put 1"));
+            return self.serve(world, line, queue);
+        }
+        match self.at_last(world, line)? {
+            Reply::Destroyed => Ok(()),
+            _ if line.starts_with("destroy") => Err(Wrong::Held),
+            _ if line == "trim" && self.sight(world) != before => Err(Wrong::Changed),
+            _ => Ok(()),
+        }
+    }
+
+    /// What an event is answered. None where its memory was wanting, and then nothing has changed.
+    fn step(&mut self, world: &mut World, line: &str) -> Result<Option<Reply>, Wrong> {
+        let Ok(event) = event_in(self.alloc, &self.ids, line) else {
+            return Ok(None);
+        };
+        let before = self.sight(world);
+        let Ok(reply) = world.step(self.alloc, event.ok_or(Wrong::NoRow)?) else {
+            return self.not_done(world, line, before);
+        };
+        take_reply(&mut self.course.fold, &reply);
+        self.note_id(&reply);
+        Ok(Some(reply))
+    }
+
+    /// Nothing was done, where the event may ask for memory, and all is as it was.
+    fn not_done(&self, world: &World, line: &str, before: Sight) -> Result<Option<Reply>, Wrong> {
+        if !may_grow(line) {
+            Err(Wrong::Wanted)
+        } else if self.sight(world) != before {
+            Err(Wrong::Changed)
+        } else {
+            Ok(None)
+        }
+    }
+
+    /// Keeps the id of a buffer that was made.
+    fn note_id(&mut self, reply: &Reply) {
+        if let Reply::Created { id } = reply {
+            if let Some(free) = self.ids.get_mut(self.made) {
+                *free = *id;
+            }
+            self.made = self.made.saturating_add(1);
+        }
+    }
+
+    /// What an event is answered, the second time where its memory is refused.
+    fn at_last(&mut self, world: &mut World, line: &str) -> Result<Reply, Wrong> {
+        if let Some(reply) = self.step(world, line)? {
+            return Ok(reply);
+        }
+        self.course.refused = self.course.refused.saturating_add(1);
+        self.step(world, line)?.ok_or(Wrong::Twice)
+    }
+
+    /// Looks at each wait, or pays each signal, as long as that is answered so.
+    fn go_on(&mut self, world: &mut World, line: &str) -> Result<(), Wrong> {
+        for _ in 0..MOST_POINTS {
+            let reply = self.at_last(world, line)?;
+            if !reply.is_raised() && reply.looked() != Looked::AllReached {
+                break;
             }
         }
-        let seen = sight_of(world, &ids);
-        course.fold.take_all(seen.state);
+        Ok(())
     }
-    Ok(course)
-}
 
-/// Whether an act was done. Else memory was wanting, and nothing has changed but what a queue was told.
-fn is_done(
-    alloc: Global,
-    world: &mut World,
-    ids: &mut Ids,
-    act: Act,
-    course: &mut Course,
-) -> Result<bool, Wrong> {
-    if let Act::Ask(ask) = act {
-        return is_served(alloc, world, ids, &ask, course);
-    }
-    let Ok(event) = event_of(alloc, ids, act) else {
-        return Ok(false);
-    };
-    let Some(event) = event else {
-        return Ok(true);
-    };
-    let before = sight_of(world, ids);
-    match world.step(alloc, event) {
-        Ok(reply) => {
-            take_reply(&mut course.fold, &reply);
-            note_id(ids, &reply);
-            is_as_asked(act, &reply, sight_of(world, ids) == before)
+    /// A request from its put to its last signal, and again where it is refused for want of memory.
+    fn serve(&mut self, world: &mut World, line: &str, queue: usize) -> Result<(), Wrong> {
+        for _ in 0..2 {
+            let before = self.sight(world);
+            let fold = self.course.fold;
+            let reply = self.told(world, line, queue)?;
+            if !is_wanting(&reply) {
+                return self.go_on(world, PAY[queue % 2]);
+            }
+            self.course.fold = fold;
+            self.course.refused = self.course.refused.saturating_add(1);
+            if self.sight(world) != before.told_once_more() {
+                return Err(Wrong::Changed);
+            }
         }
-        Err(_) if !may_grow(act) => Err(Wrong::Wanted),
-        Err(_) => unchanged(world, ids, before, 0),
+        Err(Wrong::Twice)
     }
-}
 
-/// Not done, where all is as it was and so many outcomes more were told.
-fn unchanged(world: &World, ids: &Ids, before: Sight, told: u64) -> Result<bool, Wrong> {
-    let wanted = Sight {
-        state: before.state,
-        told: before.told.saturating_add(told),
-    };
-    if sight_of(world, ids) == wanted {
-        Ok(false)
-    } else {
-        Err(Wrong::Changed)
-    }
-}
-
-/// Done, where a buffer that was to be destroyed is, and where all is the same once room was to be given back.
-fn is_as_asked(act: Act, reply: &Reply, is_same: bool) -> Result<bool, Wrong> {
-    match (act, reply) {
-        (Act::Destroy { .. }, Reply::Destroyed) => Ok(true),
-        (Act::Destroy { .. }, _) => Err(Wrong::Held),
-        (Act::Trim, _) if !is_same => Err(Wrong::Changed),
-        _ => Ok(true),
-    }
-}
-
-/// Keeps the id of a buffer that was made.
-fn note_id(ids: &mut Ids, reply: &Reply) {
-    if let Reply::Created { id } = reply {
-        if let Some(free) = ids.iter_mut().find(|held| held.is_none()) {
-            *free = Some(*id);
+    /// What a request is told: it is carried out where all its waits are reached, and else given up.
+    fn told(&mut self, world: &mut World, line: &str, queue: usize) -> Result<Reply, Wrong> {
+        let queue = queue % 2;
+        self.at_last(world, line)?;
+        self.at_last(world, TAKE[queue])?;
+        self.go_on(world, LOOK[queue])?;
+        match self.at_last(world, BIND[queue])? {
+            Reply::Idle => self.at_last(world, GIVE_UP[queue]),
+            reply => Ok(reply),
         }
     }
 }
 
-/// An event of a queue behind the put.
-#[derive(Clone, Copy, PartialEq, Eq)]
-enum Stage {
-    Take,
-    Look,
-    Bind,
-    GiveUp,
-    Pay,
-}
-
-/// Such an event, and the queue.
-#[derive(Clone, Copy)]
-struct QueueStep {
-    queue: u64,
-    stage: Stage,
-}
-
-impl QueueStep {
-    fn event(&self) -> Event {
-        let queue = self.queue;
-        match self.stage {
-            Stage::Take => Event::Take { queue },
-            Stage::Look => Event::Look { queue },
-            Stage::Bind => Event::Bind { queue },
-            Stage::GiveUp => Event::GiveUp { queue },
-            Stage::Pay => Event::Pay { queue },
-        }
-    }
-}
-
-/// One event of a queue, and again where its memory is refused: nothing has changed then.
-fn step_at_last(
-    alloc: Global,
-    world: &mut World,
-    ids: &Ids,
-    step: QueueStep,
-    course: &mut Course,
-) -> Result<Reply, Wrong> {
-    let before = sight_of(world, ids);
-    if let Ok(reply) = world.step(alloc, step.event()) {
-        return Ok(reply);
-    }
-    course.refused = course.refused.saturating_add(1);
-    if step.stage == Stage::Take || step.stage == Stage::Pay {
-        return Err(Wrong::Wanted);
-    }
-    unchanged(world, ids, before, 0)?;
-    match world.step(alloc, step.event()) {
-        Ok(reply) => Ok(reply),
-        Err(_) => Err(Wrong::Twice),
-    }
+/// Whether the event of a line may ask for memory. The others succeed whatever is refused.
+fn may_grow(line: &str) -> bool {
+    [
+        "put", "look", "bind", "give_up", "create", "withdraw", "job",
+    ]
+    .iter()
+    .any(|word| line.starts_with(*word))
 }
 
 fn is_wanting(reply: &Reply) -> bool {
@@ -217,70 +241,5 @@ fn is_wanting(reply: &Reply) -> bool {
             ..
         } => *fault == Fault::OutOfMemory,
         _ => false,
-    }
-}
-
-fn is_accepted(reply: &Reply) -> bool {
-    match reply {
-        Reply::Told {
-            outcome: Outcome::Accepted { .. },
-            ..
-        } => true,
-        _ => false,
-    }
-}
-
-/// A request from its put to its last signal. Where it was refused for want of memory, one outcome more is told.
-fn is_served(
-    alloc: Global,
-    world: &mut World,
-    ids: &Ids,
-    ask: &Ask,
-    course: &mut Course,
-) -> Result<bool, Wrong> {
-    let before = sight_of(world, ids);
-    let replies = course.fold;
-    let queue = ask.queue;
-    let Ok(request) = request_of(alloc, ids, ask) else {
-        return Ok(false);
-    };
-    if world.step(alloc, Event::Put { queue, request }).is_err() {
-        return unchanged(world, ids, before, 0);
-    }
-    let reply = told(alloc, world, ids, ask, course)?;
-    if is_wanting(&reply) {
-        // It is served again from its put.
-        course.fold = replies;
-        return unchanged(world, ids, before, 1);
-    }
-    take_reply(&mut course.fold, &reply);
-    if is_accepted(&reply) {
-        let stage = Stage::Pay;
-        for _ in ask.signals {
-            let paid = step_at_last(alloc, world, ids, QueueStep { queue, stage }, course)?;
-            take_reply(&mut course.fold, &paid);
-        }
-    }
-    Ok(true)
-}
-
-/// What the request at the front of a queue is told: it is carried out where all its waits are reached, and else given up.
-fn told(
-    alloc: Global,
-    world: &mut World,
-    ids: &Ids,
-    ask: &Ask,
-    course: &mut Course,
-) -> Result<Reply, Wrong> {
-    let queue = ask.queue;
-    let step = |stage| QueueStep { queue, stage };
-    let _taken = step_at_last(alloc, world, ids, step(Stage::Take), course)?;
-    for _ in ask.waits {
-        let seen = step_at_last(alloc, world, ids, step(Stage::Look), course)?;
-        take_reply(&mut course.fold, &seen);
-    }
-    match step_at_last(alloc, world, ids, step(Stage::Bind), course)? {
-        Reply::Idle => step_at_last(alloc, world, ids, step(Stage::GiveUp), course),
-        reply => Ok(reply),
     }
 }

@@ -1,10 +1,13 @@
 //! What is seen of an address space and of a world, without memory.
-use crate::act::Ids;
 use crate::fold::Fold;
 use gv_journal::{Item, ItemKind};
 use gv_space::Space;
-use gv_types::{Backing, BufferId, Fault, Mapping};
-use gv_vm::{Outcome, Reply, Vm, World};
+use gv_types::BufferId;
+use gv_vm::{Reply, Vm, World};
+use std::fmt::Write;
+
+/// The greatest number of buffers that a row makes.
+pub const BUFFERS: usize = 4;
 
 /// How many pages are looked up in the page table.
 const PAGES: u64 = 16;
@@ -16,8 +19,18 @@ pub struct Sight {
     pub told: u64,
 }
 
+impl Sight {
+    /// The same, but for one outcome more.
+    pub fn told_once_more(self) -> Sight {
+        Sight {
+            state: self.state,
+            told: self.told.saturating_add(1),
+        }
+    }
+}
+
 /// All that is seen of a world and of these buffers.
-pub fn sight_of(world: &World, ids: &Ids) -> Sight {
+pub fn sight_of(world: &World, ids: &[BufferId]) -> Sight {
     let vm = world.vm();
     let mut state = fold_of(vm.space(), ids);
     take_items(&mut state, vm);
@@ -28,7 +41,7 @@ pub fn sight_of(world: &World, ids: &Ids) -> Sight {
 }
 
 /// The list, the page table and the counts of an address space whose buffers are these.
-pub fn fold_of(space: &Space, ids: &[Option<BufferId>]) -> Fold {
+pub fn fold_of(space: &Space, ids: &[BufferId]) -> Fold {
     let mut fold = list_of(space);
     for count in space.tables() {
         fold.take(count);
@@ -42,26 +55,9 @@ pub fn fold_of(space: &Space, ids: &[Option<BufferId>]) -> Fold {
 pub fn list_of(space: &Space) -> Fold {
     let mut fold = Fold::new();
     for mapping in space.list().iter() {
-        take_mapping(&mut fold, &mapping.mapping());
+        let _ = write!(&mut fold, "{:?}", mapping.mapping());
     }
     fold
-}
-
-fn take_backing(fold: &mut Fold, backing: Backing) {
-    match backing {
-        Backing::Buffer { id, page } => {
-            fold.take(id.generation.get());
-            fold.take(page);
-        }
-        Backing::Zero => fold.take(u64::MAX),
-    }
-}
-
-fn take_mapping(fold: &mut Fold, mapping: &Mapping) {
-    fold.take(mapping.range.first());
-    fold.take(mapping.range.count());
-    take_backing(fold, mapping.backing);
-    fold.take(u64::from(mapping.flags.read_only));
 }
 
 /// The list and the page table say the same of each page.
@@ -72,8 +68,8 @@ fn take_walks(fold: &mut Fold, space: &Space) {
     }
 }
 
-fn take_counts(fold: &mut Fold, space: &Space, ids: &[Option<BufferId>]) {
-    for id in ids.iter().flatten() {
+fn take_counts(fold: &mut Fold, space: &Space, ids: &[BufferId]) {
+    for id in ids {
         fold.take(space.uses(*id).unwrap_or(u64::MAX));
         fold.take(space.kept(*id).unwrap_or(u64::MAX));
     }
@@ -116,42 +112,11 @@ fn told_in(vm: &Vm) -> u64 {
     told
 }
 
-fn take_fault(fold: &mut Fold, fault: &Fault) {
-    fold.take_text(fault.name());
-    fold.take(fault.carried().unwrap_or(u64::MAX));
-}
-
-fn take_outcome(fold: &mut Fold, outcome: &Outcome) {
-    match outcome {
-        Outcome::Accepted { entry } => fold.take(*entry),
-        Outcome::Refused { op, fault } => {
-            fold.take(*op);
-            take_fault(fold, fault);
-        }
-        Outcome::NotReady { point, have } => {
-            fold.take(point.value);
-            fold.take(*have);
-        }
-    }
-}
-
-/// What a reply says, but for the number of a request.
+/// What a reply says, but for the number of a request, which counts also those that were refused for want of memory.
 pub fn take_reply(fold: &mut Fold, reply: &Reply) {
-    match reply {
-        Reply::Told { outcome, .. } => take_outcome(fold, outcome),
-        Reply::Refused { fault } => take_fault(fold, fault),
-        Reply::Raised { now, .. } => fold.take(*now),
-        Reply::Rewound { item } | Reply::Withdrawn { item } => fold.take(*item),
-        Reply::Settled { count } | Reply::Forgot { count } => fold.take(*count),
-        Reply::Begun { job, places } => {
-            fold.take(*job);
-            fold.take(places.len() as u64);
-        }
-        Reply::Ended { job } => fold.take(*job),
-        Reply::Found { place } => fold.take(u64::from(place.is_some())),
-        Reply::Created { .. } => fold.take_text("created"),
-        Reply::Destroyed => fold.take_text("destroyed"),
-        Reply::Trimmed => fold.take_text("trimmed"),
-        _ => fold.take_text("other"),
-    }
+    let _ = match reply {
+        Reply::Told { outcome, .. } => write!(fold, "{outcome:?}"),
+        Reply::Put { .. } | Reply::Taken { .. } => write!(fold, "queue"),
+        _ => write!(fold, "{reply:?}"),
+    };
 }

@@ -23,7 +23,7 @@ const CHUNK: u32 = 128;
 
 /// All that is seen of a space and its buffer.
 pub fn seen(space: &Space, id: &BufferId) -> Fold {
-    sight::fold_of(space, &[Some(*id)])
+    sight::fold_of(space, &[*id])
 }
 
 pub fn bytes(pages: u32) -> u64 {
