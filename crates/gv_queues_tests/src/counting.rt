@@ -63,7 +63,6 @@ fn wait_for_both<R: Threads + Wait + Abort + Sync>(rt: &R, alloc: Global) -> Res
     let Some((calls, of_second)) = gate.calls() else {
         return Err("turns".into());
     };
-    assert!(rt; calls > of_second);
-    assert!(rt; of_second == 10);
+    assert_eq!(rt; (calls > of_second, of_second), (true, 10));
     Ok(())
 }

@@ -49,8 +49,8 @@ fn meet<R: Threads + Wait + Abort + Sync>(rt: &R, alloc: Global) -> Result<(), F
     let gate = Meeting::new();
     let ran = run(rt, alloc, &BOTH, &gate, &asked)?;
     ran.expect_ends(rt, 2);
-    assert!(rt; ran.entries() == 2);
+    let entries = ran.entries();
     ran.close();
-    assert!(rt; gate.both_met());
+    assert_eq!(rt; (entries, gate.both_met()), (2, true));
     Ok(())
 }

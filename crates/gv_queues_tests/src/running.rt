@@ -66,13 +66,20 @@ impl Ran<'_> {
     /// queue was told anything.
     pub fn expect_ends(&self, rt: &impl Abort, count: u64) {
         assert_eq!(rt; self.plan.other(), None);
-        assert!(rt; (count..QUEUES as u64).all(|queue| self.is_untold(queue)));
+        let ends = self.ends();
+        let seen = [
+            (count..QUEUES as u64).all(|queue| self.is_untold(queue)),
+            ends.len() as u64 == count,
+            self.agree(ends),
+        ];
+        assert_eq!(rt; seen, [true; 3]);
+    }
+
+    /// What became of each queue; of none, where they were not run.
+    fn ends(&self) -> &[QueueEnd] {
         match &self.ends {
-            Ok(ends) => {
-                assert!(rt; ends.len() as u64 == count);
-                assert!(rt; self.agree(ends.as_slice()));
-            }
-            Err(_) => assert!(rt; false),
+            Ok(ends) => ends.as_slice(),
+            Err(_) => &[],
         }
     }
 
@@ -103,11 +110,11 @@ impl Ran<'_> {
 
     /// Asserts that these requests were left on queue 0, in order.
     pub fn expect_left(&self, rt: &impl Abort, wanted: &[Sent]) {
-        let left = match &self.ends {
-            Ok(ends) => ends.first(),
-            Err(_) => None,
+        let is_left = match self.ends() {
+            [end, ..] => are(end.left.as_slice(), wanted),
+            [] => false,
         };
-        assert!(rt; left.is_some_and(|end| are(end.left.as_slice(), wanted)));
+        assert!(rt; is_left);
     }
 
     /// How many entries there are.
@@ -118,12 +125,16 @@ impl Ran<'_> {
     /// Asserts that the address space and the timelines are as wanted.
     pub fn expect(&self, rt: &impl Abort, wanted: &Wanted) {
         let vm = &self.vm;
-        assert!(rt; vm.told(0) == wanted.told[0]);
-        assert!(rt; vm.told(1) == wanted.told[1]);
-        assert!(rt; has_entries(vm.items(), wanted.entries));
-        assert!(rt; vm.space().list().len() == wanted.mappings);
-        assert!(rt; leads(vm, wanted.zeros, true) && leads(vm, wanted.nowhere, false));
-        assert!(rt; self.numbers == wanted.numbers);
+        let seen = [
+            vm.told(0) == wanted.told[0],
+            vm.told(1) == wanted.told[1],
+            has_entries(vm.items(), wanted.entries),
+            vm.space().list().len() == wanted.mappings,
+            leads(vm, wanted.zeros, true),
+            leads(vm, wanted.nowhere, false),
+            self.numbers == wanted.numbers,
+        ];
+        assert_eq!(rt; seen, [true; 7]);
     }
 
     pub fn close(self) {

@@ -35,18 +35,26 @@ fn one_thread_on_timelines(rt: HostRuntime) -> Result<(), Fail> {
     laws::shares();
     laws::turns();
     let (timelines, mut seat) = Timelines::new(rt.alloc(), 2)?;
-    assert_eq!(rt; timelines.count(), 2);
-    assert_eq!(rt; timelines.value(&mut seat, 0), 0);
-    assert_eq!(rt; timelines.raise(&mut seat, at(0, 5)), 5);
-    assert_eq!(rt; timelines.raise(&mut seat, at(0, 3)), 5);
-    let reached = timelines.look(&mut seat, &at(0, 5));
-    assert_eq!(rt; sight(reached), (true, at(0, 5), 5));
-    let lacking = timelines.look(&mut seat, &at(0, 6));
-    assert_eq!(rt; sight(lacking), (false, at(0, 6), 5));
-    assert_eq!(rt; timelines.raise(&mut seat, at(1, FULL)), FULL);
+    let numbers = [
+        timelines.count(),
+        timelines.value(&mut seat, 0),
+        timelines.raise(&mut seat, at(0, 5)),
+        timelines.raise(&mut seat, at(0, 3)),
+    ];
+    assert_eq!(rt; numbers, [2, 0, 5, 5]);
+    let looks = [
+        sight(timelines.look(&mut seat, &at(0, 5))),
+        sight(timelines.look(&mut seat, &at(0, 6))),
+    ];
+    assert_eq!(rt; looks, [(true, at(0, 5), 5), (false, at(0, 6), 5)]);
+    let full = timelines.raise(&mut seat, at(1, FULL));
     let mut other = timelines.split(&mut seat)?;
-    assert_eq!(rt; timelines.raise(&mut other, at(0, 9)), 9);
-    assert_eq!(rt; timelines.value(&mut seat, 0), 9);
+    let numbers = [
+        full,
+        timelines.raise(&mut other, at(0, 9)),
+        timelines.value(&mut seat, 0),
+    ];
+    assert_eq!(rt; numbers, [FULL, 9, 9]);
     Ok(())
 }
 
@@ -66,32 +74,46 @@ fn value_at_first(timelines: &Timelines, seat: &mut Seat, timeline: u64) -> u64
 fn a_seat_split_off(rt: HostRuntime) -> Result<(), Fail> {
     let (timelines, mut seat) = Timelines::new(rt.alloc(), 3)?;
     seat.has_each_mark();
-    assert_eq!(rt; value_at_first(&timelines, &mut seat, 2), 0);
-    assert_eq!(rt; timelines.raise(&mut seat, at(2, 4)), 4);
+    let first = value_at_first(&timelines, &mut seat, 2);
+    let raised = timelines.raise(&mut seat, at(2, 4));
     let mut other = timelines.split(&mut seat)?;
     other.has_each_mark();
-    assert_eq!(rt; timelines.value(&mut other, 2), 4);
-    assert_eq!(rt; timelines.raise(&mut other, at(1, 8)), 8);
+    let numbers = [
+        first,
+        raised,
+        timelines.value(&mut other, 2),
+        timelines.raise(&mut other, at(1, 8)),
+    ];
+    assert_eq!(rt; numbers, [0, 4, 4, 8]);
     let mut third = timelines.split(&mut other)?;
     drop(other);
-    assert_eq!(rt; timelines.value(&mut third, 1), 8);
-    assert_eq!(rt; timelines.value(&mut seat, 1), 8);
-    assert_eq!(rt; timelines.value(&mut seat, 0), 0);
+    let numbers = [
+        timelines.value(&mut third, 1),
+        timelines.value(&mut seat, 1),
+        timelines.value(&mut seat, 0),
+    ];
+    assert_eq!(rt; numbers, [8, 8, 0]);
     Ok(())
 }
 
 #[test]
 fn one_thread_on_a_clock(rt: HostRuntime) -> Result<(), Fail> {
     let mut clock = Clock::new(rt.alloc(), 2)?;
-    assert_eq!(rt; clock.count(), 2);
-    assert_eq!(rt; clock.value(0), 0);
-    assert_eq!(rt; clock.raise(at(0, 5)), 5);
-    assert_eq!(rt; clock.raise(at(0, 3)), 5);
-    assert_eq!(rt; sight(clock.look(&at(0, 5))), (true, at(0, 5), 5));
-    assert_eq!(rt; sight(clock.look(&at(0, 6))), (false, at(0, 6), 5));
-    assert_eq!(rt; clock.raise(at(1, FULL)), FULL);
-    assert_eq!(rt; clock.raise(at(0, 9)), 9);
-    assert_eq!(rt; clock.value(0), 9);
+    let numbers = [
+        clock.count(),
+        clock.value(0),
+        clock.raise(at(0, 5)),
+        clock.raise(at(0, 3)),
+    ];
+    assert_eq!(rt; numbers, [2, 0, 5, 5]);
+    let looks = [sight(clock.look(&at(0, 5))), sight(clock.look(&at(0, 6)))];
+    assert_eq!(rt; looks, [(true, at(0, 5), 5), (false, at(0, 6), 5)]);
+    let numbers = [
+        clock.raise(at(1, FULL)),
+        clock.raise(at(0, 9)),
+        clock.value(0),
+    ];
+    assert_eq!(rt; numbers, [FULL, 9, 9]);
     Ok(())
 }
 
