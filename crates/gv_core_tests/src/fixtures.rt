@@ -148,6 +148,23 @@ pub fn to_vec(alloc: Global, list: &RangeList) -> Result<Vec<Packed>, OutOfMemor
     Ok(list.iter().map(|mapping| *mapping).collect(alloc)?)
 }
 
+/// Whether what is left of a run is these pages' mappings, and no others.
+pub fn are_left(run: Run<'_>, wanted: &[Pages]) -> bool {
+    run.len() == wanted.len()
+        && run
+            .zip(wanted)
+            .all(|(one, pages)| is_of(&one.mapping(), pages))
+}
+
+/// Whether a mapping is that of these pages.
+pub fn is_of(one: &Mapping, pages: &Pages) -> bool {
+    let (first, count, index, page) = *pages;
+    match mapping(first, count, index, page) {
+        Ok(other) => *one == other,
+        Err(_) => false,
+    }
+}
+
 /// A list of so many mappings of one page each: the pages of a buffer in turn, one at every `step`th page.
 pub fn spread(alloc: Global, count: u32, step: u32) -> Result<RangeList, Fail> {
     let mut list = RangeList::new(alloc);

@@ -5,6 +5,8 @@
 #[cfg(test)]
 mod buffers;
 #[cfg(test)]
+mod calls;
+#[cfg(test)]
 mod chunks;
 #[cfg(test)]
 mod comparing;

@@ -283,14 +283,16 @@ fn says_why_lines_are_bad_in_a_dialogue(rt: HostRuntime) -> Result<(), Fail> {
     Ok(())
 }
 
+const GOOD: [&[u8]; 4] = [
+    b"",
+    b"# any text",
+    b"bind",
+    b"bind zero 0x0 0x1000 ro ; queue 15",
+];
+
 #[test]
 fn says_nothing_of_good_lines(rt: HostRuntime) {
-    for text in [
-        b"".as_slice(),
-        b"# any text",
-        b"bind",
-        b"bind zero 0x0 0x1000 ro ; queue 15",
-    ] {
+    for text in &GOOD {
         assert!(rt; explain(rt.alloc(), text).is_none());
     }
 }

@@ -1,88 +1,88 @@
 //! Lines of any length: requests and jobs.
-use crate::lines::{Wanted, name, nothing_on, request, says, unmap};
-use gv_lines::{Access, Clause, Line, NamedPoint, parse_line};
-use std::alloc::Global;
+use crate::lines::{Row, expect};
+use gv_lines::{Line, parse_line};
+use std::alloc::{AllocError, Global};
 use std::test::Fail;
 
-fn point(text: &[u8], value: u64) -> Result<NamedPoint, &'static str> {
-    Ok(NamedPoint {
-        timeline: name(text)?,
-        value,
-    })
-}
-
 /// A text that says something so many times.
-fn repeated(alloc: Global, first: &str, more: &str, count: usize) -> Result<String, Fail> {
-    let mut text = String::new(alloc);
-    text.push_str(first)?;
+fn repeated(alloc: Global, first: &str, more: &str, count: usize) -> Result<String, AllocError> {
+    let mut text = String::from_str(alloc, first)?;
     for _ in 1..count {
         text.push_str(more)?;
     }
     Ok(text)
 }
 
+const ANY_ORDER: [Row; 1] = [(
+    "bind signal t 2 ; unmap 0x0 0x1000 ; wait t 1 ; queue 15 ; unmap 0x2000 0x1000 ; wait u 0x3 ; signal u 4 ; unmap 0x1000 0x1000",
+    "15 [Unmap { addr: 0, len: 4096 }, Unmap { addr: 8192, len: 4096 }, Unmap { addr: 4096, len: 4096 }] [NamedPoint { timeline: Name { text: \"t\" }, value: 1 }, NamedPoint { timeline: Name { text: \"u\" }, value: 3 }] [NamedPoint { timeline: Name { text: \"t\" }, value: 2 }, NamedPoint { timeline: Name { text: \"u\" }, value: 4 }]",
+)];
+
 #[test]
 fn reads_clauses_in_any_order(rt: HostRuntime) -> Result<(), Fail> {
-    let text =
-        b"bind signal t 2 ; unmap 0x0 0x1000 ; wait t 1 ; queue 15 ; unmap 0x2000 0x1000 ; wait u 0x3 ; signal u 4 ; unmap 0x1000 0x1000";
-    let wanted = Wanted {
-        queue: 15,
-        operations: &[unmap(0), unmap(8192), unmap(4096)],
-        waits: &[point(b"t", 1)?, point(b"u", 3)?],
-        signals: &[point(b"t", 2)?, point(b"u", 4)?],
+    expect(&rt, &ANY_ORDER)
+}
+
+const FEW: [Row; 2] = [("bind", "0 [] [] []"), ("bind queue 3", "3 [] [] []")];
+
+/// Requests, and the first two clauses that are taken of them.
+const TAKEN: [Row; 2] = [
+    ("bind", "None None"),
+    ("bind queue 3", "Some(Queue { queue: 3 }) None"),
+];
+
+/// The first two clauses that are taken of a request.
+fn taken(alloc: Global, text: &str) -> Result<String, Fail> {
+    let Some(Line::Bind { mut clauses }) = parse_line(text.as_bytes()) else {
+        return Err("no bind line".into());
     };
-    assert!(rt; says(rt.alloc(), text, &wanted)?);
-    Ok(())
+    let first = clauses.take();
+    let second = clauses.take();
+    Ok(format!(in alloc; "{first:?} {second:?}")?)
 }
 
 #[test]
 fn takes_clauses(rt: HostRuntime) -> Result<(), Fail> {
-    assert!(rt; says(rt.alloc(), b"bind", &nothing_on(0))?);
-    assert!(rt; request(b"bind")?.take().is_none());
-    assert!(rt; says(rt.alloc(), b"bind queue 3", &nothing_on(3))?);
-    let mut queue = request(b"bind queue 3")?;
-    assert!(rt; matches!(queue.take(), Some(Clause::Queue { queue: 3 })));
-    assert!(rt; queue.take().is_none());
+    expect(&rt, &FEW)?;
+    for (text, wanted) in &TAKEN {
+        let said = taken(rt.alloc(), text)?;
+        assert!(rt; said.as_str() == *wanted, "{text}: {said}");
+    }
     Ok(())
+}
+
+/// How many operations a request has, or how many accesses a job.
+fn length(alloc: Global, text: &str) -> Result<usize, Fail> {
+    match parse_line(text.as_bytes()) {
+        Some(Line::Bind { clauses }) => Ok(clauses.operations(alloc)?.len()),
+        Some(Line::Job { accesses }) => Ok(accesses.to_vec(alloc)?.len()),
+        _ => Err("another line".into()),
+    }
 }
 
 #[test]
 fn reads_requests_of_any_length(rt: HostRuntime) -> Result<(), Fail> {
     for count in [2, 256, 257, 4000] {
-        let text = repeated(
-            rt.alloc(),
-            "bind unmap 0x0 0x1000",
-            " ; unmap 0x0 0x1000",
-            count,
-        )?;
-        let operations = request(text.as_bytes())?.operations(rt.alloc())?;
-        assert_eq!(rt; operations.len(), count);
+        let more = " ; unmap 0x0 0x1000";
+        let text = repeated(rt.alloc(), "bind unmap 0x0 0x1000", more, count)?;
+        assert_eq!(rt; length(rt.alloc(), &text)?, count);
     }
     Ok(())
 }
 
-fn accesses(alloc: Global, text: &[u8]) -> Result<Vec<Access>, Fail> {
-    match parse_line(text) {
-        Some(Line::Job { accesses }) => Ok(accesses.to_vec(alloc)?),
-        _ => Err("no job line")?,
-    }
-}
+const JOBS: [Row; 1] = [(
+    "job read 0x0 ; write 4096 ; read 0x1",
+    "[Read { addr: 0 }, Write { addr: 4096 }, Read { addr: 1 }]",
+)];
 
 #[test]
 fn reads_jobs(rt: HostRuntime) -> Result<(), Fail> {
-    let list = accesses(rt.alloc(), b"job read 0x0 ; write 4096 ; read 0x1")?;
-    let want = [
-        Access::Read { addr: 0 },
-        Access::Write { addr: 4096 },
-        Access::Read { addr: 1 },
-    ];
-    assert_eq!(rt; list.as_slice(), want.as_slice());
-    Ok(())
+    expect(&rt, &JOBS)
 }
 
 #[test]
 fn reads_jobs_of_any_length(rt: HostRuntime) -> Result<(), Fail> {
     let text = repeated(rt.alloc(), "job read 0x0", " ; read 0x0", 257)?;
-    assert_eq!(rt; accesses(rt.alloc(), text.as_bytes())?.len(), 257);
+    assert_eq!(rt; length(rt.alloc(), &text)?, 257);
     Ok(())
 }

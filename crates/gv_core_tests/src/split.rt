@@ -28,23 +28,74 @@ fn examples()
     ensures free { MapFindsPagesFree }
 {}
 
+/// What a step is.
+#[derive(Clone, Copy)]
+enum Kind {
+    Unmap,
+    /// An unmap that keeps its pages.
+    Keep,
+    Remap,
+    Map,
+    /// A read-only map.
+    Fixed,
+}
+
+/// A step: its mapping, and the rests before and behind.
+type Row = (Kind, Pages, Option<Pages>, Option<Pages>);
+
+fn rest(pages: Option<Pages>) -> Result<Option<Mapping>, &'static str> {
+    match pages {
+        Some((first, count, index, page)) => Ok(Some(mapping(first, count, index, page)?)),
+        None => Ok(None),
+    }
+}
+
+fn step_of(row: &Row) -> Result<Step, &'static str> {
+    let (kind, (first, count, index, page), prev, next) = *row;
+    let whole = mapping(first, count, index, page)?;
+    Ok(match kind {
+        Kind::Unmap | Kind::Keep => Step::Unmap {
+            mapping: whole,
+            keep: matches!(kind, Kind::Keep),
+        },
+        Kind::Remap => Step::Remap {
+            mapping: whole,
+            prev: rest(prev)?,
+            next: rest(next)?,
+            keep: false,
+        },
+        Kind::Map | Kind::Fixed => Step::Map {
+            mapping: Mapping {
+                flags: Flags {
+                    read_only: matches!(kind, Kind::Fixed),
+                },
+                ..whole
+            },
+        },
+    })
+}
+
+fn is_step(step: &Step, row: &Row) -> bool {
+    match step_of(row) {
+        Ok(wanted) => *step == wanted,
+        Err(_) => false,
+    }
+}
+
 /// Asserts that an operation has these steps on the list of these pages.
 fn expect(
     rt: &(impl Abort + AllocGlobal),
-    rows: &[Pages],
+    pages: &[Pages],
     op: &PageOp,
-    wanted: &[Step],
+    rows: &[Row],
 ) -> Result<(), Fail>
     requires { IsChecked op.now }
 {
-    let list = list_of(rt.alloc(), rows)?;
+    let list = list_of(rt.alloc(), pages)?;
     let steps = plan(rt.alloc(), &list, op)?;
-    assert_eq!(rt; steps.as_slice(), wanted);
+    let same = steps.iter().zip(rows).all(|(step, row)| is_step(step, row));
+    assert!(rt; same && steps.len() == rows.len());
     Ok(())
-}
-
-fn gone(mapping: Mapping, keep: bool) -> Step {
-    Step::Unmap { mapping, keep }
 }
 
 #[test]
@@ -52,73 +103,86 @@ fn definitions_hold(_rt: HostRuntime) {
     examples();
 }
 
+/// Four pages of a buffer.
+const FOUR: &[Pages] = &[(0, 4, 1, 0)];
+
+const HOLE: &[Row] = &[(
+    Kind::Remap,
+    (0, 4, 1, 0),
+    Some((0, 1, 1, 0)),
+    Some((2, 2, 1, 2)),
+)];
+
 #[test]
 fn hole_leaves_both_rests(rt: HostRuntime) -> Result<(), Fail> {
-    let wanted = Step::Remap {
-        mapping: mapping(0, 4, 1, 0)?,
-        prev: Some(mapping(0, 1, 1, 0)?),
-        next: Some(mapping(2, 2, 1, 2)?),
-        keep: false,
-    };
-    expect(&rt, &[(0, 4, 1, 0)], &unmap(1, 1)?, &[wanted])
+    expect(&rt, FOUR, &unmap(1, 1)?, HOLE)
 }
+
+const THREE: &[Pages] = &[(0, 2, 1, 0), (2, 2, 1, 2), (4, 2, 1, 4)];
+
+const OVER_THREE: &[Row] = &[
+    (Kind::Remap, (0, 2, 1, 0), Some((0, 1, 1, 0)), None),
+    (Kind::Unmap, (2, 2, 1, 2), None, None),
+    (Kind::Remap, (4, 2, 1, 4), None, Some((5, 1, 1, 5))),
+    (Kind::Map, (1, 4, 2, 0), None, None),
+];
 
 #[test]
 fn map_over_three(rt: HostRuntime) -> Result<(), Fail> {
-    let wanted = [
-        Step::Remap {
-            mapping: mapping(0, 2, 1, 0)?,
-            prev: Some(mapping(0, 1, 1, 0)?),
-            next: None,
-            keep: false,
-        },
-        gone(mapping(2, 2, 1, 2)?, false),
-        Step::Remap {
-            mapping: mapping(4, 2, 1, 4)?,
-            prev: None,
-            next: Some(mapping(5, 1, 1, 5)?),
-            keep: false,
-        },
-        Step::Map {
-            mapping: mapping(1, 4, 2, 0)?,
-        },
-    ];
-    let rows = [(0, 2, 1, 0), (2, 2, 1, 2), (4, 2, 1, 4)];
-    expect(&rt, &rows, &map(1, 4, 2, 0)?, &wanted)
+    expect(&rt, THREE, &map(1, 4, 2, 0)?, OVER_THREE)
 }
+
+const SAME: &[Row] = &[
+    (Kind::Keep, (0, 4, 1, 0), None, None),
+    (Kind::Map, (0, 4, 1, 0), None, None),
+];
+
+const READ_ONLY: &[Row] = &[
+    (Kind::Unmap, (0, 4, 1, 0), None, None),
+    (Kind::Fixed, (0, 4, 1, 0), None, None),
+];
+
+/// Whether the map is read-only, and its steps.
+const AGAIN: [(bool, &[Row]); 2] = [(false, SAME), (true, READ_ONLY)];
 
 #[test]
 fn same_map_is_kept(rt: HostRuntime) -> Result<(), Fail> {
-    for read_only in [false, true] {
-        let whole = mapping(0, 4, 1, 0)?;
-        let flags = Flags { read_only };
-        let again = Mapping { flags, ..whole };
+    let whole = mapping(0, 4, 1, 0)?;
+    for (read_only, rows) in &AGAIN {
         let op = PageOp::Map {
-            range: again.range,
-            backing: again.backing,
-            flags,
+            range: whole.range,
+            backing: whole.backing,
+            flags: Flags {
+                read_only: *read_only,
+            },
         };
-        let wanted = [gone(whole, !read_only), Step::Map { mapping: again }];
-        expect(&rt, &[(0, 4, 1, 0)], &op, &wanted)?;
+        expect(&rt, FOUR, &op, rows)?;
     }
     Ok(())
 }
 
+const OF_TWO: &[Pages] = &[(0, 2, 1, 0), (2, 2, 2, 2), (4, 2, 1, 9)];
+
+/// A buffer's index and generation, and the steps of its unmap.
+const OF_BUFFERS: &[(u32, u64, &[Row])] = &[
+    (
+        1,
+        1,
+        &[
+            (Kind::Unmap, (0, 2, 1, 0), None, None),
+            (Kind::Unmap, (4, 2, 1, 9), None, None),
+        ],
+    ),
+    (2, 1, &[(Kind::Unmap, (2, 2, 2, 2), None, None)]),
+    (1, 2, &[]),
+    (3, 1, &[]),
+];
+
 #[test]
 fn all_mappings_of_a_buffer_go(rt: HostRuntime) -> Result<(), Fail> {
-    let rows = [(0, 2, 1, 0), (2, 2, 2, 2), (4, 2, 1, 9)];
-    let low = gone(mapping(0, 2, 1, 0)?, false);
-    let other = gone(mapping(2, 2, 2, 2)?, false);
-    let high = gone(mapping(4, 2, 1, 9)?, false);
-    let buffers: [(u32, u64, &[Step]); 4] = [
-        (1, 1, &[low, high]),
-        (2, 1, &[other]),
-        (1, 2, &[]),
-        (3, 1, &[]),
-    ];
-    for (index, generation, wanted) in buffers {
-        let buffer = BufferId::new(index, generation);
-        expect(&rt, &rows, &PageOp::UnmapBuffer { buffer }, wanted)?;
+    for (index, generation, rows) in OF_BUFFERS {
+        let buffer = BufferId::new(*index, *generation);
+        expect(&rt, OF_TWO, &PageOp::UnmapBuffer { buffer }, rows)?;
     }
     Ok(())
 }

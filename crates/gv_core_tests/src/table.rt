@@ -160,32 +160,34 @@ fn laws_hold(_rt: HostRuntime) {
     laws::trees();
 }
 
+const LARGE: [Row; 2] = [
+    (true, 0, 262_144, 0, [1, 1, 1, 0, 0]),
+    (false, 0, 1, 0, [1, 1, 1, 1, 1]),
+];
+
 #[test]
 fn one_large_mapping(rt: HostRuntime) -> Result<(), Fail> {
-    let rows = [
-        (true, 0, 262_144, 0, [1, 1, 1, 0, 0]),
-        (false, 0, 1, 0, [1, 1, 1, 1, 1]),
-    ];
-    let table = play(&rt, &rows)?;
+    let table = play(&rt, &LARGE)?;
     let found = [table.walk(0), table.walk(262_143), table.walk(u64::MAX)];
     assert_eq!(rt; found, [None, Some(entry(262_143)), None]);
     Ok(())
 }
 
+const ALL_SIZES: [Row; 9] = [
+    (true, 0, 65_536, 0, [1, 1, 1, 1, 0]),
+    (false, 0, 65_536, 4, [0, 0, 0, 0, 0]),
+    (true, 0x1ff, 2, 0, [1, 1, 1, 1, 2]),
+    (false, 0x1ff, 2, 6, [0, 0, 0, 0, 0]),
+    (true, 0, 512, 0, [1, 1, 1, 1, 0]),
+    (false, 7, 1, 0, [1, 1, 1, 1, 1]),
+    (true, 0, 512, 1, [1, 1, 1, 1, 0]),
+    (true, (1 << 45) - 1, 1, 0, [1, 2, 2, 2, 1]),
+    (false, 0, 1 << 37, 3, [1, 1, 1, 1, 1]),
+];
+
 #[test]
 fn tables_come_and_go(rt: HostRuntime) -> Result<(), Fail> {
-    let rows = [
-        (true, 0, 65_536, 0, [1, 1, 1, 1, 0]),
-        (false, 0, 65_536, 4, [0, 0, 0, 0, 0]),
-        (true, 0x1ff, 2, 0, [1, 1, 1, 1, 2]),
-        (false, 0x1ff, 2, 6, [0, 0, 0, 0, 0]),
-        (true, 0, 512, 0, [1, 1, 1, 1, 0]),
-        (false, 7, 1, 0, [1, 1, 1, 1, 1]),
-        (true, 0, 512, 1, [1, 1, 1, 1, 0]),
-        (true, (1 << 45) - 1, 1, 0, [1, 2, 2, 2, 1]),
-        (false, 0, 1 << 37, 3, [1, 1, 1, 1, 1]),
-    ];
-    play(&rt, &rows)?;
+    play(&rt, &ALL_SIZES)?;
     Ok(())
 }
 
