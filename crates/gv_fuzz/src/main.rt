@@ -3,9 +3,9 @@
 //! failed'.
 #![tactic(auto)]
 
-mod line;
+mod chance;
 mod model;
-mod operation;
+mod patterns;
 mod replies;
 mod script;
 mod shape;
@@ -58,14 +58,12 @@ fn try_all<R: Clock + Print + AllocGlobal>(rt: &R, plan: &Plan) -> io::Result<u6
     Ok(failed)
 }
 
-/// Tries the script of a seed. One that differs is printed.
+/// Tries the replies and the script of a seed. What differs is printed.
 fn agrees<R: Print + AllocGlobal>(rt: &R, seed: u64) -> io::Result<bool> {
-    if let Some(said) = changed_reply(rt.alloc(), seed)? {
-        println!(rt;
-            "seed {seed}: JSON says something else than this reply to {}",
-            said.word
-        )?;
-        rt.print(said.text.as_str())?;
+    if let Some(reply) = changed_reply(rt.alloc(), seed)? {
+        let word = reply.word;
+        println!(rt; "seed {seed}: JSON says something else than this reply to {word}")?;
+        rt.print(reply.text.as_str())?;
         return Ok(false);
     }
     let script = by_chance(rt.alloc(), seed)?;
@@ -73,10 +71,16 @@ fn agrees<R: Print + AllocGlobal>(rt: &R, seed: u64) -> io::Result<bool> {
         return Ok(true);
     }
     let script = shrunk(rt.alloc(), &script)?;
-    let trial = Trial::new(rt.alloc(), &script)?;
     println!(rt; "seed {seed}: this script")?;
     print_text(rt, &script)?;
-    println!(rt; "came to {:?}", trial.outcome)?;
+    tell(rt, &Trial::new(rt.alloc(), &script)?)?;
+    Ok(false)
+}
+
+/// Prints how both ways of a trial differ.
+fn tell<R: Print + AllocGlobal>(rt: &R, trial: &Trial) -> io::Result<()> {
+    let outcome = &trial.outcome;
+    println!(rt; "came to {outcome:?}")?;
     print_text(rt, &trial.got)?;
     let line = trial.wanted.bad_line.unwrap_or(0);
     println!(rt; "and was to come to (bad line {line}, 0 for none)")?;
@@ -84,23 +88,22 @@ fn agrees<R: Print + AllocGlobal>(rt: &R, seed: u64) -> io::Result<bool> {
     if let Some(changed) = trial.changed {
         println!(rt; "and the JSON of line {changed} says something else")?;
     }
-    Ok(false)
+    Ok(())
 }
 
 /// Prints bytes as text; those that are not ASCII as they are written in a string.
 fn print_text<R: Print + AllocGlobal>(rt: &R, bytes: &[u8]) -> io::Result<()> {
     let mut text = String::new(rt.alloc());
     for byte in bytes {
-        if *byte == b'\n' {
-            text.push('\n')?;
-        } else {
-            push_escaped(&mut text, *byte)?;
-        }
+        push_shown(&mut text, *byte)?;
     }
     rt.print(text.as_str())
 }
 
-fn push_escaped(text: &mut String, byte: u8) -> Result<(), AllocError> {
+fn push_shown(text: &mut String, byte: u8) -> Result<(), AllocError> {
+    if byte == b'\n' {
+        return text.push('\n');
+    }
     for letter in std::ascii::escape_default(byte) {
         text.push(char::from(letter))?;
     }

@@ -1,56 +1,17 @@
-//! A model of scripts, written from the definitions: whole lists before each item, looks back through the history, no undo
-//! values and no page table. It is slow, and knows nothing of the program but its language.
-mod area;
+//! A model of scripts: the language read by forms of its own, the world of gv_model behind it, and the texts of replies. It knows
+//! nothing of how the program reads and prints.
 mod asking;
-mod entries;
-mod fault;
+mod forms;
 mod grammar;
-mod history;
-mod job;
-mod line;
-mod list;
 mod names;
 mod request;
-mod running;
+mod steps;
 mod tables;
 mod text;
-mod words;
+mod world;
 
-use area::{Area, Limits};
-use history::History;
-use job::Job;
-use list::Mapping;
-use names::Names;
 use std::alloc::{AllocError, Global};
-
-/// Which settings may still come.
-#[derive(Clone, Copy, PartialEq, Eq)]
-enum Stage {
-    Fresh,
-    Bounded,
-    Begun,
-}
-
-/// What a queue was told, as it is printed.
-#[derive(Drop)]
-struct Told {
-    queue: u64,
-    text: String,
-}
-
-/// The state between two lines.
-#[derive(Drop)]
-pub struct Model {
-    stage: Stage,
-    area: Area,
-    limits: Limits,
-    names: Names,
-    list: Vec<Mapping>,
-    history: History,
-    told: Vec<Told>,
-    jobs: Vec<Job>,
-    begun: u64,
-}
+pub use world::{Sight, World};
 
 /// What a script comes to.
 #[derive(Drop)]
@@ -61,82 +22,25 @@ pub struct Ending {
     pub bad_line: Option<u64>,
 }
 
-/// What chance may want to know of a model, to name what there is.
-#[derive(Clone, Copy)]
-pub struct Sight {
-    pub buffers: u64,
-    pub timelines: u64,
-    pub first: u64,
-    pub next: u64,
-    pub jobs: u64,
-}
-
-impl Model {
-    /// Nothing is declared and nothing done.
-    pub fn new(alloc: Global) -> Model {
-        Model {
-            stage: Stage::Fresh,
-            area: Area::whole(),
-            limits: Limits::full(),
-            names: Names {
-                buffers: Vec::new(alloc),
-                timelines: Vec::new(alloc),
-            },
-            list: Vec::new(alloc),
-            history: History {
-                first: 0,
-                items: Vec::new(alloc),
-            },
-            told: Vec::new(alloc),
-            jobs: Vec::new(alloc),
-            begun: 0,
-        }
-    }
-
-    pub fn sight(&self) -> Sight {
-        Sight {
-            buffers: self.names.buffers.len() as u64,
-            timelines: self.names.timelines.len() as u64,
-            first: self.history.first,
-            next: self.history.next(),
-            jobs: self.begun,
-        }
-    }
-}
-
-/// What a script of these bytes comes to.
+/// What a script of these bytes comes to. Its last line is bad where it has no end.
 pub fn ending_of(alloc: Global, script: &[u8]) -> Result<Ending, AllocError> {
-    let mut model = Model::new(alloc);
-    let mut text = String::new(alloc);
-    let mut ends = Vec::new(alloc);
-    let mut line = Vec::new(alloc);
-    let mut number: u64 = 1;
-    for byte in script {
-        if *byte != b'\n' {
-            line.push(*byte)?;
-            continue;
-        }
-        if !model.run_line(alloc, &line, &mut text)? {
-            return Ok(bad(text, ends, number));
-        }
-        ends.push(text.len())?;
-        line.clear();
-        number = number.saturating_add(1);
-    }
-    if !line.is_empty() {
-        return Ok(bad(text, ends, number));
-    }
-    Ok(Ending {
-        text,
-        ends,
+    let mut world = World::new(alloc)?;
+    let mut ending = Ending {
+        text: String::new(alloc),
+        ends: Vec::new(alloc),
         bad_line: None,
-    })
-}
-
-fn bad(text: String, ends: Vec<usize>, number: u64) -> Ending {
-    Ending {
-        text,
-        ends,
-        bad_line: Some(number),
+    };
+    let ended = script.iter().filter(|byte| **byte == b'\n').count();
+    for (place, line) in script.split(|byte| *byte == b'\n').enumerate() {
+        let is_rest = place == ended;
+        if is_rest && line.is_empty() {
+            break;
+        }
+        if is_rest || !world.run_line(alloc, line, &mut ending.text)? {
+            ending.bad_line = Some((place as u64).saturating_add(1));
+            break;
+        }
+        ending.ends.push(ending.text.len())?;
     }
+    Ok(ending)
 }

@@ -1,7 +1,7 @@
 //! Scripts by chance.
-use crate::line::{write_limits, write_line, write_space};
-use crate::model::Model;
-use crate::shape::Shape;
+use crate::chance::Chance;
+use crate::model::World;
+use crate::patterns::LIMITS;
 use gv_model::Random;
 use std::alloc::{AllocError, Global};
 
@@ -18,34 +18,34 @@ const BYTES: &[u8] = b" \n;#0x19afgzbm_-\r\t\x00\x80\xff";
 
 /// The script of a seed: lines that name what there is; such lines with some bytes changed; or words and bytes at random.
 pub fn by_chance(alloc: Global, seed: u64) -> Result<Vec<u8>, AllocError> {
-    let mut random = Random::new(seed);
-    match random.below(20) {
-        0 => soup(alloc, &mut random),
-        1 => noise(alloc, &mut random),
+    let mut chance = Chance::new(seed);
+    match chance.random.below(20) {
+        0 => soup(alloc, &mut chance.random),
+        1 => noise(alloc, &mut chance.random),
         2..=4 => {
-            let script = lines(alloc, &mut random)?;
-            mutated(alloc, &mut random, &script)
+            let script = lines(alloc, &mut chance)?;
+            mutated(alloc, &mut chance.random, &script)
         }
-        _ => lines(alloc, &mut random),
+        _ => lines(alloc, &mut chance),
     }
 }
 
 /// Lines, each chosen by what the model knows after those before it.
-fn lines(alloc: Global, random: &mut Random) -> Result<Vec<u8>, AllocError> {
-    let shape = Shape::by_chance(random);
-    let mut model = Model::new(alloc);
+fn lines(alloc: Global, chance: &mut Chance) -> Result<Vec<u8>, AllocError> {
+    let mut world = World::new(alloc)?;
     let mut script = Vec::new(alloc);
     let mut replies = String::new(alloc);
     let mut line = String::new(alloc);
-    let count = random.below(60).saturating_add(4);
+    let count = chance.random.below(60).saturating_add(4);
     for number in 0..count {
         line.clear();
+        chance.sight = world.sight();
         match number {
-            0 if random.is_one_in(2) => write_space(random, &shape, &mut line)?,
-            0 | 1 if random.is_one_in(2) => write_limits(random, &mut line)?,
-            _ => write_line(random, &shape, &model.sight(), &mut line)?,
+            0 if chance.random.is_one_in(2) => chance.write_space(&mut line)?,
+            0 | 1 if chance.random.is_one_in(2) => chance.write(LIMITS, &mut line)?,
+            _ => chance.write_line(&mut line)?,
         }
-        let _good = model.run_line(alloc, line.as_bytes(), &mut replies)?;
+        let _good = world.run_line(alloc, line.as_bytes(), &mut replies)?;
         script.extend_from_slice(line.as_bytes())?;
         script.push(b'\n')?;
     }

@@ -1,10 +1,7 @@
 //! Where a script by chance plays: few pages, so that its ranges meet.
 ghost use Rattle.std.specs.Prelude.{◌≤◌, ◌<◌, ◌^◌};
 
-use crate::model::Sight;
 use gv_model::Random;
-use std::alloc::AllocError;
-use std::fmt::Write;
 
 /// Bytes of a page.
 pub const PAGE: u64 = 4_096;
@@ -25,12 +22,12 @@ const BASES: [u64; 6] = [
 /// Letters that names begin with.
 const LETTERS: [&str; 4] = ["b", "zero", "map_ro_", "abcdefghijklm"];
 
-/// What the numbers of a script are chosen around.
+/// What the numbers of a script are chosen around, and what its names begin with.
 #[derive(Clone, Copy)]
 pub struct Shape {
     pub base: u64,
     pub unit: u64,
-    letters: &'static str,
+    pub letters: &'static str,
 }
 
 impl Shape {
@@ -60,46 +57,5 @@ impl Shape {
     pub fn page(&self, random: &mut Random) -> u64 {
         let units = random.below(UNITS);
         self.base.saturating_add(self.pages(random, units))
-    }
-
-    /// Writes the name with a number.
-    pub fn write_name(&self, number: u64, out: &mut String) -> Result<(), AllocError> {
-        let letters = self.letters;
-        write!(out, "{letters}{number}")
-    }
-
-    /// Writes the name of a declared buffer, or now and then of none.
-    pub fn write_buffer(
-        &self,
-        random: &mut Random,
-        sight: &Sight,
-        out: &mut String,
-    ) -> Result<(), AllocError> {
-        let past = u64::from(random.is_one_in(300));
-        let number = random.below(sight.buffers.max(1)).saturating_add(past * 9);
-        self.write_name(number, out)
-    }
-
-    /// Writes the name of a declared timeline, or now and then of none.
-    pub fn write_timeline(
-        &self,
-        random: &mut Random,
-        sight: &Sight,
-        out: &mut String,
-    ) -> Result<(), AllocError> {
-        let past = u64::from(random.is_one_in(300));
-        let number = random
-            .below(sight.timelines.max(1))
-            .saturating_add(past * 9);
-        self.write_name(number, out)
-    }
-}
-
-/// Writes a number, in one of its two forms, behind a space.
-pub fn write_number(random: &mut Random, number: u64, out: &mut String) -> Result<(), AllocError> {
-    if random.is_one_in(2) {
-        write!(out, " {number}")
-    } else {
-        write!(out, " 0x{number:x}")
     }
 }

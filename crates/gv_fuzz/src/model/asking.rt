@@ -1,135 +1,94 @@
 //! Lines that ask, and change nothing.
-use super::Model;
-use super::area::PAGE;
-use super::fault::Fault;
-use super::history::Kind;
-use super::line::{Line, Operation};
-use super::list::count_of;
+use super::forms::Verb;
+use super::grammar::Said;
+use super::names::{id_of, name_at};
 use super::tables::tables;
-use super::text::{write_list, write_place, write_steps};
+use super::text::{write_list, write_outcome, write_refused};
+use super::world::World;
+use gv_model::{Kind, Past, count_of};
+use gv_types::{Fault, OutOfMemory};
 use std::alloc::{AllocError, Global};
 use std::fmt::Write;
 
-impl Model {
+impl World {
     /// Writes what is asked for.
-    pub fn answer(&self, alloc: Global, line: &Line, out: &mut String) -> Result<bool, AllocError> {
-        match line {
-            Line::Uses { place } => self.write_uses(alloc, *place, out)?,
-            Line::Value { place } => return self.write_value(*place, out),
-            Line::Plan(operation) => self.write_plan(operation, out)?,
-            Line::Map => write_list(out, &self.names, &self.list)?,
-            Line::At { addr } => self.write_at(*addr, out)?,
-            Line::Tables => {
-                let [four, three, two, one, zero] = tables(&self.list);
-                writeln!(out, "{four} {three} {two} {one} {zero}")?;
-            }
-            Line::Journal => self.write_journal(out)?,
-            Line::Told { queue } => self.write_told(*queue, out)?,
-            _ => return Ok(false),
+    pub fn ask(&self, alloc: Global, said: &Said, out: &mut String) -> Result<(), OutOfMemory> {
+        let list = self.model.ground.list.as_slice();
+        match said.verb {
+            Verb::Uses => return self.write_uses(alloc, said.first(), out),
+            Verb::Told => self.write_told(alloc, said.first(), out)?,
+            Verb::Journal => self.write_journal(out)?,
+            Verb::Map => write_list(out, &self.names, list)?,
+            Verb::Tables => write_tables(out, tables(list))?,
+            _ => self.write_value(said.first(), out)?,
         }
-        Ok(true)
+        Ok(())
     }
 
-    /// Why a buffer can't be destroyed.
-    pub fn holder(&self, alloc: Global, place: usize) -> Result<Option<Fault>, AllocError> {
-        if self.names.pages(place).is_none() {
-            return Ok(Some(Fault::plain("NoBuffer")));
+    /// Writes how many mappings of a buffer are in the list, and how many entries keep.
+    fn write_uses(&self, alloc: Global, place: u64, out: &mut String) -> Result<(), OutOfMemory> {
+        let ground = &self.model.ground;
+        let id = id_of(place);
+        if ground.alive(&id).is_none() {
+            write_refused(alloc, out, &Fault::NoBuffer)?;
+            return Ok(());
         }
-        let uses = count_of(&self.list, place);
-        if uses > 0 {
-            return Ok(Some(Fault::with("Mapped", uses)));
-        }
-        let kept = self.history.kept(alloc, place)?;
-        if kept > 0 {
-            return Ok(Some(Fault::with("Kept", kept)));
-        }
-        let jobs = self.jobs.iter().filter(|job| job.holds(place)).count() as u64;
-        Ok((jobs > 0).then_some(Fault::with("InUse", jobs)))
-    }
-
-    fn write_uses(&self, alloc: Global, place: usize, out: &mut String) -> Result<(), AllocError> {
-        if self.names.pages(place).is_none() {
-            return Fault::plain("NoBuffer").write_refused(out);
-        }
-        let uses = count_of(&self.list, place);
-        let kept = self.history.kept(alloc, place)?;
-        writeln!(out, "uses {uses} kept {kept}")
-    }
-
-    /// The number of a timeline.
-    pub fn number(&self, place: usize) -> u64 {
-        match self.names.timelines.get(place) {
-            Some(timeline) => timeline.number,
-            None => 0,
-        }
-    }
-
-    /// The name of a timeline.
-    pub fn timeline_name(&self, place: usize) -> &str {
-        match self.names.timelines.get(place) {
-            Some(timeline) => timeline.name.as_str(),
-            None => "",
-        }
+        let uses = count_of(&ground.list, &id);
+        let kept = ground.history.kept(alloc, &id)?;
+        writeln!(out, "uses {uses} kept {kept}")?;
+        Ok(())
     }
 
     /// Writes the number of a timeline.
-    pub fn write_value(&self, place: usize, out: &mut String) -> Result<bool, AllocError> {
-        let name = self.timeline_name(place);
-        let number = self.number(place);
-        writeln!(out, "{name} {number}")?;
-        Ok(true)
-    }
-
-    fn write_plan(&self, operation: &Operation, out: &mut String) -> Result<(), AllocError> {
-        match self.change(operation) {
-            Ok(change) => write_steps(out, &self.names, &self.list, &change),
-            Err(fault) => fault.write_refused(out),
-        }
-    }
-
-    /// Writes where an address leads, by a look back through the history.
-    fn write_at(&self, addr: u64, out: &mut String) -> Result<(), AllocError> {
-        match self.history.view(&self.list, addr / PAGE) {
-            Some(shown) => write_place(out, &self.names, shown, addr % PAGE),
-            None => out.push_str("none\n"),
-        }
+    fn write_value(&self, place: u64, out: &mut String) -> Result<(), AllocError> {
+        let name = name_at(&self.names.timelines, place);
+        let number = self.model.numbers.get(place as usize).copied().unwrap_or(0);
+        writeln!(out, "{name} {number}")
     }
 
     fn write_journal(&self, out: &mut String) -> Result<(), AllocError> {
-        if self.history.items.is_empty() {
+        let history = &self.model.ground.history;
+        if history.entries.is_empty() {
             out.push_str("empty\n")?;
         }
-        for (place, item) in self.history.items.iter().enumerate() {
-            let entry = self.history.first.saturating_add(place as u64);
-            match &item.kind {
-                Kind::Bind { queue, number, .. } => {
-                    let word = if self.history.is_withdrawn(entry) {
-                        "withdrawn"
-                    } else {
-                        "live"
-                    };
-                    writeln!(out, "{entry} bind {queue} {number} {word}")?;
-                }
-                Kind::Withdrawal { of } => writeln!(out, "{entry} withdrawal of {of}")?,
-            }
+        let mut number = history.first;
+        for entry in &history.entries {
+            write_entry(out, number, entry, history.is_withdrawn(number))?;
+            number = number.saturating_add(1);
         }
         Ok(())
     }
 
-    /// How many outcomes a queue was told.
-    pub fn count_told(&self, queue: u64) -> u64 {
-        self.told.iter().filter(|told| told.queue == queue).count() as u64
-    }
-
-    fn write_told(&self, queue: u64, out: &mut String) -> Result<(), AllocError> {
-        let own = self.told.iter().filter(|told| told.queue == queue);
-        for (number, told) in own.enumerate() {
-            let text = told.text.as_str();
-            write!(out, "{number} {text}")?;
-        }
-        if self.count_told(queue) == 0 {
+    fn write_told(&self, alloc: Global, queue: u64, out: &mut String) -> Result<(), AllocError> {
+        let told = match self.model.told.get(queue as usize) {
+            Some(told) => told.rest(),
+            None => &[],
+        };
+        if told.is_empty() {
             out.push_str("empty\n")?;
+        }
+        for (number, outcome) in told.iter().enumerate() {
+            write!(out, "{number} ")?;
+            write_outcome(alloc, out, &self.names, outcome)?;
         }
         Ok(())
     }
+}
+
+fn write_entry(
+    out: &mut String,
+    entry: u64,
+    past: &Past,
+    is_withdrawn: bool,
+) -> Result<(), AllocError> {
+    let state = if is_withdrawn { "withdrawn" } else { "live" };
+    match &past.kind {
+        Kind::Bind { queue, number, .. } => writeln!(out, "{entry} bind {queue} {number} {state}"),
+        Kind::Withdrawal { of } => writeln!(out, "{entry} withdrawal of {of}"),
+    }
+}
+
+fn write_tables(out: &mut String, counts: [u64; 5]) -> Result<(), AllocError> {
+    let [four, three, two, one, zero] = counts;
+    writeln!(out, "{four} {three} {two} {one} {zero}")
 }

@@ -1,220 +1,144 @@
-//! The lines of the language, read by words. Names stand for their places.
-use super::line::{Access, Clause, Line, Operation, Point};
-use super::names::Names;
-use super::words::Words;
-use std::alloc::{AllocError, Global};
+//! The words of a line, read by its form. Names stand for their places.
+use super::forms::{Form, Verb};
+use super::names::{Names, id_of, place_of};
+use gv_types::{Flags, Op, Point};
 
-/// The line that these bytes are, if they are one.
-pub fn line_of(alloc: Global, names: &Names, bytes: &[u8]) -> Result<Option<Line>, AllocError> {
-    let Ok(text) = str::from_utf8(bytes) else {
-        return Ok(None);
-    };
-    if !text.is_ascii() {
-        return Ok(None);
-    }
-    if text.is_empty() || text.starts_with('#') {
-        return Ok(Some(Line::Silent));
-    }
-    if let Some(rest) = text.strip_prefix("bind ") {
-        let clauses = clauses_of(alloc, names, rest)?;
-        return Ok(clauses.map(Line::Bind));
-    }
-    if let Some(rest) = text.strip_prefix("job ") {
-        let accesses = accesses_of(alloc, rest)?;
-        return Ok(accesses.map(Line::Job));
-    }
-    let mut words = Words::new(alloc, text)?;
-    let Some(keyword) = words.take() else {
-        return Ok(None);
-    };
-    let line = worded(alloc, names, keyword, &mut words)?;
-    Ok(if words.is_done() { line } else { None })
+/// So many queues there are.
+const QUEUES: u64 = 16;
+
+/// What a line, a clause or an access says: a number for each word behind its keyword.
+#[derive(Clone, Copy)]
+pub struct Said {
+    pub verb: Verb,
+    pub numbers: [u64; 5],
 }
 
-/// The line of a keyword and the words behind it. Words that it doesn't take are left.
-fn worded(
-    alloc: Global,
-    names: &Names,
-    keyword: &str,
-    words: &mut Words<'_>,
-) -> Result<Option<Line>, AllocError> {
-    match keyword {
-        "bind" => Ok(Some(Line::Bind(Vec::new(alloc)))),
-        "buffer" => declaration(alloc, words, false),
-        "timeline" => declaration(alloc, words, true),
-        "space" | "limits" => Ok(setting(keyword, words)),
-        "destroy" | "uses" | "raise" | "value" | "plan" => Ok(naming(names, keyword, words)),
-        "map" | "tables" | "rewind" | "journal" => Ok(alone(keyword)),
-        _ => Ok(numbered(keyword, words)),
+/// What some words between single spaces say, if they are of one of the forms.
+pub fn said_by(names: &Names, forms: &[Form], text: &str) -> Option<Said> {
+    let mut words = text.split(' ');
+    let keyword = words.next()?;
+    let (_, letters, verb) = *forms.iter().find(|form| form.0 == keyword)?;
+    let mut numbers = [0; 5];
+    for (letter, number) in letters.bytes().zip(numbers.iter_mut()) {
+        *number = number_for(names, letter, words.next())?;
+    }
+    match words.next() {
+        Some(_) => None,
+        None => Some(Said { verb, numbers }),
     }
 }
 
-/// A line that declares a name.
-fn declaration(
-    alloc: Global,
-    words: &mut Words<'_>,
-    of_timeline: bool,
-) -> Result<Option<Line>, AllocError> {
-    let Some(name) = words.name() else {
-        return Ok(None);
-    };
-    let name = String::from_str(alloc, name)?;
-    if of_timeline {
-        return Ok(Some(Line::Timeline { name }));
-    }
-    match words.number() {
-        Some(pages) => Ok(Some(Line::Buffer { name, pages })),
-        None => Ok(None),
+/// The number that a word stands for, if it is what the letter asks for.
+fn number_for(names: &Names, letter: u8, word: Option<&str>) -> Option<u64> {
+    match (letter, word) {
+        (b'r', word) => read_only_of(word),
+        (b'n', Some(word)) => number_of(word),
+        (b'q', Some(word)) => number_of(word).filter(|queue| *queue < QUEUES),
+        (b'd', Some(word)) => decimal_of(word).filter(|queue| *queue < QUEUES),
+        (b'b', Some(word)) => place_of(&names.buffers, word),
+        (b't', Some(word)) => place_of(&names.timelines, word),
+        (_, word) => word.filter(is_name).map(|_| 0),
     }
 }
 
-fn setting(keyword: &str, words: &mut Words<'_>) -> Option<Line> {
-    let first = words.number()?;
-    let second = words.number()?;
-    let third = words.number()?;
-    if keyword == "limits" {
-        return Some(Line::Limits {
-            buffers: first,
-            mappings: second,
-            items: third,
-        });
-    }
-    Some(Line::Space {
-        start: first,
-        len: second,
-        reserved_start: third,
-        reserved_len: words.number()?,
-    })
-}
-
-/// A line that names a buffer or a timeline.
-fn naming(names: &Names, keyword: &str, words: &mut Words<'_>) -> Option<Line> {
-    match keyword {
-        "destroy" => Some(Line::Destroy {
-            place: names.buffer(words.name()?)?,
-        }),
-        "uses" => Some(Line::Uses {
-            place: names.buffer(words.name()?)?,
-        }),
-        "raise" => Some(Line::Raise(point_of(names, words)?)),
-        "value" => Some(Line::Value {
-            place: names.timeline(words.name()?)?,
-        }),
-        _ => {
-            let kind = words.take()?;
-            Some(Line::Plan(range_operation(names, kind, words)?))
-        }
+fn read_only_of(word: Option<&str>) -> Option<u64> {
+    match word {
+        None => Some(0),
+        Some("ro") => Some(1),
+        Some(_) => None,
     }
 }
 
-fn alone(keyword: &str) -> Option<Line> {
-    match keyword {
-        "map" => Some(Line::Map),
-        "tables" => Some(Line::Tables),
-        "rewind" => Some(Line::Rewind),
-        _ => Some(Line::Journal),
-    }
+/// Whether a word is a name: up to 16 letters, digits and `_` behind a letter, and not `zero`.
+fn is_name(word: &&str) -> bool {
+    let is_short = 0 < word.len() && word.len() <= 16;
+    is_short && *word != "zero" && word.bytes().enumerate().all(is_name_byte)
 }
 
-/// A line of a keyword and a number.
-fn numbered(keyword: &str, words: &mut Words<'_>) -> Option<Line> {
-    let number = words.number()?;
-    match keyword {
-        "at" => Some(Line::At { addr: number }),
-        "withdraw" => Some(Line::Withdraw { entry: number }),
-        "settle" => Some(Line::Settle { to: number }),
-        "told" if number < 16 => Some(Line::Told { queue: number }),
-        "end" => Some(Line::End { job: number }),
-        _ => None,
-    }
-}
-
-fn point_of(names: &Names, words: &mut Words<'_>) -> Option<Point> {
-    Some(Point {
-        place: names.timeline(words.name()?)?,
-        value: words.number()?,
-    })
-}
-
-/// An operation on a range of addresses, behind its first word.
-fn range_operation(names: &Names, kind: &str, words: &mut Words<'_>) -> Option<Operation> {
-    match kind {
-        "map" => Some(Operation::Map {
-            addr: words.number()?,
-            len: words.number()?,
-            place: names.buffer(words.name()?)?,
-            offset: words.number()?,
-            read_only: words.take_if("ro"),
-        }),
-        "zero" => Some(Operation::Zero {
-            addr: words.number()?,
-            len: words.number()?,
-            read_only: words.take_if("ro"),
-        }),
-        "unmap" => Some(Operation::Unmap {
-            addr: words.number()?,
-            len: words.number()?,
-        }),
-        _ => None,
-    }
-}
-
-/// The clauses of a request, at most one of which names a queue.
-fn clauses_of(alloc: Global, names: &Names, text: &str) -> Result<Option<Vec<Clause>>, AllocError> {
-    let mut clauses = Vec::new(alloc);
-    for part in text.split(" ; ") {
-        let mut words = Words::new(alloc, part)?;
-        match clause_of(names, &mut words) {
-            Some(clause) if words.is_done() => clauses.push(clause)?,
-            _ => return Ok(None),
-        }
-    }
-    let queues = clauses.iter().filter(|clause| is_queue(clause)).count();
-    Ok(if queues <= 1 { Some(clauses) } else { None })
-}
-
-fn is_queue(clause: &Clause) -> bool {
-    match clause {
-        Clause::Queue(_) => true,
+fn is_name_byte((place, byte): (usize, u8)) -> bool {
+    match byte {
+        b'a'..=b'z' => true,
+        b'0'..=b'9' | b'_' => place > 0,
         _ => false,
     }
 }
 
-fn clause_of(names: &Names, words: &mut Words<'_>) -> Option<Clause> {
-    match words.take()? {
-        "unmapall" => Some(Clause::Change(Operation::UnmapAll {
-            place: names.buffer(words.name()?)?,
-        })),
-        "wait" => Some(Clause::Wait(point_of(names, words)?)),
-        "signal" => Some(Clause::Signal(point_of(names, words)?)),
-        "queue" => {
-            let queue = words.decimal()?;
-            (queue < 16).then_some(Clause::Queue(queue))
-        }
-        kind => Some(Clause::Change(range_operation(names, kind, words)?)),
+/// A number of 64 bits, in decimal digits or in up to 16 hexadecimal ones behind `0x`.
+fn number_of(word: &str) -> Option<u64> {
+    match word.strip_prefix("0x") {
+        Some(digits) if digits.len() <= 16 => digits_of(digits, 16),
+        Some(_) => None,
+        None => decimal_of(word),
     }
 }
 
-fn accesses_of(alloc: Global, text: &str) -> Result<Option<Vec<Access>>, AllocError> {
-    let mut accesses = Vec::new(alloc);
-    for part in text.split(" ; ") {
-        let mut words = Words::new(alloc, part)?;
-        match access_of(&mut words) {
-            Some(access) if words.is_done() => accesses.push(access)?,
-            _ => return Ok(None),
-        }
+fn decimal_of(word: &str) -> Option<u64> {
+    if word.len() > 1 && word.starts_with('0') {
+        return None;
     }
-    Ok(Some(accesses))
+    digits_of(word, 10)
 }
 
-fn access_of(words: &mut Words<'_>) -> Option<Access> {
-    let write = match words.take()? {
-        "read" => false,
-        "write" => true,
-        _ => return None,
-    };
-    Some(Access {
-        addr: words.number()?,
-        write,
-    })
+fn digits_of(digits: &str, base: u64) -> Option<u64> {
+    if digits.is_empty() {
+        return None;
+    }
+    let mut number: u64 = 0;
+    for byte in digits.bytes() {
+        let digit = digit_of(byte).filter(|digit| *digit < base)?;
+        number = number.checked_mul(base)?.checked_add(digit)?;
+    }
+    Some(number)
+}
+
+fn digit_of(byte: u8) -> Option<u64> {
+    match byte {
+        b'0'..=b'9' => Some(u64::from(byte - b'0')),
+        b'a'..=b'f' => Some(u64::from(byte - b'a') + 10),
+        _ => None,
+    }
+}
+
+impl Said {
+    /// The first number.
+    pub fn first(&self) -> u64 {
+        self.numbers[0]
+    }
+
+    /// The point that a timeline and a number are.
+    pub fn point(&self) -> Point {
+        Point {
+            timeline: self.numbers[0],
+            value: self.numbers[1],
+        }
+    }
+
+    /// The operation. One that isn't on a range unmaps a buffer.
+    pub fn op(&self) -> Op {
+        let [addr, len, third, offset, last] = self.numbers;
+        match self.verb {
+            Verb::MapBuffer => Op::Map {
+                addr,
+                len,
+                buffer: id_of(third),
+                offset,
+                flags: flags_of(last),
+            },
+            Verb::MapZero => Op::MapZero {
+                addr,
+                len,
+                flags: flags_of(third),
+            },
+            Verb::Unmap => Op::Unmap { addr, len },
+            _ => Op::UnmapBuffer {
+                buffer: id_of(addr),
+            },
+        }
+    }
+}
+
+fn flags_of(number: u64) -> Flags {
+    Flags {
+        read_only: number > 0,
+    }
 }

@@ -1,58 +1,28 @@
 //! What a script has declared, in the order of its lines.
+use gv_types::BufferId;
 
-/// A buffer with its name, which stays its own when it is destroyed.
-#[derive(Drop)]
-pub struct Buffer {
-    pub name: String,
-    pub pages: u64,
-    pub is_alive: bool,
-}
-
-/// A timeline, which is a number that only rises.
-#[derive(Drop)]
-pub struct Timeline {
-    pub name: String,
-    pub number: u64,
-}
-
-/// The declared buffers and timelines.
+/// The names of buffers, which stay their own when they are destroyed, and of timelines.
 #[derive(Drop)]
 pub struct Names {
-    pub buffers: Vec<Buffer>,
-    pub timelines: Vec<Timeline>,
+    pub buffers: Vec<String>,
+    pub timelines: Vec<String>,
 }
 
-impl Names {
-    /// The place of the buffer with this name.
-    pub fn buffer(&self, name: &str) -> Option<usize> {
-        self.buffers
-            .iter()
-            .position(|buffer| buffer.name.as_str() == name)
-    }
+/// The place of a name.
+pub fn place_of(names: &[String], wanted: &str) -> Option<u64> {
+    let place = names.iter().position(|name| name.as_str() == wanted)?;
+    Some(place as u64)
+}
 
-    /// The place of the timeline with this name.
-    pub fn timeline(&self, name: &str) -> Option<usize> {
-        self.timelines
-            .iter()
-            .position(|timeline| timeline.name.as_str() == name)
+/// The name at a place.
+pub fn name_at(names: &[String], place: u64) -> &str {
+    match names.get(place as usize) {
+        Some(name) => name.as_str(),
+        None => "",
     }
+}
 
-    /// How many buffers are alive.
-    pub fn live(&self) -> u64 {
-        self.buffers.iter().filter(|buffer| buffer.is_alive).count() as u64
-    }
-
-    /// How many pages a buffer has, if it is alive.
-    pub fn pages(&self, place: usize) -> Option<u64> {
-        let buffer = self.buffers.get(place)?;
-        buffer.is_alive.then_some(buffer.pages)
-    }
-
-    /// The name of a buffer.
-    pub fn buffer_name(&self, place: usize) -> &str {
-        match self.buffers.get(place) {
-            Some(buffer) => buffer.name.as_str(),
-            None => "",
-        }
-    }
+/// The id that the model gives to the buffer at a place.
+pub fn id_of(place: u64) -> BufferId {
+    BufferId::new(u32::MAX, place)
 }

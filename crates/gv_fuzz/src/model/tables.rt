@@ -1,5 +1,5 @@
 //! How many tables the page table of a list has.
-use super::list::Mapping;
+use gv_types::Mapping;
 
 /// Slots of levels 4 and 3 are tables wherever a mapping meets them: so many times two pages, by level.
 const WIDE: [u32; 2] = [36, 27];
@@ -23,8 +23,8 @@ fn slots_met(list: &[Mapping], bits: u32) -> u64 {
     let mut count: u64 = 0;
     let mut counted: u64 = 0;
     for mapping in list {
-        let first = slot_of(mapping.first, bits).max(counted);
-        let end = slot_of(mapping.end.saturating_sub(1), bits).saturating_add(1);
+        let first = slot_of(mapping.range.first(), bits).max(counted);
+        let end = slot_of(mapping.range.end().saturating_sub(1), bits).saturating_add(1);
         count = count.saturating_add(end.saturating_sub(first));
         counted = counted.max(end);
     }
@@ -36,8 +36,8 @@ fn slots_broken(list: &[Mapping], bits: u32) -> u64 {
     let mut count: u64 = 0;
     let mut counted: u64 = 0;
     for mapping in list {
-        let first = slot_of(mapping.first, bits);
-        let last = slot_of(mapping.end.saturating_sub(1), bits);
+        let first = slot_of(mapping.range.first(), bits);
+        let last = slot_of(mapping.range.end().saturating_sub(1), bits);
         count = count.saturating_add(u64::from(is_new(list, first, bits, &mut counted)));
         count = count.saturating_add(u64::from(is_new(list, last, bits, &mut counted)));
     }
@@ -61,6 +61,5 @@ fn is_covered(list: &[Mapping], slot: u64, bits: u32) -> bool {
     let pages = 1u64.checked_shl(bits).unwrap_or(0);
     let first = slot.saturating_mul(pages);
     let end = first.saturating_add(pages);
-    list.iter()
-        .any(|mapping| mapping.first <= first && end <= mapping.end)
+    list.iter().any(|mapping| mapping.range.first() <= first && end <= mapping.range.end())
 }

@@ -1,136 +1,162 @@
-//! The texts of mappings, steps and places.
-use super::area::PAGE;
-use super::list::{Backing, Change, Mapping, Shown};
-use super::names::Names;
-use std::alloc::AllocError;
+//! The texts of places, mappings, faults and replies.
+use super::names::{Names, name_at};
+use gv_types::{Backing, Fault, Flags, Mapping, PAGE_BYTES};
+use gv_vm::{Outcome, Place, Reply, Target};
+use std::alloc::{AllocError, Global};
 use std::fmt::Write;
 
-fn flags(read_only: bool) -> &'static str {
-    if read_only { "ro" } else { "rw" }
+/// What a page number comes to in bytes.
+fn bytes(pages: u64) -> u64 {
+    pages.saturating_mul(PAGE_BYTES)
 }
 
-/// Writes what stands behind a byte of a page.
-fn write_backing(
-    out: &mut String,
-    names: &Names,
-    backing: Backing,
-    byte: u64,
-) -> Result<(), AllocError> {
-    match backing {
-        Backing::Buffer { place, page } => {
-            let name = names.buffer_name(place);
-            let byte = page.saturating_mul(PAGE).saturating_add(byte);
-            write!(out, "{name} {byte:016x}")
+/// Writes where an address leads.
+fn write_place(out: &mut String, names: &Names, place: Option<Place>) -> Result<(), AllocError> {
+    let Some(place) = place else {
+        return out.push_str("none");
+    };
+    match place.target {
+        Target::Buffer { id, byte } => {
+            let name = name_at(&names.buffers, id.generation.get());
+            write!(out, "{name} {byte:016x}")?;
         }
-        Backing::Zero => out.push_str("zero"),
+        Target::Zero => out.push_str("zero")?,
     }
+    out.push_str(flags_word(place.flags))
 }
 
-fn write_mapping(out: &mut String, names: &Names, mapping: &Mapping) -> Result<(), AllocError> {
-    let first = mapping.first.saturating_mul(PAGE);
-    let end = mapping.end.saturating_mul(PAGE);
-    write!(out, "{first:016x} {end:016x} ")?;
-    write_backing(out, names, mapping.backing, 0)?;
-    let flags = flags(mapping.read_only);
-    write!(out, " {flags}")
-}
-
-fn write_rest(out: &mut String, names: &Names, rest: Option<Mapping>) -> Result<(), AllocError> {
-    match rest {
-        Some(mapping) => write_mapping(out, names, &mapping),
-        None => out.push_str("none"),
-    }
-}
-
-/// Writes the place of a byte, on a line of its own.
-pub fn write_place(
+fn write_place_line(
     out: &mut String,
     names: &Names,
-    shown: Shown,
-    byte: u64,
+    place: Option<Place>,
 ) -> Result<(), AllocError> {
-    write_backing(out, names, shown.backing, byte)?;
-    let flags = flags(shown.read_only);
-    writeln!(out, " {flags}")
+    write_place(out, names, place)?;
+    out.push('\n')
+}
+
+fn write_places(out: &mut String, names: &Names, places: &[Place]) -> Result<(), AllocError> {
+    for place in places {
+        write_place_line(out, names, Some(*place))?;
+    }
+    Ok(())
+}
+
+fn flags_word(flags: Flags) -> &'static str {
+    if flags.read_only { " ro" } else { " rw" }
+}
+
+/// Where the first byte of a mapping leads.
+fn start_of(mapping: &Mapping) -> Place {
+    let target = match mapping.backing {
+        Backing::Buffer { id, page } => Target::Buffer {
+            id,
+            byte: bytes(page),
+        },
+        Backing::Zero => Target::Zero,
+    };
+    Place {
+        target,
+        flags: mapping.flags,
+    }
+}
+
+/// Writes a mapping, or that there is none.
+pub fn write_mapping(
+    out: &mut String,
+    names: &Names,
+    mapping: Option<&Mapping>,
+) -> Result<(), AllocError> {
+    let Some(mapping) = mapping else {
+        return out.push_str("none");
+    };
+    let first = bytes(mapping.range.first());
+    let end = bytes(mapping.range.end());
+    write!(out, "{first:016x} {end:016x} ")?;
+    write_place(out, names, Some(start_of(mapping)))
 }
 
 /// Writes each mapping on a line of its own.
 pub fn write_list(out: &mut String, names: &Names, list: &[Mapping]) -> Result<(), AllocError> {
     if list.is_empty() {
-        out.push_str("empty\n")?;
+        return out.push_str("empty\n");
     }
     for mapping in list {
-        write_mapping(out, names, mapping)?;
-        out.push_str("\n")?;
+        write_mapping(out, names, Some(mapping))?;
+        out.push('\n')?;
     }
     Ok(())
 }
 
-/// Whether a step for a mapping keeps what the change maps: the same pages of the same buffer with equal flags.
-fn is_kept(mapping: &Mapping, change: &Change) -> bool {
-    let Some(own) = change.put else {
-        return false;
-    };
-    match (own.backing, mapping.backing) {
-        (
-            Backing::Buffer { place, page },
-            Backing::Buffer {
-                place: old_place,
-                page: old_page,
-            },
-        ) => {
-            place == old_place
-                && own.read_only == mapping.read_only
-                && page.saturating_add(mapping.first) == old_page.saturating_add(change.first)
-        }
-        _ => false,
+/// Writes a fault: its name, and the number that it carries, if any. Its form for debugging has both, as the words 1 and 4.
+pub fn write_fault(alloc: Global, out: &mut String, fault: &Fault) -> Result<(), AllocError> {
+    let shown = format!(in alloc; "{fault:?}")?;
+    let mut words = shown.as_str().split(' ');
+    out.push_str(words.next().unwrap_or(""))?;
+    match words.nth(2) {
+        Some(number) => writeln!(out, " {number}"),
+        None => out.push('\n'),
     }
 }
 
-fn write_taken(
-    out: &mut String,
-    names: &Names,
-    mapping: &Mapping,
-    change: &Change,
-) -> Result<(), AllocError> {
-    let prev = mapping.cut(0, change.first);
-    let next = mapping.cut(change.end, u64::MAX);
-    let is_inside = prev.is_none() && next.is_none();
-    out.push_str(if is_inside { "unmap " } else { "remap " })?;
-    write_mapping(out, names, mapping)?;
-    if !is_inside {
-        out.push_str(" prev ")?;
-        write_rest(out, names, prev)?;
-        out.push_str(" next ")?;
-        write_rest(out, names, next)?;
-    }
-    out.push_str(if is_kept(mapping, change) {
-        " keep\n"
-    } else {
-        "\n"
-    })
+/// Writes that a call is refused.
+pub fn write_refused(alloc: Global, out: &mut String, fault: &Fault) -> Result<(), AllocError> {
+    out.push_str("refused ")?;
+    write_fault(alloc, out, fault)
 }
 
-/// Writes the split steps of a change.
-pub fn write_steps(
+/// Writes what a request came to.
+pub fn write_outcome(
+    alloc: Global,
     out: &mut String,
     names: &Names,
-    list: &[Mapping],
-    change: &Change,
+    outcome: &Outcome,
 ) -> Result<(), AllocError> {
-    let before = out.len();
-    for mapping in list {
-        if mapping.meets(change.first, change.end) {
-            write_taken(out, names, mapping, change)?;
+    match outcome {
+        Outcome::Accepted { entry } => writeln!(out, "accepted {entry}"),
+        Outcome::Refused { op, fault } => {
+            write!(out, "refused {op} ")?;
+            write_fault(alloc, out, fault)
+        }
+        Outcome::NotReady { point, have } => {
+            let name = name_at(&names.timelines, point.timeline);
+            let value = point.value;
+            writeln!(out, "notready {name} {value} have {have}")
         }
     }
-    if let Some(own) = change.put {
-        out.push_str("map ")?;
-        write_mapping(out, names, &own)?;
-        out.push_str("\n")?;
+}
+
+/// The word and the number that are all of a reply, for most kinds.
+fn counted(reply: &Reply) -> Option<(&'static str, u64)> {
+    match reply {
+        Reply::Rewound { item } => Some(("rewound", *item)),
+        Reply::Settled { count } => Some(("settled", *count)),
+        Reply::Ended { job } => Some(("ended", *job)),
+        Reply::Begun { job, .. } => Some(("job", *job)),
+        _ => None,
     }
-    if out.len() == before {
-        out.push_str("empty\n")?;
+}
+
+/// Writes a reply to an event that names this number.
+pub fn write_reply(
+    alloc: Global,
+    out: &mut String,
+    names: &Names,
+    number: u64,
+    reply: &Reply,
+) -> Result<(), AllocError> {
+    if let Some((word, count)) = counted(reply) {
+        writeln!(out, "{word} {count}")?;
     }
-    Ok(())
+    match reply {
+        Reply::Created { .. } | Reply::Destroyed => out.push_str("ok\n"),
+        Reply::Refused { fault } => write_refused(alloc, out, fault),
+        Reply::Told { outcome, .. } => write_outcome(alloc, out, names, outcome),
+        Reply::Begun { places, .. } => write_places(out, names, places),
+        Reply::Found { place } => write_place_line(out, names, *place),
+        Reply::Raised { point, now } => {
+            writeln!(out, "{} {now}", name_at(&names.timelines, point.timeline))
+        }
+        Reply::Withdrawn { item } => writeln!(out, "withdrawn {number} as {item}"),
+        _ => Ok(()),
+    }
 }

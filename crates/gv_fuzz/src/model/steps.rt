@@ -1,0 +1,111 @@
+//! What a plan of an operation says: the mappings that it takes out or cuts, and the one that it puts in.
+use super::names::Names;
+use super::text::write_mapping;
+use gv_model::{Ground, changed, range_of};
+use gv_types::{Backing, Fault, Mapping, Op, OutOfMemory, PageOp, PageRange};
+use std::alloc::Global;
+
+/// The operation in pages, or its fault.
+pub fn planned(ground: &Ground, op: &Op) -> Result<PageOp, Fault> {
+    let op = ground.bounds.check(op)?;
+    if let PageOp::Map {
+        range,
+        backing: Backing::Buffer { id, page },
+        ..
+    } = op
+    {
+        let Some(made) = ground.alive(&id) else {
+            return Err(Fault::NoBuffer);
+        };
+        if made.pages < page.saturating_add(range.count()) {
+            return Err(Fault::OutOfBuffer);
+        }
+    }
+    Ok(op)
+}
+
+/// What an operation puts in.
+fn put_by(op: &PageOp) -> Option<Mapping> {
+    match *op {
+        PageOp::Map {
+            range,
+            backing,
+            flags,
+        } => Some(Mapping {
+            range,
+            backing,
+            flags,
+        }),
+        _ => None,
+    }
+}
+
+/// Writes the steps of an operation on a list.
+pub fn write_steps(
+    alloc: Global,
+    out: &mut String,
+    names: &Names,
+    list: &[Mapping],
+    op: &PageOp,
+) -> Result<(), OutOfMemory> {
+    let before = out.len();
+    let put = put_by(op);
+    if let Some(range) = range_of(op) {
+        for mapping in list.iter().filter(|mapping| mapping.range.meets(range)) {
+            write_taken(alloc, out, names, mapping, range)?;
+            let is_kept = put.is_some_and(|own| goes_on(mapping, &own));
+            out.push_str(if is_kept { " keep\n" } else { "\n" })?;
+        }
+    }
+    if put.is_some() {
+        out.push_str("map ")?;
+        write_mapping(out, names, put.as_ref())?;
+        out.push('\n')?;
+    }
+    if out.len() == before {
+        out.push_str("empty\n")?;
+    }
+    Ok(())
+}
+
+/// Writes a mapping that gives up the pages of a range, and what is left of it.
+fn write_taken(
+    alloc: Global,
+    out: &mut String,
+    names: &Names,
+    mapping: &Mapping,
+    range: PageRange,
+) -> Result<(), OutOfMemory> {
+    let rests = changed(alloc, &[*mapping], range, &[])?;
+    out.push_str(if rests.is_empty() { "unmap " } else { "remap " })?;
+    write_mapping(out, names, Some(mapping))?;
+    if rests.is_empty() {
+        return Ok(());
+    }
+    out.push_str(" prev ")?;
+    let prev = rests.iter().find(|rest| rest.range.first() < range.first());
+    write_mapping(out, names, prev)?;
+    out.push_str(" next ")?;
+    let next = rests.iter().find(|rest| range.end() <= rest.range.first());
+    write_mapping(out, names, next)?;
+    Ok(())
+}
+
+/// Whether both map pages of one buffer with equal flags, and each page of both to the same page of it.
+fn goes_on(mapping: &Mapping, own: &Mapping) -> bool {
+    let same_flags = mapping.flags.read_only == own.flags.read_only;
+    match (mapping.backing, own.backing) {
+        (
+            Backing::Buffer { id, page },
+            Backing::Buffer {
+                id: own_id,
+                page: own_page,
+            },
+        ) => {
+            let here = page.saturating_add(own.range.first());
+            let there = own_page.saturating_add(mapping.range.first());
+            same_flags && id == own_id && here == there
+        }
+        _ => false,
+    }
+}
