@@ -5,13 +5,15 @@ mod forms;
 mod grammar;
 mod names;
 mod request;
+mod sight;
 mod steps;
 mod tables;
 mod text;
 mod world;
 
+pub use sight::Sight;
 use std::alloc::{AllocError, Global};
-pub use world::{Sight, World};
+pub use world::World;
 
 /// What a script comes to.
 #[derive(Drop)]

@@ -1,6 +1,6 @@
 //! Scripts by chance.
 use crate::chance::Chance;
-use crate::model::World;
+use crate::model::{Sight, World};
 use crate::patterns::LIMITS;
 use gv_model::Random;
 use std::alloc::{AllocError, Global};
@@ -39,7 +39,7 @@ fn lines(alloc: Global, chance: &mut Chance) -> Result<Vec<u8>, AllocError> {
     let count = chance.random.below(60).saturating_add(4);
     for number in 0..count {
         line.clear();
-        chance.sight = world.sight();
+        chance.sight = Sight::of(&world);
         match number {
             0 if chance.random.is_one_in(2) => chance.write_space(&mut line)?,
             0 | 1 if chance.random.is_one_in(2) => chance.write(LIMITS, &mut line)?,

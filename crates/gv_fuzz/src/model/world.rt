@@ -22,29 +22,6 @@ pub struct World {
     may_limit: bool,
 }
 
-/// What chance may want to know of a world, to name what there is.
-#[derive(Clone, Copy)]
-pub struct Sight {
-    pub buffers: u64,
-    pub timelines: u64,
-    pub first: u64,
-    pub next: u64,
-    pub jobs: u64,
-}
-
-impl Sight {
-    /// Of a world that holds nothing.
-    pub fn nothing() -> Sight {
-        Sight {
-            buffers: 0,
-            timelines: 0,
-            first: 0,
-            next: 0,
-            jobs: 0,
-        }
-    }
-}
-
 impl World {
     /// Nothing is declared and nothing done.
     pub fn new(alloc: Global) -> Result<World, AllocError> {
@@ -67,17 +44,6 @@ impl World {
             may_bound: true,
             may_limit: true,
         })
-    }
-
-    pub fn sight(&self) -> Sight {
-        let history = &self.model.ground.history;
-        Sight {
-            buffers: self.names.buffers.len() as u64,
-            timelines: self.names.timelines.len() as u64,
-            first: history.first,
-            next: history.next(),
-            jobs: self.model.running.begun(),
-        }
     }
 
     /// Runs a line and writes its reply. False where it is a bad line.
