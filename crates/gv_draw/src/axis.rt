@@ -11,8 +11,7 @@ const CUT: u64 = 340;
 /// The greatest width of mappings that are drawn together, in tenths of a pixel.
 const MANY: u64 = 900;
 
-/// The least width to scale of pages that something is mapped at, in tenths of a pixel: where some would have less, the
-/// picture isn't to scale.
+/// Where mapped pages would be narrower, in tenths of a pixel, the picture isn't to scale.
 const LEAST: u64 = 40;
 
 /// What stands at pages across.
@@ -38,8 +37,7 @@ pub struct Segment {
     pub width: u64,
 }
 
-/// How wide segments become: the widths of a cut and of mappings drawn together, and what is left for all others, whose
-/// weights are so much together.
+/// The widths of a cut and of mappings drawn together; what is left for all others, and the sum of their weights.
 #[derive(Clone, Copy, Debug)]
 struct Scale {
     cut: u64,

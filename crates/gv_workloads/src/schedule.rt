@@ -1,5 +1,4 @@
-//! A command scheduler: requests over 16 queues that wait and signal, entries withdrawn under thousands of later ones, and jobs in
-//! flight.
+//! A command scheduler: requests over 16 queues with waits and signals, withdrawals under thousands of later entries, jobs in flight.
 use crate::binding::{map_of, only, sum_up, unmap_of, weight_of};
 use crate::digest::Done;
 use crate::failure::Failure;
