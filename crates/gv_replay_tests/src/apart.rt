@@ -2,8 +2,8 @@
 
 use crate::made::Drawn;
 use crate::told::{expect_told, told};
+use std::alloc::AllocError;
 use std::process::Abort;
-use std::test::Fail;
 
 /// How many lines a log by chance has, and how many such logs are told.
 const LINES: u64 = 60;
@@ -16,7 +16,7 @@ struct Kind {
     words: &'static str,
     option: &'static str,
     head: &'static str,
-    names: [&'static str; 4],
+    names: &'static [&'static str],
     forms: &'static [&'static str],
 }
 
@@ -24,7 +24,7 @@ const SPACES: Kind = Kind {
     words: "--format xe",
     option: "--space",
     head: "space",
-    names: ["0x20", "0x21", "0x22", "0x23"],
+    names: &["0x20", "0x21", "0x22", "0x23"],
     forms: &[
         "xe_vm_free: vm=00000000aa, asid=0x0002$s\n",
         "xe_vma_bind: vma=f$w, asid=0x0002$s, start=0x$C, end=0x$X, userptr=0x0,\n",
@@ -42,7 +42,7 @@ const PROCESSES: Kind = Kind {
     words: "--format amdgpu",
     option: "--pid",
     head: "process",
-    names: ["32", "33", "34", "35"],
+    names: &["32", "33", "34", "35"],
     forms: &[
         "game-1 (    3$q) [000] 1.0: amdgpu_bo_create: bo=0xf$w, pages=$i, type=1\n",
         "game-1 (    3$q) [000] 1.0: amdgpu_vm_bo_no_event: bo=0xf$w, start=$H, last=$I, offset=0000000000, flags=40\n",
@@ -57,7 +57,11 @@ const PROCESSES: Kind = Kind {
 
 /// Asserts that below its name each space of a log is told as it is told where it alone is asked, or else is named among those in
 /// which nothing was found. How many are told.
-fn expect_apart(rt: &(impl Abort + AllocGlobal), log: &str, kind: &Kind) -> Result<u64, Fail> {
+fn expect_apart(
+    rt: &(impl Abort + AllocGlobal),
+    log: &str,
+    kind: &Kind,
+) -> Result<u64, AllocError> {
     let mut found: u64 = 0;
     let (head, option, words) = (kind.head, kind.option, kind.words);
     let whole = told(rt.alloc(), words, log.as_bytes())?;
@@ -67,14 +71,14 @@ fn expect_apart(rt: &(impl Abort + AllocGlobal), log: &str, kind: &Kind) -> Resu
         let alone = told(rt.alloc(), asked.as_str(), log.as_bytes())?;
         let section = format!(in rt.alloc(); "{head} {name}:\n{alone}")?;
         let is_told = whole.as_str().contains(section.as_str());
-        assert!(rt; is_told || others.contains(name), "{name} {whole}");
+        assert!(rt; is_told || others.contains(*name), "{name} {whole}");
         found = found.saturating_add(u64::from(is_told));
     }
     Ok(found)
 }
 
 /// Asserts it for logs by chance, of which many spaces are told.
-fn expect_logs_apart(rt: &(impl Abort + AllocGlobal), kind: &Kind) -> Result<(), Fail> {
+fn expect_logs_apart(rt: &(impl Abort + AllocGlobal), kind: &Kind) -> Result<(), AllocError> {
     let mut found: u64 = 0;
     for seed in 0..LOGS {
         let mut log = String::new(rt.alloc());
@@ -87,13 +91,13 @@ fn expect_logs_apart(rt: &(impl Abort + AllocGlobal), kind: &Kind) -> Result<(),
 
 /// Below its name each space of a log is told as it is told where it alone is asked.
 #[test]
-fn each_space_is_told_as_alone(rt: HostRuntime) -> Result<(), Fail> {
+fn each_space_is_told_as_alone(rt: HostRuntime) -> Result<(), AllocError> {
     expect_logs_apart(&rt, &SPACES)
 }
 
 /// Below its name each process of a log is told as it is told where it alone is asked.
 #[test]
-fn each_process_is_told_as_alone(rt: HostRuntime) -> Result<(), Fail> {
+fn each_process_is_told_as_alone(rt: HostRuntime) -> Result<(), AllocError> {
     expect_logs_apart(&rt, &PROCESSES)
 }
 
@@ -101,7 +105,7 @@ const TWO: &str = "xe_vma_bind: vma=f0, asid=0x00021, start=0x200000, end=0x200f
     xe_vma_bind: vma=f0, asid=0x00022, start=0x200000, end=0x200fff, userptr=0x0,\n";
 
 /// Words that ask for a space that isn't there, and a log.
-const UNNAMED: [(&str, &str); 9] = [
+const UNNAMED: &[(&str, &str)] = &[
     ("--format xe --space 0x23", TWO),
     ("--format xe --space ", TWO),
     ("--format xe --space 0x", TWO),
@@ -123,7 +127,7 @@ const UNNAMED: [(&str, &str); 9] = [
 ];
 
 #[test]
-fn names_of_no_space_are_a_fault(rt: HostRuntime) -> Result<(), Fail> {
+fn names_of_no_space_are_a_fault(rt: HostRuntime) -> Result<(), AllocError> {
     for (words, log) in UNNAMED {
         expect_told(&rt, words, log.as_bytes(), "Err(NoSpace)")?;
     }
@@ -137,7 +141,7 @@ const EVENTS: &str =
     Xorg-7 (    7) [000] 1.0: amdgpu_vm_bo_map: bo=0xf0, start=102, last=102, offset=0000000000, flags=40\n";
 
 /// Processes of amdgpu, where the log tells them, and lists with rows of two spaces; and one process, of which there is one space.
-const LISTED: [(&str, &str, bool); 4] = [
+const LISTED: &[(&str, &str, bool)] = &[
     ("--format xe --mappings", TWO, false),
     ("--format amdgpu --mappings", EVENTS, false),
     (
@@ -152,13 +156,13 @@ const LISTED: [(&str, &str, bool); 4] = [
 ];
 
 #[test]
-fn mappings_of_several_spaces_are_a_fault(rt: HostRuntime) -> Result<(), Fail> {
+fn mappings_of_several_spaces_are_a_fault(rt: HostRuntime) -> Result<(), AllocError> {
     for (words, log, is_listed) in LISTED {
         let told = told(rt.alloc(), words, log.as_bytes())?;
         assert!(rt; !told.is_empty(), "{words}");
         let is_fault = told.as_str().ends_with("Err(ManySpaces)");
-        assert!(rt; told.as_str().contains("Err(") != is_listed, "{words}");
-        assert!(rt; is_fault != is_listed, "{words}");
+        assert!(rt; told.as_str().contains("Err(") != *is_listed, "{words}");
+        assert!(rt; is_fault != *is_listed, "{words}");
     }
     Ok(())
 }

@@ -6,6 +6,9 @@ use gv_text::{MemorySink, MemorySource, ReadSource, WriteSink};
 use std::io;
 use std::io::{Read, Write};
 
+/// Words that ask for each form.
+const WORDS: &[&str] = &["", "--script", "--json"];
+
 const MADE: &[u8] =
     b"timestamp=1, VA=0000000000010000-0000000000030000, destroyed=0, is_virtual=0\n";
 
@@ -53,7 +56,7 @@ fn a_failed_read_is_told(rt: HostRuntime) {
 
 #[test]
 fn a_failed_write_is_told(rt: HostRuntime) {
-    for words in ["", "--script", "--json"] {
+    for words in WORDS {
         let mut sink = WriteSink::new(Stuck);
         let mut source = MemorySource::new(MADE);
         let played = replay(rt.alloc(), &mut source, &mut sink, &terms_of(words, &[]));

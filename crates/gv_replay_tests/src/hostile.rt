@@ -1,13 +1,13 @@
 //! Logs that are no logs, or that end anywhere.
 
 use crate::told::{expect_lines, expect_told, told};
-use std::test::Fail;
+use std::alloc::AllocError;
 
 const MADE: &[u8] =
     b"timestamp=1, VA=0000000000010000-0000000000030000, destroyed=0, is_virtual=0\n";
 
 /// The formats, of which the first is that of the line.
-const EACH: [&str; 5] = [
+const EACH: &[&str] = &[
     "--format radv",
     "--format amdgpu",
     "--format xe",
@@ -18,7 +18,7 @@ const EACH: [&str; 5] = [
 const NO_LINE: &str = "Err(NoLine)";
 
 #[test]
-fn logs_without_a_line_of_the_format_are_a_fault(rt: HostRuntime) -> Result<(), Fail> {
+fn logs_without_a_line_of_the_format_are_a_fault(rt: HostRuntime) -> Result<(), AllocError> {
     let mut noise = Vec::new(rt.alloc());
     for number in 0..40_000u32 {
         noise.push((number.wrapping_mul(2_654_435_761) >> 24) as u8)?;
@@ -35,12 +35,12 @@ fn logs_without_a_line_of_the_format_are_a_fault(rt: HostRuntime) -> Result<(), 
 }
 
 #[test]
-fn nothing_is_written_for_a_log_without_a_line(rt: HostRuntime) -> Result<(), Fail> {
+fn nothing_is_written_for_a_log_without_a_line(rt: HostRuntime) -> Result<(), AllocError> {
     expect_told(&rt, "--format radv", b"noise\n", NO_LINE)
 }
 
 #[test]
-fn prefixes_end_with_a_report_or_a_fault(rt: HostRuntime) -> Result<(), Fail> {
+fn prefixes_end_with_a_report_or_a_fault(rt: HostRuntime) -> Result<(), AllocError> {
     for len in 0..MADE.len() {
         let told = told(rt.alloc(), "--format radv", &MADE[..len])?;
         let is_whole = len + 1 >= MADE.len();
@@ -51,7 +51,7 @@ fn prefixes_end_with_a_report_or_a_fault(rt: HostRuntime) -> Result<(), Fail> {
 }
 
 #[test]
-fn a_long_line_is_passed_over(rt: HostRuntime) -> Result<(), Fail> {
+fn a_long_line_is_passed_over(rt: HostRuntime) -> Result<(), AllocError> {
     let mut log = vec![in rt.alloc(); b'0'; 200_000]?;
     log.push(b'\n')?;
     log.extend_from_slice(MADE)?;

@@ -3,12 +3,13 @@
 use crate::json_rows::{FREED, ROWS};
 use crate::told::{expect_ends, expect_rows, times, told};
 use serde_json::Value;
+use std::alloc::AllocError;
 use std::test::Fail;
 
 const JSON: &str = "--format radv --json --at 0x800010";
 
 /// Places of a report, and what stands there; nothing where there is none.
-const PLACES: [(&str, &str); 9] = [
+const PLACES: &[(&str, &str)] = &[
     ("/binds", "3"),
     ("/still_reached/count", "1"),
     ("/still_reached/places/0/made_at", "1"),
@@ -21,7 +22,7 @@ const PLACES: [(&str, &str); 9] = [
 ];
 
 #[test]
-fn rows_have_their_object(rt: HostRuntime) -> Result<(), Fail> {
+fn rows_have_their_object(rt: HostRuntime) -> Result<(), AllocError> {
     expect_rows(&rt, ROWS)
 }
 
@@ -35,14 +36,14 @@ fn a_report_is_read_as_json(rt: HostRuntime) -> Result<(), Fail> {
             Some(value) => value.to_string(rt.alloc())?,
             None => String::new(rt.alloc()),
         };
-        assert!(rt; told.as_str() == wanted, "{path}");
+        assert!(rt; told.as_str() == *wanted, "{path}");
     }
     Ok(())
 }
 
 /// Ten binds more than are held.
 #[test]
-fn binds_that_are_no_longer_held_are_counted(rt: HostRuntime) -> Result<(), Fail> {
+fn binds_that_are_no_longer_held_are_counted(rt: HostRuntime) -> Result<(), AllocError> {
     let line = "timestamp=1, VA=0000000000010000-0000000000011000, destroyed=1, is_virtual=1\n";
     let log = times(rt.alloc(), 65_546, line)?;
     let ends = (

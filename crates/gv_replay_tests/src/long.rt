@@ -3,7 +3,6 @@
 use crate::forms::{Given, write_form};
 use crate::told::{expect_lines, told};
 use std::alloc::AllocError;
-use std::test::Fail;
 
 /// So many rounds of five lines.
 const ROUNDS: u64 = 20_000;
@@ -29,7 +28,7 @@ const COUNTS: &str = "100000 binds of 20000 buffers, 0 lines passed over
 ";
 
 #[test]
-fn long_log_comes_to_its_counts(rt: HostRuntime) -> Result<(), Fail> {
+fn long_log_comes_to_its_counts(rt: HostRuntime) -> Result<(), AllocError> {
     let mut log = String::new(rt.alloc());
     for round in 0..ROUNDS {
         let numbers = [(b'r', round), (b's', round % 7)];
@@ -76,7 +75,7 @@ const BOUND: &str = "  1404 binds of 2 buffers, 0 lines passed over
 
 /// More mappings than a request has operations, and more binds than are kept of a buffer.
 #[test]
-fn freed_memory_with_many_tiles(rt: HostRuntime) -> Result<(), Fail> {
+fn freed_memory_with_many_tiles(rt: HostRuntime) -> Result<(), AllocError> {
     let mut log = String::new(rt.alloc());
     write_bound(&mut log, 300, 3)?;
     write_bound(&mut log, 100, 5)?;

@@ -145,7 +145,7 @@ enum Start {
 }
 
 /// What letters stand for: what a number begins at, and so many times a number below a bound.
-const LETTERS: [(u8, Start, u64, u64); 21] = [
+const LETTERS: &[(u8, Start, u64, u64)] = &[
     (b'M', Start::Here(MEMORY), 0x4000, 12),
     (b'B', Start::Here(MEMORY), 0x4000, 12),
     (b'N', Start::Next(0), 0x1000, 8),
@@ -185,11 +185,11 @@ impl Numbers for Drawn {
     /// Ranges begin at few places and overlap; seldom they begin behind their page's first byte.
     fn number(&mut self, letter: u8) -> u64 {
         for (other, start, step, bound) in LETTERS {
-            if other == letter {
-                let far = self.random.below(bound.max(1)).wrapping_mul(step);
+            if *other == letter {
+                let far = self.random.below((*bound).max(1)).wrapping_mul(*step);
                 let is_shifted = b"BST".contains(&letter) && self.random.is_one_in(16);
                 let shift = if is_shifted { 0x800 } else { 0 };
-                self.last = self.first(start).wrapping_add(far).wrapping_add(shift);
+                self.last = self.first(*start).wrapping_add(far).wrapping_add(shift);
                 return self.last;
             }
         }

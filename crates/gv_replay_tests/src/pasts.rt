@@ -30,7 +30,7 @@ const XE: &str = "--format xe";
 const HEAD: &str = "xe_vma_flush: vma=f0, asid=0x00021, start=0x0, end=0xfff, userptr=0x0,\n";
 
 /// Logs of one line, one that is refused and one that is accepted.
-const ONES: [&[u8]; 2] = [
+const ONES: &[&[u8]] = &[
     b"timestamp=1, VA=0000000000010800-0000000000011000, destroyed=1, is_virtual=1\n",
     b"timestamp=1, VA=0000000000010000-0000000000011000, destroyed=0, is_virtual=1\n",
 ];

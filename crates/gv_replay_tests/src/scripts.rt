@@ -2,8 +2,8 @@
 
 use crate::told::{expect_ends, expect_told, times};
 use gv_text::{MemorySink, MemorySource, run_script};
+use std::alloc::AllocError;
 use std::process::Abort;
-use std::test::Fail;
 
 const LOG: &str = "timestamp=1, VA=0000000000010000-0000000000030000, destroyed=0, is_virtual=0\n\
     timestamp=2, VA=0000000000800000-0000000000810000, destroyed=0, is_virtual=1\n\
@@ -38,33 +38,30 @@ const WANTED_OF_XE: &str = "buffer b1 2\n\
 const REPLIES_OF_XE: &[u8] = b"ok\naccepted 0\naccepted 1\naccepted 2\n";
 
 /// Runs a script, and asserts its replies.
-fn expect_replies(
-    rt: &(impl Abort + AllocGlobal),
-    script: &str,
-    wanted: &[u8],
-) -> Result<(), Fail> {
+fn expect_replies(rt: &(impl Abort + AllocGlobal), script: &str, wanted: &[u8]) {
     let mut replies = MemorySink::new(rt.alloc());
     let mut source = MemorySource::new(script.as_bytes());
-    run_script(rt.alloc(), &mut source, &mut replies)?;
-    assert!(rt; replies.bytes() == wanted);
-    Ok(())
+    let ended = run_script(rt.alloc(), &mut source, &mut replies);
+    assert!(rt; ended == Ok(()) && replies.bytes() == wanted);
 }
 
 #[test]
-fn a_log_is_a_script_that_runs(rt: HostRuntime) -> Result<(), Fail> {
+fn a_log_is_a_script_that_runs(rt: HostRuntime) -> Result<(), AllocError> {
     expect_told(&rt, "--format radv --script", LOG.as_bytes(), WANTED)?;
-    expect_replies(&rt, WANTED, REPLIES)
+    expect_replies(&rt, WANTED, REPLIES);
+    Ok(())
 }
 
 /// An address space that goes is an unmap of all of it.
 #[test]
-fn a_log_of_xe_is_a_script_that_runs(rt: HostRuntime) -> Result<(), Fail> {
+fn a_log_of_xe_is_a_script_that_runs(rt: HostRuntime) -> Result<(), AllocError> {
     expect_told(&rt, "--format xe --script", OF_XE.as_bytes(), WANTED_OF_XE)?;
-    expect_replies(&rt, WANTED_OF_XE, REPLIES_OF_XE)
+    expect_replies(&rt, WANTED_OF_XE, REPLIES_OF_XE);
+    Ok(())
 }
 
 #[test]
-fn a_script_that_run_refuses_says_so(rt: HostRuntime) -> Result<(), Fail> {
+fn a_script_that_run_refuses_says_so(rt: HostRuntime) -> Result<(), AllocError> {
     let log = times(rt.alloc(), 7_000, LOG)?;
     let ends = (
         "# more bytes than vmbind run takes: for vmbind serve\nbuffer b1 32\n",

@@ -5,12 +5,11 @@ use gv_text::{MemorySink, MemorySource};
 use std::alloc::{AllocError, Global};
 use std::process::Abort;
 use std::str;
-use std::test::Fail;
 
 /// What is tried, the words that ask, a log, and lines that its report has to have.
 pub type Row<'a> = (&'a str, &'a str, &'a str, &'a str);
 
-const FORMATS: [(&str, Format); 5] = [
+const FORMATS: &[(&str, Format)] = &[
     ("--format radv", Format::Radv),
     ("--format amdgpu", Format::Amdgpu),
     ("--format xe", Format::Xe),
@@ -18,13 +17,13 @@ const FORMATS: [(&str, Format); 5] = [
     ("--format gpuvas", Format::Gpuvas),
 ];
 
-const FORMS: [(&str, Form); 3] = [
+const FORMS: &[(&str, Form)] = &[
     ("--json", Form::Json),
     ("--script", Form::Script),
     ("--mappings", Form::Mappings),
 ];
 
-const FLAGS: [(&str, FlagBits); 2] = [
+const FLAGS: &[(&str, FlagBits)] = &[
     ("--flags entry", FlagBits::Entry),
     ("--flags call", FlagBits::Call),
 ];
@@ -49,23 +48,23 @@ fn behind<'a>(words: &'a str, word: &str) -> Option<&'a str> {
 pub fn terms_of<'a>(words: &'a str, addresses: &'a [u64]) -> Terms<'a> {
     let pid = behind(words, "--pid ").unwrap_or("").parse::<u64>();
     Terms {
-        format: first_in(&FORMATS, words, Format::Radv),
-        flag_bits: first_in(&FLAGS, words, FlagBits::Unsaid),
+        format: first_in(FORMATS, words, Format::Radv),
+        flag_bits: first_in(FLAGS, words, FlagBits::Unsaid),
         pid: pid.ok(),
         space: behind(words, "--space "),
         addresses,
         all: words.contains("--all"),
-        form: first_in(&FORMS, words, Form::Report),
+        form: first_in(FORMS, words, Form::Report),
         sizes: None,
     }
 }
 
 /// The addresses that the words ask.
-fn addresses_in(alloc: Global, words: &str) -> Result<Vec<u64>, Fail> {
+fn addresses_in(alloc: Global, words: &str) -> Result<Vec<u64>, AllocError> {
     let mut addresses = Vec::new(alloc);
     for rest in words.split("--at 0x").skip(1) {
         let digits = rest.split(' ').next().unwrap_or(rest);
-        addresses.push(u64::from_str_radix(digits, 16)?)?;
+        addresses.push(u64::from_str_radix(digits, 16).unwrap_or(0))?;
     }
     Ok(addresses)
 }
@@ -86,17 +85,22 @@ fn play(
 }
 
 /// What is told of a log where words of the program ask it, and behind that the fault, if there is one.
-pub fn told(alloc: Global, words: &str, log: &[u8]) -> Result<String, Fail> {
+pub fn told(alloc: Global, words: &str, log: &[u8]) -> Result<String, AllocError> {
     let addresses = addresses_in(alloc, words)?;
     told_at(alloc, words, &addresses, log)
 }
 
 /// The same at these addresses.
-pub fn told_at(alloc: Global, words: &str, addresses: &[u64], log: &[u8]) -> Result<String, Fail> {
+pub fn told_at(
+    alloc: Global,
+    words: &str,
+    addresses: &[u64],
+    log: &[u8],
+) -> Result<String, AllocError> {
     let mut sink = MemorySink::new(alloc);
     let played = play(alloc, log, &terms_of(words, addresses), &mut sink);
     let ended = format!(in alloc; "{played:?}")?;
-    let mut told = String::from_str(alloc, str::from_utf8(sink.bytes())?)?;
+    let mut told = String::from_str(alloc, str::from_utf8(sink.bytes()).unwrap_or(""))?;
     told.push_str(ended.as_str().trim_start_matches("Ok(())"))?;
     Ok(told)
 }
@@ -119,7 +123,7 @@ fn has_line(text: &str, line: &str) -> bool {
 }
 
 /// Asserts that the report of each row has the lines that are wanted.
-pub fn expect_rows(rt: &(impl Abort + AllocGlobal), rows: &[Row<'_>]) -> Result<(), Fail> {
+pub fn expect_rows(rt: &(impl Abort + AllocGlobal), rows: &[Row<'_>]) -> Result<(), AllocError> {
     for (name, words, log, wanted) in rows {
         let told = told(rt.alloc(), words, log.as_bytes())?;
         expect_lines(rt, name, told.as_str(), wanted);
@@ -133,7 +137,7 @@ pub fn expect_told(
     words: &str,
     log: &[u8],
     wanted: &str,
-) -> Result<(), Fail> {
+) -> Result<(), AllocError> {
     let told = told(rt.alloc(), words, log)?;
     assert!(rt; told.as_str() == wanted, "{words}: {told}");
     Ok(())
@@ -145,7 +149,7 @@ pub fn expect_ends(
     words: &str,
     log: &[u8],
     (start, end): (&str, &str),
-) -> Result<(), Fail> {
+) -> Result<(), AllocError> {
     let told = told(rt.alloc(), words, log)?;
     assert!(rt;
         told.as_str().starts_with(start) && told.as_str().ends_with(end),

@@ -5,7 +5,6 @@ use crate::told::{expect_lines, told_at};
 use gv_model::Random;
 use std::alloc::AllocError;
 use std::fmt::Write;
-use std::test::Fail;
 
 /// The pages that VMAs lie in, and how many pointers there are.
 const PAGES: u64 = 16;
@@ -227,7 +226,7 @@ fn write_wanted(wanted: &mut String, rules: &Rules) -> Result<(), AllocError> {
 }
 
 #[test]
-fn logs_of_xe_come_to_what_the_rules_say(rt: HostRuntime) -> Result<(), Fail> {
+fn logs_of_xe_come_to_what_the_rules_say(rt: HostRuntime) -> Result<(), AllocError> {
     for seed in 0..LOGS {
         let mut rules = EMPTY;
         let mut random = Random::new(seed);
