@@ -7,21 +7,26 @@ use std::alloc::Global;
 
 /// The operation in pages, or its fault.
 pub fn planned(ground: &Ground, op: &Op) -> Result<PageOp, Fault> {
-    let op = ground.bounds.check(op)?;
-    if let PageOp::Map {
-        range,
-        backing: Backing::Buffer { id, page },
-        ..
-    } = op
-    {
-        let Some(made) = ground.alive(&id) else {
-            return Err(Fault::NoBuffer);
-        };
-        if made.pages < page.saturating_add(range.count()) {
-            return Err(Fault::OutOfBuffer);
-        }
+    let checked = ground.bounds.check(op)?;
+    match &checked {
+        PageOp::Map { range, backing, .. } => check_buffer(ground, *range, backing)?,
+        _ => {}
     }
-    Ok(op)
+    Ok(checked)
+}
+
+/// Whether a map of a range lies in its buffer.
+fn check_buffer(ground: &Ground, range: PageRange, backing: &Backing) -> Result<(), Fault> {
+    let Backing::Buffer { id, page } = backing else {
+        return Ok(());
+    };
+    let Some(made) = ground.alive(id) else {
+        return Err(Fault::NoBuffer);
+    };
+    if page.saturating_add(range.count()) > made.pages {
+        return Err(Fault::OutOfBuffer);
+    }
+    Ok(())
 }
 
 /// What an operation puts in.

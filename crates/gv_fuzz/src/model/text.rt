@@ -12,10 +12,14 @@ fn bytes(pages: u64) -> u64 {
 
 /// Writes where an address leads.
 fn write_place(out: &mut String, names: &Names, place: Option<Place>) -> Result<(), AllocError> {
-    let Some(place) = place else {
-        return out.push_str("none");
-    };
-    match place.target {
+    match &place {
+        Some(place) => write_reached(out, names, place),
+        None => out.push_str("none"),
+    }
+}
+
+fn write_reached(out: &mut String, names: &Names, place: &Place) -> Result<(), AllocError> {
+    match &place.target {
         Target::Buffer { id, byte } => {
             let name = name_at(&names.buffers, id.generation.get());
             write!(out, "{name} {byte:016x}")?;
