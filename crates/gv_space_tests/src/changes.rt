@@ -7,29 +7,11 @@ ghost use Rattle.gv_space.specs.Change.{IsChanged};
 ghost use Rattle.gv_space.specs.State.{AreKept, IsUnchanged};
 ghost use Rattle.gv_space.specs.Undo.{CanRevert, AreAmongKept, reverted};
 
+use crate::watch::Watch;
+use crate::words::{Clause, Verb};
 use gv_space::{OpUndo, Space};
 use gv_types::{Backing, BufferId, Fault, Op, PageRange};
 use std::alloc::Global;
-
-/// What looks at a space between its changes.
-pub trait Watch {
-    fn see(&mut self, alloc: Global, space: &Space) -> Result<(), Fault>;
-}
-
-/// Which of two changes stay.
-#[derive(Clone, Copy)]
-pub enum Stay {
-    Neither,
-    First,
-    Both,
-}
-
-/// A range that is restored, for good or not.
-#[derive(Clone, Copy)]
-pub struct Restored {
-    pub range: PageRange,
-    pub stays: bool,
-}
 
 /// Applies an operation. `Unmapped` where it names no pages, which no test does.
 fn apply(alloc: Global, space: &mut Space, op: &Op) -> Result<OpUndo, Fault>
@@ -59,171 +41,138 @@ fn apply_checked(alloc: Global, space: &mut Space, op: &Op) -> Result<OpUndo, Fa
 }
 
 /// Looks, takes a change back, and looks again. The pages that were changed.
-fn take_back<W: Watch>(
-    alloc: Global,
-    space: &mut Space,
-    watch: &mut W,
-    undo: OpUndo,
-) -> Result<PageRange, Fault>
+fn take_back(alloc: Global, space: &mut Space, watch: &mut Watch, undo: OpUndo) -> PageRange
     requires { CanRevert space.old undo }
     ensures { space.new ≡ reverted space.old undo }
 {
     let range = undo.range();
-    let seen = watch.see(alloc, space);
+    watch.see(alloc, space);
     space.revert(undo);
-    seen?;
-    watch.see(alloc, space)?;
-    Ok(range)
+    watch.see(alloc, space);
+    range
 }
 
 /// Looks, lets a change stay, and looks again. The pages that were changed.
-fn keep<W: Watch>(
-    alloc: Global,
-    space: &mut Space,
-    watch: &mut W,
-    undo: OpUndo,
-) -> Result<PageRange, Fault>
+fn keep(alloc: Global, space: &mut Space, watch: &mut Watch, undo: OpUndo) -> PageRange
     requires { AreAmongKept space.old undo.change.taken }
     ensures { (others : List Mapping)
         → AreKept space.old (undo.change.taken ++ others) → AreKept space.new others }
 {
     let range = undo.range();
-    let seen = watch.see(alloc, space);
+    watch.see(alloc, space);
     space.release(undo);
-    seen?;
-    watch.see(alloc, space)?;
-    Ok(range)
+    watch.see(alloc, space);
+    range
 }
 
 /// Applies an operation, and takes it back.
-pub fn there_and_back<W: Watch>(
+pub fn there_and_back(
     alloc: Global,
     space: &mut Space,
-    watch: &mut W,
+    watch: &mut Watch,
     op: &Op,
 ) -> Result<PageRange, Fault>
     ensures { IsUnchanged space.old space.new }
 {
     let undo = apply_checked(alloc, space, op)?;
-    take_back(alloc, space, watch, undo)
+    Ok(take_back(alloc, space, watch, undo))
 }
 
 /// Applies an operation for good.
-pub fn there<W: Watch>(
+pub fn there(
     alloc: Global,
     space: &mut Space,
-    watch: &mut W,
+    watch: &mut Watch,
     op: &Op,
 ) -> Result<PageRange, Fault>
     ensures { (ms : List Mapping) → AreKept space.old ms → AreKept space.new ms }
 {
     let undo = apply(alloc, space, op)?;
-    keep(alloc, space, watch, undo)
+    Ok(keep(alloc, space, watch, undo))
 }
 
-/// Applies two operations, and takes the second back; then the first is taken back, or stays.
-fn second_back<W: Watch>(
+/// Applies two operations. It looks after each, and once the second is taken back, or stays, as the first does then. The pages of the
+/// second.
+pub fn nested(
     alloc: Global,
     space: &mut Space,
-    watch: &mut W,
+    watch: &mut Watch,
     ops: &[Op; 2],
-    first_stays: bool,
+    stay: Verb,
 ) -> Result<PageRange, Fault> {
     let undo = apply(alloc, space, &ops[0])?;
-    let seen = watch.see(alloc, space);
+    watch.see(alloc, space);
+    if stay == Verb::Both {
+        let outcome = there(alloc, space, watch, &ops[1]);
+        space.release(undo);
+        return outcome;
+    }
     let outcome = there_and_back(alloc, space, watch, &ops[1]);
-    if first_stays {
+    if stay == Verb::First {
         space.release(undo);
     } else {
         space.revert(undo);
     }
-    seen?;
     outcome
-}
-
-/// Applies two operations for good, and gives their undo values up only then, the newer first.
-fn both_stay<W: Watch>(
-    alloc: Global,
-    space: &mut Space,
-    watch: &mut W,
-    ops: &[Op; 2],
-) -> Result<PageRange, Fault> {
-    let undo = apply(alloc, space, &ops[0])?;
-    let seen = watch.see(alloc, space);
-    let outcome = there(alloc, space, watch, &ops[1]);
-    space.release(undo);
-    seen?;
-    outcome
-}
-
-/// Applies two operations. It looks after each, and once the second is taken back, or given up. The pages of the second.
-pub fn nested<W: Watch>(
-    alloc: Global,
-    space: &mut Space,
-    watch: &mut W,
-    ops: &[Op; 2],
-    stay: Stay,
-) -> Result<PageRange, Fault> {
-    match stay {
-        Stay::Neither => second_back(alloc, space, watch, ops, false),
-        Stay::First => second_back(alloc, space, watch, ops, true),
-        Stay::Both => both_stay(alloc, space, watch, ops),
-    }
 }
 
 /// Restores a range from an undo value; that is taken back, or stays.
-fn restore<W: Watch>(
+fn restore(
     alloc: Global,
     space: &mut Space,
-    watch: &mut W,
+    watch: &mut Watch,
     saved: &OpUndo,
-    restored: Restored,
-) -> Result<PageRange, Fault>
+    restored: &Clause,
+) -> Result<(), Fault>
     requires { AreAmongKept space.old saved.now.change.taken }
     ensures { (ms : List Mapping) → AreKept space.old ms → AreKept space.new ms }
 {
-    let undo = space.restore(alloc, restored.range, saved)?;
-    if restored.stays {
-        keep(alloc, space, watch, undo)
+    let [first, count, ..] = restored.numbers;
+    let Some(range) = PageRange::new(first, count) else {
+        return Err(Fault::OutOfSpace);
+    };
+    let undo = space.restore(alloc, range, saved)?;
+    if restored.verb == Verb::Stays {
+        keep(alloc, space, watch, undo);
     } else {
-        take_back(alloc, space, watch, undo)
+        take_back(alloc, space, watch, undo);
     }
+    Ok(())
 }
 
 /// Restores ranges in turn.
-fn restore_all<W: Watch>(
+fn restore_all(
     alloc: Global,
     space: &mut Space,
-    watch: &mut W,
+    watch: &mut Watch,
     saved: &OpUndo,
-    ranges: &[Restored],
+    ranges: &[Clause],
 ) -> Result<(), Fault>
     requires { AreAmongKept space.old saved.now.change.taken }
     ensures { AreAmongKept space.new saved.now.change.taken }
 {
     for range in ranges {
-        restore(alloc, space, watch, saved, *range)?;
+        restore(alloc, space, watch, saved, range)?;
     }
     Ok(())
 }
 
 /// Applies two operations for good, and then restores ranges from the undo value of the first, each for good or not. It looks
 /// before and after each undo value is spent, but that of the first.
-pub fn bring_back<W: Watch>(
+pub fn bring_back(
     alloc: Global,
     space: &mut Space,
-    watch: &mut W,
+    watch: &mut Watch,
     ops: &[Op; 2],
-    ranges: &[Restored],
+    ranges: &[Clause],
 ) -> Result<(), Fault> {
     let saved = apply(alloc, space, &ops[0])?;
-    let seen = watch.see(alloc, space);
+    watch.see(alloc, space);
     let outcome = match there(alloc, space, watch, &ops[1]) {
         Ok(_) => restore_all(alloc, space, watch, &saved, ranges),
         Err(fault) => Err(fault),
     };
     space.release(saved);
-    seen?;
     outcome
 }
 

@@ -2,21 +2,21 @@
 #![tactic(auto)]
 
 #[cfg(test)]
+mod asking;
+#[cfg(test)]
 mod buffers;
 #[cfg(test)]
 mod changes;
 #[cfg(test)]
-mod course;
-#[cfg(test)]
 mod faults;
-#[cfg(test)]
-mod harness;
 #[cfg(test)]
 mod journal;
 #[cfg(test)]
-mod model;
+mod judge;
 #[cfg(test)]
-mod query;
+mod operations;
+#[cfg(test)]
+mod playing;
 #[cfg(test)]
 mod restores;
 #[cfg(test)]
@@ -26,10 +26,12 @@ mod rows;
 #[cfg(test)]
 mod sight;
 #[cfg(test)]
-mod steps;
-#[cfg(test)]
 mod tables;
 #[cfg(test)]
 mod unmap_all;
 #[cfg(test)]
+mod watch;
+#[cfg(test)]
 mod wide;
+#[cfg(test)]
+mod words;

@@ -1,228 +1,281 @@
-//! Random operations, each compared with the model.
-use crate::changes::{Restored, Stay, Watch, bring_back, nested};
-use crate::course::{Choice, Course, Held, State, Way, course_of, looks_of, way_of};
-use crate::model::{Model, PLACES, Setting, entry_behind};
-use crate::sight::are_listed;
-use gv_model::{Random, count_of};
+//! Random operations on a space, each look at which is compared with the definitions.
+use crate::judge::{BUFFERS, Look};
+use crate::operations::page_op_of;
+use crate::playing::play as play_row;
+use crate::watch::Watch;
+use crate::words::{Clause, Verb};
+use gv_model::{Random, changed, count_of, edited};
 use gv_space::Space;
-use gv_types::{Backing, Bounds, BufferId, Entry, Fault, Limits, Mapping, PageOp};
-use std::alloc::Global;
-use std::test::Fail;
+use gv_types::{Backing, Bounds, BufferId, Limits, Mapping, PageRange};
+use std::process::Abort;
 
 /// How many rounds are played on a setting.
-const ROUNDS: u64 = 250;
+const ROUNDS: usize = 250;
 
-/// What a space and the model differ in.
-#[derive(Clone, Copy, Debug, PartialEq, Eq)]
-enum Miss {
-    List,
-    Tables,
-    Uses { buffer: BufferId },
-    Kept { buffer: BufferId },
-    Found { page: u64 },
-    Walked { page: u64 },
+/// How many places a setting has.
+const PLACES: u64 = 64;
+
+/// What a round works on: places of `unit` pages each, from the page `first` on.
+#[derive(Clone, Copy)]
+struct Setting {
+    first: u64,
+    unit: u64,
 }
 
-/// What is missed in a page that holds this.
-fn missed_at(space: &Space, page: u64, entry: &Option<Entry>) -> Option<Miss> {
-    if space.find(page) != *entry {
-        return Some(Miss::Found { page });
+impl Setting {
+    /// The first page of a place.
+    fn page(self, place: u64) -> u64 {
+        self.first.saturating_add(place.saturating_mul(self.unit))
     }
-    if space.walk(page) != *entry {
-        return Some(Miss::Walked { page });
-    }
-    None
-}
 
-/// What is missed in the first and the last page of each place.
-fn missed_page(space: &Space, model: &Model) -> Option<Miss> {
-    let last = model.setting.unit.saturating_sub(1);
-    for (place, entry) in model.pages.iter().enumerate() {
-        let page = model.setting.page(place as u64);
-        let at_last = entry_behind(*entry, last);
-        let miss = missed_at(space, page, entry).or(missed_at(
-            space,
-            page.saturating_add(last),
-            &at_last,
-        ));
-        if miss.is_some() {
-            return miss;
+    /// The first and the last page of each place.
+    fn pages(self, rt: &(impl Abort + AllocGlobal)) -> Vec<u64> {
+        let mut pages = Vec::new(rt.alloc());
+        for place in 0..PLACES {
+            let is_told = pages.push(self.page(place)).is_ok()
+                && pages.push(self.page(place + 1).saturating_sub(1)).is_ok();
+            assert!(rt; is_told);
         }
+        pages
     }
-    None
-}
 
-/// What is missed in a space that has to be what the model says, where undo values keep these mappings.
-fn missed(space: &Space, model: &Model, kept: &[Mapping]) -> Option<Miss> {
-    if !are_listed(space.list(), model.list.as_slice()) {
-        return Some(Miss::List);
-    }
-    if space.tables() != model.tables() {
-        return Some(Miss::Tables);
-    }
-    for id in &model.setting.buffers {
-        if space.uses(*id) != Some(count_of(&model.list, id)) {
-            return Some(Miss::Uses { buffer: *id });
-        }
-        if space.kept(*id) != Some(count_of(kept, id)) {
-            return Some(Miss::Kept { buffer: *id });
-        }
-    }
-    missed_page(space, model)
-}
-
-/// Compares a space with the models of a round.
-#[derive(Drop)]
-struct Judge {
-    course: Course,
-    looks: &'static [(State, Held)],
-    seen: usize,
-    miss: Option<Miss>,
-}
-
-impl Watch for Judge {
-    fn see(&mut self, _alloc: Global, space: &Space) -> Result<(), Fault> {
-        if let (Some((state, held)), None) = (self.looks.get(self.seen), self.miss) {
-            let model = self.course.model(*state);
-            self.miss = missed(space, model, self.course.kept(*held));
-        }
-        self.seen = self.seen.saturating_add(1);
-        Ok(())
+    /// An operation by chance on a few places.
+    fn chosen(self, random: &mut Random) -> Clause {
+        let first = random.below(PLACES);
+        let count = 1 + random.below((PLACES - first).min(12));
+        let page = random.below(36);
+        let is_fixed = random.below(4) == 0;
+        let kind = random.below(6);
+        let verb = match kind {
+            0..=3 if is_fixed => Verb::MapRo,
+            0..=3 => Verb::Map,
+            4 if is_fixed => Verb::ZeroRo,
+            4 => Verb::Zero,
+            _ => Verb::Unmap,
+        };
+        let numbers = [
+            self.page(first),
+            count.saturating_mul(self.unit),
+            kind / 2,
+            page.saturating_mul(self.unit),
+        ];
+        Clause { verb, numbers }
     }
 }
 
-/// Two operations of which both are taken back, or both given up.
-fn play_nested(
-    alloc: Global,
-    space: &mut Space,
-    judge: &mut Judge,
-    choice: &Choice,
-    stay: Stay,
-) -> Result<(), Fault> {
-    let ops = choice.ops();
-    let _played = nested(alloc, space, judge, &ops, stay)?;
-    Ok(())
-}
-
-/// What two operations took out comes back.
-fn play_restored(
-    alloc: Global,
-    space: &mut Space,
-    judge: &mut Judge,
-    choice: &Choice,
-    stays: bool,
-) -> Result<(), Fault> {
-    let range = choice.range;
-    let restored = [Restored { range, stays }];
-    bring_back(alloc, space, judge, &choice.ops(), &restored)
-}
-
-/// Plays what a way has.
-fn play_way(
-    alloc: Global,
-    space: &mut Space,
-    judge: &mut Judge,
-    choice: &Choice,
-    way: Way,
-) -> Result<(), Fault> {
-    match way {
-        Way::TakeBack => play_nested(alloc, space, judge, choice, Stay::Neither),
-        Way::GiveUp => play_nested(alloc, space, judge, choice, Stay::Both),
-        Way::BringBack { stays } => play_restored(alloc, space, judge, choice, stays),
-    }
-}
-
-/// Plays a round on a space. What was missed.
-fn round(
-    alloc: Global,
-    space: &mut Space,
-    judge: &mut Judge,
-    choice: &Choice,
-    way: Way,
-) -> Result<Option<Miss>, Fault> {
-    play_way(alloc, space, judge, choice, way)?;
-    judge.see(alloc, space)?;
-    Ok(judge.miss)
-}
-
-/// What a round came to: the model of the space after it, what was missed, and whether the judge saw all that he had to.
-#[derive(Drop)]
-struct Played {
-    model: Model,
-    miss: Option<Miss>,
-    saw_all: bool,
-}
-
-/// Plays the round of this number on a space that is as the model says.
-fn play_one(
-    alloc: Global,
-    space: &mut Space,
-    model: Model,
-    random: &mut Random,
-    number: u64,
-) -> Result<Played, Fail> {
-    // The borrow checker proves this only where the function names the types inside the models and the operations.
+/// A list after an operation.
+fn after(
+    rt: &(impl Abort + AllocGlobal),
+    list: &[Mapping],
+    ids: &[BufferId],
+    clause: &Clause,
+) -> Vec<Mapping> {
+    // The borrow checker proves this only where the function names the types inside the operation.
     let _backing = Backing::Zero;
-    let _op: Option<PageOp> = None;
-    let way = way_of(number);
-    let looks = looks_of(way);
-    let choice = Choice::new(random, &model.setting)?;
-    let course = course_of(alloc, model, &choice)?;
-    let mut judge = Judge {
-        course,
-        looks,
-        seen: 0,
-        miss: None,
-    };
-    let miss = round(alloc, space, &mut judge, &choice, way)?;
-    Ok(Played {
-        saw_all: judge.seen == looks.len(),
-        model: judge.course.at_last(way),
-        miss,
-    })
+    let op = page_op_of(ids, clause).expect(rt, "pages");
+    edited(rt.alloc(), list, &op).expect(rt, "memory")
 }
 
-/// A space of so many pages from `first` on.
-fn space_of(alloc: Global, first: u64, pages: u64) -> Result<Space, Fail> {
-    let bounds = Bounds::new(first, pages, 0, 0).ok_or("bounds")?;
-    let limits = Limits::new(2, 1_000, 1, 1).ok_or("limits")?;
-    Ok(Space::new(alloc, bounds, limits)?)
+/// The pages that a clause names.
+fn range_of(rt: &impl Abort, clause: &Clause) -> PageRange {
+    let [first, count, ..] = clause.numbers;
+    PageRange::new(first, count).expect(rt, "range")
 }
 
-/// Plays rounds on a space that is as the model says. How many were played, up to the first in which something was missed, and
-/// what that is.
-fn play_all(alloc: Global, space: &mut Space, model: Model) -> Result<(u64, Option<Miss>), Fail> {
-    let mut model = model;
-    let mut random = Random::new(1);
-    for number in 0..ROUNDS {
-        let played = play_one(alloc, space, model, &mut random, number)?;
-        if played.miss.is_some() || !played.saw_all {
-            return Ok((number, played.miss));
+/// The mappings of a list that the pages of a clause meet.
+fn met(rt: &(impl Abort + AllocGlobal), list: &[Mapping], clause: &Clause) -> Vec<Mapping> {
+    let range = range_of(rt, clause);
+    let mut met = Vec::new(rt.alloc());
+    for mapping in list {
+        if mapping.range.meets(range) {
+            assert!(rt; met.push(*mapping).is_ok());
         }
-        model = played.model;
     }
-    Ok((ROUNDS, None))
+    met
 }
 
-/// Plays rounds on places of `unit` pages each, from the page `first` on.
-fn play(alloc: Global, first: u64, unit: u64) -> Result<(u64, Option<Miss>), Fail> {
-    let mut space = space_of(alloc, first, unit.saturating_mul(PLACES))?;
-    let size = unit.saturating_mul(100);
-    let buffers = [space.create(alloc, size)?, space.create(alloc, size)?];
-    let setting = Setting {
-        first,
-        unit,
-        buffers,
-    };
-    let model = Model::new(alloc, setting)?;
-    play_all(alloc, &mut space, model)
+/// How many of some mappings and of some others are of each buffer.
+fn counts(ids: &[BufferId], some: &[Mapping], others: &[Mapping]) -> [u64; BUFFERS] {
+    let mut counts = [0; BUFFERS];
+    for (count, id) in counts.iter_mut().zip(ids) {
+        *count = count_of(some, id).saturating_add(count_of(others, id));
+    }
+    counts
 }
+
+/// One more look.
+fn add(
+    rt: &(impl Abort + AllocGlobal),
+    looks: &mut Vec<Look>,
+    list: &[Mapping],
+    kept: [u64; BUFFERS],
+) {
+    let list = Vec::from_slice(rt.alloc(), list).expect(rt, "memory");
+    assert!(rt; looks.push(Look { list, kept }).is_ok());
+}
+
+/// How a round goes: both operations are taken back, the newer first.
+const TAKEN_BACK: usize = 0;
+
+/// Both operations stay.
+const BOTH_STAY: usize = 1;
+
+/// Both stay, and a range is restored from the first for good; and, in the way between these, not for good.
+const RESTORED: usize = 3;
+
+/// What a row of each way begins with.
+const HEADS: [Verb; 4] = [Verb::Neither, Verb::Both, Verb::Restore, Verb::Restore];
+
+/// What it ends with.
+const TAILS: [Verb; 4] = [Verb::Nothing, Verb::Nothing, Verb::Range, Verb::Stays];
+
+/// What is kept where no undo value is left.
+const NONE: [u64; BUFFERS] = [0; BUFFERS];
+
+/// What two operations make of a list, and the restore of a range; and how many mappings of each buffer the undo values keep then.
+#[derive(Drop)]
+struct Course {
+    one: Vec<Mapping>,
+    two: Vec<Mapping>,
+    restored: Vec<Mapping>,
+    by_first: [u64; BUFFERS],
+    by_both: [u64; BUFFERS],
+    by_first_and_restore: [u64; BUFFERS],
+}
+
+fn course_of(
+    rt: &(impl Abort + AllocGlobal),
+    ids: &[BufferId],
+    before: &[Mapping],
+    chosen: &[Clause; 3],
+) -> Course {
+    let one = after(rt, before, ids, &chosen[0]);
+    let two = after(rt, &one, ids, &chosen[1]);
+    let first = met(rt, before, &chosen[0]);
+    let second = met(rt, &one, &chosen[1]);
+    let third = met(rt, &two, &chosen[2]);
+    let range = range_of(rt, &chosen[2]);
+    let restored = changed(rt.alloc(), &two, range, &first).expect(rt, "memory");
+    Course {
+        by_first: counts(ids, &first, &[]),
+        by_both: counts(ids, &first, &second),
+        by_first_and_restore: counts(ids, &first, &third),
+        one,
+        two,
+        restored,
+    }
+}
+
+/// What a space has to be at each look of a round.
+fn looks_of(
+    rt: &(impl Abort + AllocGlobal),
+    course: &Course,
+    before: &[Mapping],
+    way: usize,
+) -> Vec<Look> {
+    let mut looks = Vec::new(rt.alloc());
+    add(rt, &mut looks, &course.one, course.by_first);
+    add(rt, &mut looks, &course.two, course.by_both);
+    if way == TAKEN_BACK {
+        add(rt, &mut looks, &course.one, course.by_first);
+        add(rt, &mut looks, before, NONE);
+        return looks;
+    }
+    add(rt, &mut looks, &course.two, course.by_first);
+    if way != BOTH_STAY {
+        add(
+            rt,
+            &mut looks,
+            &course.restored,
+            course.by_first_and_restore,
+        );
+        let then = if way == RESTORED {
+            &course.restored
+        } else {
+            &course.two
+        };
+        add(rt, &mut looks, then, course.by_first);
+        add(rt, &mut looks, then, NONE);
+        return looks;
+    }
+    add(rt, &mut looks, &course.two, NONE);
+    looks
+}
+
+/// A clause of no numbers.
+fn clause_of(verb: Verb) -> Clause {
+    Clause {
+        verb,
+        numbers: [0; 4],
+    }
+}
+
+/// Plays a round on a space that has this list. The list after it, where all was seen that had to be.
+fn round(
+    rt: &(impl Abort + AllocGlobal),
+    space: &mut Space,
+    watch: &mut Watch,
+    before: &[Mapping],
+    chosen: &[Clause; 3],
+    way: usize,
+) -> Vec<Mapping> {
+    let course = course_of(rt, &watch.ids, before, chosen);
+    watch.looks = looks_of(rt, &course, before, way);
+    watch.seen = 0;
+    let clauses = [
+        clause_of(HEADS[way % 4]),
+        chosen[0],
+        chosen[1],
+        clause_of(Verb::Judge),
+        Clause {
+            verb: TAILS[way % 4],
+            numbers: chosen[2].numbers,
+        },
+    ];
+    let said = play_row(rt.alloc(), space, watch, &clauses);
+    watch.see(rt.alloc(), space);
+    assert!(rt; said.is_ok() && watch.is_right && watch.seen == watch.looks.len());
+    let last = watch.looks.pop().expect(rt, "a look");
+    let Look { list, kept: _ } = last;
+    list
+}
+
+/// A space of these places, and a watch that knows its two buffers.
+fn start(rt: &(impl Abort + AllocGlobal), setting: Setting) -> (Space, Watch) {
+    let pages = setting.unit.saturating_mul(PLACES);
+    let bounds = Bounds::new(setting.first, pages, 0, 0).expect(rt, "bounds");
+    let limits = Limits::new(2, 1_000, 1, 1).expect(rt, "limits");
+    let mut space = Space::new(rt.alloc(), bounds, limits).expect(rt, "memory");
+    let mut watch = Watch::new(rt.alloc());
+    watch.pages = setting.pages(rt);
+    for _ in 0..2 {
+        let id = space.create(rt.alloc(), setting.unit.saturating_mul(100));
+        assert!(rt; watch.ids.push(id.expect(rt, "a buffer")).is_ok());
+    }
+    (space, watch)
+}
+
+/// Plays rounds on these places. The ways take turns.
+fn play(rt: &(impl Abort + AllocGlobal), setting: Setting) {
+    let (mut space, mut watch) = start(rt, setting);
+    let mut random = Random::new(1);
+    let mut list = Vec::new(rt.alloc());
+    for number in 0..ROUNDS {
+        let chosen = [
+            setting.chosen(&mut random),
+            setting.chosen(&mut random),
+            setting.chosen(&mut random),
+        ];
+        list = round(rt, &mut space, &mut watch, &list, &chosen, number % 4);
+    }
+}
+
+/// Places of a page; on both sides of a table; of a quarter of a leaf.
+const SETTINGS: [(u64, u64); 3] = [(0, 1), (480, 1), (384, 128)];
 
 #[test]
-fn places_agree_with_the_model(rt: HostRuntime) -> Result<(), Fail> {
-    // Places of a page; on both sides of a table; of a quarter of a leaf.
-    for (first, unit) in [(0, 1), (480, 1), (384, 128)] {
-        assert_eq!(rt; play(rt.alloc(), first, unit)?, (ROUNDS, None));
+fn places_agree_with_the_model(rt: HostRuntime) {
+    for (first, unit) in SETTINGS {
+        play(&rt, Setting { first, unit });
     }
-    Ok(())
 }

@@ -1,123 +1,140 @@
-//! What is seen of a space, in plain numbers.
+//! What is seen of a space, in text.
 use gv_ranges::RangeList;
-use gv_split::Step as Split;
-use gv_types::{Backing, BufferId, Entry, Mapping};
+use gv_split::Step;
+use gv_types::{Backing, BufferId, Entry, Mapping, PageRange};
+use std::alloc::AllocError;
 
-/// The longest list of mappings, ranges or steps that is looked at.
-pub const MOST: usize = 3;
-
-/// A mapping: its first page, the page past its end, and the buffer behind it, known by the order in which buffers were made,
-/// with the buffer's page that it begins at. Without a buffer it is a mapping of zero pages.
-#[derive(Clone, Copy, Debug, PartialEq, Eq)]
-pub struct Piece {
-    pub first: u64,
-    pub end: u64,
-    pub behind: Option<(usize, u64)>,
-    pub read_only: bool,
-}
-
-/// How many mappings a list has, and the first of them.
-#[derive(Clone, Copy, Debug, PartialEq, Eq)]
-pub struct Pieces {
-    pub count: usize,
-    pub pieces: [Option<Piece>; MOST],
-}
-
-/// A step of a plan.
-#[derive(Clone, Copy, Debug, PartialEq, Eq)]
-pub enum Part {
-    Unmap {
-        piece: Piece,
-        keep: bool,
-    },
-    Remap {
-        piece: Piece,
-        prev: Option<Piece>,
-        next: Option<Piece>,
-        keep: bool,
-    },
-    Map {
-        piece: Piece,
-    },
-}
-
-fn piece_of_entry(first: u64, end: u64, entry: &Entry, buffers: &[BufferId]) -> Piece {
-    let behind = match entry.backing {
+/// What stands behind pages: a buffer, by the order in which buffers were made, and its page; or zeros.
+fn write_entry(text: &mut String, entry: &Entry, ids: &[BufferId]) -> Result<(), AllocError> {
+    match entry.backing {
         Backing::Buffer { id, page } => {
-            let place = buffers.iter().position(|other| *other == id);
-            Some((place.unwrap_or(usize::MAX), page))
+            let place = ids.iter().position(|other| *other == id);
+            let place = place.unwrap_or(usize::MAX);
+            write!(text, "b{place} {page}")?;
         }
-        Backing::Zero => None,
-    };
-    Piece {
-        first,
-        end,
-        behind,
-        read_only: entry.flags.read_only,
+        Backing::Zero => text.push_str("zero")?,
     }
+    if entry.flags.read_only {
+        text.push_str(" ro")?;
+    }
+    Ok(())
 }
 
-pub fn piece_of(mapping: &Mapping, buffers: &[BufferId]) -> Piece {
+/// A mapping: its first page, the page past its end, and what stands behind it.
+pub fn write_mapping(
+    text: &mut String,
+    mapping: &Mapping,
+    ids: &[BufferId],
+) -> Result<(), AllocError> {
+    let (first, end) = (mapping.range.first(), mapping.range.end());
+    write!(text, "{first} {end} ")?;
     let entry = Entry {
         backing: mapping.backing,
         flags: mapping.flags,
     };
-    piece_of_entry(mapping.range.first(), mapping.range.end(), &entry, buffers)
+    write_entry(text, &entry, ids)
 }
 
-fn rest_of(mapping: Option<Mapping>, buffers: &[BufferId]) -> Option<Piece> {
-    match mapping {
-        Some(mapping) => Some(piece_of(&mapping, buffers)),
-        None => None,
+pub fn write_list(text: &mut String, list: &RangeList, ids: &[BufferId]) -> Result<(), AllocError> {
+    for mapping in list.iter() {
+        write_mapping(text, &mapping.mapping(), ids)?;
+        text.push_str("; ")?;
     }
+    Ok(())
 }
 
-pub fn held_at(page: u64, entry: Option<Entry>, buffers: &[BufferId]) -> Option<Piece> {
+/// A word, and what a page holds.
+pub fn write_held(
+    text: &mut String,
+    word: &str,
+    entry: Option<Entry>,
+    ids: &[BufferId],
+) -> Result<(), AllocError> {
+    text.push_str(word)?;
     match entry {
-        Some(entry) => Some(piece_of_entry(page, page.saturating_add(1), &entry, buffers)),
-        None => None,
+        Some(entry) => write_entry(text, &entry, ids),
+        None => text.push_str("none"),
     }
 }
 
-pub fn part_of(step: &Split, buffers: &[BufferId]) -> Part {
+/// A word and a number, or a dash where there is none.
+pub fn write_number(text: &mut String, word: &str, number: Option<u64>) -> Result<(), AllocError> {
+    text.push_str(word)?;
+    match number {
+        Some(number) => write!(text, "{number}"),
+        None => text.push_str("-"),
+    }
+}
+
+pub fn write_tables(text: &mut String, tables: [u64; 5]) -> Result<(), AllocError> {
+    text.push_str("tables")?;
+    for count in &tables {
+        write!(text, " {count}")?;
+    }
+    Ok(())
+}
+
+pub fn write_ranges(text: &mut String, ranges: &[PageRange]) -> Result<(), AllocError> {
+    for range in ranges {
+        let (first, end) = (range.first(), range.end());
+        write!(text, "{first} {end}; ")?;
+    }
+    Ok(())
+}
+
+/// What a step is, its mapping, its rests, and whether the pages are kept.
+#[derive(Clone, Copy)]
+struct Parts {
+    word: &'static str,
+    mapping: Mapping,
+    rests: [Option<Mapping>; 2],
+    keep: bool,
+}
+
+fn parts_of(step: &Step) -> Parts {
     match *step {
-        Split::Unmap { mapping, keep } => Part::Unmap {
-            piece: piece_of(&mapping, buffers),
+        Step::Unmap { mapping, keep } => Parts {
+            word: "unmap ",
+            mapping,
+            rests: [None, None],
             keep,
         },
-        Split::Remap {
+        Step::Remap {
             mapping,
             prev,
             next,
             keep,
-        } => Part::Remap {
-            piece: piece_of(&mapping, buffers),
-            prev: rest_of(prev, buffers),
-            next: rest_of(next, buffers),
+        } => Parts {
+            word: "remap ",
+            mapping,
+            rests: [prev, next],
             keep,
         },
-        Split::Map { mapping } => Part::Map {
-            piece: piece_of(&mapping, buffers),
+        Step::Map { mapping } => Parts {
+            word: "map ",
+            mapping,
+            rests: [None, None],
+            keep: false,
         },
     }
 }
 
-/// Whether a list has these mappings and no others.
-pub fn are_listed(list: &RangeList, wanted: &[Mapping]) -> bool {
-    list.len() == wanted.len()
-        && list
-            .iter()
-            .zip(wanted)
-            .all(|(one, other)| one.mapping() == *other)
+fn write_step(text: &mut String, step: &Step, ids: &[BufferId]) -> Result<(), AllocError> {
+    let parts = parts_of(step);
+    text.push_str(parts.word)?;
+    write_mapping(text, &parts.mapping, ids)?;
+    for (word, rest) in [", prev ", ", next "].iter().zip(&parts.rests) {
+        if let Some(rest) = rest {
+            text.push_str(word)?;
+            write_mapping(text, rest, ids)?;
+        }
+    }
+    text.push_str(if parts.keep { " keep; " } else { "; " })
 }
 
-pub fn list_of(list: &RangeList, buffers: &[BufferId]) -> Pieces {
-    let mut pieces = [None; MOST];
-    for (place, mapping) in pieces.iter_mut().zip(list.iter()) {
-        *place = Some(piece_of(&mapping.mapping(), buffers));
+pub fn write_steps(text: &mut String, steps: &[Step], ids: &[BufferId]) -> Result<(), AllocError> {
+    for step in steps {
+        write_step(text, step, ids)?;
     }
-    Pieces {
-        count: list.len(),
-        pieces,
-    }
+    Ok(())
 }

@@ -2,4 +2,4 @@ use Rattle.gv_space.specs.Undo.{AreAmongKept}
 use Rattle.gv_space_tests.proofs.changes.restore_all.Given as goal
 
 abbrev pub invariant-loop-range : goal.invariant-loop-range
-invariant-loop-range g l = AreAmongKept l.space l.saved.change.taken
+invariant-loop-range l = AreAmongKept l.space l.saved.change.taken
