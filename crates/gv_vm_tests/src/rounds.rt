@@ -87,7 +87,7 @@ fn expect_each_kind(rt: &impl Abort, tally: &Tally) {
 
 #[test]
 fn chance_agrees_with_the_definitions(rt: HostRuntime) -> Result<(), Fail> {
-    let mut tally = Tally::new();
+    let mut tally = Tally::new(rt.alloc())?;
     for seed in 0..16u64 {
         round(&rt, &WIDE, seed, 800, &mut tally)?;
         round(&rt, &NARROW, seed, 800, &mut tally)?;

@@ -4,7 +4,7 @@ use crate::asking::{named, question, text_of};
 use gv_model::{Model, Setting, event_in, number_of};
 use gv_types::{BufferId, OutOfMemory};
 use gv_vm::{Event, Reply, Sizes, World};
-use std::alloc::Global;
+use std::alloc::{AllocError, Global};
 use std::process::Abort;
 use std::test::Fail;
 
@@ -138,27 +138,28 @@ impl Stage {
     }
 }
 
-/// A text that is played for each number from the first up to the second. In it they stand as `{n}`, or in one of `FORMS`.
+/// A text that is played for each number from the first up to the second. In it they stand as `{n}`, in one of `FORMS`, or as `{2n}`.
 pub struct Act(pub u64, pub u64, pub &'static str);
 
-/// How a number stands in a text: itself, a greater one, and twice the number.
-const FORMS: [&str; 6] = ["{n}", "{n+1}", "{n+2}", "{n+3}", "{n+4}", "{2n}"];
+/// How a number and the next ones stand in a text.
+const FORMS: [&str; 5] = ["{n}", "{n+1}", "{n+2}", "{n+3}", "{n+4}"];
 
-/// A text with a number in it.
-fn with_number(alloc: Global, text: &str, n: u64) -> Result<String, Fail> {
-    let twice = n.wrapping_add(n);
-    let next = |more: u64| n.wrapping_add(more);
-    let numbers = [n, next(1), next(2), next(3), next(4), twice];
-    let mut text = String::from_str(alloc, text)?;
-    for (form, number) in FORMS.iter().zip(numbers) {
-        let digits = format!(in alloc; "{number}")?;
-        text = text.replace(alloc, *form, digits.as_str())?;
+/// A text with a number in it, the next ones, and twice the number.
+fn with_number(alloc: Global, text: &str, number: u64) -> Result<String, AllocError> {
+    let mut text = with_form(alloc, text, "{2n}", number.wrapping_add(number))?;
+    for (more, form) in FORMS.iter().enumerate() {
+        text = with_form(alloc, text.as_str(), form, number.wrapping_add(more as u64))?;
     }
     Ok(text)
 }
 
+fn with_form(alloc: Global, text: &str, form: &str, number: u64) -> Result<String, AllocError> {
+    let digits = format!(in alloc; "{number}")?;
+    text.replace(alloc, form, digits.as_str())
+}
+
 /// Whether an answer is this one, or ends so behind two dots.
-fn is_answer(given: &str, wanted: &str) -> bool {
+pub fn is_answer(given: &str, wanted: &str) -> bool {
     match wanted.strip_prefix(".. ") {
         Some(end) => given.ends_with(end),
         None => given == wanted,

@@ -1,14 +1,15 @@
-//! How often each kind of event came, and each kind of reply.
+//! Which kinds of events came, and which of replies.
+use std::alloc::{AllocError, Global};
 
 /// How the lines of each kind of event begin.
-pub const EVENTS: [&str; 17] = [
+pub const EVENTS: &[&str] = &[
     "put", "take", "look", "bind", "give_up", "pay", "raise", "create", "destroy", "rewind",
     "withdraw", "settle", "job", "end", "at", "forget", "trim",
 ];
 
 /// What the text of each kind of reply begins with and has in it; at last the faults that calls meet at small limits, and those
 /// that requests can meet.
-pub const REPLIES: [(&str, &str); 51] = [
+pub const REPLIES: &[(&str, &str)] = &[
     ("Idle", ""),
     ("Put {", ""),
     ("NotPut {", "fault: QueueSpent"),
@@ -63,32 +64,40 @@ pub const REPLIES: [(&str, &str); 51] = [
 ];
 
 /// Which kinds came, of events and of replies.
-#[derive(Clone, Copy)]
+#[derive(Drop)]
 pub struct Tally {
-    pub events: [bool; 17],
-    pub replies: [bool; 51],
+    pub events: Vec<bool>,
+    pub replies: Vec<bool>,
 }
 
 impl Tally {
     /// Nothing came.
-    pub fn new() -> Tally {
-        Tally {
-            events: [false; 17],
-            replies: [false; 51],
-        }
+    pub fn new(alloc: Global) -> Result<Tally, AllocError> {
+        Ok(Tally {
+            events: vec![in alloc; false; EVENTS.len()]?,
+            replies: vec![in alloc; false; REPLIES.len()]?,
+        })
     }
 
     /// The event of a line comes.
     pub fn take_event(&mut self, line: &str) {
         for (came, kind) in self.events.iter_mut().zip(EVENTS) {
-            *came = *came || line.starts_with(kind);
+            if line.starts_with(*kind) {
+                *came = true;
+            }
         }
     }
 
     /// A reply comes.
     pub fn take_reply(&mut self, reply: &str) {
         for (came, (start, part)) in self.replies.iter_mut().zip(REPLIES) {
-            *came = *came || reply.starts_with(start) && reply.contains(part);
+            if has_both(reply, start, part) {
+                *came = true;
+            }
         }
     }
+}
+
+fn has_both(reply: &str, start: &str, part: &str) -> bool {
+    reply.starts_with(start) && reply.contains(part)
 }
