@@ -174,8 +174,10 @@ impl Rules {
         } else if event.contains("_evict") {
             self.touched = self.touched.wrapping_add(1);
         } else {
-            self.pages = EMPTY.pages;
-            self.known = EMPTY.known;
+            let pages = EMPTY.pages;
+            let known = EMPTY.known;
+            self.pages = pages;
+            self.known = known;
         }
     }
 }
