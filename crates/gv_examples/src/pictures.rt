@@ -59,8 +59,11 @@ fn all_replies(alloc: Global, front: &str, last: &str) -> Result<String, AllocEr
     let script = format!(in alloc; "{front}{last}")?;
     let mut sink = MemorySink::new(alloc);
     let ended = run_script(alloc, &mut MemorySource::new(script.as_bytes()), &mut sink);
-    let told = str::from_utf8(sink.bytes()).unwrap_or("");
-    String::from_str(alloc, if ended.is_ok() { told } else { "" })
+    let mut text = String::new(alloc);
+    if let (Ok(()), Ok(bytes)) = (ended, str::from_utf8(sink.bytes())) {
+        text.push_str(bytes)?;
+    }
+    Ok(text)
 }
 
 /// Mappings or counts of tables, as they are printed, drawn in a row.
