@@ -17,8 +17,12 @@ pub enum Said {
     /// The answer is written already.
     Written,
     Created(u32),
-    /// An operation was applied to these pages.
-    Changed(PageRange),
+    /// An operation was applied to the pages from the first up to the end.
+    Changed(u64, u64),
+}
+
+fn changed(range: PageRange) -> Said {
+    Said::Changed(range.first(), range.end())
 }
 
 fn write_said(text: &mut String, said: Result<Said, Fault>) -> Result<(), AllocError> {
@@ -26,10 +30,7 @@ fn write_said(text: &mut String, said: Result<Said, Fault>) -> Result<(), AllocE
         Ok(Said::Done) => text.push_str("done"),
         Ok(Said::Written) => Ok(()),
         Ok(Said::Created(index)) => write!(text, "created {index}"),
-        Ok(Said::Changed(range)) => {
-            let (first, end) = (range.first(), range.end());
-            write!(text, "changed {first} {end}")
-        }
+        Ok(Said::Changed(first, end)) => write!(text, "changed {first} {end}"),
         Err(fault) => write!(text, "refused {fault}"),
     }
 }
@@ -58,7 +59,7 @@ fn play_two(
     watch.asked = *clause_at(clauses, 3);
     let head = clause_at(clauses, 0).verb;
     if head != Verb::Restore {
-        return Ok(Said::Changed(nested(alloc, space, watch, &ops, head)?));
+        return Ok(changed(nested(alloc, space, watch, &ops, head)?));
     }
     bring_back(alloc, space, watch, &ops, clauses.get(4..).unwrap_or(&[]))?;
     Ok(Said::Done)
@@ -97,7 +98,7 @@ fn play_one(
         let op = op_of(&watch.ids, head);
         there(alloc, space, watch, &op)?
     };
-    Ok(Said::Changed(range))
+    Ok(changed(range))
 }
 
 /// Plays a call on a buffer.
