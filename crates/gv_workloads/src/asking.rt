@@ -13,16 +13,14 @@ const LINES: u64 = 25_000;
 pub fn ask_all(alloc: Global, seed: u64, size: u64) -> Result<Done, Failure> {
     let mut done = Done::nothing();
     let first = seed.wrapping_mul(65_536);
-    let text = compose(alloc, first, LINES.min(size));
-    let text = text.whole()?;
-    let other = compose(alloc, first.wrapping_add(1), LINES.min(size));
-    let other = other.whole()?;
+    let text = compose(alloc, first, LINES.min(size))?;
+    let other = compose(alloc, first.wrapping_add(1), LINES.min(size))?;
     for number in 0..size.div_ceil(LINES).max(2) {
         let mut replies = MemorySink::new(alloc);
         if number % 2 == 0 {
-            serve(alloc, &mut MemorySource::new(text), &mut replies)?;
+            serve(alloc, &mut MemorySource::new(text.bytes()), &mut replies)?;
         } else {
-            serve_json(alloc, &mut MemorySource::new(other), &mut replies)?;
+            serve_json(alloc, &mut MemorySource::new(other.bytes()), &mut replies)?;
         }
         done.count(true, number);
         done.take_text(replies.bytes());
@@ -30,11 +28,11 @@ pub fn ask_all(alloc: Global, seed: u64, size: u64) -> Result<Done, Failure> {
     Ok(done)
 }
 
-fn compose(alloc: Global, seed: u64, lines: u64) -> Questions {
-    let mut questions = Questions::new(alloc, seed);
+fn compose(alloc: Global, seed: u64, lines: u64) -> Result<Questions, Failure> {
+    let mut questions = Questions::new(alloc, seed)?;
     for _line in 0..lines {
-        questions.go_on();
+        questions.go_on()?;
     }
-    questions.end();
-    questions
+    questions.end()?;
+    Ok(questions)
 }

@@ -28,17 +28,8 @@ pub fn only(alloc: Global, op: Op) -> Result<Vec<Op>, AllocError> {
     Vec::from_slice(alloc, &[op])
 }
 
-/// A number that tells what a request was told, and whether it was accepted.
-pub fn weight_of(outcome: Outcome) -> (bool, u64) {
-    match outcome {
-        Outcome::Accepted { entry } => (true, entry),
-        Outcome::Refused { op, .. } => (false, op),
-        Outcome::NotReady { have, .. } => (false, have),
-    }
-}
-
 /// The request that comes next: its queue and its number there.
-#[derive(Clone, Copy)]
+#[derive(Clone, Copy, Debug)]
 pub struct Turn {
     queue: u64,
     number: u64,
@@ -61,20 +52,6 @@ impl Turn {
         }
     }
 
-    /// Carries out a request of one operation.
-    pub fn bind_one(
-        &mut self,
-        alloc: Global,
-        vm: &mut Vm,
-        op: Op,
-        done: &mut Done,
-    ) -> Result<(), Failure> {
-        match only(alloc, op) {
-            Ok(ops) => self.bind(alloc, vm, ops, done),
-            Err(error) => Err(Failure::from(error)),
-        }
-    }
-
     /// Carries out a request that waits for nothing, and counts what it was told.
     pub fn bind(
         &mut self,
@@ -90,20 +67,17 @@ impl Turn {
         };
         let told = carry_out(alloc, vm, *self, request)?;
         self.pass();
-        let (is_good, number) = told_by(told);
-        done.count(is_good, number);
-        Ok(())
-    }
-}
-
-/// The same, which tells the fault too.
-fn told_by(outcome: Outcome) -> (bool, u64) {
-    match outcome {
-        Outcome::Refused { op, fault } => {
-            let number = u64::from(fault.number());
-            (false, op.wrapping_mul(64).wrapping_add(number))
+        match told {
+            Outcome::Accepted { entry } => done.count(true, entry),
+            Outcome::Refused { op, fault } => {
+                done.count(
+                    false,
+                    op.wrapping_mul(64).wrapping_add(u64::from(fault.number())),
+                )
+            }
+            Outcome::NotReady { have, .. } => done.count(false, have),
         }
-        _ => weight_of(outcome),
+        Ok(())
     }
 }
 

@@ -37,7 +37,7 @@ pub struct Commands {
 
 impl Commands {
     /// The declarations, and the maps that jobs reach.
-    pub fn new(alloc: Global, seed: u64) -> Commands {
+    pub fn new(alloc: Global, seed: u64) -> Result<Commands, AllocError> {
         let mut commands = Commands {
             random: Random::new(seed),
             text: Text::new(alloc),
@@ -47,55 +47,49 @@ impl Commands {
             ended: 0,
         };
         for buffer in 0..BUFFERS {
-            commands.text.word(b"buffer b");
-            commands.numbers(&[buffer, PAGES]);
+            commands.text.word(b"buffer b")?;
+            commands.numbers(&[buffer, PAGES])?;
         }
         for timeline in 0..TIMELINES {
-            commands.text.word(b"timeline t");
-            commands.numbers(&[timeline]);
+            commands.text.word(b"timeline t")?;
+            commands.numbers(&[timeline])?;
         }
         for buffer in 0..BUFFERS {
-            commands.text.word(b"bind map ");
+            commands.text.word(b"bind map ")?;
             let addr = HOME.wrapping_add(buffer.wrapping_mul(PAGES * PAGE));
-            commands.map(addr, PAGES, buffer, 0);
-            commands.text.word(b"\n");
+            commands.map(addr, PAGES, buffer, 0)?;
+            commands.text.word(b"\n")?;
             commands.next = commands.next.wrapping_add(1);
         }
         // So that no withdrawal takes away what jobs reach.
-        commands.number(b"settle ", BUFFERS);
-        commands
+        commands.number(b"settle ", BUFFERS)?;
+        Ok(commands)
     }
 
-    /// The lines, where memory was found for each.
-    pub fn whole(&self) -> Result<&[u8], AllocError> {
-        self.text.whole()
-    }
-
-    /// How many bytes there are.
-    pub fn len(&self) -> usize {
-        self.text.bytes().len()
+    pub fn bytes(&self) -> &[u8] {
+        self.text.bytes()
     }
 
     /// Numbers with spaces between them, and the line's end.
-    fn numbers(&mut self, numbers: &[u64]) {
+    fn numbers(&mut self, numbers: &[u64]) -> Result<(), AllocError> {
         let mut is_first = true;
         for number in numbers {
             if !is_first {
-                self.text.word(b" ");
+                self.text.word(b" ")?;
             }
             is_first = false;
-            self.text.decimal(*number);
+            self.text.decimal(*number)?;
         }
         self.text.word(b"\n")
     }
 
-    fn map(&mut self, addr: u64, pages: u64, buffer: u64, page: u64) {
-        self.text.address(addr);
-        self.text.word(b" ");
-        self.text.decimal(pages.wrapping_mul(PAGE));
-        self.text.word(b" b");
-        self.text.decimal(buffer);
-        self.text.word(b" ");
+    fn map(&mut self, addr: u64, pages: u64, buffer: u64, page: u64) -> Result<(), AllocError> {
+        self.text.address(addr)?;
+        self.text.word(b" ")?;
+        self.text.decimal(pages.wrapping_mul(PAGE))?;
+        self.text.word(b" b")?;
+        self.text.decimal(buffer)?;
+        self.text.word(b" ")?;
         self.text.decimal(page.wrapping_mul(PAGE))
     }
 
@@ -104,42 +98,42 @@ impl Commands {
         self.random.below(AREA).wrapping_mul(PAGE)
     }
 
-    fn operation(&mut self) {
+    fn operation(&mut self) -> Result<(), AllocError> {
         let addr = self.address();
         let pages = self.random.below(32).wrapping_add(1);
         match self.random.below(10) {
             0..=5 => {
                 let buffer = self.random.below(BUFFERS);
                 let page = self.random.below(PAGES - 32);
-                self.text.word(b"map ");
+                self.text.word(b"map ")?;
                 self.map(addr, pages, buffer, page)
             }
             6..=8 => {
-                self.text.word(b"unmap ");
+                self.text.word(b"unmap ")?;
                 self.sized(addr, pages)
             }
             _ => {
-                self.text.word(b"zero ");
-                self.sized(addr, pages);
+                self.text.word(b"zero ")?;
+                self.sized(addr, pages)?;
                 self.text.word(b" ro")
             }
         }
     }
 
-    fn sized(&mut self, addr: u64, pages: u64) {
-        self.text.address(addr);
-        self.text.word(b" ");
+    fn sized(&mut self, addr: u64, pages: u64) -> Result<(), AllocError> {
+        self.text.address(addr)?;
+        self.text.word(b" ")?;
         self.text.decimal(pages.wrapping_mul(PAGE))
     }
 
     /// A request of so many operations on a queue. One in some waits for a point that nobody raises.
-    fn bind(&mut self, ops: u64, has_points: bool) {
-        self.text.word(b"bind queue ");
+    fn bind(&mut self, ops: u64, has_points: bool) -> Result<(), AllocError> {
+        self.text.word(b"bind queue ")?;
         let queue = self.random.below(16);
-        self.text.decimal(queue);
+        self.text.decimal(queue)?;
         for _op in 0..ops {
-            self.text.word(b" ; ");
-            self.operation();
+            self.text.word(b" ; ")?;
+            self.operation()?;
         }
         let lacks = has_points && self.random.below(8) == 0;
         if has_points {
@@ -148,9 +142,9 @@ impl Commands {
             } else {
                 self.random.below(self.raised.max(1))
             };
-            self.point(b" ; wait t", 0, point);
+            self.point(b" ; wait t", 0, point)?;
             let timeline = self.random.below(TIMELINES - 1).wrapping_add(1);
-            self.point(b" ; signal t", timeline, self.next);
+            self.point(b" ; signal t", timeline, self.next)?;
         }
         if !lacks {
             self.next = self.next.wrapping_add(1);
@@ -158,55 +152,54 @@ impl Commands {
         self.text.word(b"\n")
     }
 
-    fn point(&mut self, what: &[u8], timeline: u64, point: u64) {
-        self.text.word(what);
-        self.text.decimal(timeline);
-        self.text.word(b" ");
+    fn point(&mut self, what: &[u8], timeline: u64, point: u64) -> Result<(), AllocError> {
+        self.text.word(what)?;
+        self.text.decimal(timeline)?;
+        self.text.word(b" ")?;
         self.text.decimal(point)
     }
 
     /// A word and an address, and the line's end.
-    fn at(&mut self, word: &[u8]) {
+    fn at(&mut self, word: &[u8]) -> Result<(), AllocError> {
         let addr = self.address().wrapping_add(self.random.below(PAGE));
-        self.text.word(word);
-        self.text.address(addr);
+        self.text.word(word)?;
+        self.text.address(addr)?;
         self.text.word(b"\n")
     }
 
-    fn number(&mut self, word: &[u8], number: u64) {
-        self.text.word(word);
+    fn number(&mut self, word: &[u8], number: u64) -> Result<(), AllocError> {
+        self.text.word(word)?;
         self.numbers(&[number])
     }
 
     /// A job begins, or the oldest one ends where enough run.
-    fn job(&mut self) {
+    fn job(&mut self) -> Result<(), AllocError> {
         if self.begun.wrapping_sub(self.ended) >= RUNNING {
             let job = self.ended;
             self.ended = self.ended.wrapping_add(1);
-            self.number(b"end ", job);
-            return;
+            return self.number(b"end ", job);
         }
         self.begun = self.begun.wrapping_add(1);
-        self.text.word(b"job ");
+        self.text.word(b"job ")?;
         for access in 0..self.random.below(8).wrapping_add(1) {
             if access > 0 {
-                self.text.word(b" ; ");
+                self.text.word(b" ; ")?;
             }
-            self.text.word(b"read ");
+            self.text.word(b"read ")?;
             let page = self.random.below(BUFFERS * PAGES);
             self.text
-                .address(HOME.wrapping_add(page.wrapping_mul(PAGE)));
+                .address(HOME.wrapping_add(page.wrapping_mul(PAGE)))?;
         }
         self.text.word(b"\n")
     }
 
-    fn rewind(&mut self) {
+    fn rewind(&mut self) -> Result<(), AllocError> {
         self.next = self.next.saturating_sub(1);
         self.text.word(b"rewind\n")
     }
 
     /// Seldom a long list, of entries or of outcomes; else how many tables there are.
-    fn list(&mut self) {
+    fn list(&mut self) -> Result<(), AllocError> {
         match self.random.below(32) {
             0 => self.text.word(b"journal\n"),
             1 => self.text.word(b"told 3\n"),
@@ -215,7 +208,7 @@ impl Commands {
     }
 
     /// A line that one of a hundred is.
-    fn seldom(&mut self) {
+    fn seldom(&mut self) -> Result<(), AllocError> {
         match self.random.below(24) {
             0..=1 => self.text.word(b"map\n"),
             2..=3 => self.list(),
@@ -241,7 +234,7 @@ impl Commands {
     }
 
     /// A further line.
-    pub fn go_on(&mut self) {
+    pub fn go_on(&mut self) -> Result<(), AllocError> {
         match self.random.below(100) {
             0..=52 => self.bind(1, false),
             53..=60 => {
@@ -257,8 +250,8 @@ impl Commands {
             }
             91..=96 => self.job(),
             97..=98 => {
-                self.text.word(b"plan ");
-                self.operation();
+                self.text.word(b"plan ")?;
+                self.operation()?;
                 self.text.word(b"\n")
             }
             _ => self.seldom(),

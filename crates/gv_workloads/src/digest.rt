@@ -3,7 +3,7 @@ use gv_types::{Backing, BufferId, Mapping};
 use gv_vm::{Place, Target};
 
 /// A number that depends on all that was added, and on its order.
-#[derive(Clone, Copy)]
+#[derive(Clone, Copy, Debug, PartialEq, Eq)]
 pub struct Digest {
     sum: u64,
 }
@@ -59,7 +59,7 @@ impl Digest {
 
 /// What a job came to: how many of its calls did what was asked, how many were refused, how many bytes it was given and wrote, and a
 /// digest of all.
-#[derive(Clone, Copy)]
+#[derive(Clone, Copy, Debug, PartialEq, Eq)]
 pub struct Done {
     pub good: u64,
     pub refused: u64,

@@ -8,7 +8,7 @@ use gv_types::{Fault, OutOfMemory};
 use std::alloc::{AllocError, AllocFailed};
 use std::{fmt, io};
 
-#[derive(Drop)]
+#[derive(Debug, Drop)]
 pub enum Failure {
     /// The words are no job, seed and size.
     Words,

@@ -1,6 +1,6 @@
 //! Withdrawals that are accepted, of entries deep under thousands of later ones next to them; between them pasts are asked and old
 //! entries settled.
-use crate::binding::{Turn, map_of, sum_up, take_back, unmap_of, withdraw};
+use crate::binding::{Turn, map_of, only, sum_up, take_back, unmap_of, withdraw};
 use crate::digest::Done;
 use crate::failure::Failure;
 use crate::looking::look;
@@ -124,7 +124,7 @@ impl Work {
 
     fn bind(&mut self, alloc: Global, vm: &mut Vm) -> Result<(), Failure> {
         let op = self.operation(vm.next());
-        self.turn.bind_one(alloc, vm, op, &mut self.done)
+        self.turn.bind(alloc, vm, only(alloc, op)?, &mut self.done)
     }
 
     /// Binds until so many entries are held.

@@ -1,6 +1,6 @@
 //! Small spaces of many buffers: binds, some taken back, and whole buffers of one to 64 mappings unmapped, cut ones too, destroyed and
 //! made anew.
-use crate::binding::{Turn, map_of, sum_up, take_back, unmap_of};
+use crate::binding::{Turn, map_of, only, sum_up, take_back, unmap_of};
 use crate::digest::Done;
 use crate::failure::Failure;
 use crate::looking::look;
@@ -82,35 +82,31 @@ impl Work {
         self.random.below((self.buffers.len() as u64).max(1))
     }
 
-    fn buffer(&self, place: u64) -> Result<BufferId, Failure> {
+    /// A map of up to so many pages of a buffer, anywhere.
+    fn map(&mut self, place: u64, most: u64) -> Result<Op, Failure> {
+        let first = self.random.below(self.area.max(1));
+        let count = self.random.below(most.max(1)).wrapping_add(1);
+        let page = self.random.below(PAGES / 2);
         match self.buffers.get(place as usize) {
-            Some(buffer) => Ok(*buffer),
+            Some(buffer) => Ok(map_of(first, count, *buffer, page)),
             None => Err(Failure::Differ),
         }
     }
 
-    /// A map of up to so many pages of a buffer, anywhere.
-    fn map(&mut self, buffer: BufferId, most: u64) -> Op {
-        let first = self.random.below(self.area.max(1));
-        let count = self.random.below(most.max(1)).wrapping_add(1);
-        let page = self.random.below(PAGES / 2);
-        map_of(first, count, buffer, page)
-    }
-
-    /// Unmaps a whole buffer.
-    fn unmap_whole(&mut self, alloc: Global, vm: &mut Vm, place: u64) -> Result<(), Failure> {
-        let buffer = self.buffer(place)?;
-        let op = Op::UnmapBuffer { buffer };
-        self.turn.bind_one(alloc, vm, op, &mut self.done)
+    /// An unmap of a whole buffer.
+    fn unmap(&self, place: u64) -> Result<Op, Failure> {
+        match self.buffers.get(place as usize) {
+            Some(buffer) => Ok(Op::UnmapBuffer { buffer: *buffer }),
+            None => Err(Failure::Differ),
+        }
     }
 
     /// Maps a buffer as often as is its due, by one request.
     fn map_whole(&mut self, alloc: Global, vm: &mut Vm, place: u64) -> Result<(), Failure> {
         let times = TIMES.get((place % 8) as usize).copied().unwrap_or(1);
-        let buffer = self.buffer(place)?;
         let mut ops = Vec::new(alloc);
         for _time in 0..times {
-            ops.push(self.map(buffer, 4))?;
+            ops.push(self.map(place, 4)?)?;
         }
         self.turn.bind(alloc, vm, ops, &mut self.done)
     }
@@ -118,7 +114,8 @@ impl Work {
     /// Unmaps a whole buffer, and mostly maps it again.
     fn renew(&mut self, alloc: Global, vm: &mut Vm) -> Result<(), Failure> {
         let place = self.place();
-        self.unmap_whole(alloc, vm, place)?;
+        let ops = only(alloc, self.unmap(place)?)?;
+        self.turn.bind(alloc, vm, ops, &mut self.done)?;
         if self.random.below(4) == 0 {
             take_back(vm, &mut self.done);
             return Ok(());
@@ -129,7 +126,8 @@ impl Work {
     /// Settles all; a buffer is unmapped, destroyed, and made anew.
     fn settle(&mut self, alloc: Global, vm: &mut Vm) -> Result<(), Failure> {
         let place = self.place();
-        self.unmap_whole(alloc, vm, place)?;
+        let ops = only(alloc, self.unmap(place)?)?;
+        self.turn.bind(alloc, vm, ops, &mut self.done)?;
         vm.settle(vm.next())?;
         self.replace(alloc, vm, place)?;
         self.map_whole(alloc, vm, place)
@@ -151,15 +149,14 @@ impl Work {
         let place = self.place();
         match self.random.below(20) {
             0..=9 => {
-                let buffer = self.buffer(place)?;
-                let op = self.map(buffer, 24);
-                self.turn.bind_one(alloc, vm, op, &mut self.done)?;
+                let ops = only(alloc, self.map(place, 24)?)?;
+                self.turn.bind(alloc, vm, ops, &mut self.done)?;
             }
             10..=13 => {
                 let first = self.random.below(self.area.max(1));
                 let count = self.random.below(16).wrapping_add(1);
-                let op = unmap_of(first, count);
-                self.turn.bind_one(alloc, vm, op, &mut self.done)?;
+                let ops = only(alloc, unmap_of(first, count))?;
+                self.turn.bind(alloc, vm, ops, &mut self.done)?;
             }
             14..=17 => take_back(vm, &mut self.done),
             _ => self.renew(alloc, vm)?,

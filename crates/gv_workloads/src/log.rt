@@ -79,16 +79,16 @@ pub fn compose(alloc: Global, seed: u64, plan: &LogPlan) -> Result<Text, Failure
     let ranges = plan.slots.wrapping_mul(TILES) / RANGE;
     for range in 0..ranges.wrapping_add(1) {
         let start = SPARSE.wrapping_add(range.wrapping_mul(RANGE * TILE));
-        log.event(start, RANGE * TILE, b"destroyed=0, is_virtual=1");
+        log.event(start, RANGE * TILE, b"destroyed=0, is_virtual=1")?;
     }
     for _slot in 0..plan.slots {
         log.pages.push(0)?;
     }
     for slot in 0..plan.slots {
-        log.make(slot, plan);
+        log.make(slot, plan)?;
     }
     for _line in 0..plan.lines {
-        log.go_on(plan);
+        log.go_on(plan)?;
     }
     let Log {
         random: _,
@@ -101,30 +101,30 @@ pub fn compose(alloc: Global, seed: u64, plan: &LogPlan) -> Result<Text, Failure
 }
 
 impl Log {
-    fn event(&mut self, start: u64, len: u64, what: &[u8]) {
-        self.range(start, len);
-        self.text.word(what);
+    fn event(&mut self, start: u64, len: u64, what: &[u8]) -> Result<(), AllocError> {
+        self.range(start, len)?;
+        self.text.word(what)?;
         self.text.word(b"\n")
     }
 
     /// The front of a line.
-    fn range(&mut self, start: u64, len: u64) {
+    fn range(&mut self, start: u64, len: u64) -> Result<(), AllocError> {
         let passed = self.random.below(9_000);
         self.time = self.time.wrapping_add(passed);
-        self.text.word(b"timestamp=");
-        self.text.decimal(self.time);
-        self.text.word(b", VA=");
-        self.text.hex(start);
-        self.text.word(b"-");
-        self.text.hex(start.wrapping_add(len));
+        self.text.word(b"timestamp=")?;
+        self.text.decimal(self.time)?;
+        self.text.word(b", VA=")?;
+        self.text.hex(start)?;
+        self.text.word(b"-")?;
+        self.text.hex(start.wrapping_add(len))?;
         self.text.word(b", ")
     }
 
     /// Tiles of a slot bound to an address, and unbound where that is 0.
-    fn bind(&mut self, slot: u64, tile: u64, tiles: u64, to: u64) {
-        self.range(tile_address(slot, tile), tiles.wrapping_mul(TILE));
-        self.text.word(b"mapped_to=");
-        self.text.hex(to);
+    fn bind(&mut self, slot: u64, tile: u64, tiles: u64, to: u64) -> Result<(), AllocError> {
+        self.range(tile_address(slot, tile), tiles.wrapping_mul(TILE))?;
+        self.text.word(b"mapped_to=")?;
+        self.text.hex(to)?;
         self.text.word(b"\n")
     }
 
@@ -172,7 +172,7 @@ impl Log {
     }
 
     /// Memory for a slot.
-    fn make(&mut self, slot: u64, plan: &LogPlan) {
+    fn make(&mut self, slot: u64, plan: &LogPlan) -> Result<(), AllocError> {
         let pages = match self.homes.get(slot as usize).copied() {
             Some(home) => home.pages,
             None => self.size(plan),
@@ -182,9 +182,9 @@ impl Log {
         self.event(self.address(slot, plan), len, b"destroyed=0, is_virtual=0")
     }
 
-    fn free(&mut self, slot: u64, plan: &LogPlan) {
+    fn free(&mut self, slot: u64, plan: &LogPlan) -> Result<(), AllocError> {
         if plan.is_tidy {
-            self.bind(slot, 0, TILES, 0);
+            self.bind(slot, 0, TILES, 0)?;
         }
         let len = self.pages_of(slot).wrapping_mul(PAGE);
         self.set_pages(slot, 0);
@@ -192,7 +192,7 @@ impl Log {
     }
 
     /// A tile bound or unbound, or memory that goes and mostly comes again.
-    fn go_on(&mut self, plan: &LogPlan) {
+    fn go_on(&mut self, plan: &LogPlan) -> Result<(), AllocError> {
         let slot = self.random.below(plan.slots.max(1));
         let pages = self.pages_of(slot);
         let kind = self.random.below(100);
@@ -200,19 +200,17 @@ impl Log {
             let tile = self.random.below(TILES);
             let part = self.random.below((pages / 16).max(1));
             if kind < 5 || pages < 16 {
-                self.bind(slot, tile, 1, 0);
-                return;
+                return self.bind(slot, tile, 1, 0);
             }
             let to = self
                 .address(slot, plan)
                 .wrapping_add(part.wrapping_mul(TILE));
-            self.bind(slot, tile, 1, to);
-            return;
+            return self.bind(slot, tile, 1, to);
         }
         if pages > 0 {
-            self.free(slot, plan);
+            self.free(slot, plan)?;
             if self.random.below(8) == 0 {
-                return;
+                return Ok(());
             }
         }
         self.make(slot, plan)

@@ -28,7 +28,6 @@ mod reports;
 mod schedule;
 mod scripts;
 mod spaces;
-mod strain;
 mod text;
 mod tracing;
 mod words;
@@ -51,17 +50,28 @@ fn main(rt: HostRuntime) -> ExitCode {
 /// Does the job that the words name, or all.
 fn run<R: std::rt::Env + Print + AllocGlobal>(rt: &R) -> Result<(), Failure> {
     let words = words_of(rt)?;
-    for (name, job) in words.jobs {
-        tell(rt, name, *job, words)?;
+    if words.job != Job::All {
+        return told(rt, words);
+    }
+    for job in Job::EACH {
+        told(
+            rt,
+            Words {
+                job,
+                seed: words.seed,
+                size: words.size,
+            },
+        )?;
     }
     Ok(())
 }
 
 /// Does a job, and prints its line.
-fn tell<R: Print + AllocGlobal>(rt: &R, name: &str, job: Job, words: Words) -> Result<(), Failure> {
-    let (seed, size) = (words.seed, words.size);
-    let done = done(rt.alloc(), job, seed, size)?;
+fn told<R: Print + AllocGlobal>(rt: &R, words: Words) -> Result<(), Failure> {
+    let done = done(rt.alloc(), words)?;
+    let name = words.job.name();
     let sum = done.digest.value();
+    let (seed, size) = (words.seed, words.size);
     let (good, refused, bytes) = (done.good, done.refused, done.bytes);
     println!(rt;
         "{name} {seed} {size}: {good} done, {refused} refused, {bytes} bytes, {sum:016x}"
@@ -69,18 +79,18 @@ fn tell<R: Print + AllocGlobal>(rt: &R, name: &str, job: Job, words: Words) -> R
     Ok(())
 }
 
-fn done(alloc: Global, job: Job, seed: u64, size: u64) -> Result<digest::Done, Failure> {
-    match job {
-        Job::Replay => replays::replay_all(alloc, seed, size),
-        Job::Script => scripts::run_all(alloc, seed, size),
-        Job::Space => spaces::edit_all(alloc, seed, size),
-        Job::Schedule => schedule::schedule_all(alloc, seed, size),
-        Job::Reports => reports::report_all(alloc, seed, size),
-        Job::Awkward => awkward::strain_all(alloc, seed, size),
-        Job::Packed => packed::replay_all(alloc, seed, size),
-        Job::History => history::withdraw_all(alloc, seed, size),
-        Job::Asking => asking::ask_all(alloc, seed, size),
-        Job::Life => life::live_all(alloc, seed, size),
-        Job::Million => million::edit_all(alloc, seed, size),
+fn done(alloc: Global, words: Words) -> Result<digest::Done, Failure> {
+    match words.job {
+        Job::Replay => replays::replay_all(alloc, words.seed, words.size),
+        Job::Script => scripts::run_all(alloc, words.seed, words.size),
+        Job::Space => spaces::edit_all(alloc, words.seed, words.size),
+        Job::Schedule => schedule::schedule_all(alloc, words.seed, words.size),
+        Job::Reports => reports::report_all(alloc, words.seed, words.size),
+        Job::Packed => packed::replay_all(alloc, words.seed, words.size),
+        Job::History => history::withdraw_all(alloc, words.seed, words.size),
+        Job::Asking => asking::ask_all(alloc, words.seed, words.size),
+        Job::Life => life::live_all(alloc, words.seed, words.size),
+        Job::Million => million::edit_all(alloc, words.seed, words.size),
+        Job::Awkward | Job::All => awkward::strain_all(alloc, words.seed, words.size),
     }
 }

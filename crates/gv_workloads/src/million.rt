@@ -1,5 +1,5 @@
 //! A list of a million mappings: appended, edited anywhere, edited at one place, and asked.
-use crate::binding::{Turn, map_of, sum_up, take_back, unmap_of};
+use crate::binding::{Turn, map_of, only, sum_up, take_back, unmap_of};
 use crate::digest::Done;
 use crate::failure::Failure;
 use crate::looking::look;
@@ -112,7 +112,7 @@ impl Work {
 
     /// An edit, which is sometimes taken back.
     fn carry_out(&mut self, alloc: Global, vm: &mut Vm, op: Op) -> Result<(), Failure> {
-        self.turn.bind_one(alloc, vm, op, &mut self.done)?;
+        self.turn.bind(alloc, vm, only(alloc, op)?, &mut self.done)?;
         if self.random.below(4) == 0 {
             take_back(vm, &mut self.done);
         }

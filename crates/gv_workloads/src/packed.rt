@@ -84,19 +84,19 @@ fn hold(alloc: Global, log: &Text, done: &mut Done) -> Result<(), Failure> {
     let mut script = MemorySink::new(alloc);
     replay(
         alloc,
-        &mut MemorySource::new(log.whole()?),
+        &mut MemorySource::new(log.bytes()),
         &mut script,
         &steps,
     )?;
     let mut lines = Text::new(alloc);
-    lines.word(script.bytes());
+    lines.word(script.bytes())?;
     for place in 0..ASKED {
-        lines.line(b"at ", tile_address(place, place));
-        lines.line(b"at ", log::MEMORY.wrapping_add(place.wrapping_mul(APART)));
+        lines.line(b"at ", tile_address(place, place))?;
+        lines.line(b"at ", log::MEMORY.wrapping_add(place.wrapping_mul(APART)))?;
     }
-    lines.word(b"map\ntables\n");
+    lines.word(b"map\ntables\n")?;
     let mut replies = MemorySink::new(alloc);
-    serve(alloc, &mut MemorySource::new(lines.whole()?), &mut replies)?;
+    serve(alloc, &mut MemorySource::new(lines.bytes()), &mut replies)?;
     done.count(true, lines.bytes().len() as u64);
     done.take_text(replies.bytes());
     Ok(())

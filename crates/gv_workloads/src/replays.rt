@@ -79,7 +79,7 @@ pub fn replay_one(
     let mut report = MemorySink::new(alloc);
     replay(
         alloc,
-        &mut MemorySource::new(log.whole()?),
+        &mut MemorySource::new(log.bytes()),
         &mut report,
         terms,
     )?;
@@ -93,6 +93,6 @@ fn trace_one(alloc: Global, seed: u64, lines: u64, done: &mut Done) -> Result<()
     let trace = tracing::compose(alloc, seed, lines)?;
     let addresses = [tile_address(1, 1), tracing::HOME << 12];
     let terms = terms_of(Format::Amdgpu, &addresses);
-    let sizes = measure(alloc, &mut MemorySource::new(trace.whole()?), &terms)?;
+    let sizes = measure(alloc, &mut MemorySource::new(trace.bytes()), &terms)?;
     replay_one(alloc, &trace, &terms.sized(&sizes), done)
 }

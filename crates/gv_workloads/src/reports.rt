@@ -6,7 +6,7 @@ use crate::text::Text;
 use gv_compare::compare;
 use gv_draw::{Options, draw_script};
 use gv_model::Random;
-use std::alloc::Global;
+use std::alloc::{AllocError, Global};
 
 const PAGE: u64 = 4_096;
 
@@ -48,11 +48,10 @@ fn compare_pair(alloc: Global, seed: u64, size: u64, done: &mut Done) -> Result<
         next: 16,
     };
     for _line in 0..size {
-        pair.go_on();
+        pair.go_on()?;
     }
     let mut report = String::new(alloc);
-    let (left, right) = (pair.left.whole()?, pair.right.whole()?);
-    let pages = compare(alloc, left, right, &mut report)?;
+    let pages = compare(alloc, pair.left.bytes(), pair.right.bytes(), &mut report)?;
     done.count(true, pages);
     done.take_text(report.as_bytes());
     Ok(())
@@ -65,13 +64,13 @@ fn draw_one(
     options: &Options,
     done: &mut Done,
 ) -> Result<(), Failure> {
-    let mut commands = Commands::new(alloc, seed);
+    let mut commands = Commands::new(alloc, seed)?;
     for _line in 0..lines {
-        commands.go_on();
+        commands.go_on()?;
     }
     let mut picture = String::new(alloc);
-    draw_script(alloc, commands.whole()?, options, &mut picture)?;
-    done.count(true, commands.len() as u64);
+    draw_script(alloc, commands.bytes(), options, &mut picture)?;
+    done.count(true, commands.bytes().len() as u64);
     done.take_text(picture.as_bytes());
     Ok(())
 }
@@ -97,7 +96,7 @@ struct Row {
 impl Pair {
     /// A mapping of the first list, and what the second has in its place: mostly the same, at times another buffer's, a part of it, or
     /// the same in two halves.
-    fn go_on(&mut self) {
+    fn go_on(&mut self) -> Result<(), AllocError> {
         let gap = self.random.below(3).wrapping_mul(self.random.below(64));
         let row = Row {
             first: self.next.wrapping_add(gap),
@@ -106,60 +105,50 @@ impl Pair {
             page: self.random.below(4_096),
         };
         self.next = row.first.wrapping_add(row.count);
-        write_row(&mut self.left, row);
+        write_row(&mut self.left, row)?;
         if self.random.below(OTHERS) > 0 {
-            write_row(&mut self.right, row);
-            return;
+            return write_row(&mut self.right, row);
         }
+        let front = Row {
+            first: row.first,
+            count: 1,
+            buffer: row.buffer,
+            page: row.page,
+        };
         match self.random.below(3) {
-            0 => write_row(&mut self.right, row.of_the_next_buffer()),
-            1 => write_row(&mut self.right, row.front()),
+            0 => write_row(
+                &mut self.right,
+                Row {
+                    first: row.first,
+                    count: row.count,
+                    buffer: row.buffer.wrapping_add(1),
+                    page: row.page,
+                },
+            ),
+            1 => write_row(&mut self.right, front),
             _ => {
-                write_row(&mut self.right, row.front());
-                write_row(&mut self.right, row.rest());
+                write_row(&mut self.right, front)?;
+                write_row(
+                    &mut self.right,
+                    Row {
+                        first: row.first.wrapping_add(1),
+                        count: row.count.wrapping_sub(1),
+                        buffer: row.buffer,
+                        page: row.page.wrapping_add(1),
+                    },
+                )
             }
         }
     }
 }
 
-impl Row {
-    fn of_the_next_buffer(self) -> Row {
-        Row {
-            first: self.first,
-            count: self.count,
-            buffer: self.buffer.wrapping_add(1),
-            page: self.page,
-        }
-    }
-
-    /// Its first page.
-    fn front(self) -> Row {
-        Row {
-            first: self.first,
-            count: 1,
-            buffer: self.buffer,
-            page: self.page,
-        }
-    }
-
-    /// All but its first page.
-    fn rest(self) -> Row {
-        Row {
-            first: self.first.wrapping_add(1),
-            count: self.count.wrapping_sub(1),
-            buffer: self.buffer,
-            page: self.page.wrapping_add(1),
-        }
-    }
-}
-
-fn write_row(text: &mut Text, row: Row) {
-    text.hex(row.first.wrapping_mul(PAGE));
-    text.word(b" ");
-    text.hex(row.first.wrapping_add(row.count).wrapping_mul(PAGE));
-    text.word(b" b");
-    text.decimal(row.buffer);
-    text.word(b" ");
-    text.hex(row.page.wrapping_mul(PAGE));
-    text.word(b" rw\n");
+fn write_row(text: &mut Text, row: Row) -> Result<(), AllocError> {
+    text.hex(row.first.wrapping_mul(PAGE))?;
+    text.word(b" ")?;
+    text.hex(row.first.wrapping_add(row.count).wrapping_mul(PAGE))?;
+    text.word(b" b")?;
+    text.decimal(row.buffer)?;
+    text.word(b" ")?;
+    text.hex(row.page.wrapping_mul(PAGE))?;
+    text.word(b" rw\n")
 }

@@ -1,5 +1,6 @@
-//! A command scheduler: requests over 16 queues with waits and signals, withdrawals under thousands of later entries, jobs in flight.
-use crate::binding::{map_of, only, sum_up, unmap_of, weight_of};
+//! A command scheduler: requests over 16 queues that wait and signal, entries withdrawn under thousands of later ones, and jobs in
+//! flight.
+use crate::binding::{map_of, only, sum_up, unmap_of};
 use crate::digest::Done;
 use crate::failure::Failure;
 use gv_buffers::Usage;
@@ -77,25 +78,6 @@ fn made(alloc: Global, world: &mut World) -> Result<BufferId, Failure> {
     match &reply {
         Reply::Created { id } => Ok(*id),
         _ => Err(Failure::Differ),
-    }
-}
-
-/// The number of what a reply says was done.
-fn good_of(reply: &Reply) -> Option<u64> {
-    match reply {
-        Reply::Put { number } => Some(*number),
-        Reply::Withdrawn { item } | Reply::Rewound { item } => Some(*item),
-        Reply::Settled { count } => Some(*count),
-        Reply::Begun { job, .. } | Reply::Ended { job } => Some(*job),
-        _ => None,
-    }
-}
-
-/// The number of a reply's fault, 0 where it has none.
-fn fault_of(reply: &Reply) -> u64 {
-    match reply {
-        Reply::Refused { fault } => u64::from(fault.number()),
-        _ => 0,
     }
 }
 
@@ -182,31 +164,11 @@ impl Plan {
             waits: Vec::from_slice(alloc, &[wait])?,
             signals: Vec::from_slice(alloc, &[signal])?,
         };
-        let _put = self.step(alloc, world, Event::Put { queue, request }, false)?;
+        match world.step(alloc, Event::Put { queue, request })? {
+            Reply::Put { number } => self.done.count(true, number),
+            _ => self.done.count(false, 0),
+        }
         Ok(())
-    }
-
-    /// Makes an event, and counts what it came to, with the fault's number where that is told. The number of what was done.
-    fn step(
-        &mut self,
-        alloc: Global,
-        world: &mut World,
-        event: Event,
-        tells_fault: bool,
-    ) -> Result<Option<u64>, Failure> {
-        let reply = world.step(alloc, event)?;
-        let good = good_of(&reply);
-        match good {
-            Some(number) => self.done.count(true, number),
-            None if tells_fault => self.done.count(false, fault_of(&reply)),
-            None => self.done.count(false, 0),
-        }
-        if let Reply::Begun { places, .. } = &reply {
-            for place in places.iter() {
-                self.done.digest.add_place(Some(*place));
-            }
-        }
-        Ok(good)
     }
 
     /// A turn of a queue. Where its request lacks a point, that is raised, and it has another turn.
@@ -226,8 +188,11 @@ impl Plan {
     }
 
     fn told(&mut self, outcome: Outcome) {
-        let (is_good, number) = weight_of(outcome);
-        self.done.count(is_good, number);
+        match outcome {
+            Outcome::Accepted { entry } => self.done.count(true, entry),
+            Outcome::Refused { op, .. } => self.done.count(false, op),
+            Outcome::NotReady { have, .. } => self.done.count(false, have),
+        }
     }
 
     /// A request on a queue and its turn, and what else is due: an entry withdrawn, a job begun or ended, old entries settled.
@@ -247,12 +212,19 @@ impl Plan {
     fn withdraw(&mut self, alloc: Global, world: &mut World) -> Result<(), Failure> {
         let back = self.random.below(HELD).wrapping_add(1);
         let entry = world.vm().next().saturating_sub(back);
-        let _withdrawn = self.step(alloc, world, Event::Withdraw { entry }, true)?;
+        match world.step(alloc, Event::Withdraw { entry })? {
+            Reply::Withdrawn { item } => self.done.count(true, item),
+            Reply::Refused { fault } => self.done.count(false, u64::from(fault.number())),
+            _ => self.done.count(false, 0),
+        }
         Ok(())
     }
 
     fn rewind(&mut self, alloc: Global, world: &mut World) -> Result<(), Failure> {
-        let _rewound = self.step(alloc, world, Event::Rewind, false)?;
+        match world.step(alloc, Event::Rewind)? {
+            Reply::Rewound { item } => self.done.count(true, item),
+            _ => self.done.count(false, 0),
+        }
         Ok(())
     }
 
@@ -262,7 +234,11 @@ impl Plan {
         if to.wrapping_sub(world.vm().first()) < MOST_HELD {
             return Ok(());
         }
-        let _settled = self.step(alloc, world, Event::Settle { to }, true)?;
+        match world.step(alloc, Event::Settle { to })? {
+            Reply::Settled { count } => self.done.count(true, count),
+            Reply::Refused { fault } => self.done.count(false, u64::from(fault.number())),
+            _ => self.done.count(false, 0),
+        }
         Ok(())
     }
 
@@ -284,8 +260,16 @@ impl Plan {
     /// A job begins, and the oldest one ends where enough run.
     fn job(&mut self, alloc: Global, world: &mut World) -> Result<(), Failure> {
         let accesses = self.accesses(alloc)?;
-        if let Some(job) = self.step(alloc, world, Event::JobBegin { accesses }, true)? {
-            self.jobs.push(job)?;
+        match world.step(alloc, Event::JobBegin { accesses })? {
+            Reply::Begun { job, places } => {
+                self.done.count(true, job);
+                for place in places.iter() {
+                    self.done.digest.add_place(Some(*place));
+                }
+                self.jobs.push(job)?;
+            }
+            Reply::Refused { fault } => self.done.count(false, u64::from(fault.number())),
+            _ => self.done.count(false, 0),
         }
         if (self.jobs.len() as u64).saturating_sub(self.ended as u64) < RUNNING {
             return Ok(());
@@ -294,7 +278,10 @@ impl Plan {
             return Ok(());
         };
         self.ended = self.ended.saturating_add(1);
-        let _ended = self.step(alloc, world, Event::JobEnd { job }, false)?;
+        match world.step(alloc, Event::JobEnd { job })? {
+            Reply::Ended { job } => self.done.count(true, job),
+            _ => self.done.count(false, 0),
+        }
         Ok(())
     }
 }

@@ -16,18 +16,18 @@ pub fn run_all(alloc: Global, seed: u64, size: u64) -> Result<Done, Failure> {
     let mut done = Done::nothing();
     let first = seed.wrapping_mul(65_536);
     for number in 0..size.div_ceil(LINES) {
-        let mut commands = Commands::new(alloc, first.wrapping_add(number));
+        let mut commands = Commands::new(alloc, first.wrapping_add(number))?;
         for _line in 0..LINES.min(size) {
-            if commands.len() > BYTES {
+            if commands.bytes().len() > BYTES {
                 break;
             }
-            commands.go_on();
+            commands.go_on()?;
         }
         run_one(alloc, &commands, &mut done)?;
     }
-    let mut commands = Commands::new(alloc, first.wrapping_sub(1));
+    let mut commands = Commands::new(alloc, first.wrapping_sub(1))?;
     for _line in 0..size {
-        commands.go_on();
+        commands.go_on()?;
     }
     serve_one(alloc, &commands, &mut done)?;
     Ok(done)
@@ -37,10 +37,10 @@ fn run_one(alloc: Global, commands: &Commands, done: &mut Done) -> Result<(), Fa
     let mut replies = MemorySink::new(alloc);
     run_script(
         alloc,
-        &mut MemorySource::new(commands.whole()?),
+        &mut MemorySource::new(commands.bytes()),
         &mut replies,
     )?;
-    done.count(true, commands.len() as u64);
+    done.count(true, commands.bytes().len() as u64);
     done.take_text(replies.bytes());
     Ok(())
 }
@@ -49,10 +49,10 @@ fn serve_one(alloc: Global, commands: &Commands, done: &mut Done) -> Result<(), 
     let mut replies = MemorySink::new(alloc);
     serve(
         alloc,
-        &mut MemorySource::new(commands.whole()?),
+        &mut MemorySource::new(commands.bytes()),
         &mut replies,
     )?;
-    done.count(true, commands.len() as u64);
+    done.count(true, commands.bytes().len() as u64);
     done.take_text(replies.bytes());
     Ok(())
 }

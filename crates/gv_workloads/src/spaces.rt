@@ -1,5 +1,5 @@
 //! A simulator's space: binds, some taken back, and the places of addresses, among a thousand and among a million mappings.
-use crate::binding::{Turn, map_of, sum_up, take_back, unmap_of};
+use crate::binding::{Turn, map_of, only, sum_up, take_back, unmap_of};
 use crate::digest::Done;
 use crate::failure::Failure;
 use crate::machine::{closed, fresh, with};
@@ -21,7 +21,7 @@ const BLOCK: u64 = 64;
 
 const HELD: u64 = 4_096;
 
-#[derive(Clone, Copy)]
+#[derive(Clone, Copy, PartialEq, Eq)]
 enum Kind {
     /// Maps and unmaps of up to 29 units anywhere.
     Random,
@@ -196,7 +196,7 @@ impl Work {
     /// One operation, which is sometimes taken back, and the places of five addresses.
     fn go_on(&mut self, alloc: Global, vm: &mut Vm) -> Result<(), Failure> {
         let op = self.operation();
-        self.turn.bind_one(alloc, vm, op, &mut self.done)?;
+        self.turn.bind(alloc, vm, only(alloc, op)?, &mut self.done)?;
         if self.random.below(4) == 0 {
             take_back(vm, &mut self.done);
         }

@@ -5,18 +5,16 @@ use std::alloc::{AllocError, Global};
 
 const DIGITS: [u8; 16] = *b"0123456789abcdef";
 
-/// Bytes of a text, with words behind one another; and whether each found memory.
+/// Bytes of a text, with words behind one another.
 #[derive(Drop)]
 pub struct Text {
     bytes: Vec<u8>,
-    is_whole: bool,
 }
 
 impl Text {
     pub fn new(alloc: Global) -> Text {
         Text {
             bytes: Vec::new(alloc),
-            is_whole: true,
         }
     }
 
@@ -24,47 +22,36 @@ impl Text {
         self.bytes.as_slice()
     }
 
-    /// The bytes, where memory was found for each.
-    pub fn whole(&self) -> Result<&[u8], AllocError> {
-        if self.is_whole {
-            Ok(self.bytes.as_slice())
-        } else {
-            Err(AllocError)
-        }
-    }
-
-    pub fn word(&mut self, word: &[u8]) {
-        if self.bytes.extend_from_slice(word).is_err() {
-            self.is_whole = false;
-        }
+    pub fn word(&mut self, word: &[u8]) -> Result<(), AllocError> {
+        self.bytes.extend_from_slice(word)
     }
 
     /// 16 hexadecimal digits.
-    pub fn hex(&mut self, number: u64) {
+    pub fn hex(&mut self, number: u64) -> Result<(), AllocError> {
         let mut digits = [b'0'; 16];
         let mut rest = number;
         for digit in digits.iter_mut().rev() {
             *digit = digit_of(rest % 16);
             rest /= 16;
         }
-        self.word(&digits);
+        self.bytes.extend_from_slice(&digits)
     }
 
     /// 0x and 16 hexadecimal digits.
-    pub fn address(&mut self, number: u64) {
-        self.word(b"0x");
-        self.hex(number);
+    pub fn address(&mut self, number: u64) -> Result<(), AllocError> {
+        self.word(b"0x")?;
+        self.hex(number)
     }
 
     /// A word, an address and the line's end.
-    pub fn line(&mut self, word: &[u8], addr: u64) {
-        self.word(word);
-        self.address(addr);
-        self.word(b"\n");
+    pub fn line(&mut self, word: &[u8], addr: u64) -> Result<(), AllocError> {
+        self.word(word)?;
+        self.address(addr)?;
+        self.word(b"\n")
     }
 
     /// A decimal number without leading zeros.
-    pub fn decimal(&mut self, number: u64) {
+    pub fn decimal(&mut self, number: u64) -> Result<(), AllocError> {
         let mut digits = [b'0'; 20];
         let mut rest = number;
         let mut count = 0usize;
@@ -77,7 +64,7 @@ impl Text {
             }
         }
         let (_, shown) = digits.split_at(20usize.saturating_sub(count));
-        self.word(shown);
+        self.bytes.extend_from_slice(shown)
     }
 }
 

@@ -2,7 +2,7 @@
 use crate::failure::Failure;
 use crate::text::Text;
 use gv_model::Random;
-use std::alloc::Global;
+use std::alloc::{AllocError, Global};
 
 /// How many objects there are, and pages from the home of one to that of the next.
 const OBJECTS: u64 = 2_000;
@@ -45,7 +45,7 @@ pub fn compose(alloc: Global, seed: u64, lines: u64) -> Result<Text, Failure> {
         trace.objects.push(none)?;
     }
     for _line in 0..lines {
-        trace.go_on();
+        trace.go_on()?;
     }
     let Trace {
         random: _,
@@ -58,10 +58,10 @@ pub fn compose(alloc: Global, seed: u64, lines: u64) -> Result<Text, Failure> {
 
 impl Trace {
     /// A line: mostly an object mapped or unmapped.
-    fn go_on(&mut self) {
+    fn go_on(&mut self) -> Result<(), AllocError> {
         let number = self.random.below(OBJECTS);
         let Some(object) = self.objects.get(number as usize).copied() else {
-            return;
+            return Ok(());
         };
         match self.random.below(100) {
             0..=4 => self.other(),
@@ -72,53 +72,53 @@ impl Trace {
     }
 
     /// The front of a line.
-    fn head(&mut self) {
+    fn head(&mut self) -> Result<(), AllocError> {
         let passed = self.random.below(900);
         self.time = self.time.wrapping_add(passed);
-        self.text.word(b"            game-4242  [004] ");
-        self.text.decimal(self.time / 1_000_000);
-        self.text.word(b".");
-        self.text.decimal(100_000 + self.time % 900_000);
+        self.text.word(b"            game-4242  [004] ")?;
+        self.text.decimal(self.time / 1_000_000)?;
+        self.text.word(b".")?;
+        self.text.decimal(100_000 + self.time % 900_000)?;
         self.text.word(b": ")
     }
 
-    fn other(&mut self) {
-        self.head();
-        self.text.word(b"amdgpu_cs_ioctl: sched_job=");
-        self.text.decimal(self.time % 4_096);
+    fn other(&mut self) -> Result<(), AllocError> {
+        self.head()?;
+        self.text.word(b"amdgpu_cs_ioctl: sched_job=")?;
+        self.text.decimal(self.time % 4_096)?;
         self.text.word(
             b", timeline=gfx_0.0.0, context=7, seqno=12, ring_name=gfx_0.0.0, num_ibs=3\n",
         )
     }
 
-    fn pointer(&mut self, number: u64) {
-        self.text.word(b"bo=");
+    fn pointer(&mut self, number: u64) -> Result<(), AllocError> {
+        self.text.word(b"bo=")?;
         self.text.address(0xffff_9d4a_8000_0000u64.wrapping_add(number.wrapping_mul(0x400)))
     }
 
-    fn made(&mut self, number: u64, object: Object) {
-        self.head();
-        self.text.word(b"amdgpu_bo_create: ");
-        self.pointer(number);
-        self.text.word(b", pages=");
-        self.text.decimal(object.pages);
+    fn made(&mut self, number: u64, object: Object) -> Result<(), AllocError> {
+        self.head()?;
+        self.text.word(b"amdgpu_bo_create: ")?;
+        self.pointer(number)?;
+        self.text.word(b", pages=")?;
+        self.text.decimal(object.pages)?;
         self.text
             .word(b", type=2, preferred=4, allowed=4, visible=0\n")
     }
 
-    fn range(&mut self, number: u64, object: Object, offset: u64) {
-        self.pointer(number);
-        self.text.word(b", start=");
-        self.text.hex(object.first);
-        self.text.word(b", last=");
+    fn range(&mut self, number: u64, object: Object, offset: u64) -> Result<(), AllocError> {
+        self.pointer(number)?;
+        self.text.word(b", start=")?;
+        self.text.hex(object.first)?;
+        self.text.word(b", last=")?;
         self.text
-            .hex(object.first.wrapping_add(object.count).wrapping_sub(1));
-        self.text.word(b", offset=");
-        self.text.hex(offset);
+            .hex(object.first.wrapping_add(object.count).wrapping_sub(1))?;
+        self.text.word(b", offset=")?;
+        self.text.hex(offset)?;
         self.text.word(b", flags=70\n")
     }
 
-    fn mapped(&mut self, number: u64, object: Object) {
+    fn mapped(&mut self, number: u64, object: Object) -> Result<(), AllocError> {
         let count = self.random.below(64).wrapping_add(1);
         let home = HOME.wrapping_add(number.wrapping_mul(STRIDE));
         let mapped = Object {
@@ -130,18 +130,17 @@ impl Trace {
             *place = mapped;
         }
         let offset = self.random.below(448).wrapping_mul(4_096);
-        self.head();
-        self.text.word(b"amdgpu_vm_bo_map: ");
+        self.head()?;
+        self.text.word(b"amdgpu_vm_bo_map: ")?;
         self.range(number, mapped, offset)
     }
 
-    fn unmapped(&mut self, number: u64, object: Object) {
+    fn unmapped(&mut self, number: u64, object: Object) -> Result<(), AllocError> {
         if object.count == 0 {
-            self.other();
-            return;
+            return self.other();
         }
-        self.head();
-        self.text.word(b"amdgpu_vm_bo_unmap: ");
+        self.head()?;
+        self.text.word(b"amdgpu_vm_bo_unmap: ")?;
         self.range(number, object, 0)
     }
 }

@@ -4,7 +4,7 @@ use std::env;
 use std::rt::Env;
 
 /// What is done.
-#[derive(Clone, Copy)]
+#[derive(Clone, Copy, Debug, PartialEq, Eq)]
 pub enum Job {
     Replay,
     Script,
@@ -17,36 +17,66 @@ pub enum Job {
     Asking,
     Life,
     Million,
+    All,
 }
 
-/// Each job, with its name.
-pub const JOBS: [(&str, Job); 11] = [
-    ("replay", Job::Replay),
-    ("script", Job::Script),
-    ("space", Job::Space),
-    ("schedule", Job::Schedule),
-    ("reports", Job::Reports),
-    ("awkward", Job::Awkward),
-    ("packed", Job::Packed),
-    ("history", Job::History),
-    ("asking", Job::Asking),
-    ("life", Job::Life),
-    ("million", Job::Million),
-];
+impl Job {
+    /// All but `All`.
+    pub const EACH: [Job; 11] = [
+        Job::Replay,
+        Job::Script,
+        Job::Space,
+        Job::Schedule,
+        Job::Reports,
+        Job::Awkward,
+        Job::Packed,
+        Job::History,
+        Job::Asking,
+        Job::Life,
+        Job::Million,
+    ];
 
-/// The jobs of a name: one, or each.
-fn named(name: &str) -> Option<&'static [(&'static str, Job)]> {
-    if name == "all" {
-        return Some(&JOBS);
+    pub fn name(self) -> &'static str {
+        match self {
+            Job::Replay => "replay",
+            Job::Script => "script",
+            Job::Space => "space",
+            Job::Schedule => "schedule",
+            Job::Reports => "reports",
+            Job::Awkward => "awkward",
+            Job::Packed => "packed",
+            Job::History => "history",
+            Job::Asking => "asking",
+            Job::Life => "life",
+            Job::Million => "million",
+            Job::All => "all",
+        }
     }
-    let place = JOBS.iter().position(|job| job.0 == name)?;
-    JOBS.get(place..=place)
+
+    /// The job of a name.
+    fn named(name: &str) -> Option<Job> {
+        match name {
+            "replay" => Some(Job::Replay),
+            "script" => Some(Job::Script),
+            "space" => Some(Job::Space),
+            "schedule" => Some(Job::Schedule),
+            "reports" => Some(Job::Reports),
+            "awkward" => Some(Job::Awkward),
+            "packed" => Some(Job::Packed),
+            "history" => Some(Job::History),
+            "asking" => Some(Job::Asking),
+            "life" => Some(Job::Life),
+            "million" => Some(Job::Million),
+            "all" => Some(Job::All),
+            _ => None,
+        }
+    }
 }
 
 /// What is done, on the input of which seed, and on how much of it.
 #[derive(Clone, Copy)]
 pub struct Words {
-    pub jobs: &'static [(&'static str, Job)],
+    pub job: Job,
     pub seed: u64,
     pub size: u64,
 }
@@ -62,7 +92,7 @@ pub fn words_of<R: Env + AllocGlobal>(rt: &R) -> Result<Words, Failure> {
 
 fn read(words: &[String]) -> Option<Words> {
     Some(Words {
-        jobs: named(words.first()?.as_str())?,
+        job: Job::named(words.first()?.as_str())?,
         seed: words.get(1)?.as_str().parse::<u64>().ok()?,
         size: words.get(2)?.as_str().parse::<u64>().ok()?,
     })
