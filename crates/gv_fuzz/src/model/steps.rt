@@ -45,6 +45,24 @@ fn put_by(op: &PageOp) -> Option<Mapping> {
     }
 }
 
+/// Whether an operation puts in what goes on from a mapping.
+fn is_kept(mapping: &Mapping, op: &PageOp) -> bool {
+    match put_by(op) {
+        Some(own) => goes_on(mapping, &own),
+        None => false,
+    }
+}
+
+/// Writes the step that puts in what an operation maps, where it maps.
+fn write_put(out: &mut String, names: &Names, op: &PageOp) -> Result<(), OutOfMemory> {
+    let Some(own) = put_by(op) else {
+        return Ok(());
+    };
+    out.push_str("map ")?;
+    write_mapping(out, names, Some(&own))?;
+    Ok(out.push('\n')?)
+}
+
 /// Writes the steps of an operation on a list.
 pub fn write_steps(
     alloc: Global,
@@ -54,19 +72,19 @@ pub fn write_steps(
     op: &PageOp,
 ) -> Result<(), OutOfMemory> {
     let before = out.len();
-    let put = put_by(op);
     if let Some(range) = range_of(op) {
-        for mapping in list.iter().filter(|mapping| mapping.range.meets(range)) {
-            write_taken(alloc, out, names, mapping, range)?;
-            let is_kept = put.is_some_and(|own| goes_on(mapping, &own));
-            out.push_str(if is_kept { " keep\n" } else { "\n" })?;
+        for mapping in list {
+            if mapping.range.meets(range) {
+                write_taken(alloc, out, names, mapping, range)?;
+                out.push_str(if is_kept(mapping, op) {
+                    " keep\n"
+                } else {
+                    "\n"
+                })?;
+            }
         }
     }
-    if put.is_some() {
-        out.push_str("map ")?;
-        write_mapping(out, names, put.as_ref())?;
-        out.push('\n')?;
-    }
+    write_put(out, names, op)?;
     if out.len() == before {
         out.push_str("empty\n")?;
     }
