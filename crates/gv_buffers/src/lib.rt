@@ -16,3 +16,4 @@ mod users;
 pub use buffers::Buffers;
 pub use place_table::PlaceTable;
 pub use usage::{Usage, User};
+pub use users::Users;

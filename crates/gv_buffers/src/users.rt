@@ -7,7 +7,8 @@ ghost use Rattle.gv_buffers.specs.Ascending.{AreAscending, are_below};
 use crate::usage::{Usage, User};
 use std::alloc::Global;
 
-/// The jobs that use one buffer, in the order in which they joined it.
+/// The jobs that use one buffer, in the order in which they joined it. `Buffers` keeps one for each buffer that jobs use; callers
+/// go through it.
 #[derive(Drop)]
 pub struct Users {
     pub list: Vec<User>,
@@ -119,30 +120,5 @@ fn search(users: &[User], job: u64) -> Option<usize>
     match users.binary_search_by_key(&job, |user| user.job) {
         Ok(index) => Some(index),
         Err(_) => None,
-    }
-}
-
-#[cfg(test)]
-mod tests {
-    use super::*;
-    use std::test::Fail;
-
-    // No answer shows whether the users are known to ascend, so that is looked at here.
-    #[test]
-    fn users_ascend_again_once_all_have_left(rt: HostRuntime) -> Result<(), Fail> {
-        let mut users = Users::new(rt.alloc());
-        let mut known = [users.ascending; 5];
-        users.list.reserve(1)?;
-        users.join(2, Usage::Read);
-        known[1] = users.ascending;
-        users.list.reserve(1)?;
-        users.join(1, Usage::Read);
-        known[2] = users.ascending;
-        users.leave(2);
-        known[3] = users.ascending;
-        users.leave(1);
-        known[4] = users.ascending;
-        assert_eq!(rt; known, [true, true, false, false, true]);
-        Ok(())
     }
 }

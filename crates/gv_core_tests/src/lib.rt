@@ -34,3 +34,5 @@ mod requests;
 mod split;
 #[cfg(test)]
 mod table;
+#[cfg(test)]
+mod users;
