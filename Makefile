@@ -49,8 +49,8 @@ test: check-documents
 check-documents:
 	@tools/check-documents
 
-# What the gate leaves out, each to its end: must-fail-long, refuse-memory, ten minutes of fuzz, capi-test with ./vmbind there, and where
-# OLD names the folder of an older build, bench/run --guard beside it. The last line is 'N passed, M failed'.
+# What the gate leaves out, each to its end: must-fail-long, the benchmark's programs, refuse-memory, ten minutes of fuzz, capi-test with
+# ./vmbind there, and where OLD names the folder of an older build, bench/run --guard beside it. The last line is 'N passed, M failed'.
 long: SECONDS = 600
 long:
 	@RT="$(RT)" OLD="$(OLD)" tools/long $(SECONDS)
@@ -77,10 +77,10 @@ fuzz:
 refuse-memory: vmbind
 	@RT="$(RT)" tools/refuse-memory
 
-# Times of edits and look-ups, and of running queues. The figures are of this machine.
+# Times of edits and look-ups, and of running queues, by programs of bench/programs. The figures are of this machine.
 measure:
-	cd crates/gv_bench && $(RT) run > /dev/null
-	cd crates/gv_queues_bench && $(RT) run > /dev/null
+	@work=$$(mktemp -d) && trap 'rm -rf "$$work"' EXIT && bench/lay "$$work" && cd "$$work" && $(RT) ci 1>&2 && \
+	    for name in gv_bench gv_queues_bench; do "crates/$$name/out/$$name" > /dev/null || exit 1; done
 
 # The C library, in capi/build: an archive and a shared library, the header, the C++ owner, the Python module, a file for
 # pkg-config. The crate gv_c and those below it are proved first, where an earlier run hasn't left that; the gate leaves nothing that
