@@ -1,12 +1,5 @@
 //! A list of mappings read from its text.
 
-#[cfg(test)]
-mod alike;
-#[cfg(test)]
-mod made;
-#[cfg(test)]
-mod start;
-
 use crate::fault::{CompareFault, Which};
 use crate::objects::Objects;
 use crate::row::Row;
@@ -205,7 +198,7 @@ fn sorted(
 }
 
 /// The mapping of a row, if a buffer has so many pages.
-fn mapping_of(objects: &mut Objects, row: Row) -> Result<Option<Mapping>, CompareFault> {
+pub fn mapping_of(objects: &mut Objects, row: Row) -> Result<Option<Mapping>, CompareFault> {
     let Row {
         range,
         object,
@@ -230,7 +223,7 @@ fn mapping_of(objects: &mut Objects, row: Row) -> Result<Option<Mapping>, Compar
 }
 
 /// Whether only a `gpuvas` has such a line.
-fn is_of_dump(line: &[u8]) -> bool {
+pub fn is_of_dump(line: &[u8]) -> bool {
     // Nearly no line begins so, and then nothing more is asked.
     match line.trim_ascii_start().first() {
         Some(b'D' | b'|') => {}
@@ -245,7 +238,7 @@ fn is_of_dump(line: &[u8]) -> bool {
 
 /// Whether a line of a `gpuvas` stands above its rows or between them: the name of a space, its reserved region, the names
 /// of the columns, a rule, or nothing.
-fn is_head(line: &str) -> bool {
+pub fn is_head(line: &str) -> bool {
     let text = line.trim_ascii();
     text.is_empty()
         || text.starts_with(GPUVAS_HEAD)

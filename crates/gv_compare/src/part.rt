@@ -1,8 +1,5 @@
 //! The address space of a list that is taken, where a kernel's `gpuvas` has several.
 
-#[cfg(test)]
-mod spaces;
-
 use crate::fault::{CompareFault, Which};
 use gv_lines::{number_of, split_once};
 use gv_logs::GPUVAS_HEAD;

@@ -17,6 +17,8 @@ mod full_tables;
 #[cfg(test)]
 mod lines;
 #[cfg(test)]
+mod lists;
+#[cfg(test)]
 mod many_buffers;
 #[cfg(test)]
 mod no_lines;

@@ -1,10 +1,8 @@
 //! The quick way to read a list against the plain one, at texts by chance.
 
 use super::made::Made;
-use super::{Kind, Listing, is_of_dump, start};
-use crate::fault::{CompareFault, Which};
-use crate::objects::Objects;
-use crate::row::Row;
+use super::plain;
+use gv_compare::{CompareFault, Kind, Listing, Objects, Row, Which, is_of_dump};
 use std::alloc::{AllocError, Global};
 use std::process::Abort;
 use std::str;
@@ -29,7 +27,7 @@ fn is_line_alike(line: &[u8]) -> bool {
         (None, None) => true,
         _ => false,
     };
-    is_row_alike && is_of_dump(line) == start::is_of_dump(line)
+    is_row_alike && is_of_dump(line) == plain::is_of_dump(line)
 }
 
 #[test]
@@ -89,7 +87,7 @@ fn expect_alike(
     for list in [Which::First, Which::Second] {
         let text = made.text(rt.alloc())?;
         let left = Listing::read(rt.alloc(), &mut objects.0, list, &text);
-        let right = start::read(rt.alloc(), &mut objects.1, list, &text);
+        let right = plain::read(rt.alloc(), &mut objects.1, list, &text);
         let told = outcome(&left, &right);
         assert!(rt; told.is_some(), "{left:?} {right:?} at {text:?}");
         seen.push_str(told.unwrap_or(""))?;

@@ -1,13 +1,18 @@
 //! The plain way to read a list, its code as it was before the quick one: each line is a text, and each mapping is kept with its
 //! line until all are read.
 
-use super::{Kind, Listing, Placed, is_head, mapping_of};
-use crate::fault::{CompareFault, Which};
-use crate::objects::Objects;
-use crate::row::Row;
+use gv_compare::{CompareFault, Kind, Listing, Objects, Row, Which, is_head, mapping_of};
 use gv_lines::split_once;
+use gv_types::Mapping;
 use std::alloc::Global;
 use std::str;
+
+/// A mapping, and the number of the line that told it.
+#[derive(Clone, Copy, Debug, Drop)]
+struct Placed {
+    mapping: Mapping,
+    line: u64,
+}
 
 /// The kind of a text.
 fn kind_of(text: &[u8]) -> Kind {

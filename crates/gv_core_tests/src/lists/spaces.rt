@@ -1,8 +1,6 @@
 //! Rows of lists of several address spaces.
 
-use super::Part;
-use crate::fault::{CompareFault, Which};
-use crate::report::{compare, compare_of};
+use gv_compare::{CompareFault, Part, Which, compare, compare_of};
 use std::test::Fail;
 
 /// Spaces of one name with rows, and one of another without; the first row of the second space overlaps one of the first.
