@@ -2,7 +2,7 @@
 //! is under a lock, and the timelines stand outside of it.
 #![tactic(auto)]
 
-mod channel;
+pub mod channel;
 mod driver;
 mod finishing;
 mod gate;
@@ -15,8 +15,6 @@ mod running;
 mod serving;
 mod submitter;
 mod taking;
-#[cfg(test)]
-mod tests;
 mod vm_lock;
 mod waiting;
 mod worker;
@@ -30,6 +28,6 @@ pub use put_end::PutEnd;
 pub use queues::Queues;
 pub use serving::{ReachedRequest, decline, serve};
 pub use submitter::{PutFault, Submitter};
-pub use taking::Taken;
+pub use taking::{Taken, Taker};
 pub use vm_lock::VmLock;
 pub use worker_end::WorkerEnd;

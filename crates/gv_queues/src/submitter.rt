@@ -60,13 +60,8 @@ impl Model for Submitter {
 }
 
 impl Submitter {
-    pub(crate) fn new(
-        sends: Sends,
-        pass: QueuePass,
-        queue: u64,
-        limit: u64,
-        timelines: u64,
-    ) -> Submitter
+    /// A submitter of a channel on which nothing was put.
+    pub fn new(sends: Sends, pass: QueuePass, queue: u64, limit: u64, timelines: u64) -> Submitter
         requires seat { IsSeatAt (sends_on sends) pass }
         requires none { view pass ≡ submitter_log (about_queue queue timelines) [] }
         requires queue { queue < queues }
@@ -90,7 +85,7 @@ impl Submitter {
     }
 
     /// Closes the queue. Its worker ends once the channel is empty.
-    pub(crate) fn close(self) -> PutEnd
+    pub fn close(self) -> PutEnd
         ensures { result ≡ put_end_of self }
     {
         let Self {

@@ -43,7 +43,8 @@ impl Model for Taker {
 }
 
 impl Taker {
-    pub(crate) fn new(receives: Receives, pass: QueuePass, queue: u64) -> Taker
+    /// A taker of a channel from which nothing was taken.
+    pub fn new(receives: Receives, pass: QueuePass, queue: u64) -> Taker
         requires seat { IsSeatAt (receives_on receives) pass }
         requires none { view pass ≡ worker_log (about_queue queue (view pass).about.timelines) [] }
         requires queue { queue < queues }

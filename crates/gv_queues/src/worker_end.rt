@@ -41,7 +41,8 @@ impl Model for WorkerEnd {
 }
 
 impl WorkerEnd {
-    pub(crate) fn new(taker: Taker, seat: Seat, gave: Vec<Outcome>, left: Vec<Request>) -> WorkerEnd
+    /// The end of a worker that gave these outcomes and left these requests.
+    pub fn new(taker: Taker, seat: Seat, gave: Vec<Outcome>, left: Vec<Request>) -> WorkerEnd
         requires left { AreLeft taker.taken gave.items left.items }
         requires raised { RaisedJustOwed gave.items taker.taken seat }
         ensures { result ≡ record {

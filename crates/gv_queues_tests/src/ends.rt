@@ -2,12 +2,8 @@
 ghost use Rattle.std.specs.Prelude.{◌≡◌, [], IfOk};
 ghost use Rattle.gv_sync.specs.Seats.{IsSeatOf};
 
-use crate::channel::{Ends, open};
-use crate::finishing::{QueueEnd, QueuesFault, finish};
-use crate::put_end::PutEnd;
-use crate::submitter::Submitter;
-use crate::taking::Taker;
-use crate::worker_end::WorkerEnd;
+use gv_queues::channel::{Ends, open};
+use gv_queues::{PutEnd, QueueEnd, QueuesFault, Submitter, Taker, WorkerEnd, finish};
 use gv_sync::{Seat, Timelines};
 use gv_types::{Bounds, Limits, Request};
 use gv_vm::Vm;

@@ -5,7 +5,7 @@ use Rattle.gv_sync.specs.Seats.{SeatState, mark_of}
 use Rattle.gv_sync.proofs.LookLemmas.{split_raised}
 use Rattle.gv_vm.specs.declared.outcome.Outcome.{Outcome}
 use Rattle.gv_queues.specs.Paying.{all_owed}
-use Rattle.gv_queues.proofs.tests.ends.untaken.Goals as goal
+use Rattle.gv_queues_tests.proofs.ends.untaken.Goals as goal
 
 pub new-worker-requires-clause-raised : goal.new-worker-requires-clause-raised
 new-worker-requires-clause-raised g c =

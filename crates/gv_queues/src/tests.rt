@@ -1,2 +1,0 @@
-//! Tests of what no other crate can make.
-mod ends;
