@@ -49,7 +49,7 @@ test: check-documents
 check-documents:
 	@tools/check-documents
 
-# What the gate leaves out, each to its end: must-fail-long, the benchmark's programs, refuse-memory, ten minutes of fuzz, capi-test with
+# What the gate leaves out, each to its end: must-fail-long, the programs in long/, refuse-memory, ten minutes of fuzz, capi-test with
 # ./vmbind there, and where OLD names the folder of an older build, bench/run --guard beside it. The last line is 'N passed, M failed'.
 long: SECONDS = 600
 long:
@@ -77,9 +77,9 @@ fuzz:
 refuse-memory: vmbind
 	@RT="$(RT)" tools/refuse-memory
 
-# Times of edits and look-ups, and of running queues, by programs of bench/programs. The figures are of this machine.
+# Times of edits and look-ups, and of running queues, by programs of long/. The figures are of this machine.
 measure:
-	@work=$$(mktemp -d) && trap 'rm -rf "$$work"' EXIT && bench/lay "$$work" && cd "$$work" && $(RT) ci 1>&2 && \
+	@work=$$(mktemp -d) && trap 'rm -rf "$$work"' EXIT && tools/lay-long "$$work" && cd "$$work" && $(RT) ci 1>&2 && \
 	    for name in gv_bench gv_queues_bench; do "crates/$$name/out/$$name" > /dev/null || exit 1; done
 
 # The C library, in capi/build: an archive and a shared library, the header, the C++ owner, the Python module, a file for
