@@ -9,7 +9,7 @@ use Rattle.clap.specs.declared.error.Error.{Error}
 use Rattle.clap.specs.declared.error.kind.ErrorKind.{ErrorKind}
 use Rattle.clap.specs.declared.error.kind.ErrorKind.TheVariants as kind
 use Rattle.gv_types.specs.Limits.{IsFromOneTo}
-use Rattle.gv_text.specs.declared.fault.ScriptFault.{ScriptFault}
+use Rattle.gv_session.specs.declared.fault.ScriptFault.{ScriptFault}
 use Rattle.gv_serve.specs.declared.fault.ServeFault.{ServeFault}
 use Rattle.gv_threads.specs.declared.fault.ThreadsFault.{ThreadsFault}
 use Rattle.gv_words.specs.CommandLine.{AreReadAs, IsEntered, IsTask, NamesFile, command_line, entered, file_named, most_queues, text_of}

@@ -3,8 +3,8 @@ use Rattle.std.specs.Prelude.{◌≡◌, ◌⊎◌, ℕ, List, Bool, Option, IfE
 use Rattle.std.specs.Io.KnownBytes.{Appends}
 use Rattle.gv_text.specs.Reading.{TakesFew, TellsLength, TellsReads, TellsWrites}
 use Rattle.gv_text.specs.Script.{IsRun, StopsAt, IsStart}
-use Rattle.gv_text.specs.declared.fault.ScriptFault.{ScriptFault}
-use Rattle.gv_text.specs.declared.fault.ScriptFault.TheVariants.{BadLine, ScriptTooLong, ReadFault, OutOfMemory}
+use Rattle.gv_session.specs.declared.fault.ScriptFault.{ScriptFault}
+use Rattle.gv_session.specs.declared.fault.ScriptFault.TheVariants.{BadLine, ScriptTooLong, ReadFault, OutOfMemory}
 use Rattle.gv_threads.specs.Ending.{HasNotBegun, RunsAs}
 use Rattle.gv_threads.specs.Running.{IsThreadsRun}
 use Rattle.gv_threads.specs.declared.fault.ThreadsFault.{ThreadsFault}

@@ -1,6 +1,6 @@
 -- What the program does with a task.
 use Rattle.std.specs.Prelude.{◌≡◌, ℕ, List, Bool, false, Option, Some, None, Result}
-use Rattle.gv_text.specs.declared.fault.ScriptFault.{ScriptFault}
+use Rattle.gv_session.specs.declared.fault.ScriptFault.{ScriptFault}
 use Rattle.gv_serve.specs.declared.fault.ServeFault.{ServeFault}
 use Rattle.gv_threads.specs.declared.fault.ThreadsFault.{ThreadsFault}
 use Rattle.gv_words.specs.declared.words.Task.{Task}

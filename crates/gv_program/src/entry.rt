@@ -2,7 +2,7 @@
 ghost use Rattle.std.specs.Prelude.{◌≡◌, ◌≢◌, ◌⊎◌, ◌∷◌, [], ℕ, List, Result, IfErr, None, IsSome, codes};
 ghost use Rattle.std.specs.IoError.{error_kind};
 ghost use Rattle.std.specs.declared.io.ErrorKind.TheVariants as stream;
-ghost use Rattle.gv_text.specs.declared.fault.ScriptFault.{ScriptFault};
+ghost use Rattle.gv_session.specs.declared.fault.ScriptFault.{ScriptFault};
 ghost use Rattle.clap.specs.Words.{fault_of, kind_of};
 ghost use Rattle.clap.specs.declared.error.kind.ErrorKind.TheVariants as kind;
 ghost use Rattle.gv_types.specs.Limits.{IsFromOneTo};

@@ -1,6 +1,6 @@
 //! What the program says of a failure: a line on standard error, and an exit status.
 ghost use Rattle.std.specs.Prelude.{◌≡◌, Some};
-ghost use Rattle.gv_text.specs.declared.fault.ScriptFault.TheVariants as script;
+ghost use Rattle.gv_session.specs.declared.fault.ScriptFault.TheVariants as script;
 ghost use Rattle.gv_program.specs.Fault.{line_of_fault, queues_status, script_status, status_of};
 ghost use Rattle.gv_program.specs.declared.fault.ProgramFault.TheVariants as fault;
 

@@ -5,8 +5,8 @@ use Rattle.gv_lines.specs.Grammar.{parsed}
 use Rattle.gv_lines.specs.ServeLine.{serve_parsed, run_or, added}
 use Rattle.gv_lines.specs.declared.line.Line.{Line}
 use Rattle.gv_lines.specs.declared.serve_line.ServeLine.{ServeLine}
-use Rattle.gv_text.specs.State.{SessionState, start}
-use Rattle.gv_text.specs.Line.{Written, Runs, RunsText}
+use Rattle.gv_session.specs.State.{SessionState, start}
+use Rattle.gv_session.specs.Line.{Written, Runs, RunsText}
 use Rattle.gv_text.specs.Script.{Replies, RunsWhole, refusals_of}
 use Rattle.gv_serve.specs.Added.{Serves, ServesText}
 use Rattle.gv_serve.specs.Dialogue.{IsAnswered, AreAnswered, IsDialogue, EndsWith, others_in, following}

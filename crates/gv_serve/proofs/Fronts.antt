@@ -5,7 +5,7 @@ use Rattle.std.specs.Io.KnownBytes.{Appends, Consumes, append_known}
 use Rattle.std.proofs.KnownBytes.{Appends-nil, Appends-trans, Consumes-trans}
 use Rattle.gv_lines.specs.Words.{parts}
 use Rattle.gv_lines.proofs.PartsLemmas.{parts_some}
-use Rattle.gv_text.specs.State.{SessionState, start}
+use Rattle.gv_session.specs.State.{SessionState, start}
 use Rattle.gv_serve.specs.Dialogue.{IsAnswered, AreAnswered, IsDialogue, IsBadReply, EndsWith, following}
 use Rattle.gv_serve.specs.Hearing.{glued, HasHeard, HearsOn}
 use Rattle.gv_serve.specs.Partial.{PartialState, Holds}

@@ -16,11 +16,11 @@ use Rattle.gv_lines.specs.declared.line.Line.{Line}
 use Rattle.gv_lines.specs.declared.line.Line.TheVariants as line
 use Rattle.gv_lines.specs.declared.serve_line.ServeLine.{ServeLine}
 use Rattle.gv_lines.specs.declared.serve_line.ServeLine.TheVariants.{Run, Put, Turn, GiveUp, Forget, Trim, Show, Past}
-use Rattle.gv_text.specs.Asking.{IsRequest}
-use Rattle.gv_text.specs.Line.{Written, plain, Answers, Does, DoesOnce, Runs, IsGood, AreDeclared}
-use Rattle.gv_text.specs.Reply.{reply, refused_reply, counted_reply, outcome_text, timeline_text}
-use Rattle.gv_text.specs.State.{SessionState, begun}
-use Rattle.gv_text.specs.Stopping.{Loses, StopsAmid}
+use Rattle.gv_session.specs.Asking.{IsRequest}
+use Rattle.gv_session.specs.Line.{Written, plain, Answers, Does, DoesOnce, Runs, IsGood, AreDeclared}
+use Rattle.gv_session.specs.Reply.{reply, refused_reply, counted_reply, outcome_text, timeline_text}
+use Rattle.gv_session.specs.State.{SessionState, begun}
+use Rattle.gv_session.specs.Stopping.{Loses, StopsAmid}
 
 abbrev pub idle_reply : List ℕ
 idle_reply = reply (codes "idle" ∷ [])

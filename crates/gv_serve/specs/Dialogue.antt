@@ -8,9 +8,9 @@ use Rattle.gv_lines.specs.Words.{parts}
 use Rattle.gv_lines.specs.declared.line.Line.{Line}
 use Rattle.gv_lines.specs.declared.line.Line.TheVariants.{Silent}
 use Rattle.gv_lines.specs.declared.serve_line.ServeLine.TheVariants.{Run}
-use Rattle.gv_text.specs.Line.{Written}
-use Rattle.gv_text.specs.Reply.{reply}
-use Rattle.gv_text.specs.State.{SessionState, start}
+use Rattle.gv_session.specs.Line.{Written}
+use Rattle.gv_session.specs.Reply.{reply}
+use Rattle.gv_session.specs.State.{SessionState, start}
 use Rattle.gv_serve.specs.Added.{ServesText, IsGoodText, LeavesText}
 use Rattle.gv_serve.specs.Partial.{line_limit}
 use Rattle.gv_serve.specs.declared.fault.ServeFault.{ServeFault}

@@ -1,7 +1,7 @@
 -- How far a dialogue has come. No public clause cites this module.
 use Rattle.std.specs.Prelude.{ℕ, List, [], ◌∷◌, ◌++◌}
 use Rattle.gv_lines.specs.Words.{parts}
-use Rattle.gv_text.specs.State.{SessionState}
+use Rattle.gv_session.specs.State.{SessionState}
 use Rattle.gv_serve.specs.Dialogue.{IsFront}
 use Rattle.gv_serve.specs.Partial.{PartialState, Holds}
 

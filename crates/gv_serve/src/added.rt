@@ -1,9 +1,9 @@
 //! Lines that act on a queue by steps.
 ghost use Rattle.std.specs.Prelude.{◌≡◌, ◌≢◌, ◌++◌, Err, OnOk, OnErr, string_bytes};
 ghost use Rattle.gv_lines.specs.declared.serve_line.ServeLine.TheVariants as said;
-ghost use Rattle.gv_text.specs.Line.{AreDeclared};
-ghost use Rattle.gv_text.specs.Serving.{Wrote};
-ghost use Rattle.gv_text.specs.Stopping.{Loses};
+ghost use Rattle.gv_session.specs.Line.{AreDeclared};
+ghost use Rattle.gv_session.specs.Serving.{Wrote};
+ghost use Rattle.gv_session.specs.Stopping.{Loses};
 ghost use Rattle.gv_serve.specs.Added.{Puts, Turns, GivesUp, LeavesServe, put_said, give_up_said, turn_said};
 
 use gv_lines::ClauseList;

@@ -1,8 +1,8 @@
 //! Questions of a dialogue about the journal. Nothing changes.
 ghost use Rattle.std.specs.Prelude.{◌≡◌, ◌≢◌, Err, OnOk, OnErr};
-ghost use Rattle.gv_text.specs.State.{begun};
-ghost use Rattle.gv_text.specs.Serving.{Wrote};
-ghost use Rattle.gv_text.specs.Stopping.{Loses};
+ghost use Rattle.gv_session.specs.State.{begun};
+ghost use Rattle.gv_session.specs.Serving.{Wrote};
+ghost use Rattle.gv_session.specs.Stopping.{Loses};
 ghost use Rattle.gv_serve.specs.Added.{Asks};
 
 use gv_journal::{HeldItem, ItemKind};

@@ -2,7 +2,7 @@
 ghost use Rattle.std.specs.Prelude.{◌≡◌, ◌≢◌, ◌++◌, true, Err, OnOk, OnErr, IfOk, List, ℕ, []};
 ghost use Rattle.std.specs.Io.KnownBytes.{Appends, Consumes, append_known};
 ghost use Rattle.gv_text.specs.Script.{RunsWhole};
-ghost use Rattle.gv_text.specs.State.{start};
+ghost use Rattle.gv_session.specs.State.{start};
 ghost use Rattle.gv_serve.specs.Dialogue.{IsDialogue, IsBroken, IsOver, IsAnswered, EndsWith, TellsReads, TellsWrites, following};
 ghost use Rattle.gv_serve.specs.Partial.{Holds};
 ghost use Rattle.gv_serve.specs.Hearing.{Hears};

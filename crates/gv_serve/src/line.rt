@@ -3,7 +3,7 @@ ghost use Rattle.std.specs.Prelude.{◌≡◌, ◌↔◌, Err, Some, IsOk, IsTru
 ghost use Rattle.gv_lines.specs.ServeLine.{serve_parsed};
 ghost use Rattle.gv_lines.specs.declared.line.Line.TheVariants.{Silent};
 ghost use Rattle.gv_lines.specs.declared.serve_line.ServeLine.TheVariants as said;
-ghost use Rattle.gv_text.specs.Serving.{Wrote};
+ghost use Rattle.gv_session.specs.Serving.{Wrote};
 ghost use Rattle.gv_serve.specs.Added.{Serves, ServesText, IsAlone, IsGoodServe, IsGoodText, LeavesServe, LeavesText};
 
 use crate::{added, asking};

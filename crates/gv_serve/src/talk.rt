@@ -1,7 +1,7 @@
 //! The answers of a dialogue, line by line.
 ghost use Rattle.std.specs.Prelude.{◌≡◌, ◌≤◌, true, OnOk, OnErr, IfOk, List, ℕ, [], length};
 ghost use Rattle.std.specs.Io.KnownBytes.{Appends, append_known};
-ghost use Rattle.gv_text.specs.State.{start};
+ghost use Rattle.gv_session.specs.State.{start};
 ghost use Rattle.gv_serve.specs.Dialogue.{IsAnswered, following};
 ghost use Rattle.gv_serve.specs.Partial.{line_limit, IsOver};
 

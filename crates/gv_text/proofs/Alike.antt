@@ -1,8 +1,8 @@
 -- Where no reply is want of memory, two runs of a script come to the same.
 use Rattle.std.proofs.Common.{◌≡◌, ℕ, ◌+◌, Bool, true, false, List, [], ◌∷◌, ◌++◌, length, Option, Some, None, refl, sym, ap, ◌∙◌, subst, arith}
 use Rattle.gv_lines.specs.Words.{parts}
-use Rattle.gv_text.specs.State.{SessionState, start}
-use Rattle.gv_text.specs.Line.{Written, RunsText, IsGoodText}
+use Rattle.gv_session.specs.State.{SessionState, start}
+use Rattle.gv_session.specs.Line.{Written, RunsText, IsGoodText}
 use Rattle.gv_text.specs.Script.{refusals_of, Replies, IsBadBefore, RunsWhole, StopsBefore, ComesTo, IsOnly}
 use Rattle.gv_text.proofs.AlikeStates.{AreAlikeStates, AreAlikeStates-sym, WriteAlike, start_alike}
 use Rattle.gv_text.proofs.AlikeGood.{text_good, text_alike}

@@ -8,9 +8,9 @@ use Rattle.gv_lines.specs.Clause.{operations_of, waits_of, signals_of}
 use Rattle.gv_lines.specs.Grammar.{parsed}
 use Rattle.gv_lines.specs.declared.line.Line.{Line}
 use Rattle.gv_lines.specs.declared.line.Line.TheVariants as line
-use Rattle.gv_text.specs.Asking.{op_named, point_named}
-use Rattle.gv_text.specs.Line.{Written, Of, MaySetLimits, MaySetBounds, SetsBounds, Runs, IsGood, RunsText, IsGoodText}
-use Rattle.gv_text.specs.State.{SessionState, Buffers, buffer_named, timeline_named}
+use Rattle.gv_session.specs.Asking.{op_named, point_named}
+use Rattle.gv_session.specs.Line.{Written, Of, MaySetLimits, MaySetBounds, SetsBounds, Runs, IsGood, RunsText, IsGoodText}
+use Rattle.gv_session.specs.State.{SessionState, Buffers, buffer_named, timeline_named}
 use Rattle.gv_text.proofs.AlikeStates.{AreAlikeStates, WriteAlike}
 use Rattle.gv_text.proofs.AlikeLines.{line_alike}
 

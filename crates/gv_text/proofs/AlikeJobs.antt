@@ -15,10 +15,10 @@ use Rattle.gv_vm.specs.declared.event.Reply.TheVariants.{Refused}
 use Rattle.gv_vm.specs.declared.jobs.Access.{Access}
 use Rattle.gv_vm.proofs.AlikeStepLemmas.{step_alike}
 use Rattle.gv_text.specs.AlikePlans.{AreAmple}
-use Rattle.gv_text.specs.Line.{Written, BeginsJob, HasTooMany}
-use Rattle.gv_text.specs.Reply.{refused_reply}
-use Rattle.gv_text.specs.Said.{said}
-use Rattle.gv_text.specs.State.{SessionState, names_alone, begun}
+use Rattle.gv_session.specs.Line.{Written, BeginsJob, HasTooMany}
+use Rattle.gv_session.specs.Reply.{refused_reply}
+use Rattle.gv_session.specs.Said.{said}
+use Rattle.gv_session.specs.State.{SessionState, names_alone, begun}
 use Rattle.gv_text.proofs.AlikeEvents.{once_only, are_ample}
 use Rattle.gv_text.proofs.AlikeReplies.{said_alike}
 use Rattle.gv_text.proofs.AlikeStates.{AreAlikeStates, WriteAlike, moved_states, goes_on}

@@ -25,13 +25,13 @@ use Rattle.gv_lines.specs.declared.line.Line.TheVariants as line
 use Rattle.gv_lines.specs.declared.operation.Operation.{Operation}
 use Rattle.gv_lines.specs.declared.point.NamedPoint.{NamedPoint}
 use Rattle.gv_text.specs.AlikePlans.{AreAllAlike, AreAmple, StayAlike}
-use Rattle.gv_text.specs.Asking.{op_named, point_named, access_named}
+use Rattle.gv_session.specs.Asking.{op_named, point_named, access_named}
 use Rattle.gv_vm.specs.Plans.{once, serving, IsCarriedOut}
-use Rattle.gv_text.specs.Line.{Written, DoesOnce, Withdraws, Answers, Of, SetsBounds, Makes, declared, BeginsJob, HasTooMany, Serves, caps_of, Runs}
-use Rattle.gv_text.specs.Reply.{refused_reply, lines_reply, mapping_text, place_reply, tables_reply, number_reply, journal_reply}
-use Rattle.gv_text.specs.Said.{said, said_of_withdrawal, told, told_said, uses_said, plan_said}
-use Rattle.gv_text.specs.State.{SessionState, Buffers, names_alone, buffer_named, timeline_named, begun, empty_world}
-use Rattle.gv_text.specs.declared.stage.Stage.TheVariants.{Bounded, Begun}
+use Rattle.gv_session.specs.Line.{Written, DoesOnce, Withdraws, Answers, Of, SetsBounds, Makes, declared, BeginsJob, HasTooMany, Serves, caps_of, Runs}
+use Rattle.gv_session.specs.Reply.{refused_reply, lines_reply, mapping_text, place_reply, tables_reply, number_reply, journal_reply}
+use Rattle.gv_session.specs.Said.{said, said_of_withdrawal, told, told_said, uses_said, plan_said}
+use Rattle.gv_session.specs.State.{SessionState, Buffers, names_alone, buffer_named, timeline_named, begun, empty_world}
+use Rattle.gv_session.specs.declared.stage.Stage.TheVariants.{Bounded, Begun}
 use Rattle.gv_text.proofs.AlikeAnswers.{journal_alike}
 use Rattle.gv_text.proofs.AlikeEvents.{first_step, ample_made}
 use Rattle.gv_text.proofs.AlikeNames.{requests_alike, declared_alike}

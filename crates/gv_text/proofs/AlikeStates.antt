@@ -9,9 +9,9 @@ use Rattle.gv_vm.proofs.AlikeEnabledLemmas.{AreAlikeWorlds-sym}
 use Rattle.gv_vm.proofs.AlikeStepLemmas.{AreAlikeWorlds-itself}
 use Rattle.gv_text.specs.AlikePlans.{AreAllAlike, AskAlike, StayAlike}
 use Rattle.gv_vm.specs.Plans.{Plan}
-use Rattle.gv_text.specs.Line.{Written, Does, Answers}
-use Rattle.gv_text.specs.State.{SessionState, begun, start, empty_world}
-use Rattle.gv_text.specs.declared.stage.Stage.{Stage}
+use Rattle.gv_session.specs.Line.{Written, Does, Answers}
+use Rattle.gv_session.specs.State.{SessionState, begun, start, empty_world}
+use Rattle.gv_session.specs.declared.stage.Stage.{Stage}
 use Rattle.gv_text.proofs.AlikeEvents.{are_ample}
 use Rattle.gv_text.proofs.AlikePlans.{carried_alike}
 

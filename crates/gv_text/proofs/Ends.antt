@@ -4,11 +4,11 @@ use Rattle.std.proofs.lemmas.Bool.Decides.{nat_tests}
 use Rattle.std.specs.Io.KnownBytes.{Appends}
 use Rattle.std.proofs.KnownBytes.{Appends-trans}
 use Rattle.gv_text.specs.Reading.{script_limit, TellsWrites}
-use Rattle.gv_text.specs.State.{SessionState}
-use Rattle.gv_text.specs.Line.{IsGoodText}
+use Rattle.gv_session.specs.State.{SessionState}
+use Rattle.gv_session.specs.Line.{IsGoodText}
 use Rattle.gv_text.specs.Script.{IsFront, IsBadBefore, WantsBefore, MayWant, StopsBefore, StopsAt, Ends, LineEnds}
-use Rattle.gv_text.specs.declared.fault.ScriptFault.{ScriptFault}
-use Rattle.gv_text.specs.declared.fault.ScriptFault.TheVariants.{BadLine, ScriptTooLong, ReadFault, WriteFault, OutOfMemory}
+use Rattle.gv_session.specs.declared.fault.ScriptFault.{ScriptFault}
+use Rattle.gv_session.specs.declared.fault.ScriptFault.TheVariants.{BadLine, ScriptTooLong, ReadFault, WriteFault, OutOfMemory}
 use Rattle.gv_text.proofs.Alike.{only_stop}
 
 bad_before : (now : SessionState) (line : List ℕ) (more : List (List ℕ)) → (more ≡ [] → ⊥) → ¬ IsGoodText line now → IsBadBefore now line more

@@ -5,8 +5,8 @@ use Rattle.std.proofs.KnownBytes.{Appends-nil}
 use Rattle.gv_lines.specs.Words.{parts}
 use Rattle.gv_lines.proofs.PartsLemmas.{parts_some}
 use Rattle.gv_text.specs.Reading.{script_limit, AreShort}
-use Rattle.gv_text.specs.State.{SessionState, start}
-use Rattle.gv_text.specs.Line.{Written, RunsText}
+use Rattle.gv_session.specs.State.{SessionState, start}
+use Rattle.gv_session.specs.Line.{Written, RunsText}
 use Rattle.gv_text.specs.Script.{Replies, IsFront, IsStart, refusals_of}
 
 Replies-more : (old mid new : SessionState) (lines : List (List ℕ)) (line text : List ℕ) (here : Written) (refusals : ℕ) →

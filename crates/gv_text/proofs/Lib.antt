@@ -1,9 +1,4 @@
-pub mod AnswerLemmas
 pub mod Front
-pub mod Servings
-pub mod LinesLemmas
-pub mod StoppedLemmas
-pub mod NumberedLemmas
 pub mod AlikeTexts
 pub mod AlikeReplies
 pub mod AlikeAnswers
@@ -16,8 +11,3 @@ pub mod AlikeLines
 pub mod AlikeGood
 pub mod Alike
 pub mod Ends
-pub mod Held
-pub mod Numbers
-pub mod Journals
-pub mod Within
-pub mod Asks

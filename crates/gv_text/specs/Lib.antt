@@ -1,12 +1,3 @@
-pub mod State
-pub mod Asking
-pub mod Reply
-pub mod Said
-pub mod Line
-pub mod Question
-pub mod Inside
-pub mod Serving
-pub mod Stopping
 pub mod Reading
 pub mod Script
 pub mod AlikePlans

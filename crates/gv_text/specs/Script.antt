@@ -1,18 +1,14 @@
 -- What a script does: its lines one after another, and the text of their replies.
 use Rattle.std.specs.Prelude.{◌≡◌, ◌≢◌, ℕ, ◌+◌, ◌≤◌, Bool, true, false, List, [], ◌∷◌, ◌++◌, length, Option, Some, None, Result, Ok, Err, ◌⊎◌}
 use Rattle.std.specs.Io.KnownBytes.{Appends}
-use Rattle.gv_types.specs.Fault.{number_of}
-use Rattle.gv_types.specs.declared.fault.Fault.TheVariants as fault
 use Rattle.gv_lines.specs.Grammar.{parsed}
 use Rattle.gv_lines.specs.Words.{parts}
 use Rattle.gv_lines.specs.declared.line.Line.TheVariants.{Silent}
 use Rattle.gv_text.specs.Reading.{script_limit}
-use Rattle.gv_text.specs.State.{SessionState, start}
-use Rattle.gv_text.specs.Line.{Written, RunsText, IsGoodText}
-use Rattle.gv_text.specs.declared.fault.LineFault.{LineFault}
-use Rattle.gv_text.specs.declared.fault.LineFault.TheVariants.{Bad, OutOfMemory as NoMemory}
-use Rattle.gv_text.specs.declared.fault.ScriptFault.{ScriptFault}
-use Rattle.gv_text.specs.declared.fault.ScriptFault.TheVariants.{BadLine, ScriptTooLong, ReadFault, WriteFault, OutOfMemory}
+use Rattle.gv_session.specs.State.{SessionState, start}
+use Rattle.gv_session.specs.Line.{Written, RunsText, IsGoodText}
+use Rattle.gv_session.specs.declared.fault.ScriptFault.{ScriptFault}
+use Rattle.gv_session.specs.declared.fault.ScriptFault.TheVariants.{BadLine, ScriptTooLong, ReadFault, WriteFault, OutOfMemory}
 
 abbrev pub refusals_of : Bool → ℕ
 refusals_of true = 1
@@ -102,19 +98,6 @@ pub record IsStart (script text : List ℕ) : Type 0 where
   pub now : SessionState
   pub front : IsFront script text (next ∷ more) count refusals now
   pub good : (count ≡ 0) ⊎ WantsBefore now next more
-
--- why a script ends at the line of this number
-abbrev pub fault_at : ℕ → LineFault → ScriptFault
-fault_at number Bad = BadLine number
-fault_at number NoMemory = OutOfMemory
-
--- its number, which is no other fault's; what a device's fault has is none
-abbrev pub script_fault_number : ScriptFault → Option ℕ
-script_fault_number (BadLine number) = Some 27
-script_fault_number ScriptTooLong = Some 28
-script_fault_number ReadFault = None
-script_fault_number WriteFault = None
-script_fault_number OutOfMemory = Some (number_of fault.OutOfMemory)
 
 -- What a run of this script may answer, with what was written before it and after it.
 abbrev pub Ends : {T : Type 0} → List ℕ → Option (List ℕ) → Option (List ℕ) → Result T ScriptFault → Type 0

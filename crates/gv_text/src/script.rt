@@ -2,16 +2,13 @@
 ghost use Rattle.std.specs.Prelude.{◌≡◌, ◌+◌, ◌≤◌, ℕ, List, [], length, OnOk, IfSome};
 ghost use Rattle.std.specs.Io.KnownBytes.{Appends, append_known};
 ghost use Rattle.gv_text.specs.Reading.{script_limit, most_read, TakesFew, TellsLength, TellsReads, TellsWrites};
-ghost use Rattle.gv_text.specs.State.{start};
+ghost use Rattle.gv_session.specs.State.{start};
 ghost use Rattle.gv_text.specs.Script.{IsRun, StopsAt, IsStart, Ends, LineEnds};
 
-use crate::fault::{LineFault, ScriptFault};
-use crate::run::run_text;
-use crate::session::Session;
 use crate::transfer::read_script;
-use crate::why::{tell_why, why_bad};
 use gv_io::{Output, Sink, Source};
 use gv_lines::{Slip, split_once};
+use gv_session::{LineFault, ScriptFault, Session, run_text, tell_why, why_bad};
 use std::alloc::Global;
 
 /// Reads a whole script, then runs its lines one after another and writes the reply of each.

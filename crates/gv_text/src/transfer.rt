@@ -3,8 +3,8 @@ ghost use Rattle.std.specs.Prelude.{◌≡◌, ◌+◌, ◌≤◌, ◌<◌, ◌+
 ghost use Rattle.std.specs.Io.KnownBytes.{ReadConsumes};
 ghost use Rattle.gv_text.specs.Reading.{ReadsWhole, TakesFew, TellsLength, TellsReads, most_read};
 
-use crate::fault::ScriptFault;
 use gv_io::{ReadFault, SCRIPT_LIMIT, Source};
+use gv_session::ScriptFault;
 use std::alloc::{AllocError, Global};
 
 /// How many bytes one read may give.

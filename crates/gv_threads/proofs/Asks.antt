@@ -6,8 +6,8 @@ use Rattle.gv_sync.specs.Seats.{SeatState}
 use Rattle.gv_vm.specs.State.{VmState}
 use Rattle.gv_lines.specs.declared.line.Line.{Line}
 use Rattle.gv_lines.specs.declared.line.Line.TheVariants as line
-use Rattle.gv_text.specs.State.{Buffers, NamesState}
-use Rattle.gv_text.specs.Question.{IsAnswer, IsQuestion}
+use Rattle.gv_session.specs.State.{Buffers, NamesState}
+use Rattle.gv_session.specs.Question.{IsAnswer, IsQuestion}
 use Rattle.gv_threads.specs.Parts.{IsAsked, unnumbered}
 use Rattle.gv_threads.specs.Running.{IsAnswered}
 

@@ -1,7 +1,7 @@
 -- How faults are told of a reader that was left alone.
 use Rattle.std.proofs.Common.{◌≡◌, ℕ, Bool, Result, Err}
-use Rattle.gv_text.specs.declared.fault.ScriptFault.{ScriptFault}
-use Rattle.gv_text.specs.declared.fault.ScriptFault.TheVariants.{BadLine, ScriptTooLong, ReadFault, WriteFault, OutOfMemory}
+use Rattle.gv_session.specs.declared.fault.ScriptFault.{ScriptFault}
+use Rattle.gv_session.specs.declared.fault.ScriptFault.TheVariants.{BadLine, ScriptTooLong, ReadFault, WriteFault, OutOfMemory}
 use Rattle.gv_threads.specs.Script.{EndsByLine}
 use Rattle.gv_threads.specs.Ending.{HasNotBegun, RunsAs}
 use Rattle.gv_threads.specs.declared.fault.ThreadsFault.{ThreadsFault}

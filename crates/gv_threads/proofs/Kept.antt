@@ -12,8 +12,8 @@ use Rattle.gv_threads.specs.Parts.{IsAsked, Keeps, areas_in, last_of, limits_in,
 use Rattle.gv_threads.specs.Standing.{MayStand, MayStandAll, MayStandBehind, Standing, parts_in, standing_behind, standing_of, stages_in}
 use Rattle.gv_threads.specs.Reading.{Adds}
 use Rattle.gv_threads.specs.Script.{ThreadsScriptState}
-use Rattle.gv_text.specs.declared.stage.Stage.{Stage}
-use Rattle.gv_text.specs.declared.stage.Stage.TheVariants.{Fresh}
+use Rattle.gv_session.specs.declared.stage.Stage.{Stage}
+use Rattle.gv_session.specs.declared.stage.Stage.TheVariants.{Fresh}
 use Rattle.gv_threads.specs.declared.script.Part.{Part}
 use Rattle.gv_threads.specs.declared.script.Part.TheVariants.{Settings}
 

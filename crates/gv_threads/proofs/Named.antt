@@ -7,15 +7,15 @@ use Rattle.gv_lines.specs.declared.line.Line.{Line}
 use Rattle.gv_lines.specs.declared.line.Line.TheVariants as line
 use Rattle.gv_sync.specs.Seats.{SeatState}
 use Rattle.gv_vm.specs.State.{VmState}
-use Rattle.gv_text.specs.Asking.{op_named}
-use Rattle.gv_text.specs.Line.{IsGood, Of}
-use Rattle.gv_text.specs.Question.{with_vm}
-use Rattle.gv_text.specs.Script.{fault_at}
-use Rattle.gv_text.specs.State.{Buffers, SessionState, buffer_named, start, timeline_named}
-use Rattle.gv_text.specs.declared.fault.LineFault.{LineFault}
-use Rattle.gv_text.specs.declared.fault.LineFault.TheVariants.{Bad, OutOfMemory}
-use Rattle.gv_text.specs.declared.fault.ScriptFault.{ScriptFault}
-use Rattle.gv_text.specs.declared.fault.ScriptFault.TheVariants.{BadLine}
+use Rattle.gv_session.specs.Asking.{op_named}
+use Rattle.gv_session.specs.Line.{IsGood, Of}
+use Rattle.gv_session.specs.Question.{with_vm}
+use Rattle.gv_session.specs.Faults.{fault_at}
+use Rattle.gv_session.specs.State.{Buffers, SessionState, buffer_named, start, timeline_named}
+use Rattle.gv_session.specs.declared.fault.LineFault.{LineFault}
+use Rattle.gv_session.specs.declared.fault.LineFault.TheVariants.{Bad, OutOfMemory}
+use Rattle.gv_session.specs.declared.fault.ScriptFault.{ScriptFault}
+use Rattle.gv_session.specs.declared.fault.ScriptFault.TheVariants.{BadLine}
 use Rattle.gv_threads.specs.Naming.{HasBuffer, HasNames, IsFirstBad}
 use Rattle.gv_threads.specs.Parts.{IsAsked, unnumbered}
 use Rattle.gv_threads.specs.Running.{IsAnswered}

@@ -6,7 +6,7 @@ use Rattle.gv_sync.specs.Seats.{SeatState}
 use Rattle.gv_vm.specs.State.{VmState}
 use Rattle.gv_lines.specs.declared.clause.Clause.{Clause}
 use Rattle.gv_lines.specs.declared.line.Line.{Line}
-use Rattle.gv_text.specs.State.{Buffers}
+use Rattle.gv_session.specs.State.{Buffers}
 use Rattle.gv_threads.specs.Parts.{unnumbered}
 use Rattle.gv_threads.specs.Running.{AreAnswered, AreNamed, IsAnswered, IsNamed, Ready, SetsUp, SetUpAll}
 use Rattle.gv_threads.specs.declared.setting.Setting.{Setting}

@@ -2,10 +2,10 @@
 use Rattle.std.specs.Prelude.{◌≡◌, ℕ, ◌<◌, ◌++◌, Bool, true, List, length, Result, Ok, Err, codes, decimal}
 use Rattle.gv_queues.specs.declared.finishing.QueueEnd.{QueueEnd}
 use Rattle.gv_queues.specs.declared.finishing.QueuesFault.TheVariants.{NotMade, NotStarted, Disagree}
-use Rattle.gv_text.specs.declared.fault.ScriptFault.TheVariants.{BadLine, ScriptTooLong, ReadFault, WriteFault, OutOfMemory}
+use Rattle.gv_session.specs.declared.fault.ScriptFault.TheVariants.{BadLine, ScriptTooLong, ReadFault, WriteFault, OutOfMemory}
 use Rattle.gv_threads.specs.declared.fault.ThreadsFault.{ThreadsFault}
 use Rattle.gv_threads.specs.declared.fault.ThreadsFault.TheVariants.{Script, Queues}
-use Rattle.gv_text.specs.Reply.{numbered_lines}
+use Rattle.gv_session.specs.Reply.{numbered_lines}
 
 -- the line of what a queue came to: how many requests were put, how many outcomes were told, how many requests are left
 abbrev pub line_of_end : ℕ → QueueEnd → List ℕ

@@ -6,9 +6,9 @@ use Rattle.gv_lines.specs.declared.clause.Clause.{Clause}
 use Rattle.gv_lines.specs.declared.line.Line.{Line}
 use Rattle.gv_lines.specs.declared.line.Line.TheVariants as line
 use Rattle.gv_vm.specs.Outcomes.{queues}
-use Rattle.gv_text.specs.Asking.{op_named}
-use Rattle.gv_text.specs.Line.{AreDeclared}
-use Rattle.gv_text.specs.State.{Buffers, buffer_named, timeline_named}
+use Rattle.gv_session.specs.Asking.{op_named}
+use Rattle.gv_session.specs.Line.{AreDeclared}
+use Rattle.gv_session.specs.State.{Buffers, buffer_named, timeline_named}
 use Rattle.gv_threads.specs.Parts.{unnumbered}
 use Rattle.gv_threads.specs.Script.{ThreadsScriptState}
 

@@ -8,8 +8,8 @@ use Rattle.gv_lines.specs.Words.{parts}
 use Rattle.gv_lines.specs.declared.clause.Clause.{Clause}
 use Rattle.gv_lines.specs.declared.line.Line.{Line}
 use Rattle.gv_lines.specs.declared.line.Line.TheVariants as line
-use Rattle.gv_text.specs.Line.{caps_of}
-use Rattle.gv_text.specs.Question.{IsQuestion}
+use Rattle.gv_session.specs.Line.{caps_of}
+use Rattle.gv_session.specs.Question.{IsQuestion}
 use Rattle.gv_threads.specs.Script.{ThreadsScriptState}
 use Rattle.gv_threads.specs.declared.setting.Setting.{Setting}
 use Rattle.gv_threads.specs.declared.setting.Setting.TheVariants.{Stands, Buffer, Raise}

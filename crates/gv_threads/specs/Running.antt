@@ -17,13 +17,13 @@ use Rattle.gv_lines.specs.Clause.{queue_asked}
 use Rattle.gv_lines.specs.declared.clause.Clause.{Clause}
 use Rattle.gv_lines.specs.declared.line.Line.{Line}
 use Rattle.gv_lines.specs.declared.line.Line.TheVariants as line
-use Rattle.gv_text.specs.Asking.{point_named, IsRequest}
-use Rattle.gv_text.specs.Line.{Of, declared}
-use Rattle.gv_text.specs.Question.{IsAnswer}
+use Rattle.gv_session.specs.Asking.{point_named, IsRequest}
+use Rattle.gv_session.specs.Line.{Of, declared}
+use Rattle.gv_session.specs.Question.{IsAnswer}
 use Rattle.gv_text.specs.Reading.{script_limit}
-use Rattle.gv_text.specs.Reply.{ok_reply, number_reply}
-use Rattle.gv_text.specs.Said.{said}
-use Rattle.gv_text.specs.State.{Buffers, buffer_named, start, names_alone, timeline_named}
+use Rattle.gv_session.specs.Reply.{ok_reply, number_reply}
+use Rattle.gv_session.specs.Said.{said}
+use Rattle.gv_session.specs.State.{Buffers, buffer_named, start, names_alone, timeline_named}
 use Rattle.gv_queues.specs.Driving.{AreSomeOf, requests_on}
 use Rattle.gv_queues.specs.Sharing.{after_splits}
 use Rattle.gv_queues.specs.declared.finishing.QueueEnd.{QueueEnd}

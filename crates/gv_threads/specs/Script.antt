@@ -6,9 +6,9 @@ use Rattle.gv_types.specs.Request.{Fits}
 use Rattle.gv_types.specs.declared.request.Request.{Request}
 use Rattle.gv_lines.specs.declared.clause.Clause.{Clause}
 use Rattle.gv_lines.specs.declared.line.Line.{Line}
-use Rattle.gv_text.specs.declared.fault.ScriptFault.{ScriptFault}
-use Rattle.gv_text.specs.declared.fault.ScriptFault.TheVariants.{BadLine, ScriptTooLong, ReadFault, WriteFault, OutOfMemory}
-use Rattle.gv_text.specs.declared.stage.Stage.{Stage}
+use Rattle.gv_session.specs.declared.fault.ScriptFault.{ScriptFault}
+use Rattle.gv_session.specs.declared.fault.ScriptFault.TheVariants.{BadLine, ScriptTooLong, ReadFault, WriteFault, OutOfMemory}
+use Rattle.gv_session.specs.declared.stage.Stage.{Stage}
 use Rattle.gv_threads.specs.declared.script.Part.{Part}
 use Rattle.gv_threads.specs.declared.setting.Setting.{Setting}
 

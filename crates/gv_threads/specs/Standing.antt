@@ -10,11 +10,11 @@ use Rattle.gv_lines.specs.declared.clause.Clause.{Clause}
 use Rattle.gv_lines.specs.declared.clause.Clause.TheVariants.{Change, Wait, Signal, Queue}
 use Rattle.gv_lines.specs.declared.line.Line.{Line}
 use Rattle.gv_lines.specs.declared.line.Line.TheVariants as line
-use Rattle.gv_text.specs.Asking.{point_named}
-use Rattle.gv_text.specs.Line.{MayDeclare, MaySetLimits, caps_of}
-use Rattle.gv_text.specs.State.{timeline_named}
-use Rattle.gv_text.specs.declared.stage.Stage.{Stage}
-use Rattle.gv_text.specs.declared.stage.Stage.TheVariants.{Fresh, Bounded, Begun}
+use Rattle.gv_session.specs.Asking.{point_named}
+use Rattle.gv_session.specs.Line.{MayDeclare, MaySetLimits, caps_of}
+use Rattle.gv_session.specs.State.{timeline_named}
+use Rattle.gv_session.specs.declared.stage.Stage.{Stage}
+use Rattle.gv_session.specs.declared.stage.Stage.TheVariants.{Fresh, Bounded, Begun}
 use Rattle.gv_threads.specs.Parts.{AreLinesOf, last_of, timelines_of}
 use Rattle.gv_threads.specs.Script.{ThreadsScriptState}
 use Rattle.gv_threads.specs.declared.script.Part.{Part}

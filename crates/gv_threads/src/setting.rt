@@ -1,7 +1,7 @@
 //! The lines of the first part of a threads script, read.
 ghost use Rattle.std.specs.Prelude.{◌≡◌, ◌++◌, ◌∷◌, [], Err, IfOk, IsErr, IsSome, OnOk};
 ghost use Rattle.gv_types.specs.Limits.{IsWithin};
-ghost use Rattle.gv_text.specs.Line.{MaySetLimits, caps_of};
+ghost use Rattle.gv_session.specs.Line.{MaySetLimits, caps_of};
 ghost use Rattle.gv_threads.specs.Parts.{areas_in, areas_of, last_of, limits_in, settings_in, timelines_in};
 ghost use Rattle.gv_threads.specs.Standing.{MaySet, standing_of, stages_in};
 

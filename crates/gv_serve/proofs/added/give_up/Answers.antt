@@ -1,10 +1,10 @@
 use Rattle.std.proofs.Common.{◌≡◌, ap, ◌∙◌, inr}
 use Rattle.std.specs.List.{flat_map}
 use Rattle.gv_vm.specs.Plans.{once}
-use Rattle.gv_text.specs.Line.{Does}
-use Rattle.gv_text.specs.State.{SessionState}
-use Rattle.gv_text.proofs.LinesLemmas.{wrote_once, wrote_as}
-use Rattle.gv_text.proofs.StoppedLemmas.{on_err, lost_once}
+use Rattle.gv_session.specs.Line.{Does}
+use Rattle.gv_session.specs.State.{SessionState}
+use Rattle.gv_session.proofs.LinesLemmas.{wrote_once, wrote_as}
+use Rattle.gv_session.proofs.StoppedLemmas.{on_err, lost_once}
 use Rattle.gv_vm.specs.declared.event.Event.TheVariants.{GiveUp}
 use Rattle.gv_serve.specs.Added.{GivesUp, give_up_said}
 use Rattle.gv_serve.proofs.added.give_up.Goals as goal

@@ -5,11 +5,11 @@ use Rattle.gv_vm.specs.Plans.{once}
 use Rattle.gv_vm.specs.declared.event.Event.TheVariants.{Put}
 use Rattle.gv_lines.specs.Clause.{queue_asked}
 use Rattle.gv_lines.specs.declared.clause.Clause.{Clause}
-use Rattle.gv_text.specs.Asking.{IsRequest}
-use Rattle.gv_text.specs.Line.{Written, Does}
-use Rattle.gv_text.specs.State.{SessionState}
-use Rattle.gv_text.proofs.LinesLemmas.{wrote_once, wrote_as}
-use Rattle.gv_text.proofs.StoppedLemmas.{on_err, lost_once}
+use Rattle.gv_session.specs.Asking.{IsRequest}
+use Rattle.gv_session.specs.Line.{Written, Does}
+use Rattle.gv_session.specs.State.{SessionState}
+use Rattle.gv_session.proofs.LinesLemmas.{wrote_once, wrote_as}
+use Rattle.gv_session.proofs.StoppedLemmas.{on_err, lost_once}
 use Rattle.gv_serve.specs.Added.{Puts, put_said}
 use Rattle.gv_serve.proofs.added.put.Goals as goal
 

@@ -1,8 +1,8 @@
 use Rattle.std.proofs.Common.{◌≡◌, ap, ◌∙◌, refl, inl, inr}
-use Rattle.gv_text.specs.Line.{plain}
-use Rattle.gv_text.specs.State.{SessionState}
-use Rattle.gv_text.proofs.LinesLemmas.{wrote_plain}
-use Rattle.gv_text.proofs.StoppedLemmas.{on_err}
+use Rattle.gv_session.specs.Line.{plain}
+use Rattle.gv_session.specs.State.{SessionState}
+use Rattle.gv_session.proofs.LinesLemmas.{wrote_plain}
+use Rattle.gv_session.proofs.StoppedLemmas.{on_err}
 use Rattle.gv_serve.specs.Added.{turn_said, Turns}
 use Rattle.gv_serve.proofs.added.turn.Goals as goal
 

@@ -1,5 +1,5 @@
 use Rattle.std.proofs.Common.{refl}
-use Rattle.gv_text.proofs.LinesLemmas.{wrote_plain}
+use Rattle.gv_session.proofs.LinesLemmas.{wrote_plain}
 use Rattle.gv_serve.specs.Added.{Asks}
 use Rattle.gv_serve.proofs.asking.say.Goals as goal
 

@@ -1,5 +1,5 @@
 use Rattle.std.proofs.Common.{inl, inr}
-use Rattle.gv_text.proofs.StoppedLemmas.{then_on_err}
+use Rattle.gv_session.proofs.StoppedLemmas.{then_on_err}
 use Rattle.gv_serve.proofs.asking.show.Goals as goal
 
 pub returns-clause-left : goal.returns-clause-left

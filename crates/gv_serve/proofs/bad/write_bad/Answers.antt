@@ -1,7 +1,7 @@
 use Rattle.std.proofs.Common.{◌≡◌, ◌∷◌, [], ◌∙◌, refl, codes, decimal}
 use Rattle.std.proofs.KnownBytes.{Appends-trans}
-use Rattle.gv_text.specs.Reply.{reply}
-use Rattle.gv_text.proofs.AnswerLemmas.{then_ok}
+use Rattle.gv_session.specs.Reply.{reply}
+use Rattle.gv_session.proofs.AnswerLemmas.{then_ok}
 use Rattle.gv_serve.proofs.bad.write_bad.Goals as goal
 
 pub returns-clause-ok : goal.returns-clause-ok

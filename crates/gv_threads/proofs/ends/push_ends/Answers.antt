@@ -1,6 +1,6 @@
 use Rattle.std.proofs.Common.{◌≡◌, ◌∙◌, List, ℕ, ◌++◌, ◌+◌, ap, sym, append_assoc, string_bytes, take, get_or}
 use Rattle.gv_queues.specs.declared.finishing.QueueEnd.{QueueEnd}
-use Rattle.gv_text.proofs.NumberedLemmas.{numbered_lines-more}
+use Rattle.gv_session.proofs.NumberedLemmas.{numbered_lines-more}
 use Rattle.gv_threads.specs.Ending.{line_of_end, end_lines}
 use Rattle.gv_threads.proofs.ends.push_ends.Goals as goal
 

@@ -1,9 +1,9 @@
 use Rattle.std.proofs.Common.{◌≡◌, ◌<◌, ◌∙◌, Some, List, ℕ, ap, sym, rules}
 use Rattle.gv_sync.specs.Seats.{SeatState, timeline_count}
 use Rattle.gv_types.specs.declared.request.Point.{Point}
-use Rattle.gv_text.specs.Asking.{point_named}
-use Rattle.gv_text.specs.Reply.{number_reply}
-use Rattle.gv_text.proofs.AnswerLemmas.{of_found, ok_or_some}
+use Rattle.gv_session.specs.Asking.{point_named}
+use Rattle.gv_session.specs.Reply.{number_reply}
+use Rattle.gv_session.proofs.AnswerLemmas.{of_found, ok_or_some}
 use Rattle.gv_threads.specs.Running.{Ready, IsFirst, ready_of}
 use Rattle.gv_threads.proofs.Firsts.{first_more, number_of}
 use Rattle.gv_threads.proofs.first.set_up.Goals as goal

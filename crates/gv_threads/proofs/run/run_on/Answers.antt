@@ -1,6 +1,6 @@
 use Rattle.std.proofs.Common.{◌++◌, refl}
 use Rattle.std.proofs.KnownBytes.{Appends-trans}
-use Rattle.gv_text.proofs.AnswerLemmas.{then_ok}
+use Rattle.gv_session.proofs.AnswerLemmas.{then_ok}
 use Rattle.gv_threads.specs.Running.{ready_of}
 use Rattle.gv_threads.proofs.Flags.{from_first, begun_by_line}
 use Rattle.gv_threads.proofs.Served.{text_of}

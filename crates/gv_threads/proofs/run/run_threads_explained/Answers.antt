@@ -2,7 +2,7 @@ use Rattle.std.proofs.Common.{◌≡◌, ◌∙◌, ℕ, List, ap, sym, refl, su
 use Rattle.std.specs.List.{All}
 use Rattle.gv_sync.specs.Seats.{SeatState}
 use Rattle.gv_lines.specs.declared.line.Line.{Line}
-use Rattle.gv_text.proofs.AnswerLemmas.{then_ok}
+use Rattle.gv_session.proofs.AnswerLemmas.{then_ok}
 use Rattle.gv_threads.specs.Parts.{AreLinesOf, IsAsked, unnumbered}
 use Rattle.gv_threads.specs.Running.{IsTextOf, Ready}
 use Rattle.gv_threads.proofs.Flags.{from_first}

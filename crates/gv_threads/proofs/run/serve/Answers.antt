@@ -2,7 +2,7 @@ use Rattle.std.proofs.Common.{◌≡◌, ◌++◌, ℕ, Vec, vec_len, refl, subs
 use Rattle.std.specs.declared.alloc.Global.{Global}
 use Rattle.gv_queues.specs.declared.finishing.QueueEnd.{QueueEnd}
 use Rattle.gv_queues.specs.Ending.{AreCountedEnds}
-use Rattle.gv_text.proofs.AnswerLemmas.{then_ok}
+use Rattle.gv_session.proofs.AnswerLemmas.{then_ok}
 use Rattle.gv_threads.specs.Ending.{RunsAs, end_lines}
 use Rattle.gv_sync.specs.Seats.{SeatState}
 use Rattle.gv_threads.specs.Parts.{unnumbered}

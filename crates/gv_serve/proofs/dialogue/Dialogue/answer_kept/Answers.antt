@@ -1,5 +1,5 @@
 use Rattle.std.proofs.Common.{List, ℕ, subst}
-use Rattle.gv_text.proofs.AnswerLemmas.{then_ok}
+use Rattle.gv_session.proofs.AnswerLemmas.{then_ok}
 use Rattle.gv_serve.specs.Dialogue.{IsAnswered}
 use Rattle.gv_serve.proofs.dialogue.Dialogue.answer_kept.Goals as goal
 

@@ -1,5 +1,5 @@
 use Rattle.std.proofs.Common.{◌++◌}
-use Rattle.gv_text.proofs.AnswerLemmas.{then_ok}
+use Rattle.gv_session.proofs.AnswerLemmas.{then_ok}
 use Rattle.gv_serve.proofs.dialogue.Dialogue.end_line.Goals as goal
 
 pub returns-clause-answered : goal.returns-clause-answered

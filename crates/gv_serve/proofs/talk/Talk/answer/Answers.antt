@@ -3,8 +3,8 @@ use Rattle.gv_lines.specs.Grammar.{parsed}
 use Rattle.gv_lines.specs.ServeLine.{serve_parsed}
 use Rattle.gv_lines.specs.declared.line.Line.TheVariants.{Silent}
 use Rattle.gv_lines.specs.declared.serve_line.ServeLine.TheVariants.{Run}
-use Rattle.gv_text.proofs.AnswerLemmas.{then_ok}
-use Rattle.gv_text.specs.declared.fault.LineFault.{LineFault}
+use Rattle.gv_session.proofs.AnswerLemmas.{then_ok}
+use Rattle.gv_session.specs.declared.fault.LineFault.{LineFault}
 use Rattle.gv_serve.specs.Dialogue.{others_in, want_reply}
 use Rattle.gv_serve.proofs.talk.Talk.answer.Goals as goal
 

@@ -3,7 +3,7 @@ use Rattle.std.proofs.KnownBytes.{Appends-trans}
 use Rattle.gv_lines.proofs.PartsLemmas.{parts_some}
 use Rattle.std.proofs.lemmas.Result.{err_from_is_err_and}
 use Rattle.gv_lines.specs.Words.{parts}
-use Rattle.gv_text.specs.State.{SessionState}
+use Rattle.gv_session.specs.State.{SessionState}
 use Rattle.gv_text.specs.Script.{IsFront, RunsWhole, refusals_of}
 use Rattle.gv_text.proofs.Front.{front_more, front_start, keeps_pending}
 use Rattle.gv_text.proofs.Alike.{only_whole}

@@ -3,9 +3,9 @@ use Rattle.std.specs.Io.KnownBytes.{Appends, append_known}
 use Rattle.std.proofs.KnownBytes.{Appends-trans}
 use Rattle.gv_sync.specs.Seats.{SeatState}
 use Rattle.gv_lines.specs.declared.line.Line.{Line}
-use Rattle.gv_text.specs.State.{NamesState}
-use Rattle.gv_text.specs.declared.fault.LineFault.{LineFault}
-use Rattle.gv_text.specs.declared.fault.ScriptFault.TheVariants.{BadLine}
+use Rattle.gv_session.specs.State.{NamesState}
+use Rattle.gv_session.specs.declared.fault.LineFault.{LineFault}
+use Rattle.gv_session.specs.declared.fault.ScriptFault.TheVariants.{BadLine}
 use Rattle.gv_threads.specs.Naming.{HasNames, IsFirstBad}
 use Rattle.gv_threads.specs.Parts.{unnumbered}
 use Rattle.gv_threads.specs.Running.{AreAnswered, IsAnswered}

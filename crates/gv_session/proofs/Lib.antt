@@ -1,0 +1,10 @@
+pub mod AnswerLemmas
+pub mod Servings
+pub mod LinesLemmas
+pub mod StoppedLemmas
+pub mod NumberedLemmas
+pub mod Held
+pub mod Numbers
+pub mod Journals
+pub mod Within
+pub mod Asks

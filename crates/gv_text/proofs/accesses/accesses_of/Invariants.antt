@@ -1,9 +1,0 @@
-use Rattle.std.proofs.Common.{◌≡◌, ◌++◌, map, length}
-use Rattle.gv_text.specs.Asking.{access_named}
-use Rattle.gv_text.proofs.accesses.accesses_of.Given as goal
-
-abbrev pub invariant-loop-access : goal.invariant-loop-access
-invariant-loop-access l = map access_named l.initial.left ≡ l.list.items ++ map access_named l.left
-
-abbrev pub decreases-loop-access : goal.decreases-loop-access
-decreases-loop-access l = length l.left

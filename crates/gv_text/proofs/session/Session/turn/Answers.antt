@@ -1,8 +1,0 @@
-use Rattle.std.proofs.Common.{◌∙◌}
-use Rattle.gv_text.proofs.Numbers.{numbers_turned}
-use Rattle.gv_text.proofs.session.Session.turn.Goals as goal
-
-pub invariant_of-self : goal.invariant_of-self
-invariant_of-self c =
-    let all = numbers_turned _ _ _ c.turn.result _ c.turn.ensures in
-    record { all = all ∙ c.self.invariant.all; declared = c.self.invariant.declared }
