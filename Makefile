@@ -1,14 +1,21 @@
-# Everything here needs the Rattle toolchain's command `rt` on the path, and nothing else; the C library a C compiler, objcopy and ar
-# too, its tests and times python3.
+# Every goal needs the Rattle toolchain's command `rt` on the path, and what `make check-tools` names.
 
 RT ?= rt
 PROGRAM := crates/gv_cli
 SOURCES := crates.txt HANDLES $(shell find crates -type f \( -name '*.rt' -o -name '*.antt' \) -not -path '*/out/*')
 
-.PHONY: build try run test check-documents long must-fail-long gate-minutes fuzz refuse-memory measure clean lib install capi-test capi-measure
+.PHONY: goals check-tools build try run test check-documents long must-fail-long gate-minutes fuzz refuse-memory measure clean lib install capi-test capi-measure
+
+# The goals, with what each is for.
+goals:
+	@sed -n 's/^\([a-z-]*\):[^#]*## /\1 /p' Makefile | while read -r goal words; do printf 'make %-16s %s\n' "$$goal" "$$words"; done
+
+# What this machine lacks of what the goals need, in one line.
+check-tools: ## says what this machine lacks
+	@RT="$(RT)" CC="$(CC)" CXX="$(CXX)" tools/check-tools
 
 # The proved program, at ./vmbind.
-build: vmbind
+build: vmbind ## proves the program and leaves it at ./vmbind
 
 vmbind: $(SOURCES)
 	@echo 'Proves the program and the crates below it, then builds it: some 80 minutes of processor time, less where an'
@@ -18,17 +25,17 @@ vmbind: $(SOURCES)
 	cp $(PROGRAM)/out/gv_cli vmbind
 
 # The first example and its replies, by a build without proofs: it shows what the program answers, and proves nothing.
-run:
+run: ## runs the first example, by a build without proofs
 	@echo '--- examples/first.vmb'
 	@cat examples/first.vmb
 	@echo '--- its replies, from a build without proofs: that takes one to three minutes'
 	@RT="$(RT)" tools/try run < examples/first.vmb
-	@echo '--- "make" proves the program and leaves it at ./vmbind; "make try SCRIPT=my.vmb" runs your own script as this one'
+	@echo '--- "make build" proves the program and leaves it at ./vmbind; "make try SCRIPT=my.vmb" runs your own script as this one'
 
 # A script of your own without proofs: its replies alone on standard output.
 SCRIPT ?= examples/first.vmb
 WORDS ?= run
-try:
+try: ## runs SCRIPT=my.vmb by a build without proofs
 	@RT="$(RT)" tools/try $(WORDS) < "$(SCRIPT)"
 
 # The gate: the proofs, the must-fail edits, the tests and the programs; of the first two only what changed since a run on this
@@ -39,46 +46,46 @@ try:
 # Where there are 4 GiB of free memory for each core, as many parts run at once as there are cores (one was seen to hold 5.1 GB); else
 # the toolchain chooses, which reckons up to 7.4 GB for a part.
 LANES = $(shell awk -v cores="$$(nproc)" '/^MemAvailable:/ && $$2 >= cores * 4194304 { print cores }' /proc/meminfo 2>/dev/null)
-test: check-documents
+test: check-documents ## the gate: proofs, wrong bodies, tests, programs
 	@! grep -rnw Wait crates/gv_sync/src
 	@RT="$(RT)" tools/check-undo
 	RT_JOBS=$(LANES) $(RT) ci
 	@sh examples/dialogue.sh $(PROGRAM)/out/gv_cli > /dev/null
 
 # Paths, names of the code, links and counts in the documents.
-check-documents:
+check-documents: ## looks up what the documents name
 	@tools/check-documents
 
 # What the gate leaves out, each to its end: must-fail-long, the programs in long/, refuse-memory, ten minutes of fuzz, capi-test with
 # ./vmbind there, and where OLD names the folder of an older build, bench/run --guard beside it. The last line is 'N passed, M failed'.
 long: SECONDS = 600
-long:
+long: ## runs what the gate leaves out
 	@RT="$(RT)" OLD="$(OLD)" tools/long $(SECONDS)
 
 # The wrong bodies in crates/NAME/must-fail-long, which the gate doesn't try: the prover must refuse each. It takes what the gate has
 # proved on this machine. The last line is 'N passed, M failed'.
-must-fail-long:
+must-fail-long: ## tries the wrong bodies that the gate leaves out
 	@RT="$(RT)" tools/must-fail-long
 
 # Processor minutes of each crate in the gate, from a run of it.
-gate-minutes:
+gate-minutes: ## prints the processor minutes of each crate in the gate
 	@RT="$(RT)" tools/gate-minutes
 
 # Scripts by chance, from a seed on and for so many seconds, each run by the program's own call and by a model that is written
 # from the definitions. What differs is shrunk and printed; the last line is 'N passed, M failed'. The gate runs a few.
 SECONDS ?= 60
 SEED ?= 1000
-fuzz:
+fuzz: ## runs scripts by chance beside the model, SECONDS=60
 	cd crates/gv_fuzz && $(RT) run -- --seed $(SEED) --seconds $(SECONDS)
 
 # Outside the gate, since it has no way to refuse memory: a long script under limits of the address space, then rows of
 # events, of calls on a space, on a journal and on running queues, a script, and every example, with each request for memory refused
 # in turn until a run meets none. Each run is compared with what it may come to; the last line is 'N passed, M failed'.
-refuse-memory: vmbind
+refuse-memory: vmbind ## refuses each request for memory in turn
 	@RT="$(RT)" tools/refuse-memory
 
 # Times of edits and look-ups, and of running queues, by programs of long/. The figures are of this machine.
-measure:
+measure: ## prints times of edits, look-ups and running queues
 	@work=$$(mktemp -d) && trap 'rm -rf "$$work"' EXIT && tools/lay-long "$$work" && cd "$$work" && $(RT) ci 1>&2 && \
 	    for name in gv_bench gv_queues_bench; do "crates/$$name/out/$$name" > /dev/null || exit 1; done
 
@@ -94,7 +101,7 @@ KIT = $(dir $(shell readlink -f "$$(command -v $(RT))"))..
 VERSION = $(shell awk '/^.define VMBIND_VERSION_(MAJOR|MINOR|PATCH) / { v = v dot $$3; dot = "." } END { print v }' capi/vmbind.h)
 LIBRARY := $(CAPI)/libvmbind.a $(CAPI)/libvmbind.so $(SHOWN:capi/%=$(CAPI)/%) $(CAPI)/vmbind.pc
 
-lib: $(LIBRARY)
+lib: $(LIBRARY) ## builds the C library in capi/build
 
 # What the toolchain makes of the exports. A library that was built is left as it is where LIB_IS_BUILT is set.
 $(CAPI)/libgv_c.a: $(if $(LIB_IS_BUILT),,$(SOURCES))
@@ -122,7 +129,7 @@ $(CAPI)/vmbind.pc: capi/vmbind.pc.in capi/vmbind.h
 	@mkdir -p $(CAPI)
 	$(call described,vmbind.pc,$(CURDIR)/$(CAPI),$(CURDIR)/$(CAPI),$(CURDIR)/$(CAPI)) > $@
 
-install: lib
+install: lib ## installs the C library below PREFIX
 	install -d $(addprefix $(DESTDIR)$(PREFIX)/,include lib/pkgconfig lib/cmake/vmbind share/vmbind)
 	install -m 644 capi/vmbind.h capi/vmbind.hpp $(DESTDIR)$(PREFIX)/include
 	install -m 644 $(CAPI)/libvmbind.a $(DESTDIR)$(PREFIX)/lib
@@ -134,17 +141,17 @@ install: lib
 	    $(call described,$$file,$(PREFIX),$(PREFIX)/include,$(PREFIX)/lib) > $(DESTDIR)$(PREFIX)/lib/cmake/vmbind/$$file || exit 1; done
 
 # The tests of the C library. They stand beside the gate, and `make test` doesn't call them: a build of the library proves its crates
-# once more. With ./vmbind there (make), scripts by chance are compared with what it writes. The last line is 'N passed, M failed'.
+# once more. With ./vmbind there (make build), scripts by chance are compared with what it writes. The last line is 'N passed, M failed'.
 # BINDS are the binds of a run in flat memory, and the lines of a dialogue with ./vmbind.
 SCRIPTS ?= 200
 BINDS ?= 1000000
-capi-test: lib
+capi-test: lib ## tests the C library
 	@CC="$(CC)" CXX="$(CXX)" SEED=$(SEED) SCRIPTS=$(SCRIPTS) BINDS=$(BINDS) tools/capi-test
 
 # Times of calls from C and from Python. The figures are of this machine.
-capi-measure: lib
+capi-measure: lib ## prints times of calls from C and from Python
 	$(CC) -std=c11 -O2 -Icapi capi/tests/speed.c $(CAPI)/libvmbind.a -o $(CAPI)/speed && $(CAPI)/speed
 	VMBIND_LIBRARY=$(CURDIR)/$(CAPI)/libvmbind.so python3 capi/tests/speed.py
 
-clean:
+clean: ## removes all that was built
 	rm -rf vmbind crates/*/out $(CAPI)
