@@ -15,7 +15,7 @@ const MANY: u64 = 900;
 const LEAST: u64 = 40;
 
 /// What stands at pages across.
-#[derive(Clone, Copy, Debug, PartialEq, Eq)]
+#[derive(Clone, Copy, PartialEq, Eq)]
 pub enum Kind {
     /// Something is mapped there at some row.
     Used,
@@ -28,7 +28,7 @@ pub enum Kind {
 }
 
 /// Pages between two boundaries, and where they stand.
-#[derive(Clone, Copy, Debug)]
+#[derive(Clone, Copy)]
 pub struct Segment {
     pub first: u64,
     pub end: u64,
@@ -38,7 +38,7 @@ pub struct Segment {
 }
 
 /// The widths of a cut and of mappings drawn together; what is left for all others, and the sum of their weights.
-#[derive(Clone, Copy, Debug)]
+#[derive(Clone, Copy)]
 struct Scale {
     cut: u64,
     many: u64,
@@ -48,7 +48,7 @@ struct Scale {
 }
 
 /// Where addresses stand across.
-#[derive(Debug, Drop)]
+#[derive(Drop)]
 pub struct Axis {
     pub segments: Vec<Segment>,
     pub left: u64,

@@ -16,7 +16,7 @@ const MANY: usize = 60;
 const TOGETHER: u64 = 3;
 
 /// A mapping that stood from one row, by its serial number, to the one without it.
-#[derive(Clone, Copy, Debug, PartialEq, Eq)]
+#[derive(Clone, Copy, PartialEq, Eq)]
 pub struct Stood {
     pub piece: Piece,
     pub from: u64,
@@ -25,7 +25,7 @@ pub struct Stood {
 
 /// A box: a mapping at the rows from `top` to `bottom`, without that. One of several mappings that no row changes has
 /// their number, from the first to the last of them.
-#[derive(Clone, Copy, Debug, PartialEq, Eq)]
+#[derive(Clone, Copy, PartialEq, Eq)]
 pub struct Boxed {
     pub piece: Piece,
     pub top: usize,
@@ -34,7 +34,7 @@ pub struct Boxed {
 }
 
 /// The boxes of a picture in order of their addresses, and how many are left out.
-#[derive(Debug, Drop)]
+#[derive(Drop)]
 pub struct Boxes {
     pub items: Vec<Boxed>,
     pub left_out: u64,

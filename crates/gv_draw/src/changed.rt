@@ -1,7 +1,7 @@
 //! How much a row changes.
 
 /// What a row changed: nothing, something near, or the page of the address too.
-#[derive(Clone, Copy, Debug, PartialEq, Eq)]
+#[derive(Clone, Copy, PartialEq, Eq)]
 pub enum Changed {
     None,
     Some,

@@ -6,7 +6,7 @@ use std::alloc::Global;
 use std::collections::BTreeMap;
 
 /// A colour, and that of text on it.
-#[derive(Clone, Copy, Debug, PartialEq, Eq)]
+#[derive(Clone, Copy, PartialEq, Eq)]
 pub struct Colour {
     pub fill: &'static str,
     pub text: &'static str,

@@ -18,7 +18,7 @@ const NEAR: u64 = 320;
 const WIDENINGS: u64 = 1024;
 
 /// A mapping that stands, and the row that it came with.
-#[derive(Clone, Copy, Debug, PartialEq, Eq)]
+#[derive(Clone, Copy, PartialEq, Eq)]
 pub(crate) struct Standing {
     pub piece: Piece,
     pub from: u64,

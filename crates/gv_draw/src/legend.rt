@@ -21,7 +21,7 @@ const BESIDE: u64 = 22;
 const LINE: u64 = 22;
 
 /// A colour, on a ground where that shows through it, and what it stands for.
-#[derive(Debug, Drop)]
+#[derive(Drop)]
 struct Key {
     x: Tenths,
     line: u64,
@@ -31,7 +31,7 @@ struct Key {
 }
 
 /// What the colours of a picture stand for, in lines that it has room for.
-#[derive(Debug, Drop)]
+#[derive(Drop)]
 pub struct Legend {
     keys: Vec<Key>,
     next: Tenths,

@@ -16,7 +16,7 @@ const LINE: u64 = 18;
 const EACH: u64 = 70;
 
 /// A text in lines.
-#[derive(Debug, Drop)]
+#[derive(Drop)]
 pub struct Lines {
     lines: Vec<String>,
 }

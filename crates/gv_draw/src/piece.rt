@@ -4,7 +4,7 @@ use gv_packed::Packed;
 use gv_types::Backing;
 
 /// The pages of a mapping that are drawn, and what stands behind the first of them.
-#[derive(Clone, Copy, Debug, PartialEq, Eq)]
+#[derive(Clone, Copy, PartialEq, Eq)]
 pub struct Piece {
     pub first: u64,
     pub end: u64,

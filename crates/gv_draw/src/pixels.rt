@@ -3,7 +3,7 @@
 use std::fmt;
 
 /// Tenths of a pixel.
-#[derive(Clone, Copy, Debug, PartialEq, Eq)]
+#[derive(Clone, Copy, PartialEq, Eq)]
 pub struct Tenths(pub u64);
 
 impl Tenths {

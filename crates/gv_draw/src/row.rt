@@ -24,7 +24,7 @@ pub struct Told {
 }
 
 /// A row that is kept: its place among all rows, how much it matters, and what stood after it.
-#[derive(Debug, Drop)]
+#[derive(Drop)]
 pub(crate) struct Row {
     pub told: Told,
     pub serial: u64,

@@ -18,7 +18,7 @@ const NOTE: u64 = 18;
 const LABEL_CHARS: usize = 44;
 
 /// Where rows stand, in pixels: their tops, how high each is, and the lowest end.
-#[derive(Debug, Drop)]
+#[derive(Drop)]
 pub struct Rows {
     pub tops: Vec<u64>,
     pub height: u64,
@@ -194,7 +194,7 @@ impl Rows {
 }
 
 /// Where the counts stand, in pixels, and whether those of tables are among them.
-#[derive(Clone, Copy, Debug)]
+#[derive(Clone, Copy)]
 pub struct Counts {
     pub x: u64,
     pub has_tables: bool,

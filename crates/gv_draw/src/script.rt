@@ -12,7 +12,7 @@ use std::alloc::Global;
 use std::str;
 
 /// What a line does, as far as a picture shows it.
-#[derive(Clone, Copy, Debug, PartialEq, Eq)]
+#[derive(Clone, Copy, PartialEq, Eq)]
 enum Act {
     /// A request: a new entry, unless it is refused.
     Bind,

@@ -36,7 +36,7 @@ pub struct Shapes<'a> {
 }
 
 /// How a box looks: its colour, or that it is hatched.
-#[derive(Clone, Copy, Debug)]
+#[derive(Clone, Copy)]
 struct Look {
     fill: &'static str,
     edge: &'static str,

@@ -5,7 +5,7 @@ use std::alloc::AllocError;
 use std::fmt::Write;
 
 /// A place and an extent, in tenths of a pixel.
-#[derive(Clone, Copy, Debug)]
+#[derive(Clone, Copy)]
 pub struct Area {
     pub x: Tenths,
     pub y: Tenths,
@@ -14,7 +14,7 @@ pub struct Area {
 }
 
 /// A text that has a place: its left end, or where `attributes` say so its middle or its right end.
-#[derive(Clone, Copy, Debug)]
+#[derive(Clone, Copy)]
 pub struct Text<'a> {
     pub x: Tenths,
     pub y: Tenths,
