@@ -21,11 +21,14 @@ const FRONT: [Field; 3] = [
     },
 ];
 
-/// Behind that, where a part of a sparse range is bound to.
+/// Behind that and this, where a part of a sparse range is bound to.
 const TARGET: [Field; 1] = [Field {
-    before: ", mapped_to=",
+    before: "",
     kind: Kind::Hex,
 }];
+
+/// What only a line of such a part has.
+const BOUND: &[u8] = b", mapped_to=";
 
 /// Or whether memory goes, and whether it is a sparse range: each 0 or 1.
 const STATE: [Field; 2] = [
@@ -91,8 +94,8 @@ fn cut_end(start: u64, end: u64) -> u64 {
 }
 
 fn parse_event(cursor: &mut Cursor<'_>) -> Option<RadvEvent> {
-    if let Some(to) = cursor.numbers::<1>(&TARGET) {
-        let [to] = to;
+    if cursor.passes(BOUND) {
+        let [to] = cursor.numbers::<1>(&TARGET)?;
         return Some(match cut(to) {
             0 => RadvEvent::SparseUnbound,
             to => RadvEvent::SparseBound { to },

@@ -138,8 +138,8 @@ enum Start {
     Here(u64),
     /// The page behind the last number, or the last byte before that.
     Next(u64),
-    /// The last number.
-    Last,
+    /// So many bytes behind the last number.
+    Past(u64),
     /// One of the areas.
     Area,
 }
@@ -152,9 +152,9 @@ const LETTERS: &[(u8, Start, u64, u64)] = &[
     (b'S', Start::Area, 0x1000, 32),
     (b'E', Start::Next(0), 0x1000, 12),
     (b'T', Start::Here(MEMORY), 0x1000, 56),
-    (b'D', Start::Next(1), 0x1000, 8),
+    (b'D', Start::Past(0xfff), 0x1000, 8),
     (b'F', Start::Here(0x10), 1, 40),
-    (b'G', Start::Last, 1, 8),
+    (b'G', Start::Past(0), 1, 8),
     (b'O', Start::Here(0), 0x1000, 16),
     (b'o', Start::Here(0), 1, 5),
     (b'p', Start::Here(1), 1, 24),
@@ -162,7 +162,7 @@ const LETTERS: &[(u8, Start, u64, u64)] = &[
     (b'C', Start::Here(0x20_0000), 0x1000, 8),
     (b'X', Start::Next(1), 0, 1),
     (b'H', Start::Here(0), 1, 8),
-    (b'I', Start::Last, 1, 2),
+    (b'I', Start::Past(0), 1, 2),
     (b'i', Start::Here(0), 1, 9),
     (b's', Start::Here(0), 1, 4),
     (b'q', Start::Here(2), 1, 4),
@@ -175,7 +175,7 @@ impl Drawn {
         match start {
             Start::Here(number) => number,
             Start::Next(less) => (self.last & !0xfff).wrapping_add(0x1000).wrapping_sub(less),
-            Start::Last => self.last,
+            Start::Past(more) => self.last.wrapping_add(more),
             Start::Area => self.random.among(&AREAS),
         }
     }

@@ -51,6 +51,13 @@ pub const ROWS: &[Row<'static>] = &[
          line 3, 0.000000 s: bind 0x800000 0x1000 to 0xf000",
     ),
     (
+        "a line whose target has no number is passed over, whatever stands behind it",
+        "--format radv",
+        "timestamp=1, VA=0000000000010000-0000000000030000, destroyed=0, is_virtual=0\n\
+            timestamp=2, VA=0000000000040000-0000000000050000, mapped_to=, destroyed=0, is_virtual=0\n",
+        "     1 binds of 1 buffers, 1 lines passed over",
+    ),
+    (
         "memory that is freed takes its tiles along",
         "--format radv",
         "timestamp=1, VA=0000000000010000-0000000000030000, destroyed=0, is_virtual=0\n\

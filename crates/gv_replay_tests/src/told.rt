@@ -59,6 +59,29 @@ pub fn terms_of<'a>(words: &'a str, addresses: &'a [u64]) -> Terms<'a> {
     }
 }
 
+/// Whether each option among the words is one that is read here, with a format.
+fn are_known(words: &str) -> bool {
+    let mut has_format = false;
+    for option in words.split("--").skip(1) {
+        let (name, value) = option
+            .trim_end()
+            .split_once(' ')
+            .unwrap_or((option.trim_end(), ""));
+        let is_known = match name {
+            "format" => matches!(value, "radv" | "amdgpu" | "xe" | "i915" | "gpuvas"),
+            "flags" => matches!(value, "entry" | "call"),
+            "pid" | "space" | "at" => !value.is_empty(),
+            "json" | "script" | "mappings" | "all" => value.is_empty(),
+            _ => false,
+        };
+        if !is_known {
+            return false;
+        }
+        has_format = has_format || name == "format";
+    }
+    has_format
+}
+
 /// The addresses that the words ask.
 fn addresses_in(alloc: Global, words: &str) -> Result<Vec<u64>, AllocError> {
     let mut addresses = Vec::new(alloc);
@@ -86,6 +109,9 @@ fn play(
 
 /// What is told of a log where words of the program ask it, and behind that the fault, if there is one.
 pub fn told(alloc: Global, words: &str, log: &[u8]) -> Result<String, AllocError> {
+    if !are_known(words) {
+        return String::from_str(alloc, "Err(unknown words)");
+    }
     let addresses = addresses_in(alloc, words)?;
     told_at(alloc, words, &addresses, log)
 }
@@ -100,13 +126,17 @@ pub fn told_at(
     let mut sink = MemorySink::new(alloc);
     let played = play(alloc, log, &terms_of(words, addresses), &mut sink);
     let ended = format!(in alloc; "{played:?}")?;
-    let mut told = String::from_str(alloc, str::from_utf8(sink.bytes()).unwrap_or(""))?;
+    let mut told = String::from_str(
+        alloc,
+        str::from_utf8(sink.bytes()).unwrap_or("bytes that are no text"),
+    )?;
     told.push_str(ended.as_str().trim_start_matches("Ok(())"))?;
     Ok(told)
 }
 
-/// Asserts that a text has each of these lines.
+/// Asserts that a replay came to its end, and that its text has each of these lines.
 pub fn expect_lines(rt: &impl Abort, name: &str, told: &str, wanted: &str) {
+    assert!(rt; !told.contains("Err("), "{name}: {told}");
     for line in wanted.lines() {
         assert!(rt; has_line(told, line), "{name}: {line}");
     }
