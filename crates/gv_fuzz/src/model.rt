@@ -1,5 +1,6 @@
 //! A model of scripts: the language read by forms of its own, the world of gv_model behind it, and the texts of replies. It knows
 //! nothing of how the program reads and prints.
+mod area;
 mod asking;
 mod forms;
 mod grammar;

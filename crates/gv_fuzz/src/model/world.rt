@@ -1,4 +1,5 @@
 //! The state between two lines, and what each line does to it.
+use super::area::{Area, are_limits};
 use super::forms::{LINES, RANGES, Verb};
 use super::grammar::{Said, said_by};
 use super::names::{Names, id_of, place_of};
@@ -6,7 +7,7 @@ use super::request::{Asked, accesses, asked_by};
 use super::steps::{planned, write_steps};
 use super::text::{write_refused, write_reply};
 use gv_model::{Model, Setting};
-use gv_types::{Bounds, Limits, MAX_TOLD, OutOfMemory};
+use gv_types::{Bounds, Limits, MAX_TOLD, Op, OutOfMemory};
 use gv_vm::{Event, QUEUES, Reply};
 use std::alloc::{AllocError, Global};
 
@@ -18,6 +19,7 @@ const TIMELINES: u64 = 64;
 pub struct World {
     pub names: Names,
     pub model: Model,
+    area: Area,
     may_bound: bool,
     may_limit: bool,
 }
@@ -41,6 +43,7 @@ impl World {
                 timelines: Vec::new(alloc),
             },
             model,
+            area: Area::whole(),
             may_bound: true,
             may_limit: true,
         })
@@ -93,6 +96,14 @@ impl World {
         }
     }
 
+    /// Writes what no reply is, where the bounds answer of an operation what the documents don't say.
+    fn expect_alike(&self, op: &Op, out: &mut String) -> Result<(), OutOfMemory> {
+        if !self.area.is_checked_alike(&self.model.ground.bounds, op) {
+            out.push_str("the bounds answer otherwise\n")?;
+        }
+        Ok(())
+    }
+
     /// No setting may come any more.
     fn begin(&mut self) {
         self.may_bound = false;
@@ -102,17 +113,21 @@ impl World {
     fn set(&mut self, said: &Said, out: &mut String) -> Result<bool, OutOfMemory> {
         let [first, second, third, fourth, _] = said.numbers;
         if let Verb::Space = said.verb {
-            let bounds = Bounds::from_bytes(first, second, third, fourth);
-            let Some(bounds) = bounds.filter(|_| self.may_bound) else {
+            let area = Area::from_bytes(first, second, third, fourth);
+            let Some(area) = area.filter(|_| self.may_bound) else {
                 return Ok(false);
             };
-            self.model.ground.bounds = bounds;
+            self.area = area;
+            if let Some(bounds) = Bounds::from_bytes(first, second, third, fourth) {
+                self.model.ground.bounds = bounds;
+            }
         } else {
-            let limits = Limits::new(first, second, third, MAX_TOLD);
-            let Some(limits) = limits.filter(|_| self.may_limit) else {
+            if !are_limits([first, second, third]) || !self.may_limit {
                 return Ok(false);
-            };
-            self.model.ground.limits = limits;
+            }
+            if let Some(limits) = Limits::new(first, second, third, MAX_TOLD) {
+                self.model.ground.limits = limits;
+            }
             self.may_limit = false;
         }
         self.may_bound = false;
@@ -219,6 +234,9 @@ impl World {
         let Asked { queue, request } = asked;
         let queue = queue.unwrap_or(0);
         let (looks, signals) = (request.waits.len(), request.signals.len());
+        for op in &request.ops {
+            self.expect_alike(op, out)?;
+        }
         self.model.answer(alloc, &Event::Put { queue, request })?;
         self.model.answer(alloc, &Event::Take { queue })?;
         for _ in 0..looks {
@@ -260,8 +278,10 @@ impl World {
             return Ok(false);
         };
         self.begin();
+        let op = said.op();
+        self.expect_alike(&op, out)?;
         let ground = &self.model.ground;
-        match planned(ground, &said.op()) {
+        match planned(ground, &op) {
             Ok(op) => write_steps(alloc, out, &self.names, &ground.list, &op)?,
             Err(fault) => write_refused(alloc, out, &fault)?,
         }
