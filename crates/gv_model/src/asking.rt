@@ -8,7 +8,8 @@
 //! wait TIMELINE VALUE   signal TIMELINE VALUE   read ADDR   write ADDR
 //! ```
 //!
-//! A part comes TIMES over, each time STRIDE pages further on. Numbers that are left out are those of `LEFT_OUT`.
+//! A part comes TIMES over, each time STRIDE pages further on. Numbers that are left out are those of `LEFT_OUT`. A line with another
+//! word, or with what is no number, is no event.
 use gv_buffers::Usage;
 use gv_types::{BufferId, Flags, Op, OutOfMemory, PAGE_BYTES, Point, Request};
 use gv_vm::{Access, Event};
@@ -22,6 +23,38 @@ const NUMBERS: usize = 8;
 
 /// The numbers that are left out.
 const LEFT_OUT: [u64; NUMBERS] = [0, 1, 0, 0, 1, 1, 0, 0];
+
+/// The words.
+const WORDS: &[&str] = &[
+    "put",
+    "take",
+    "look",
+    "bind",
+    "give_up",
+    "pay",
+    "raise",
+    "create",
+    "destroy",
+    "rewind",
+    "withdraw",
+    "settle",
+    "forget",
+    "trim",
+    "job",
+    "end",
+    "at",
+    "map",
+    "zero",
+    "unmap",
+    "unmap_all",
+    "wait",
+    "signal",
+    "read",
+    "write",
+];
+
+/// What stands for an operation that is none of these: every space refuses it.
+const NO_OPERATION: Op = Op::Unmap { addr: 1, len: 1 };
 
 /// A word with its numbers.
 #[derive(Clone, Copy)]
@@ -49,6 +82,41 @@ fn value_of(digit: u8) -> u64 {
         b'a'..=b'f' => u64::from(digit - b'a') + 10,
         _ => 0,
     }
+}
+
+/// Whether a word is a number, as `number_of` reads it.
+fn is_number(word: &str) -> bool {
+    match word.strip_prefix("0x") {
+        Some(digits) => digits
+            .bytes()
+            .all(|digit| matches!(digit, b'0'..=b'9' | b'a'..=b'f')),
+        None => word.bytes().all(|digit| digit.is_ascii_digit()),
+    }
+}
+
+/// Whether a text is a known word with its numbers.
+fn is_part(text: &str) -> bool {
+    for (place, word) in text.split_whitespace().enumerate() {
+        let is_known = match place {
+            0 => WORDS.contains(&word),
+            1..=NUMBERS => is_number(word),
+            _ => false,
+        };
+        if !is_known {
+            return false;
+        }
+    }
+    true
+}
+
+/// Whether each part of a line is one.
+fn is_known(text: &str) -> bool {
+    for part in text.split(BETWEEN) {
+        if !is_part(part) {
+            return false;
+        }
+    }
+    true
 }
 
 fn part_of(text: &str) -> Part<'_> {
@@ -140,11 +208,7 @@ impl Asked {
             "signal" => self.signals.push(part.point())?,
             "read" => self.accesses.push(part.access(Usage::Read))?,
             "write" => self.accesses.push(part.access(Usage::Write))?,
-            _ => {
-                if let Some(op) = part.op(ids, k) {
-                    self.ops.push(op)?;
-                }
-            }
+            _ => self.ops.push(part.op(ids, k).unwrap_or(NO_OPERATION))?,
         }
         Ok(())
     }
@@ -186,8 +250,11 @@ pub fn request_in(alloc: Global, ids: &[BufferId], text: &str) -> Result<Request
     })
 }
 
-/// The event that a line stands for. A buffer is named by its place among these.
+/// The event that a line stands for, if it is one. A buffer is named by its place among these.
 pub fn event_in(alloc: Global, ids: &[BufferId], text: &str) -> Result<Option<Event>, OutOfMemory> {
+    if !is_known(text) {
+        return Ok(None);
+    }
     let part = part_of(text);
     let number = part.numbers[0];
     match part.word {
