@@ -8,6 +8,8 @@ mod buffers;
 #[cfg(test)]
 mod changes;
 #[cfg(test)]
+mod course;
+#[cfg(test)]
 mod faults;
 #[cfg(test)]
 mod journal;

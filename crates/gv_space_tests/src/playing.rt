@@ -161,8 +161,9 @@ fn play_row(rt: &(impl Abort + AllocGlobal), space: &mut Space, watch: &mut Watc
     let said = play(rt.alloc(), space, watch, &clauses);
     let is_written = write_said(&mut watch.text, said).is_ok();
     let answer = watch.text.as_str();
+    let is_known = clauses.iter().all(|clause| clause.verb != Verb::Unknown);
     assert!(rt;
-        is_written && watch.is_right && answer == wanted,
+        is_known && is_written && watch.is_right && answer == wanted,
         "{text}: {answer}"
     );
 }

@@ -1,12 +1,12 @@
 //! Random operations on a space, each look at which is compared with the definitions.
+use crate::course::{Course, course_of, expect_course};
 use crate::judge::{BUFFERS, Look};
-use crate::operations::page_op_of;
 use crate::playing::play as play_row;
 use crate::watch::Watch;
 use crate::words::{Clause, Verb};
-use gv_model::{Random, changed, count_of, edited};
+use gv_model::Random;
 use gv_space::Space;
-use gv_types::{Backing, Bounds, BufferId, Limits, Mapping, PageRange};
+use gv_types::{Bounds, Limits, Mapping};
 use std::process::Abort;
 
 /// How many rounds are played on a setting.
@@ -63,46 +63,6 @@ impl Setting {
     }
 }
 
-/// A list after an operation.
-fn after(
-    rt: &(impl Abort + AllocGlobal),
-    list: &[Mapping],
-    ids: &[BufferId],
-    clause: &Clause,
-) -> Vec<Mapping> {
-    // The borrow checker proves this only where the function names the types inside the operation.
-    let _backing = Backing::Zero;
-    let op = page_op_of(ids, clause).expect(rt, "pages");
-    edited(rt.alloc(), list, &op).expect(rt, "memory")
-}
-
-/// The pages that a clause names.
-fn range_of(rt: &impl Abort, clause: &Clause) -> PageRange {
-    let [first, count, ..] = clause.numbers;
-    PageRange::new(first, count).expect(rt, "range")
-}
-
-/// The mappings of a list that the pages of a clause meet.
-fn met(rt: &(impl Abort + AllocGlobal), list: &[Mapping], clause: &Clause) -> Vec<Mapping> {
-    let range = range_of(rt, clause);
-    let mut met = Vec::new(rt.alloc());
-    for mapping in list {
-        if mapping.range.meets(range) {
-            assert!(rt; met.push(*mapping).is_ok());
-        }
-    }
-    met
-}
-
-/// How many of some mappings and of some others are of each buffer.
-fn counts(ids: &[BufferId], some: &[Mapping], others: &[Mapping]) -> [u64; BUFFERS] {
-    let mut counts = [0; BUFFERS];
-    for (count, id) in counts.iter_mut().zip(ids) {
-        *count = count_of(some, id).saturating_add(count_of(others, id));
-    }
-    counts
-}
-
 /// One more look.
 fn add(
     rt: &(impl Abort + AllocGlobal),
@@ -131,40 +91,6 @@ const TAILS: [Verb; 4] = [Verb::Nothing, Verb::Nothing, Verb::Range, Verb::Stays
 
 /// What is kept where no undo value is left.
 const NONE: [u64; BUFFERS] = [0; BUFFERS];
-
-/// What two operations make of a list, and the restore of a range; and how many mappings of each buffer the undo values keep then.
-#[derive(Drop)]
-struct Course {
-    one: Vec<Mapping>,
-    two: Vec<Mapping>,
-    restored: Vec<Mapping>,
-    by_first: [u64; BUFFERS],
-    by_both: [u64; BUFFERS],
-    by_first_and_restore: [u64; BUFFERS],
-}
-
-fn course_of(
-    rt: &(impl Abort + AllocGlobal),
-    ids: &[BufferId],
-    before: &[Mapping],
-    chosen: &[Clause; 3],
-) -> Course {
-    let one = after(rt, before, ids, &chosen[0]);
-    let two = after(rt, &one, ids, &chosen[1]);
-    let first = met(rt, before, &chosen[0]);
-    let second = met(rt, &one, &chosen[1]);
-    let third = met(rt, &two, &chosen[2]);
-    let range = range_of(rt, &chosen[2]);
-    let restored = changed(rt.alloc(), &two, range, &first).expect(rt, "memory");
-    Course {
-        by_first: counts(ids, &first, &[]),
-        by_both: counts(ids, &first, &second),
-        by_first_and_restore: counts(ids, &first, &third),
-        one,
-        two,
-        restored,
-    }
-}
 
 /// What a space has to be at each look of a round.
 fn looks_of(
@@ -220,6 +146,7 @@ fn round(
     way: usize,
 ) -> Vec<Mapping> {
     let course = course_of(rt, &watch.ids, before, chosen);
+    expect_course(rt, watch, before, &course, chosen);
     watch.looks = looks_of(rt, &course, before, way);
     watch.seen = 0;
     let clauses = [

@@ -5,6 +5,8 @@ use std::alloc::{AllocError, Global};
 #[derive(Clone, Copy, PartialEq, Eq)]
 pub enum Verb {
     Nothing,
+    /// A word that is no verb.
+    Unknown,
     Create,
     Destroy,
     Read,
@@ -111,7 +113,7 @@ fn verb_of(word: &str) -> Verb {
             return *verb;
         }
     }
-    Verb::Nothing
+    Verb::Unknown
 }
 
 /// The clause that a text is.
@@ -119,7 +121,7 @@ fn clause_of(text: &str) -> Clause {
     let mut words = text.split_whitespace();
     let verb = match words.next() {
         Some(word) => verb_of(word),
-        None => Verb::Nothing,
+        None => Verb::Unknown,
     };
     let mut numbers = [0; 4];
     for (number, word) in numbers.iter_mut().zip(words) {
