@@ -68,8 +68,8 @@ pub fn told<R: AllocGlobal + Threads + Wait + Sync + Files>(
     };
     let status = program(&fake, rt, trial.is_terminal);
     let (output, errors) = (fake.output.into_inner(), fake.errors.into_inner());
-    let output = str::from_utf8(&output).unwrap_or("");
-    let errors = str::from_utf8(&errors).unwrap_or("");
+    let output = str::from_utf8(&output).unwrap_or("bytes that are no text");
+    let errors = str::from_utf8(&errors).unwrap_or("bytes that are no text");
     format!(in alloc; "{output}--{errors}--\n{status}")
 }
 

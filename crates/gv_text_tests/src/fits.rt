@@ -89,7 +89,8 @@ fn expect_text(rt: &impl Abort, line: &str, width: u64, height: u64) {
         .split_once(">")
         .unwrap_or(("", ""));
     let kind = between(tag, "class=\"", "\"");
-    let wide = (words.chars().count() as u64).saturating_mul(each_of(kind));
+    let each = each_of(kind);
+    let wide = (words.chars().count() as u64).saturating_mul(each);
     let mut place = (number(tag, "x=\""), number(tag, " y=\""));
     let mut high = 100;
     if kind == "addr" {
@@ -103,7 +104,10 @@ fn expect_text(rt: &impl Abort, line: &str, width: u64, height: u64) {
         place.0 = place.0.saturating_sub(wide);
     }
     let right = place.0.saturating_add(wide);
-    assert!(rt; place.0 > 0 && right <= width, "{width} {line}");
+    assert!(rt;
+        each < u64::MAX && place.0 > 0 && right <= width,
+        "{width} {line}"
+    );
     assert!(rt; place.1 > high && place.1 <= height, "{height} {line}");
 }
 
