@@ -1,18 +1,80 @@
-//! The subcommands and their words.
+//! The subcommands and their words, in a table.
 ghost use Rattle.std.specs.Prelude.{◌≡◌, IfOk};
-ghost use Rattle.clap.specs.Words.{app_of};
-ghost use Rattle.gv_words.specs.CommandLine.{IsLine, bare_line, compare_line, compare_lists, compare_log, draw_line, draw_options, replay_asked, replay_forms, replay_line, replay_options, replay_told, run_line, serve_line, threads_line};
+ghost use Rattle.clap.specs.Words.{app_of, with_subcommand};
+ghost use Rattle.gv_words.specs.CommandLine.{IsLine, bare_line, command_line};
+ghost use Rattle.gv_words.specs.Rows.{Adds, line_of, with_lines};
 
-use crate::args::{
-    addresses_arg, at_arg, file_arg, flag_arg, flags_arg, format_arg, list_arg, log_format_arg,
-    pid_arg, queues_arg, space_arg, turns_arg, width_arg,
-};
+use crate::args::{Row, arg_of};
 use crate::help;
+use crate::rows::{
+    ADDRESSES, ALL, AS_JSON, AS_PICTURE, AS_SCRIPT, AT, EXPLAIN, FILE, FIRST, FLAGS, FORMAT, JSON,
+    LOG_FORMAT, PID, QUEUES, QUIET, SECOND, SPACE, TURNS, WIDTH,
+};
 use clap::Command;
 use std::alloc::{AllocError, Global};
 
+/// A subcommand.
+#[derive(Clone, Copy)]
+pub struct Line {
+    pub name: &'static str,
+    pub about: &'static str,
+    /// The text behind its long help.
+    pub after: &'static str,
+    pub rows: &'static [Row],
+}
+
+/// The subcommands, as help shows them.
+const LINES: [Line; 6] = [
+    Line {
+        name: "run",
+        about: help::RUN,
+        after: help::SCRIPT,
+        rows: &[EXPLAIN, FILE],
+    },
+    Line {
+        name: "serve",
+        about: help::SERVE,
+        after: help::SERVE_LINES,
+        rows: &[JSON, FILE],
+    },
+    Line {
+        name: "replay",
+        about: help::REPLAY,
+        after: help::REPLAY_STATUSES,
+        rows: &[
+            FORMAT, ADDRESSES, FLAGS, PID, SPACE, AS_JSON, AS_SCRIPT, AS_PICTURE, ALL, QUIET,
+            WIDTH, FILE,
+        ],
+    },
+    Line {
+        name: "draw",
+        about: help::DRAW,
+        after: help::DRAW_STATUSES,
+        rows: &[AT, WIDTH, QUIET, FILE],
+    },
+    Line {
+        name: "compare",
+        about: help::COMPARE,
+        after: help::COMPARE_STATUSES,
+        rows: &[FIRST, SECOND, LOG_FORMAT, FLAGS, PID, SPACE, QUIET],
+    },
+    Line {
+        name: "threads",
+        about: help::THREADS,
+        after: help::THREADS_SCRIPT,
+        rows: &[QUEUES, TURNS, EXPLAIN],
+    },
+];
+
+/// The whole command line.
+pub fn command<'a>(alloc: Global) -> Result<Command<'a>, AllocError>
+    ensures { IfOk result (λ command. app_of command ≡ command_line) }
+{
+    with_lines(alloc, bare_command(alloc), &LINES)
+}
+
 /// The program without its subcommands.
-pub fn bare_command<'a>(alloc: Global) -> Command<'a>
+fn bare_command<'a>(alloc: Global) -> Command<'a>
     ensures { app_of result ≡ bare_line }
 {
     Command::new(alloc, "vmbind")
@@ -22,135 +84,53 @@ pub fn bare_command<'a>(alloc: Global) -> Command<'a>
         .subcommand_required(true)
 }
 
-/// `run` and its words.
-pub fn run_command<'a>(alloc: Global) -> Result<Command<'a>, AllocError>
-    ensures { IfOk result (IsLine run_line) }
+/// A command with further subcommands.
+fn with_lines<'a>(
+    alloc: Global,
+    command: Command<'a>,
+    lines: &[Line],
+) -> Result<Command<'a>, AllocError>
+    ensures { IfOk result (λ made. app_of made ≡ with_lines (app_of command.entry) lines.now) }
 {
-    Command::new(alloc, "run")
-        .about(help::RUN)
-        .after_long_help(help::SCRIPT)
-        .arg(flag_arg(alloc, "explain", help::EXPLAIN))?
-        .arg(file_arg(alloc))
+    let mut command = command;
+    for line in lines {
+        command = with_line(alloc, command, line)?;
+    }
+    Ok(command)
 }
 
-/// `serve` and its words.
-pub fn serve_command<'a>(alloc: Global) -> Result<Command<'a>, AllocError>
-    ensures { IfOk result (IsLine serve_line) }
+/// A command with one more subcommand.
+fn with_line<'a>(
+    alloc: Global,
+    command: Command<'a>,
+    line: &Line,
+) -> Result<Command<'a>, AllocError>
+    ensures { IfOk result (λ made. app_of made ≡ with_subcommand (app_of command.entry) (line_of line.now).top) }
 {
-    Command::new(alloc, "serve")
-        .about(help::SERVE)
-        .after_long_help(help::SERVE_LINES)
-        .arg(flag_arg(alloc, "json", help::JSON))?
-        .arg(file_arg(alloc))
+    command.subcommand(line_command(alloc, line)?)
 }
 
-/// `replay` and its words.
-pub fn replay_command<'a>(alloc: Global) -> Result<Command<'a>, AllocError>
-    ensures { IfOk result (IsLine replay_line) }
+/// A subcommand and its words.
+fn line_command<'a>(alloc: Global, line: &Line) -> Result<Command<'a>, AllocError>
+    ensures { IfOk result (IsLine (line_of line.now)) }
 {
-    replay_told(alloc)?
-        .arg(width_arg(alloc))?
-        .arg(file_arg(alloc))
+    let head = Command::new(alloc, line.name)
+        .about(line.about)
+        .after_long_help(line.after);
+    with_rows(alloc, head, line.rows)
 }
 
-/// `replay` with all that is told or not.
-fn replay_told<'a>(alloc: Global) -> Result<Command<'a>, AllocError>
-    ensures { IfOk result (IsLine replay_told) }
+/// A command with further arguments.
+fn with_rows<'a>(
+    alloc: Global,
+    command: Command<'a>,
+    rows: &[Row],
+) -> Result<Command<'a>, AllocError>
+    ensures { IfOk result (Adds command.entry rows.now) }
 {
-    replay_forms(alloc)?
-        .arg(flag_arg(alloc, "all", help::ALL))?
-        .arg(flag_arg(alloc, "quiet", help::QUIET))
-}
-
-/// `replay` with its options and the forms of its answer.
-fn replay_forms<'a>(alloc: Global) -> Result<Command<'a>, AllocError>
-    ensures { IfOk result (IsLine replay_forms) }
-{
-    replay_options(alloc)?
-        .arg(flag_arg(alloc, "json", help::AS_JSON))?
-        .arg(flag_arg(alloc, "script", help::AS_SCRIPT))?
-        .arg(flag_arg(alloc, "draw", help::AS_PICTURE))
-}
-
-/// `replay` with its options.
-fn replay_options<'a>(alloc: Global) -> Result<Command<'a>, AllocError>
-    ensures { IfOk result (IsLine replay_options) }
-{
-    replay_asked(alloc)?
-        .arg(flags_arg(alloc))?
-        .arg(pid_arg(alloc))?
-        .arg(space_arg(alloc))
-}
-
-/// `replay` with the format and the addresses that are asked.
-fn replay_asked<'a>(alloc: Global) -> Result<Command<'a>, AllocError>
-    ensures { IfOk result (IsLine replay_asked) }
-{
-    Command::new(alloc, "replay")
-        .about(help::REPLAY)
-        .after_long_help(help::REPLAY_STATUSES)
-        .arg(format_arg(alloc))?
-        .arg(addresses_arg(alloc))
-}
-
-/// `draw` and its words.
-pub fn draw_command<'a>(alloc: Global) -> Result<Command<'a>, AllocError>
-    ensures { IfOk result (IsLine draw_line) }
-{
-    draw_options(alloc)?
-        .arg(flag_arg(alloc, "quiet", help::QUIET))?
-        .arg(file_arg(alloc))
-}
-
-/// `draw` with the picture that is asked.
-fn draw_options<'a>(alloc: Global) -> Result<Command<'a>, AllocError>
-    ensures { IfOk result (IsLine draw_options) }
-{
-    Command::new(alloc, "draw")
-        .about(help::DRAW)
-        .after_long_help(help::DRAW_STATUSES)
-        .arg(at_arg(alloc))?
-        .arg(width_arg(alloc))
-}
-
-/// `compare` and its words.
-pub fn compare_command<'a>(alloc: Global) -> Result<Command<'a>, AllocError>
-    ensures { IfOk result (IsLine compare_line) }
-{
-    compare_log(alloc)?
-        .arg(space_arg(alloc))?
-        .arg(flag_arg(alloc, "quiet", help::QUIET))
-}
-
-/// `compare` with what is said of a log.
-fn compare_log<'a>(alloc: Global) -> Result<Command<'a>, AllocError>
-    ensures { IfOk result (IsLine compare_log) }
-{
-    compare_lists(alloc)?
-        .arg(log_format_arg(alloc))?
-        .arg(flags_arg(alloc))?
-        .arg(pid_arg(alloc))
-}
-
-/// `compare` with its two lists.
-fn compare_lists<'a>(alloc: Global) -> Result<Command<'a>, AllocError>
-    ensures { IfOk result (IsLine compare_lists) }
-{
-    Command::new(alloc, "compare")
-        .about(help::COMPARE)
-        .after_long_help(help::COMPARE_STATUSES)
-        .arg(list_arg(alloc, "first", "A"))?
-        .arg(list_arg(alloc, "second", "B"))
-}
-
-/// `threads` and its words.
-pub fn threads_command<'a>(alloc: Global) -> Result<Command<'a>, AllocError>
-    ensures { IfOk result (IsLine threads_line) }
-{
-    Command::new(alloc, "threads")
-        .about(help::THREADS)
-        .after_long_help(help::THREADS_SCRIPT)
-        .arg(queues_arg(alloc))?
-        .arg(turns_arg(alloc))?
-        .arg(flag_arg(alloc, "explain", help::EXPLAIN))
+    let mut command = command;
+    for row in rows {
+        command = command.arg(arg_of(alloc, row))?;
+    }
+    Ok(command)
 }

@@ -4,6 +4,7 @@
 mod args;
 mod commands;
 mod help;
+mod rows;
 mod words;
 
 pub use words::{CompareWords, ReplayWords, Task, WordsFault, read_words};

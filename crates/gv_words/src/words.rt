@@ -1,17 +1,14 @@
 //! What the words ask for.
 ghost use Rattle.std.specs.Prelude.{◌≡◌, ◌≢◌, ◌⊎◌, ◌∷◌, [], ℕ, List, IfOk, Ok, Err, None, Some, codes, false};
-ghost use Rattle.clap.specs.Words.{app_of, fault_of, found_of, kind_of, rows_of, subcommand_name_of};
-ghost use Rattle.gv_words.specs.CommandLine.{IsEntered, IsFaultOf, IsTask, NamesFile, ReadsBy, command_line, entered, first_lines, words_of};
+ghost use Rattle.clap.specs.Words.{fault_of, found_of, kind_of, rows_of, subcommand_name_of};
+ghost use Rattle.gv_words.specs.CommandLine.{IsEntered, IsFaultOf, IsTask, NamesFile, ReadsBy, command_line, entered, words_of};
 ghost use Rattle.gv_words.specs.CommandLine.{IsCompare, IsDraw, IsReplay, IsRunOf, IsServeOf, IsTaskOf, IsThreads};
 ghost use Rattle.gv_words.specs.declared.words.WordsFault.TheVariants as words;
 
-use crate::args::{MAX_QUEUES, MAX_TURNS, MAX_WIDTH};
-use crate::commands::{
-    bare_command, compare_command, draw_command, replay_command, run_command, serve_command,
-    threads_command,
-};
+use crate::commands::command;
+use crate::rows::{MAX_QUEUES, MAX_TURNS, MAX_WIDTH};
 use clap::error::ErrorKind;
-use clap::{ArgMatches, Command, Error};
+use clap::{ArgMatches, Error};
 use std::alloc::{AllocError, Global};
 
 /// Why the words lead to no task.
@@ -246,24 +243,4 @@ fn compare_of<'a>(given: &ArgMatches<'a>) -> Task<'a>
         space: given.get_str("space"),
         quiet: given.get_flag("quiet"),
     })
-}
-
-/// The command line with its first subcommands.
-fn first_commands<'a>(alloc: Global) -> Result<Command<'a>, AllocError>
-    ensures { IfOk result (λ command. app_of command ≡ first_lines) }
-{
-    bare_command(alloc)
-        .subcommand(run_command(alloc)?)?
-        .subcommand(serve_command(alloc)?)?
-        .subcommand(replay_command(alloc)?)
-}
-
-/// The whole command line.
-fn command<'a>(alloc: Global) -> Result<Command<'a>, AllocError>
-    ensures { IfOk result (λ command. app_of command ≡ command_line) }
-{
-    first_commands(alloc)?
-        .subcommand(draw_command(alloc)?)?
-        .subcommand(compare_command(alloc)?)?
-        .subcommand(threads_command(alloc)?)
 }
