@@ -131,6 +131,36 @@ end_line words = do
   job ← first_number words
   ended job.1 (End job.0)
 
+-- the same of a word that is none of the first fifteen
+abbrev pub keyword_from_withdraw : List ℕ → Option Keyword
+keyword_from_withdraw word =
+    if bytes_eq word (codes "withdraw") then Some keyword.Withdraw
+    else if bytes_eq word (codes "settle") then Some keyword.Settle
+    else if bytes_eq word (codes "told") then Some keyword.Told
+    else if bytes_eq word (codes "job") then Some keyword.Job
+    else if bytes_eq word (codes "end") then Some keyword.End
+    else None
+
+-- the same of a word that is none of the first ten
+abbrev pub keyword_from_map : List ℕ → Option Keyword
+keyword_from_map word =
+    if bytes_eq word (codes "map") then Some keyword.Map
+    else if bytes_eq word (codes "at") then Some keyword.At
+    else if bytes_eq word (codes "tables") then Some keyword.Tables
+    else if bytes_eq word (codes "rewind") then Some keyword.Rewind
+    else if bytes_eq word (codes "journal") then Some keyword.Journal
+    else keyword_from_withdraw word
+
+-- the same of a word that is none of the first five
+abbrev pub keyword_from_timeline : List ℕ → Option Keyword
+keyword_from_timeline word =
+    if bytes_eq word (codes "timeline") then Some keyword.Timeline
+    else if bytes_eq word (codes "raise") then Some keyword.Raise
+    else if bytes_eq word (codes "value") then Some keyword.Value
+    else if bytes_eq word (codes "bind") then Some keyword.Bind
+    else if bytes_eq word (codes "plan") then Some keyword.Plan
+    else keyword_from_map word
+
 -- the keyword that a word is
 abbrev pub keyword_of : List ℕ → Option Keyword
 keyword_of word =
@@ -139,22 +169,7 @@ keyword_of word =
     else if bytes_eq word (codes "buffer") then Some keyword.Buffer
     else if bytes_eq word (codes "destroy") then Some keyword.Destroy
     else if bytes_eq word (codes "uses") then Some keyword.Uses
-    else if bytes_eq word (codes "timeline") then Some keyword.Timeline
-    else if bytes_eq word (codes "raise") then Some keyword.Raise
-    else if bytes_eq word (codes "value") then Some keyword.Value
-    else if bytes_eq word (codes "bind") then Some keyword.Bind
-    else if bytes_eq word (codes "plan") then Some keyword.Plan
-    else if bytes_eq word (codes "map") then Some keyword.Map
-    else if bytes_eq word (codes "at") then Some keyword.At
-    else if bytes_eq word (codes "tables") then Some keyword.Tables
-    else if bytes_eq word (codes "rewind") then Some keyword.Rewind
-    else if bytes_eq word (codes "journal") then Some keyword.Journal
-    else if bytes_eq word (codes "withdraw") then Some keyword.Withdraw
-    else if bytes_eq word (codes "settle") then Some keyword.Settle
-    else if bytes_eq word (codes "told") then Some keyword.Told
-    else if bytes_eq word (codes "job") then Some keyword.Job
-    else if bytes_eq word (codes "end") then Some keyword.End
-    else None
+    else keyword_from_timeline word
 
 -- a line that begins with this keyword, by the words behind it
 abbrev pub line_of : Keyword → List (List ℕ) → Option Line

@@ -6,7 +6,7 @@ use super::point::NamedPoint;
 use super::words::Words;
 
 /// What stands between two separators of a bind line.
-#[derive(Drop, Debug)]
+#[derive(Drop)]
 pub enum Clause {
     /// An operation.
     Change { operation: Operation },

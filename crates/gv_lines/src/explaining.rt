@@ -11,7 +11,6 @@ mod walk;
 mod word;
 
 use crate::cutting::Clauses;
-use crate::keyword::Keyword;
 use crate::parse::parse_line;
 use crate::reason::{Beginning, Form, Reason, Slip};
 use crate::serve_line::parse_serve_line;
@@ -26,7 +25,7 @@ pub use walk::{Found, word_at};
 use word::word_slip;
 
 /// Which lines there are.
-#[derive(Clone, Copy, Debug, PartialEq, Eq)]
+#[derive(Clone, Copy)]
 enum Language {
     /// Those of scripts.
     Run,
@@ -91,10 +90,9 @@ fn of_form(column: u64, form: Form<'_>) -> Slip<'_> {
 
 /// The shape of the lines that begin with this word.
 fn shape_of(language: Language, word: &[u8]) -> Option<Shape> {
-    match Keyword::from_word(word) {
-        Some(keyword) => Some(Shape::of(keyword)),
-        None if language == Language::Serve => Shape::of_serve(word),
-        None => None,
+    match language {
+        Language::Run => Shape::of(word),
+        Language::Serve => Shape::of(word).or(Shape::of_serve(word)),
     }
 }
 

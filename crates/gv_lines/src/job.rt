@@ -22,10 +22,13 @@ impl Access {
     pub fn from_words(mut words: Words<'_>) -> Option<Access>
         ensures { result ≡ access_of words.entry }
     {
-        match words.take_word()? {
-            b"read" => Access::read(words),
-            b"write" => Access::write(words),
-            _ => None,
+        let first = words.take_word()?;
+        if first == b"read".as_slice() {
+            Access::read(words)
+        } else if first == b"write".as_slice() {
+            Access::write(words)
+        } else {
+            None
         }
     }
 

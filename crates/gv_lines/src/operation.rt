@@ -8,7 +8,7 @@ use super::words::Words;
 
 /// A change of what an address space maps. Addresses, lengths and offsets are in bytes, and may be
 /// any numbers: whether an address space allows the change is not asked here.
-#[derive(Drop, Debug, PartialEq, Eq)]
+#[derive(Drop, Debug)]
 pub enum Operation {
     /// `map ADDR LEN NAME OFFSET`: `len` bytes from `addr` on show the buffer from `offset` on.
     /// With ` ro` at its end they are read-only.

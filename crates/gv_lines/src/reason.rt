@@ -15,11 +15,11 @@ pub use name_slip::NameSlip;
 pub use number_slip::NumberSlip;
 pub use place::{Place, Set};
 pub use setting::Setting;
-use shown::Shown;
+use shown::write_word;
 use std::fmt;
 
 /// Where a line is bad first, and why. Its text says what was found, where, and what is wanted, in one line of ASCII.
-#[derive(Clone, Copy, Debug)]
+#[derive(Clone, Copy)]
 pub struct Slip<'a> {
     /// The place in the line of what was found, in bytes, counted from 1.
     pub column: u64,
@@ -27,7 +27,7 @@ pub struct Slip<'a> {
 }
 
 /// Why a line is bad. Words are those of the line.
-#[derive(Clone, Copy, Debug)]
+#[derive(Clone, Copy)]
 pub enum Reason<'a> {
     /// Its bytes are not words with one space between them.
     Layout(Layout),
@@ -94,20 +94,20 @@ impl fmt::Display for Reason<'_> {
     fn fmt<W: fmt::Write>(&self, f: &mut fmt::Formatter<W>) -> fmt::Result {
         match *self {
             Reason::Layout(layout) => write!(f, "{layout}"),
-            Reason::Beginning { word, slip } => slip.write(f, Shown(word)),
+            Reason::Beginning { word, slip } => slip.write(f, word),
             Reason::Form(form) => write!(f, "{form}"),
             Reason::Name { word, slip } => {
-                let word = Shown(word);
-                write!(f, "{word}; {slip}")
+                write_word(f, word, "; ")?;
+                write!(f, "{slip}")
             }
             Reason::Number { word, slip } => {
-                let word = Shown(word);
-                write!(f, "{word}; {slip}")
+                write_word(f, word, "; ")?;
+                write!(f, "{slip}")
             }
             Reason::Place(place) => write!(f, "{place}"),
             Reason::Setting { word, setting } => {
-                let word = Shown(word);
-                write!(f, "{word}; {setting}")
+                write_word(f, word, "; ")?;
+                write!(f, "{setting}")
             }
         }
     }

@@ -10,7 +10,7 @@ use super::parse::parse_line;
 use super::words::{Words, queue_of};
 
 /// A line of a dialogue. Its lists stay in its text, as those of a `Line` do.
-#[derive(Drop, Debug)]
+#[derive(Drop)]
 pub enum ServeLine<'a> {
     /// A line of the language.
     Run { line: Line<'a> },

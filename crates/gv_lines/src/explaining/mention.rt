@@ -6,7 +6,7 @@ use crate::reason::Set;
 use crate::words::Words;
 
 /// A name, and the place of its first byte in its line, counted from 1.
-#[derive(Clone, Copy, Debug)]
+#[derive(Clone, Copy)]
 pub struct Mention<'a> {
     pub set: Set,
     pub name: &'a [u8],
@@ -14,7 +14,7 @@ pub struct Mention<'a> {
 }
 
 /// What the next word of a line is.
-#[derive(Clone, Copy, Debug, PartialEq, Eq)]
+#[derive(Clone, Copy)]
 enum Stands {
     /// The first of the line.
     Line,
@@ -25,7 +25,7 @@ enum Stands {
 }
 
 /// What the words of a line that are left are: the parts of a form that are left, with the set of its names.
-#[derive(Drop, Debug)]
+#[derive(Drop)]
 struct Next {
     stands: Stands,
     parts: Words<'static>,
@@ -33,7 +33,7 @@ struct Next {
 }
 
 /// The names in a line of the language that are left.
-#[derive(Drop, Debug)]
+#[derive(Drop)]
 pub struct Mentions<'a> {
     walk: Walk<'a>,
     next: Next,

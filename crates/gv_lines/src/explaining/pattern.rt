@@ -1,10 +1,9 @@
 //! The forms of lines, clauses and accesses.
-use crate::keyword::Keyword;
 use crate::reason::Set;
 
 /// A row of words: its first, and a part for each that stands behind it. NAME is a name of this set, QUEUE the number of a queue,
 /// Q the same in decimal, and any other part a number. Behind it may stand `ro`, if so said.
-#[derive(Clone, Copy, Debug)]
+#[derive(Clone, Copy)]
 pub struct Pattern {
     pub text: &'static str,
     pub names: Set,
@@ -12,7 +11,7 @@ pub struct Pattern {
 }
 
 /// What stands behind the first word of a line.
-#[derive(Clone, Copy, Debug)]
+#[derive(Clone, Copy)]
 pub enum Shape {
     Words { pattern: Pattern },
     /// Clauses, if any.
@@ -22,78 +21,88 @@ pub enum Shape {
 }
 
 /// What a clause, an operation on a range or an access is one of.
-#[derive(Clone, Copy, Debug, PartialEq, Eq)]
+#[derive(Clone, Copy, PartialEq, Eq)]
 pub enum Item {
     Clause,
     Operation,
     Access,
 }
 
-const fn of_buffers(text: &'static str) -> Pattern {
-    Pattern {
-        text,
-        names: Set::Buffers,
-        may_be_read_only: false,
-    }
-}
+/// A first word, and what is said of the row of words that it begins, as in a `Pattern`.
+type Row = (&'static [u8], &'static str, Set, bool);
 
-const fn of_timelines(text: &'static str) -> Pattern {
-    Pattern {
-        text,
-        names: Set::Timelines,
-        may_be_read_only: false,
-    }
-}
+/// The lines of scripts that are rows of words.
+#[rattlefmt::skip]
+const LINES: [Row; 17] = [
+    (b"space", "space START LEN RSTART RLEN", Set::Buffers, false),
+    (b"limits", "limits BUFFERS MAPPINGS ITEMS", Set::Buffers, false),
+    (b"buffer", "buffer NAME PAGES", Set::Buffers, false),
+    (b"destroy", "destroy NAME", Set::Buffers, false),
+    (b"uses", "uses NAME", Set::Buffers, false),
+    (b"timeline", "timeline NAME", Set::Timelines, false),
+    (b"raise", "raise NAME NUM", Set::Timelines, false),
+    (b"value", "value NAME", Set::Timelines, false),
+    (b"map", "map", Set::Buffers, false),
+    (b"at", "at ADDR", Set::Buffers, false),
+    (b"tables", "tables", Set::Buffers, false),
+    (b"rewind", "rewind", Set::Buffers, false),
+    (b"journal", "journal", Set::Buffers, false),
+    (b"withdraw", "withdraw ENTRY", Set::Buffers, false),
+    (b"settle", "settle TO", Set::Buffers, false),
+    (b"told", "told QUEUE", Set::Buffers, false),
+    (b"end", "end JOB", Set::Buffers, false),
+];
 
-const fn mapping(text: &'static str) -> Pattern {
-    Pattern {
-        text,
-        names: Set::Buffers,
-        may_be_read_only: true,
-    }
-}
+/// The rows of words that stand in a dialogue alone.
+#[rattlefmt::skip]
+const SERVE_LINES: [Row; 6] = [
+    (b"turn", "turn QUEUE", Set::Buffers, false),
+    (b"giveup", "giveup QUEUE", Set::Buffers, false),
+    (b"forget", "forget QUEUE TO", Set::Buffers, false),
+    (b"trim", "trim", Set::Buffers, false),
+    (b"show", "show ENTRY", Set::Buffers, false),
+    (b"past", "past ADDR", Set::Buffers, false),
+];
+
+/// The clauses that are no operations on a range.
+#[rattlefmt::skip]
+const CLAUSES: [Row; 4] = [
+    (b"unmapall", "unmapall NAME", Set::Buffers, false),
+    (b"wait", "wait NAME NUM", Set::Timelines, false),
+    (b"signal", "signal NAME NUM", Set::Timelines, false),
+    (b"queue", "queue Q", Set::Buffers, false),
+];
+
+#[rattlefmt::skip]
+const OPERATIONS: [Row; 3] = [
+    (b"map", "map ADDR LEN NAME OFFSET", Set::Buffers, true),
+    (b"zero", "zero ADDR LEN", Set::Buffers, true),
+    (b"unmap", "unmap ADDR LEN", Set::Buffers, false),
+];
+
+#[rattlefmt::skip]
+const ACCESSES: [Row; 2] = [
+    (b"read", "read ADDR", Set::Buffers, false),
+    (b"write", "write ADDR", Set::Buffers, false),
+];
 
 impl Shape {
-    /// The shape of the lines of a keyword.
-    pub fn of(keyword: Keyword) -> Shape {
-        let pattern = match keyword {
-            Keyword::Bind => return Shape::Clauses,
-            Keyword::Plan => return Shape::Operation,
-            Keyword::Job => return Shape::Accesses,
-            Keyword::Space => of_buffers("space START LEN RSTART RLEN"),
-            Keyword::Limits => of_buffers("limits BUFFERS MAPPINGS ITEMS"),
-            Keyword::Buffer => of_buffers("buffer NAME PAGES"),
-            Keyword::Destroy => of_buffers("destroy NAME"),
-            Keyword::Uses => of_buffers("uses NAME"),
-            Keyword::Timeline => of_timelines("timeline NAME"),
-            Keyword::Raise => of_timelines("raise NAME NUM"),
-            Keyword::Value => of_timelines("value NAME"),
-            Keyword::Map => of_buffers("map"),
-            Keyword::At => of_buffers("at ADDR"),
-            Keyword::Tables => of_buffers("tables"),
-            Keyword::Rewind => of_buffers("rewind"),
-            Keyword::Journal => of_buffers("journal"),
-            Keyword::Withdraw => of_buffers("withdraw ENTRY"),
-            Keyword::Settle => of_buffers("settle TO"),
-            Keyword::Told => of_buffers("told QUEUE"),
-            Keyword::End => of_buffers("end JOB"),
-        };
-        Shape::Words { pattern }
+    /// The shape of the lines of scripts that begin with this word.
+    pub fn of(word: &[u8]) -> Option<Shape> {
+        match word {
+            b"bind" => Some(Shape::Clauses),
+            b"plan" => Some(Shape::Operation),
+            b"job" => Some(Shape::Accesses),
+            _ => words_in(&LINES, word),
+        }
     }
 
     /// The shape of the lines that stand in a dialogue alone.
     pub fn of_serve(word: &[u8]) -> Option<Shape> {
-        let pattern = match word {
-            b"put" => return Some(Shape::Clauses),
-            b"turn" => of_buffers("turn QUEUE"),
-            b"giveup" => of_buffers("giveup QUEUE"),
-            b"forget" => of_buffers("forget QUEUE TO"),
-            b"trim" => of_buffers("trim"),
-            b"show" => of_buffers("show ENTRY"),
-            b"past" => of_buffers("past ADDR"),
-            _ => return None,
-        };
-        Some(Shape::Words { pattern })
+        match word {
+            b"put" => Some(Shape::Clauses),
+            _ => words_in(&SERVE_LINES, word),
+        }
     }
 }
 
@@ -101,36 +110,28 @@ impl Item {
     /// The form of those that begin with this word.
     pub fn pattern(self, word: &[u8]) -> Option<Pattern> {
         match self {
-            Item::Clause => clause_pattern(word),
-            Item::Operation => operation_pattern(word),
-            Item::Access => access_pattern(word),
+            Item::Clause => pattern_in(&CLAUSES, word).or(pattern_in(&OPERATIONS, word)),
+            Item::Operation => pattern_in(&OPERATIONS, word),
+            Item::Access => pattern_in(&ACCESSES, word),
         }
     }
 }
 
-fn clause_pattern(word: &[u8]) -> Option<Pattern> {
-    match word {
-        b"unmapall" => Some(of_buffers("unmapall NAME")),
-        b"wait" => Some(of_timelines("wait NAME NUM")),
-        b"signal" => Some(of_timelines("signal NAME NUM")),
-        b"queue" => Some(of_buffers("queue Q")),
-        _ => operation_pattern(word),
-    }
+fn words_in(rows: &[Row], word: &[u8]) -> Option<Shape> {
+    let pattern = pattern_in(rows, word)?;
+    Some(Shape::Words { pattern })
 }
 
-fn operation_pattern(word: &[u8]) -> Option<Pattern> {
-    match word {
-        b"map" => Some(mapping("map ADDR LEN NAME OFFSET")),
-        b"zero" => Some(mapping("zero ADDR LEN")),
-        b"unmap" => Some(of_buffers("unmap ADDR LEN")),
-        _ => None,
+/// The row that this word begins, if there is one.
+fn pattern_in(rows: &[Row], word: &[u8]) -> Option<Pattern> {
+    for (first, text, names, may_be_read_only) in rows {
+        if *first == word {
+            return Some(Pattern {
+                text,
+                names: *names,
+                may_be_read_only: *may_be_read_only,
+            });
+        }
     }
-}
-
-fn access_pattern(word: &[u8]) -> Option<Pattern> {
-    match word {
-        b"read" => Some(of_buffers("read ADDR")),
-        b"write" => Some(of_buffers("write ADDR")),
-        _ => None,
-    }
+    None
 }

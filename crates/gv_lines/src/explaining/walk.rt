@@ -4,14 +4,14 @@ ghost use Rattle.std.specs.Prelude.{◌≡◌, ◌∷◌, [], MatchOption};
 use crate::words::Words;
 
 /// Words that are left, and the place of the next one.
-#[derive(Drop, Debug)]
+#[derive(Drop)]
 pub struct Walk<'a> {
     pub words: Words<'a>,
     pub column: u64,
 }
 
 /// A word, and the place of its first byte in its line, counted from 1.
-#[derive(Clone, Copy, Debug)]
+#[derive(Clone, Copy)]
 pub struct Found<'a> {
     pub word: &'a [u8],
     pub column: u64,

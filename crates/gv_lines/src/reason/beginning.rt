@@ -1,9 +1,9 @@
 //! First words that begin nothing.
-use super::shown::Shown;
+use super::shown::{Shown, write_word};
 use std::fmt;
 
 /// Why a first word begins no line, or no clause. `meant` is one that is much like it.
-#[derive(Clone, Copy, Debug)]
+#[derive(Clone, Copy)]
 pub enum Beginning {
     NoSuchLine { meant: Option<&'static str> },
     /// Such a line stands in a dialogue alone.
@@ -22,15 +22,16 @@ impl Beginning {
     }
 
     /// Writes what is said of the word.
-    pub fn write<W: fmt::Write>(self, f: &mut fmt::Formatter<W>, word: Shown<'_>) -> fmt::Result {
-        match self {
-            Beginning::NoSuchLine { meant } => write_unknown(f, "line", word, meant),
-            Beginning::ServeAlone => write!(f, "{word} stands in vmbind serve alone"),
-            Beginning::NoSuchClause { meant } => write_unknown(f, "clause", word, meant),
-            Beginning::NoSuchOperation { meant } => write_unknown(f, "operation", word, meant),
-            Beginning::NoSuchAccess { meant } => write_unknown(f, "access", word, meant),
-            Beginning::NotPlanned => write!(f, "{word}; a plan has map, zero or unmap"),
-        }
+    pub fn write<W: fmt::Write>(self, f: &mut fmt::Formatter<W>, word: &[u8]) -> fmt::Result {
+        let (kind, meant) = match self {
+            Beginning::NoSuchLine { meant } => ("line", meant),
+            Beginning::NoSuchClause { meant } => ("clause", meant),
+            Beginning::NoSuchOperation { meant } => ("operation", meant),
+            Beginning::NoSuchAccess { meant } => ("access", meant),
+            Beginning::ServeAlone => return write_word(f, word, " stands in vmbind serve alone"),
+            Beginning::NotPlanned => return write_word(f, word, "; a plan has map, zero or unmap"),
+        };
+        write_unknown(f, kind, word, meant)
     }
 }
 
@@ -38,9 +39,10 @@ impl Beginning {
 fn write_unknown<W: fmt::Write>(
     f: &mut fmt::Formatter<W>,
     kind: &str,
-    word: Shown<'_>,
+    word: &[u8],
     meant: Option<&'static str>,
 ) -> fmt::Result {
+    let word = Shown(word);
     write!(f, "no such {kind}: {word}")?;
     match meant {
         Some(meant) => write!(f, "; did you mean {meant}?"),

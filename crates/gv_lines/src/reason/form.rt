@@ -1,9 +1,9 @@
 //! Words that are of no form.
-use super::shown::Shown;
+use super::shown::{Shown, write_word};
 use std::fmt;
 
 /// Why words are of no form. `form` is the whole form of a line or of a clause, and `part` one of its words.
-#[derive(Clone, Copy, Debug)]
+#[derive(Clone, Copy)]
 pub enum Form<'a> {
     /// The line or clause ends before this part.
     Missing {
@@ -30,18 +30,12 @@ pub enum Form<'a> {
 impl fmt::Display for Form<'_> {
     fn fmt<W: fmt::Write>(&self, f: &mut fmt::Formatter<W>) -> fmt::Result {
         match *self {
-            Form::Missing { part, form } => {
-                let part = Shown(part);
-                write!(f, "no {part}; the form is {form}")
-            }
+            Form::Missing { part, form } => write_missing(f, part, form),
             Form::TooMany { word, form } => {
-                let word = Shown(word);
-                write!(f, "{word}; nothing stands behind {form}")
+                write_word(f, word, "; nothing stands behind ")?;
+                f.write_str(form)
             }
-            Form::NotReadOnly { word } => {
-                let word = Shown(word);
-                write!(f, "{word}; only ro may stand here")
-            }
+            Form::NotReadOnly { word } => write_word(f, word, "; only ro may stand here"),
             Form::NoClause => f.write_str("an empty clause; one stands on each side of ;"),
             Form::StraySeparator => f.write_str(
                 "; stands between clauses and between accesses alone",
@@ -49,4 +43,9 @@ impl fmt::Display for Form<'_> {
             Form::SecondQueue => f.write_str("a second queue clause; there is at most one"),
         }
     }
+}
+
+fn write_missing<W: fmt::Write>(f: &mut fmt::Formatter<W>, part: &[u8], form: &str) -> fmt::Result {
+    let part = Shown(part);
+    write!(f, "no {part}; the form is {form}")
 }

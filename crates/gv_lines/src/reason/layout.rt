@@ -5,7 +5,7 @@ use std::fmt;
 pub const LINE_LIMIT: usize = 1_048_576;
 
 /// Why the bytes of a line are not words with one space between them.
-#[derive(Clone, Copy, Debug)]
+#[derive(Clone, Copy)]
 pub enum Layout {
     /// A byte from 0x80 on, also in a comment.
     HighByte { byte: u8 },

@@ -2,7 +2,7 @@
 use std::fmt;
 
 /// Why a word is no name.
-#[derive(Clone, Copy, Debug, PartialEq, Eq)]
+#[derive(Clone, Copy)]
 pub enum NameSlip {
     /// It is `zero`.
     Zero,

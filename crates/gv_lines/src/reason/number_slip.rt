@@ -2,7 +2,7 @@
 use std::fmt;
 
 /// Why a word is no number, or none that may stand at its place.
-#[derive(Clone, Copy, Debug, PartialEq, Eq)]
+#[derive(Clone, Copy)]
 pub enum NumberSlip {
     /// It begins with no digit.
     NoNumber,

@@ -1,9 +1,9 @@
 //! Lines of the language that are not at their place.
-use super::shown::Shown;
+use super::shown::{Shown, write_word};
 use std::fmt;
 
 /// The two sets of names.
-#[derive(Clone, Copy, Debug, PartialEq, Eq)]
+#[derive(Clone, Copy, PartialEq, Eq)]
 pub enum Set {
     Buffers,
     Timelines,
@@ -19,7 +19,7 @@ impl fmt::Display for Set {
 }
 
 /// Why a line of the language may not stand at its place in its script.
-#[derive(Clone, Copy, Debug)]
+#[derive(Clone, Copy)]
 pub enum Place<'a> {
     /// It names what is not declared.
     Undeclared { set: Set, name: &'a [u8] },
@@ -44,24 +44,14 @@ pub enum Place<'a> {
 impl fmt::Display for Place<'_> {
     fn fmt<W: fmt::Write>(&self, f: &mut fmt::Formatter<W>) -> fmt::Result {
         match *self {
-            Place::Undeclared { set, name } => {
-                let name = Shown(name);
-                write!(f, "{set} {name} is not declared")
-            }
-            Place::Declared { set, name } => {
-                let name = Shown(name);
-                write!(f, "{set} {name} is declared")
-            }
+            Place::Undeclared { set, name } => write_named(f, set, name, "not declared"),
+            Place::Declared { set, name } => write_named(f, set, name, "declared"),
             Place::ManyTimelines => f.write_str("a 65th timeline; there are at most 64"),
             Place::SpaceFirst => f.write_str("space stands before all other lines"),
             Place::LimitsFirst => f.write_str("limits stands before all other lines but space"),
-            Place::NotInThreads { word } => {
-                let word = Shown(word);
-                write!(f, "{word} stands in no threads script")
-            }
+            Place::NotInThreads { word } => write_word(f, word, " stands in no threads script"),
             Place::FirstPart { word } => {
-                let word = Shown(word);
-                write!(f, "{word} stands before all bind lines and questions")
+                write_word(f, word, " stands before all bind lines and questions")
             }
             Place::SecondPart => f.write_str("bind stands before all questions"),
             Place::Busy { queue } => write!(
@@ -70,4 +60,15 @@ impl fmt::Display for Place<'_> {
             ),
         }
     }
+}
+
+/// A name of this set is so.
+fn write_named<W: fmt::Write>(
+    f: &mut fmt::Formatter<W>,
+    set: Set,
+    name: &[u8],
+    so: &str,
+) -> fmt::Result {
+    let name = Shown(name);
+    write!(f, "{set} {name} is {so}")
 }

@@ -2,7 +2,7 @@
 use std::fmt;
 
 /// Why a `space` line or a `limits` line sets what cannot be set.
-#[derive(Clone, Copy, Debug)]
+#[derive(Clone, Copy)]
 pub enum Setting {
     /// This part of a `space` line is no multiple of 4,096.
     Unaligned { part: &'static str },

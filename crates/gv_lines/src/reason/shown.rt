@@ -5,7 +5,7 @@ use std::fmt;
 const SHOWN: usize = 40;
 
 /// A word in printable ASCII: its first bytes, and two dots where it is longer. Another byte is shown as its number.
-#[derive(Clone, Copy, Debug)]
+#[derive(Clone, Copy)]
 pub struct Shown<'a>(pub &'a [u8]);
 
 impl fmt::Display for Shown<'_> {
@@ -18,6 +18,16 @@ impl fmt::Display for Shown<'_> {
         }
         Ok(())
     }
+}
+
+/// Writes a word, and what is said of it behind it.
+pub fn write_word<W: fmt::Write>(
+    f: &mut fmt::Formatter<W>,
+    word: &[u8],
+    said: &str,
+) -> fmt::Result {
+    let word = Shown(word);
+    write!(f, "{word}{said}")
 }
 
 fn write_byte<W: fmt::Write>(f: &mut fmt::Formatter<W>, byte: u8) -> fmt::Result {
