@@ -5,8 +5,8 @@ ghost use Rattle.std.specs.Char.{is_ascii};
 ghost use Rattle.gv_lines.specs.Grammar.{parsed, line_said, worded, line_of};
 ghost use Rattle.gv_lines.specs.Grammar.{space_line, limits_line, buffer_line, destroy_line, uses_line};
 ghost use Rattle.gv_lines.specs.Grammar.{timeline_line, raise_line, value_line, bind_line, plan_line};
-ghost use Rattle.gv_lines.specs.Grammar.{map_line, at_line, tables_line, rewind_line, journal_line};
-ghost use Rattle.gv_lines.specs.Grammar.{withdraw_line, settle_line, told_line, job_line, end_line};
+ghost use Rattle.gv_lines.specs.Grammar.{at_line, withdraw_line, settle_line, told_line, job_line, end_line};
+ghost use Rattle.gv_lines.specs.Words.{ended};
 
 use super::clauses::ClauseList;
 use super::cutting::Clauses;
@@ -67,11 +67,11 @@ fn line_of(keyword: Keyword, words: Words<'_>) -> Option<Line<'_>>
         Keyword::Value => value_line(words),
         Keyword::Bind => bind_line(words),
         Keyword::Plan => plan_line(words),
-        Keyword::Map => map_line(words),
+        Keyword::Map => bare_line(words, Line::Map),
         Keyword::At => at_line(words),
-        Keyword::Tables => tables_line(words),
-        Keyword::Rewind => rewind_line(words),
-        Keyword::Journal => journal_line(words),
+        Keyword::Tables => bare_line(words, Line::Tables),
+        Keyword::Rewind => bare_line(words, Line::Rewind),
+        Keyword::Journal => bare_line(words, Line::Journal),
         Keyword::Withdraw => withdraw_line(words),
         Keyword::Settle => settle_line(words),
         Keyword::Told => told_line(words),
@@ -169,10 +169,11 @@ fn plan_line(words: Words<'_>) -> Option<Line<'_>>
     Some(Line::Plan { operation })
 }
 
-fn map_line(words: Words<'_>) -> Option<Line<'_>>
-    ensures { result ≡ map_line words.entry }
+/// A line of one word alone.
+fn bare_line<'a>(words: Words<'_>, line: Line<'a>) -> Option<Line<'a>>
+    ensures { result ≡ ended words.entry line.entry }
 {
-    words.is_done().then_some(Line::Map)
+    words.is_done().then_some(line)
 }
 
 fn at_line(mut words: Words<'_>) -> Option<Line<'_>>
@@ -180,24 +181,6 @@ fn at_line(mut words: Words<'_>) -> Option<Line<'_>>
 {
     let addr = words.take_number()?;
     words.is_done().then_some(Line::At { addr })
-}
-
-fn tables_line(words: Words<'_>) -> Option<Line<'_>>
-    ensures { result ≡ tables_line words.entry }
-{
-    words.is_done().then_some(Line::Tables)
-}
-
-fn rewind_line(words: Words<'_>) -> Option<Line<'_>>
-    ensures { result ≡ rewind_line words.entry }
-{
-    words.is_done().then_some(Line::Rewind)
-}
-
-fn journal_line(words: Words<'_>) -> Option<Line<'_>>
-    ensures { result ≡ journal_line words.entry }
-{
-    words.is_done().then_some(Line::Journal)
 }
 
 fn withdraw_line(mut words: Words<'_>) -> Option<Line<'_>>

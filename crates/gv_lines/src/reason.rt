@@ -15,7 +15,7 @@ pub use name_slip::NameSlip;
 pub use number_slip::NumberSlip;
 pub use place::{Place, Set};
 pub use setting::Setting;
-use shown::write_word;
+use shown::write_slip;
 use std::fmt;
 
 /// Where a line is bad first, and why. Its text says what was found, where, and what is wanted, in one line of ASCII.
@@ -96,19 +96,10 @@ impl fmt::Display for Reason<'_> {
             Reason::Layout(layout) => write!(f, "{layout}"),
             Reason::Beginning { word, slip } => slip.write(f, word),
             Reason::Form(form) => write!(f, "{form}"),
-            Reason::Name { word, slip } => {
-                write_word(f, word, "; ")?;
-                write!(f, "{slip}")
-            }
-            Reason::Number { word, slip } => {
-                write_word(f, word, "; ")?;
-                write!(f, "{slip}")
-            }
+            Reason::Name { word, slip } => write_slip(f, word, slip),
+            Reason::Number { word, slip } => write_slip(f, word, slip),
             Reason::Place(place) => write!(f, "{place}"),
-            Reason::Setting { word, setting } => {
-                write_word(f, word, "; ")?;
-                write!(f, "{setting}")
-            }
+            Reason::Setting { word, setting } => write_slip(f, word, setting),
         }
     }
 }

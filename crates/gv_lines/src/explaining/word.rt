@@ -5,6 +5,34 @@ use crate::number::{decimal_of, number_of};
 use crate::reason::{Form, NameSlip, NumberSlip, Reason, Slip};
 use crate::words::{QUEUES, queue_of};
 
+/// Which bytes stand in a word.
+#[derive(Clone, Copy)]
+enum Bytes {
+    OfNames,
+    Hexadecimal,
+    Decimal,
+}
+
+impl Bytes {
+    fn has(self, byte: u8) -> bool {
+        match self {
+            Bytes::OfNames => matches!(byte, b'a'..=b'z' | b'0'..=b'9' | b'_'),
+            Bytes::Hexadecimal => matches!(byte, b'0'..=b'9' | b'a'..=b'f'),
+            Bytes::Decimal => byte.is_ascii_digit(),
+        }
+    }
+}
+
+/// The place of the first byte that is none of these.
+fn first_other(bytes: &[u8], wanted: Bytes) -> Option<usize> {
+    for (place, byte) in bytes.iter().enumerate() {
+        if !wanted.has(*byte) {
+            return Some(place);
+        }
+    }
+    None
+}
+
 /// Why a word may not stand where a form has this part. A part is a number, unless it is a name or a queue.
 pub fn word_slip<'a>(part: &[u8], found: Found<'a>) -> Option<Slip<'a>> {
     let word = found.word;
@@ -46,14 +74,10 @@ fn name_slip(word: &[u8]) -> Option<(usize, NameSlip)> {
     if !first.is_ascii_lowercase() {
         return Some((0, NameSlip::Start));
     }
-    match rest.iter().position(|byte| !is_of_names(*byte)) {
+    match first_other(rest, Bytes::OfNames) {
         Some(place) => Some((place.saturating_add(1), NameSlip::Byte)),
         None => Some((0, NameSlip::Long)),
     }
-}
-
-fn is_of_names(byte: u8) -> bool {
-    byte.is_ascii_lowercase() || byte.is_ascii_digit() || byte == b'_'
 }
 
 /// Why a word is no number, and at which of its bytes.
@@ -80,18 +104,14 @@ fn hex_slip(digits: &[u8]) -> (usize, NumberSlip) {
     if digits.is_empty() {
         return (0, NumberSlip::NoDigits);
     }
-    match digits.iter().position(|byte| !is_hex_digit(*byte)) {
+    match first_other(digits, Bytes::Hexadecimal) {
         Some(place) => (place.saturating_add(2), NumberSlip::HexDigit),
         None => (0, NumberSlip::ManyDigits),
     }
 }
 
-fn is_hex_digit(byte: u8) -> bool {
-    matches!(byte, b'0'..=b'9' | b'a'..=b'f')
-}
-
 fn decimal_slip(word: &[u8]) -> (usize, NumberSlip) {
-    match word.iter().position(|byte| !byte.is_ascii_digit()) {
+    match first_other(word, Bytes::Decimal) {
         Some(place) => (place, NumberSlip::DecimalDigit),
         None if word.first() == Some(&b'0') => (0, NumberSlip::LeadingZero),
         None => (0, NumberSlip::TooGreat),

@@ -30,6 +30,16 @@ pub fn write_word<W: fmt::Write>(
     write!(f, "{word}{said}")
 }
 
+/// Writes a word, and why it is bad.
+pub fn write_slip<W: fmt::Write, S: fmt::Display + Drop>(
+    f: &mut fmt::Formatter<W>,
+    word: &[u8],
+    slip: S,
+) -> fmt::Result {
+    let word = Shown(word);
+    write!(f, "{word}; {slip}")
+}
+
 fn write_byte<W: fmt::Write>(f: &mut fmt::Formatter<W>, byte: u8) -> fmt::Result {
     if byte.is_ascii_graphic() || byte == b' ' {
         f.write_char(char::from(byte))
