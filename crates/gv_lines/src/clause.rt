@@ -3,7 +3,7 @@ ghost use Rattle.std.specs.Prelude.{◌≡◌};
 
 use super::operation::{Operation, range_operation, unmapall_operation};
 use super::point::NamedPoint;
-use super::words::Words;
+use super::words::{Words, is_word};
 
 /// What stands between two separators of a bind line.
 #[derive(Drop)]
@@ -28,11 +28,11 @@ impl Clause {
         ensures { result ≡ clause_of words.entry }
     {
         let first = words.take_word()?;
-        if first == b"wait".as_slice() {
+        if is_word(first, b"wait") {
             Clause::wait(words)
-        } else if first == b"signal".as_slice() {
+        } else if is_word(first, b"signal") {
             Clause::signal(words)
-        } else if first == b"queue".as_slice() {
+        } else if is_word(first, b"queue") {
             Clause::queue(words)
         } else {
             Clause::change(first, words)
@@ -64,7 +64,7 @@ impl Clause {
     fn change(first: &[u8], more: Words<'_>) -> Option<Clause>
         ensures { result ≡ change_clause first.now more.entry }
     {
-        let operation = if first == b"unmapall".as_slice() {
+        let operation = if is_word(first, b"unmapall") {
             unmapall_operation(more)?
         } else {
             range_operation(first, more)?

@@ -186,7 +186,7 @@ fn items_slip<'a>(alloc: Global, item: Item, walk: &mut Walk<'a>) -> Option<Slip
     let mut has_queue = false;
     while let Some(words) = parts.take_clause() {
         let mut clause = Walk { words, column };
-        let names_queue = item == Item::Clause && clause.begins_with(b"queue");
+        let names_queue = matches!(item, Item::Clause) && clause.begins_with(b"queue");
         if names_queue && has_queue {
             return Some(of_form(column, Form::SecondQueue));
         }

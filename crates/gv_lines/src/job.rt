@@ -2,12 +2,12 @@
 ghost use Rattle.std.specs.Prelude.{◌≡◌, ◌∷◌, [], IfOk, MatchOption};
 
 use super::cutting::Clauses;
-use super::words::Words;
+use super::words::{Words, is_word};
 use std::alloc::{AllocError, Global};
 use std::marker::Model;
 
 /// An access of a job to an address in bytes.
-#[derive(Clone, Copy, Debug, PartialEq, Eq)]
+#[derive(Clone, Copy, Debug)]
 pub enum Access {
     /// `read NUM`
     Read { addr: u64 },
@@ -23,9 +23,9 @@ impl Access {
         ensures { result ≡ access_of words.entry }
     {
         let first = words.take_word()?;
-        if first == b"read".as_slice() {
+        if is_word(first, b"read") {
             Access::read(words)
-        } else if first == b"write".as_slice() {
+        } else if is_word(first, b"write") {
             Access::write(words)
         } else {
             None

@@ -2,6 +2,8 @@
 ghost use Rattle.std.specs.Prelude.{◌≡◌};
 ghost use Rattle.gv_lines.specs.Grammar.{keyword_of, keyword_from_timeline, keyword_from_map, keyword_from_withdraw};
 
+use super::words::is_word;
+
 /// The first word of a line.
 #[derive(Clone, Copy)]
 pub enum Keyword {
@@ -32,15 +34,15 @@ impl Keyword {
     pub fn from_word(word: &[u8]) -> Option<Keyword>
         ensures { result ≡ keyword_of word.now }
     {
-        if word == b"space".as_slice() {
+        if is_word(word, b"space") {
             Some(Keyword::Space)
-        } else if word == b"limits".as_slice() {
+        } else if is_word(word, b"limits") {
             Some(Keyword::Limits)
-        } else if word == b"buffer".as_slice() {
+        } else if is_word(word, b"buffer") {
             Some(Keyword::Buffer)
-        } else if word == b"destroy".as_slice() {
+        } else if is_word(word, b"destroy") {
             Some(Keyword::Destroy)
-        } else if word == b"uses".as_slice() {
+        } else if is_word(word, b"uses") {
             Some(Keyword::Uses)
         } else {
             Keyword::from_timeline(word)
@@ -51,15 +53,15 @@ impl Keyword {
     fn from_timeline(word: &[u8]) -> Option<Keyword>
         ensures { result ≡ keyword_from_timeline word.now }
     {
-        if word == b"timeline".as_slice() {
+        if is_word(word, b"timeline") {
             Some(Keyword::Timeline)
-        } else if word == b"raise".as_slice() {
+        } else if is_word(word, b"raise") {
             Some(Keyword::Raise)
-        } else if word == b"value".as_slice() {
+        } else if is_word(word, b"value") {
             Some(Keyword::Value)
-        } else if word == b"bind".as_slice() {
+        } else if is_word(word, b"bind") {
             Some(Keyword::Bind)
-        } else if word == b"plan".as_slice() {
+        } else if is_word(word, b"plan") {
             Some(Keyword::Plan)
         } else {
             Keyword::from_map(word)
@@ -70,15 +72,15 @@ impl Keyword {
     fn from_map(word: &[u8]) -> Option<Keyword>
         ensures { result ≡ keyword_from_map word.now }
     {
-        if word == b"map".as_slice() {
+        if is_word(word, b"map") {
             Some(Keyword::Map)
-        } else if word == b"at".as_slice() {
+        } else if is_word(word, b"at") {
             Some(Keyword::At)
-        } else if word == b"tables".as_slice() {
+        } else if is_word(word, b"tables") {
             Some(Keyword::Tables)
-        } else if word == b"rewind".as_slice() {
+        } else if is_word(word, b"rewind") {
             Some(Keyword::Rewind)
-        } else if word == b"journal".as_slice() {
+        } else if is_word(word, b"journal") {
             Some(Keyword::Journal)
         } else {
             Keyword::from_withdraw(word)
@@ -89,15 +91,15 @@ impl Keyword {
     fn from_withdraw(word: &[u8]) -> Option<Keyword>
         ensures { result ≡ keyword_from_withdraw word.now }
     {
-        if word == b"withdraw".as_slice() {
+        if is_word(word, b"withdraw") {
             Some(Keyword::Withdraw)
-        } else if word == b"settle".as_slice() {
+        } else if is_word(word, b"settle") {
             Some(Keyword::Settle)
-        } else if word == b"told".as_slice() {
+        } else if is_word(word, b"told") {
             Some(Keyword::Told)
-        } else if word == b"job".as_slice() {
+        } else if is_word(word, b"job") {
             Some(Keyword::Job)
-        } else if word == b"end".as_slice() {
+        } else if is_word(word, b"end") {
             Some(Keyword::End)
         } else {
             None

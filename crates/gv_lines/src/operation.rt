@@ -4,7 +4,7 @@ ghost use Rattle.gv_lines.specs.Operation.{planned_operation, range_operation, u
 ghost use Rattle.gv_lines.specs.Operation.{map_operation, zero_operation, unmap_operation, read_only_end};
 
 use super::name::Name;
-use super::words::Words;
+use super::words::{Words, is_word};
 
 /// A change of what an address space maps. Addresses, lengths and offsets are in bytes, and may be
 /// any numbers: whether an address space allows the change is not asked here.
@@ -50,11 +50,11 @@ pub fn planned_operation(mut words: Words<'_>) -> Option<Operation>
 pub fn range_operation(first: &[u8], more: Words<'_>) -> Option<Operation>
     ensures { result ≡ range_operation first.now more.entry }
 {
-    if first == b"map".as_slice() {
+    if is_word(first, b"map") {
         map_operation(more)
-    } else if first == b"zero".as_slice() {
+    } else if is_word(first, b"zero") {
         zero_operation(more)
-    } else if first == b"unmap".as_slice() {
+    } else if is_word(first, b"unmap") {
         unmap_operation(more)
     } else {
         None
@@ -116,6 +116,6 @@ fn read_only_end(mut words: Words<'_>) -> Option<bool>
 {
     match words.take_word() {
         None => Some(false),
-        Some(word) => (word == b"ro".as_slice() && words.is_done()).then_some(true),
+        Some(word) => (is_word(word, b"ro") && words.is_done()).then_some(true),
     }
 }

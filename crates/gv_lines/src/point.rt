@@ -5,7 +5,7 @@ use super::name::Name;
 use super::words::Words;
 
 /// A number on a timeline that has a name.
-#[derive(Drop, Debug, PartialEq, Eq)]
+#[derive(Drop, Debug)]
 pub struct NamedPoint {
     pub timeline: Name,
     pub value: u64,

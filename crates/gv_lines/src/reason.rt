@@ -71,12 +71,15 @@ impl<'a> Slip<'a> {
 impl Reason<'_> {
     /// Whether the text says the place of what was found.
     fn has_column(&self) -> bool {
-        match self {
-            Reason::Layout(layout) => layout.has_column(),
-            Reason::Beginning { slip, .. } => slip.has_column(),
-            Reason::Place(_) => false,
-            _ => true,
-        }
+        !matches!(
+            self,
+            Reason::Layout(Layout::TooLong | Layout::NoLineEnd)
+                | Reason::Beginning {
+                    slip: Beginning::NoSuchLine { .. } | Beginning::ServeAlone,
+                    ..
+                }
+                | Reason::Place(_)
+        )
     }
 }
 

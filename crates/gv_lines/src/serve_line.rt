@@ -7,7 +7,7 @@ use super::clauses::ClauseList;
 use super::cutting::Clauses;
 use super::line::Line;
 use super::parse::parse_line;
-use super::words::{Words, queue_of};
+use super::words::{Words, is_word, queue_of};
 
 /// A line of a dialogue. Its lists stay in its text, as those of a `Line` do.
 #[derive(Drop)]
@@ -55,19 +55,19 @@ fn added(text: &[u8]) -> Option<ServeLine<'_>>
 fn added_line<'a>(first: &[u8], words: Words<'a>) -> Option<ServeLine<'a>>
     ensures { result ≡ added_line first.now words.entry }
 {
-    if first == b"put".as_slice() {
+    if is_word(first, b"put") {
         put_line(words)
-    } else if first == b"turn".as_slice() {
+    } else if is_word(first, b"turn") {
         turn_line(words)
-    } else if first == b"giveup".as_slice() {
+    } else if is_word(first, b"giveup") {
         give_up_line(words)
-    } else if first == b"forget".as_slice() {
+    } else if is_word(first, b"forget") {
         forget_line(words)
-    } else if first == b"trim".as_slice() {
+    } else if is_word(first, b"trim") {
         trim_line(words)
-    } else if first == b"show".as_slice() {
+    } else if is_word(first, b"show") {
         show_line(words)
-    } else if first == b"past".as_slice() {
+    } else if is_word(first, b"past") {
         past_line(words)
     } else {
         None

@@ -1,6 +1,6 @@
 //! A line cut into words.
 ghost use Rattle.std.specs.Prelude.{◌≡◌, ◌∷◌, [], List, ℕ, None, Some, MatchOption, IsTrue, ◌↔◌};
-ghost use Rattle.std.specs.Prelude.{◌==◌, ◌<◌, length, position, IfSome};
+ghost use Rattle.std.specs.Prelude.{◌==◌, ◌<◌, length, position, IfSome, bytes_eq};
 ghost use Rattle.std.specs.List.{list_any};
 ghost use Rattle.gv_lines.specs.Words.{words, clauses, parts};
 ghost use Rattle.gv_lines.specs.Words.{first_name, first_number, first_queue, queue_of};
@@ -145,6 +145,14 @@ impl<'a> Words<'a> {
         }
         (Words { rest, limit }, None)
     }
+}
+
+/// Whether a word is this one. Inlined, so that its length and bytes are known where it is looked for.
+#[inline(always)]
+pub fn is_word(word: &[u8], text: &[u8]) -> bool
+    ensures { result ≡ bytes_eq word.now text.now }
+{
+    word == text
 }
 
 /// The queue of a number, if there is one.

@@ -21,7 +21,7 @@ pub enum Shape {
 }
 
 /// What a clause, an operation on a range or an access is one of.
-#[derive(Clone, Copy, PartialEq, Eq)]
+#[derive(Clone, Copy)]
 pub enum Item {
     Clause,
     Operation,

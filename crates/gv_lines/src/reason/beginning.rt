@@ -16,11 +16,6 @@ pub enum Beginning {
 }
 
 impl Beginning {
-    /// Whether the text says the place of the word.
-    pub fn has_column(self) -> bool {
-        !matches!(self, Beginning::NoSuchLine { .. } | Beginning::ServeAlone)
-    }
-
     /// Writes what is said of the word.
     pub fn write<W: fmt::Write>(self, f: &mut fmt::Formatter<W>, word: &[u8]) -> fmt::Result {
         let (kind, meant) = match self {

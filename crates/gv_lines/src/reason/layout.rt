@@ -43,11 +43,6 @@ impl Layout {
             Layout::NoLineEnd => "no line end",
         }
     }
-
-    /// Whether the text says the place of a byte.
-    pub fn has_column(self) -> bool {
-        !matches!(self, Layout::TooLong | Layout::NoLineEnd)
-    }
 }
 
 impl fmt::Display for Layout {
