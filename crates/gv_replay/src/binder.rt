@@ -1,9 +1,9 @@
 //! VMAs that a log binds and unbinds whole.
 
 use crate::fault::ReplayFault;
+use crate::place::Place;
 use crate::replaying::{Freed, Replay};
 use crate::row::{Act, Cause, Moment};
-use crate::tally::Place;
 use crate::watcher::Watcher;
 use gv_logs::{Vma, VmaEvent};
 use gv_types::{BufferId, Flags, Op, PAGE_BYTES, SPACE_PAGES};
@@ -31,6 +31,11 @@ impl Bound {
         self.start == vma.start && self.len == vma.len
     }
 
+    /// Whether its range is one mapping of its buffer.
+    fn is_whole(&self, replay: &Replay) -> bool {
+        replay.is_whole(&self.buffer, self.start, self.len)
+    }
+
     /// It goes, for this reason. Mappings in its own range are none that still reach it.
     fn gone(&self, cause: Cause) -> Freed {
         Freed {
@@ -42,15 +47,9 @@ impl Bound {
         }
     }
 
-    /// Its pointer is another VMA's: each mapping that is left still reaches it.
+    /// Its pointer is another VMA's.
     fn replaced(&self) -> Freed {
-        Freed {
-            buffer: self.buffer,
-            addr: 0,
-            len: 0,
-            made_at: self.made_at,
-            cause: Cause::MadeAnew,
-        }
+        Freed::replaced(self.buffer, self.made_at)
     }
 }
 
@@ -76,13 +75,9 @@ impl Binder {
         watcher: &mut V,
     ) -> Result<(), ReplayFault> {
         let (moment, event) = event;
-        match *event {
+        match event {
             VmaEvent::Bound { vma, is_of_process } => {
-                let cause = if is_of_process {
-                    Cause::OfProcess
-                } else {
-                    Cause::Plain
-                };
+                let cause = cause_of(*is_of_process);
                 self.bind(alloc, replay, (moment, vma, cause), watcher)
             }
             VmaEvent::Unbound { vma } => self.unbind(alloc, replay, (moment, vma), watcher),
@@ -101,11 +96,11 @@ impl Binder {
         &mut self,
         alloc: Global,
         replay: &mut Replay,
-        what: (Moment, Vma, Cause),
+        what: (Moment, &Vma, Cause),
         watcher: &mut V,
     ) -> Result<(), ReplayFault> {
         let (moment, vma, cause) = what;
-        if self.stands(replay, &vma) {
+        if self.stands(replay, vma) {
             replay.tally.count_touch();
             return Ok(());
         }
@@ -113,19 +108,32 @@ impl Binder {
             replay.free(alloc, moment, &older.replaced(), watcher)?;
         }
         let pages = vma.len.div_ceil(PAGE_BYTES);
-        let Some(buffer) = replay.make(alloc, moment, pages, watcher)? else {
-            return Ok(());
-        };
-        let act = map_of(moment, vma, buffer, cause);
-        replay.note_over(&act)?;
-        if !replay.carry_out(alloc, &act, watcher)? {
-            return replay.give_up(buffer);
+        match replay.make(alloc, moment, pages, watcher)? {
+            Some(buffer) => {
+                let act = map_of(moment, vma, &buffer, cause);
+                self.put(alloc, replay, (&act, vma, &buffer), watcher)
+            }
+            None => Ok(()),
+        }
+    }
+
+    /// Maps a VMA to its buffer, which goes where the map is refused.
+    fn put<V: Watcher>(
+        &mut self,
+        alloc: Global,
+        replay: &mut Replay,
+        what: (&Act, &Vma, &BufferId),
+        watcher: &mut V,
+    ) -> Result<(), ReplayFault> {
+        let (act, vma, buffer) = what;
+        if !replay.map(alloc, act, watcher)? {
+            return replay.give_up(*buffer);
         }
         let bound = Bound {
             start: vma.start,
             len: vma.len,
-            buffer,
-            made_at: moment.line,
+            buffer: *buffer,
+            made_at: act.moment.line,
         };
         let _none = self.bound.insert(vma.pointer, bound)?;
         Ok(())
@@ -134,9 +142,7 @@ impl Binder {
     /// Whether a VMA stands at just its range.
     fn stands(&self, replay: &Replay, vma: &Vma) -> bool {
         match self.bound.get(&vma.pointer) {
-            Some(bound) => {
-                bound.is_at(vma) && replay.is_whole(&bound.buffer, vma.start, vma.len)
-            }
+            Some(bound) => bound.is_at(vma) && bound.is_whole(replay),
             None => false,
         }
     }
@@ -147,32 +153,26 @@ impl Binder {
         &mut self,
         alloc: Global,
         replay: &mut Replay,
-        what: (Moment, Vma),
+        what: (Moment, &Vma),
         watcher: &mut V,
     ) -> Result<(), ReplayFault> {
         let (moment, vma) = what;
-        let Some(bound) = self.bound.remove(&vma.pointer) else {
-            let act = unmap_of(moment, vma, Cause::OfUnknown);
-            replay.tally.of_nothing.add(Place::Nothing { act })?;
-            let _done = replay.carry_out(alloc, &act, watcher)?;
-            return Ok(());
-        };
-        if bound.is_at(&vma) {
-            let act = unmap_of(moment, vma, Cause::Plain);
-            replay.note_nothing(&act)?;
-            let _done = replay.carry_out(alloc, &act, watcher)?;
-            return replay.give_up(bound.buffer);
+        match self.bound.remove(&vma.pointer) {
+            Some(bound) if bound.is_at(vma) => {
+                let act = unmap_of(moment, vma, Cause::Plain);
+                replay.unmap(alloc, &act, watcher)?;
+                replay.give_up(bound.buffer)
+            }
+            Some(bound) => {
+                let act = unmap_of(moment, vma, Cause::Elsewhere);
+                unbind_elsewhere(alloc, replay, (&act, &bound), watcher)
+            }
+            None => {
+                let act = unmap_of(moment, vma, Cause::OfUnknown);
+                replay.tally.of_nothing.add(Place::nothing(&act))?;
+                replay.go_on(alloc, &act, watcher)
+            }
         }
-        let act = unmap_of(moment, vma, Cause::Elsewhere);
-        replay.tally.of_nothing.add(Place::Elsewhere {
-            act,
-            addr: bound.start,
-            len: bound.len,
-            made_at: bound.made_at,
-        })?;
-        replay.free(alloc, moment, &bound.gone(Cause::Elsewhere), watcher)?;
-        let _done = replay.carry_out(alloc, &act, watcher)?;
-        Ok(())
     }
 
     /// The address space begins or goes: what is left in it goes without events of its own.
@@ -189,9 +189,13 @@ impl Binder {
                 addr: 0,
                 len: SPACE_BYTES,
             };
-            let act = Act { moment, op, cause };
-            let _done = replay.carry_out(alloc, &act, watcher)?;
+            replay.go_on(alloc, &Act { moment, op, cause }, watcher)?;
         }
+        self.give_up_all(replay)
+    }
+
+    /// No VMA is bound any more.
+    fn give_up_all(&mut self, replay: &mut Replay) -> Result<(), ReplayFault> {
         for bound in self.bound.values() {
             replay.give_up(bound.buffer)?;
         }
@@ -200,14 +204,38 @@ impl Binder {
     }
 }
 
+/// Why a VMA is bound.
+fn cause_of(is_of_process: bool) -> Cause {
+    if is_of_process {
+        Cause::OfProcess
+    } else {
+        Cause::Plain
+    }
+}
+
+/// A VMA that was bound at another range is unbound, and goes.
+fn unbind_elsewhere<V: Watcher>(
+    alloc: Global,
+    replay: &mut Replay,
+    what: (&Act, &Bound),
+    watcher: &mut V,
+) -> Result<(), ReplayFault> {
+    let (act, bound) = what;
+    let place = Place::elsewhere(act, [bound.start, bound.len, bound.made_at]);
+    replay.tally.of_nothing.add(place)?;
+    let freed = bound.gone(Cause::Elsewhere);
+    replay.free(alloc, act.moment, &freed, watcher)?;
+    replay.go_on(alloc, act, watcher)
+}
+
 /// The map of a VMA to a buffer, from its byte 0 on.
-fn map_of(moment: Moment, vma: Vma, buffer: BufferId, cause: Cause) -> Act {
+fn map_of(moment: Moment, vma: &Vma, buffer: &BufferId, cause: Cause) -> Act {
     Act {
         moment,
         op: Op::Map {
             addr: vma.start,
             len: vma.len,
-            buffer,
+            buffer: *buffer,
             offset: 0,
             flags: WRITABLE,
         },
@@ -216,7 +244,7 @@ fn map_of(moment: Moment, vma: Vma, buffer: BufferId, cause: Cause) -> Act {
 }
 
 /// The unmap of a VMA's range.
-fn unmap_of(moment: Moment, vma: Vma, cause: Cause) -> Act {
+fn unmap_of(moment: Moment, vma: &Vma, cause: Cause) -> Act {
     Act {
         moment,
         op: Op::Unmap {

@@ -1,7 +1,7 @@
 //! Operations, moments and places as members of JSON.
 
+use crate::place::{Digits, Field, Head, Place};
 use crate::row::{Act, Moment};
-use crate::tally::Place;
 use crate::text::{write_buffer, write_op, write_time};
 use gv_json::Json;
 use gv_types::{BufferId, Fault, Op};
@@ -71,27 +71,36 @@ impl JsonWriter {
         }
     }
 
-    fn range(&mut self, addr: u64, len: u64) -> Result<(), AllocError> {
-        self.json.address("addr", addr)?;
-        self.json.address("len", len)
+    /// Opens a list under a key.
+    pub fn open_list(&mut self, key: &str) -> Result<(), AllocError> {
+        self.json.key(key)?;
+        self.json.open_list()
     }
 
     /// What an address reaches, in bytes of its buffer: an object, or null.
-    pub fn reached(&mut self, key: &str, reached: Option<Reached>) -> Result<(), AllocError> {
+    pub fn reached(&mut self, key: &str, reached: &Option<Reached>) -> Result<(), AllocError> {
         self.json.key(key)?;
-        let Some(Reached { target, flags }) = reached else {
-            return self.json.null();
-        };
+        match reached {
+            Some(reached) => self.object(reached),
+            None => self.json.null(),
+        }
+    }
+
+    fn object(&mut self, reached: &Reached) -> Result<(), AllocError> {
         self.json.open_object()?;
+        self.target(&reached.target)?;
+        self.json.flag("ro", reached.flags.read_only)?;
+        self.json.close_object()
+    }
+
+    fn target(&mut self, target: &Target) -> Result<(), AllocError> {
         match target {
             Target::Buffer { id, byte } => {
-                self.buffer(&id)?;
-                self.json.address("offset", byte)?;
+                self.buffer(id)?;
+                self.json.address("offset", *byte)
             }
-            Target::Zero => self.json.flag("zero", true)?,
+            Target::Zero => self.json.flag("zero", true),
         }
-        self.json.flag("ro", flags.read_only)?;
-        self.json.close_object()
     }
 
     /// Where a finding was made: an object.
@@ -102,62 +111,31 @@ impl JsonWriter {
     }
 
     fn place_members(&mut self, place: &Place) -> Result<(), AllocError> {
-        match *place {
-            Place::Over { act, mappings } => {
-                self.act(&act)?;
-                self.json.number("mappings", mappings)
+        self.head(&place.head)?;
+        for (field, number) in place.kind.fields().iter().zip(&place.numbers) {
+            self.field(field, *number)?;
+        }
+        match place.fault {
+            Some(fault) => self.fault(fault),
+            None => Ok(()),
+        }
+    }
+
+    fn head(&mut self, head: &Head) -> Result<(), AllocError> {
+        match head {
+            Head::Act { act } => self.act(act),
+            Head::Moment { moment } => self.moment(*moment),
+            Head::Buffer { moment, buffer } => {
+                self.moment(*moment)?;
+                self.buffer(buffer)
             }
-            Place::Nothing { act } => self.act(&act),
-            Place::Elsewhere {
-                act,
-                addr,
-                len,
-                made_at,
-            } => {
-                self.act(&act)?;
-                self.range(addr, len)?;
-                self.json.number("made_at", made_at)
-            }
-            Place::NotAlive { moment, addr, len } => {
-                self.moment(moment)?;
-                self.range(addr, len)
-            }
-            Place::Reached {
-                moment,
-                buffer,
-                made_at,
-                pages,
-                mappings,
-            } => {
-                self.moment(moment)?;
-                self.buffer(&buffer)?;
-                self.json.number("made_at", made_at)?;
-                self.json.number("pages", pages)?;
-                self.json.number("mappings", mappings)
-            }
-            Place::Nowhere {
-                moment,
-                addr,
-                len,
-                to,
-            } => {
-                self.moment(moment)?;
-                self.range(addr, len)?;
-                self.json.address("to", to)
-            }
-            Place::Refused { act, fault } => {
-                self.act(&act)?;
-                self.fault(fault)
-            }
-            Place::NotMade {
-                moment,
-                pages,
-                fault,
-            } => {
-                self.moment(moment)?;
-                self.json.number("pages", pages)?;
-                self.fault(fault)
-            }
+        }
+    }
+
+    fn field(&mut self, field: &Field, number: u64) -> Result<(), AllocError> {
+        match field.digits {
+            Digits::Hex => self.json.address(field.key, number),
+            Digits::Decimal | Digits::Counted => self.json.number(field.key, number),
         }
     }
 }

@@ -4,9 +4,10 @@ use crate::alive::Alive;
 use crate::json_place::JsonWriter;
 use crate::outcome::Outcome;
 use crate::past::{Before, Past};
+use crate::place::Place;
 use crate::space_name::SpaceName;
 use crate::spaces::SpaceOutcome;
-use crate::tally::{Finding, Tally};
+use crate::tally::{FINDINGS, Finding, Tally};
 use std::alloc::{AllocError, Global};
 
 /// Writes what each address space of a log came to that has something to tell, and the names of the others: one object, on a line of
@@ -17,20 +18,22 @@ pub fn write_json(
     spaces: &[SpaceOutcome],
 ) -> Result<(), AllocError> {
     let mut writer = JsonWriter::new(alloc)?;
-    match spaces {
-        [one] => write_outcome(&mut writer, &one.outcome)?,
-        several => {
-            write_spaces(&mut writer, several)?;
-            write_others(&mut writer, several)?;
-        }
-    }
+    write_members(&mut writer, spaces)?;
     writer.finish(out)
+}
+
+/// The members of the object.
+fn write_members(writer: &mut JsonWriter, spaces: &[SpaceOutcome]) -> Result<(), AllocError> {
+    if let [one] = spaces {
+        return write_outcome(writer, &one.outcome);
+    }
+    write_spaces(writer, spaces)?;
+    write_others(writer, spaces)
 }
 
 /// The list of the spaces that have something to tell.
 fn write_spaces(writer: &mut JsonWriter, spaces: &[SpaceOutcome]) -> Result<(), AllocError> {
-    writer.json.key("spaces")?;
-    writer.json.open_list()?;
+    writer.open_list("spaces")?;
     for space in spaces {
         if space.outcome.has_news() {
             write_space(writer, space)?;
@@ -49,16 +52,20 @@ fn write_space(writer: &mut JsonWriter, space: &SpaceOutcome) -> Result<(), Allo
 
 /// The list of the spaces that have nothing to tell.
 fn write_others(writer: &mut JsonWriter, spaces: &[SpaceOutcome]) -> Result<(), AllocError> {
-    writer.json.key("nothing_found")?;
-    writer.json.open_list()?;
+    writer.open_list("nothing_found")?;
     for space in spaces {
         if !space.outcome.has_news() {
-            writer.json.open_object()?;
-            write_name(writer, space.name)?;
-            writer.json.close_object()?;
+            write_named(writer, space.name)?;
         }
     }
     writer.json.close_list()
+}
+
+/// The name of a space alone.
+fn write_named(writer: &mut JsonWriter, name: SpaceName) -> Result<(), AllocError> {
+    writer.json.open_object()?;
+    write_name(writer, name)?;
+    writer.json.close_object()
 }
 
 /// The member that names a space: its word, and its number.
@@ -90,25 +97,32 @@ fn write_tally(writer: &mut JsonWriter, tally: &Tally) -> Result<(), AllocError>
     if tally.touched > 0 {
         writer.json.number("touched", tally.touched)?;
     }
-    write_finding(writer, "over_live", &tally.over_live)?;
-    write_finding(writer, "of_nothing", &tally.of_nothing)?;
-    write_finding(writer, "still_reached", &tally.still_reached)?;
-    write_finding(writer, "to_no_memory", &tally.to_no_memory)?;
-    write_finding(writer, "refused", &tally.refused)
+    write_findings(writer, tally)
 }
 
-/// A finding under its key: its count, and its places.
-fn write_finding(writer: &mut JsonWriter, key: &str, finding: &Finding) -> Result<(), AllocError> {
-    writer.json.key(key)?;
+/// The findings, each under its key.
+fn write_findings(writer: &mut JsonWriter, tally: &Tally) -> Result<(), AllocError> {
+    for told in FINDINGS {
+        writer.json.key(told.key)?;
+        write_finding(writer, tally.finding(told))?;
+    }
+    Ok(())
+}
+
+/// A finding: its count, and its places.
+fn write_finding(writer: &mut JsonWriter, finding: &Finding) -> Result<(), AllocError> {
     writer.json.open_object()?;
     writer.json.number("count", finding.count())?;
-    writer.json.key("places")?;
-    writer.json.open_list()?;
-    for place in finding.places() {
+    write_places(writer, finding.places())?;
+    writer.json.close_object()
+}
+
+fn write_places(writer: &mut JsonWriter, places: &[Place]) -> Result<(), AllocError> {
+    writer.open_list("places")?;
+    for place in places {
         writer.place(place)?;
     }
-    writer.json.close_list()?;
-    writer.json.close_object()
+    writer.json.close_list()
 }
 
 /// What is alive.
@@ -118,19 +132,21 @@ fn write_alive(writer: &mut JsonWriter, alive: &Alive) -> Result<(), AllocError>
     writer.json.number("mappings", alive.mappings)?;
     writer.json.number("buffers", alive.buffers)?;
     writer.json.number("bytes", alive.bytes)?;
-    writer.json.key("tables")?;
-    writer.json.open_list()?;
-    for count in &alive.tables {
+    write_tables(writer, &alive.tables)?;
+    writer.json.close_object()
+}
+
+fn write_tables(writer: &mut JsonWriter, tables: &[u64]) -> Result<(), AllocError> {
+    writer.open_list("tables")?;
+    for count in tables {
         writer.json.item(*count)?;
     }
-    writer.json.close_list()?;
-    writer.json.close_object()
+    writer.json.close_list()
 }
 
 /// The list of the addresses that are asked.
 fn write_pasts(writer: &mut JsonWriter, pasts: &[Past]) -> Result<(), AllocError> {
-    writer.json.key("at")?;
-    writer.json.open_list()?;
+    writer.open_list("at")?;
     for past in pasts {
         write_past(writer, past)?;
     }
@@ -141,19 +157,22 @@ fn write_pasts(writer: &mut JsonWriter, pasts: &[Past]) -> Result<(), AllocError
 fn write_past(writer: &mut JsonWriter, past: &Past) -> Result<(), AllocError> {
     writer.json.open_object()?;
     writer.json.address("addr", past.addr)?;
-    writer.reached("place", past.now)?;
-    writer.json.key("before")?;
-    writer.json.open_list()?;
-    for before in &past.before {
+    writer.reached("place", &past.now)?;
+    write_befores(writer, &past.before)?;
+    writer.json.close_object()
+}
+
+fn write_befores(writer: &mut JsonWriter, list: &[Before]) -> Result<(), AllocError> {
+    writer.open_list("before")?;
+    for before in list {
         write_before(writer, before)?;
     }
-    writer.json.close_list()?;
-    writer.json.close_object()
+    writer.json.close_list()
 }
 
 fn write_before(writer: &mut JsonWriter, before: &Before) -> Result<(), AllocError> {
     writer.json.open_object()?;
     writer.act(&before.act)?;
-    writer.reached("place", before.reached)?;
+    writer.reached("place", &before.reached)?;
     writer.json.close_object()
 }

@@ -19,6 +19,7 @@ mod mappings;
 mod objects;
 mod outcome;
 mod past;
+mod place;
 mod player;
 mod playing;
 mod radv;

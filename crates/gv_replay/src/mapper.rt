@@ -49,6 +49,36 @@ pub struct Part {
     pub flags: Flags,
 }
 
+impl Part {
+    /// Its map to a buffer.
+    fn of(&self, moment: Moment, buffer: BufferId) -> Act {
+        Act {
+            moment,
+            op: Op::Map {
+                addr: self.start,
+                len: self.len,
+                buffer,
+                offset: self.offset,
+                flags: self.flags,
+            },
+            cause: Cause::Plain,
+        }
+    }
+
+    /// Its map as a sparse range.
+    fn sparse(&self, moment: Moment) -> Act {
+        Act {
+            moment,
+            op: Op::MapZero {
+                addr: self.start,
+                len: self.len,
+                flags: WRITABLE,
+            },
+            cause: Cause::SparseMade,
+        }
+    }
+}
+
 impl Mapper {
     pub fn new(alloc: Global, space: Option<u64>) -> Mapper {
         Mapper {
@@ -82,30 +112,20 @@ impl Mapper {
                 offset,
                 flags,
             } => {
+                let read_only = terms.flag_bits.are_read_only(flags);
                 let part = Part {
                     start,
                     len,
                     object: line.object,
                     offset,
-                    flags: Flags {
-                        read_only: terms.flag_bits.are_read_only(flags),
-                    },
+                    flags: Flags { read_only },
                 };
-                self.map(alloc, replay, (moment, part), terms, watcher)
+                self.map(alloc, replay, (moment, &part), terms, watcher)
             }
             AmdgpuEvent::Unmapped { start, len } => {
-                let act = Act {
-                    moment,
-                    op: Op::Unmap { addr: start, len },
-                    cause: if line.object == 0 {
-                        Cause::Cleared
-                    } else {
-                        Cause::Plain
-                    },
-                };
-                replay.note_nothing(&act)?;
-                let _done = replay.carry_out(alloc, &act, watcher)?;
-                Ok(())
+                let op = Op::Unmap { addr: start, len };
+                let cause = cause_of(line.object);
+                replay.unmap(alloc, &Act { moment, op, cause }, watcher)
             }
         }
     }
@@ -120,29 +140,24 @@ impl Mapper {
         watcher: &mut V,
     ) -> Result<(), ReplayFault> {
         let (pointer, object) = made;
-        let older = match self.objects.index_of(pointer) {
-            Some(index) => self.objects.get(index).copied(),
-            None => None,
-        };
+        let older = self.known(pointer);
         let _index = self.objects.add(pointer, object)?;
-        let Some(
-            Object {
-                made_at,
-                buffer: Some(buffer),
-                ..
-            },
-        ) = older
-        else {
-            return Ok(());
-        };
-        let freed = Freed {
-            buffer,
-            addr: 0,
-            len: 0,
-            made_at,
-            cause: Cause::MadeAnew,
-        };
-        replay.free(alloc, moment, &freed, watcher)
+        match older {
+            Some(
+                Object {
+                    made_at,
+                    buffer: Some(buffer),
+                    ..
+                },
+            ) => replay.free(alloc, moment, &Freed::replaced(buffer, made_at), watcher),
+            _ => Ok(()),
+        }
+    }
+
+    /// The object that a pointer is.
+    fn known(&self, pointer: u64) -> Option<Object> {
+        let index = self.objects.index_of(pointer)?;
+        self.objects.get(index).copied()
     }
 
     /// Maps a part of an object, or a sparse range where there is none.
@@ -150,49 +165,19 @@ impl Mapper {
         &mut self,
         alloc: Global,
         replay: &mut Replay,
-        what: (Moment, Part),
+        what: (Moment, &Part),
         terms: &Terms<'_>,
         watcher: &mut V,
     ) -> Result<(), ReplayFault> {
         let (moment, part) = what;
         if part.object == 0 {
-            let op = Op::MapZero {
-                addr: part.start,
-                len: part.len,
-                flags: WRITABLE,
-            };
-            return put(
-                alloc,
-                replay,
-                &Act {
-                    moment,
-                    op,
-                    cause: Cause::SparseMade,
-                },
-                watcher,
-            );
+            return replay.put(alloc, &part.sparse(moment), watcher);
         }
-        let Some(buffer) = self.buffer_of(alloc, replay, (moment, part.object), terms, watcher)?
-        else {
-            return Ok(());
-        };
-        let op = Op::Map {
-            addr: part.start,
-            len: part.len,
-            buffer,
-            offset: part.offset,
-            flags: part.flags,
-        };
-        put(
-            alloc,
-            replay,
-            &Act {
-                moment,
-                op,
-                cause: Cause::Plain,
-            },
-            watcher,
-        )
+        let of = (moment, part.object);
+        match self.buffer_of(alloc, replay, of, terms, watcher)? {
+            Some(buffer) => replay.put(alloc, &part.of(moment, buffer), watcher),
+            None => Ok(()),
+        }
     }
 
     /// The buffer of the object that a pointer is, which is made where there is none.
@@ -240,14 +225,11 @@ impl Mapper {
     }
 }
 
-/// Carries out a map, and counts what it meets.
-fn put<V: Watcher>(
-    alloc: Global,
-    replay: &mut Replay,
-    act: &Act,
-    watcher: &mut V,
-) -> Result<(), ReplayFault> {
-    replay.note_over(act)?;
-    let _done = replay.carry_out(alloc, act, watcher)?;
-    Ok(())
+/// Why a range is unmapped: none names it where it is of no object.
+fn cause_of(object: u64) -> Cause {
+    if object == 0 {
+        Cause::Cleared
+    } else {
+        Cause::Plain
+    }
 }

@@ -41,13 +41,13 @@ impl Playing {
         watcher: &mut V,
     ) -> Result<(), ReplayFault> {
         let (number, line) = line;
-        match *line {
+        match line {
             LogLine::Radv(line) => {
-                let line = (number, &line);
+                let line = (number, line);
                 self.radv.take(alloc, &mut self.replay, line, watcher)
             }
             LogLine::Amdgpu(line) => {
-                let event = (moment_of(number, &line.head), &line);
+                let event = (moment_of(number, &line.head), line);
                 self.mapper
                     .take(alloc, &mut self.replay, event, terms, watcher)
             }
@@ -56,7 +56,7 @@ impl Playing {
                 self.binder.take(alloc, &mut self.replay, event, watcher)
             }
             LogLine::Gpuvas(GpuvasLine::Mapping(row)) => {
-                self.take_row(alloc, (number, &row), terms, watcher)
+                self.take_row(alloc, (number, row), terms, watcher)
             }
             LogLine::Gpuvas(GpuvasLine::Head) => Ok(()),
         }
@@ -83,7 +83,7 @@ impl Playing {
             flags: Flags { read_only: false },
         };
         self.mapper
-            .map(alloc, &mut self.replay, (moment, part), terms, watcher)
+            .map(alloc, &mut self.replay, (moment, &part), terms, watcher)
     }
 
     /// Ends it: what the replay left has to be closed.

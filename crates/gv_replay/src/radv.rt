@@ -1,9 +1,9 @@
 //! RADV's log, replayed.
 
 use crate::fault::ReplayFault;
+use crate::place::Place;
 use crate::replaying::{Freed, Replay};
 use crate::row::{Act, Cause, Moment};
-use crate::tally::Place;
 use crate::watcher::Watcher;
 use gv_logs::{RadvEvent, RadvLine};
 use gv_types::{BufferId, Flags, Op, PAGE_BYTES};
@@ -61,14 +61,29 @@ impl Span {
     }
 
     fn made(&self, buffer: &BufferId) -> Act {
-        let op = Op::Map {
+        self.act(Cause::MemoryMade, self.map(buffer, 0))
+    }
+
+    fn bound(&self, buffer: &BufferId, offset: u64) -> Act {
+        self.act(Cause::SparseBound, self.map(buffer, offset))
+    }
+
+    fn map(&self, buffer: &BufferId, offset: u64) -> Op {
+        Op::Map {
             addr: self.start,
             len: self.len,
             buffer: *buffer,
-            offset: 0,
+            offset,
             flags: WRITABLE,
+        }
+    }
+
+    fn gone(&self) -> Act {
+        let op = Op::Unmap {
+            addr: self.start,
+            len: self.len,
         };
-        self.act(Cause::MemoryMade, op)
+        self.act(Cause::SparseGone, op)
     }
 
     fn act(&self, cause: Cause, op: Op) -> Act {
@@ -98,30 +113,14 @@ impl Radv {
         let (number, line) = line;
         let span = Span::of(number, line);
         match line.event {
-            RadvEvent::MemoryMade => self.make(alloc, replay, span, watcher),
-            RadvEvent::MemoryFreed => self.free(alloc, replay, span, watcher),
-            RadvEvent::SparseMade => {
-                let act = span.zero(Cause::SparseMade);
-                replay.note_over(&act)?;
-                let _done = replay.carry_out(alloc, &act, watcher)?;
-                Ok(())
-            }
+            RadvEvent::MemoryMade => self.make(alloc, replay, &span, watcher),
+            RadvEvent::MemoryFreed => self.free(alloc, replay, &span, watcher),
+            RadvEvent::SparseMade => { replay.put(alloc, &span.zero(Cause::SparseMade), watcher) }
             RadvEvent::SparseUnbound => {
-                let act = span.zero(Cause::SparseUnbound);
-                let _done = replay.carry_out(alloc, &act, watcher)?;
-                Ok(())
+                replay.go_on(alloc, &span.zero(Cause::SparseUnbound), watcher)
             }
-            RadvEvent::SparseGone => {
-                let op = Op::Unmap {
-                    addr: span.start,
-                    len: span.len,
-                };
-                let act = span.act(Cause::SparseGone, op);
-                replay.note_nothing(&act)?;
-                let _done = replay.carry_out(alloc, &act, watcher)?;
-                Ok(())
-            }
-            RadvEvent::SparseBound { to } => self.bind(alloc, replay, span, to, watcher),
+            RadvEvent::SparseGone => replay.unmap(alloc, &span.gone(), watcher),
+            RadvEvent::SparseBound { to } => self.bind(alloc, replay, (&span, to), watcher),
         }
     }
 
@@ -130,16 +129,14 @@ impl Radv {
         &mut self,
         alloc: Global,
         replay: &mut Replay,
-        span: Span,
+        span: &Span,
         watcher: &mut V,
     ) -> Result<(), ReplayFault> {
         let pages = span.len / PAGE_BYTES;
         let Some(buffer) = replay.make(alloc, span.moment, pages, watcher)? else {
             return Ok(());
         };
-        let act = span.made(&buffer);
-        replay.note_over(&act)?;
-        if !replay.carry_out(alloc, &act, watcher)? {
+        if !replay.map(alloc, &span.made(&buffer), watcher)? {
             return replay.give_up(buffer);
         }
         self.keep(replay, span, buffer)
@@ -149,7 +146,7 @@ impl Radv {
     fn keep(
         &mut self,
         replay: &mut Replay,
-        span: Span,
+        span: &Span,
         buffer: BufferId,
     ) -> Result<(), ReplayFault> {
         let end = span.start.saturating_add(span.len);
@@ -189,15 +186,12 @@ impl Radv {
         &mut self,
         alloc: Global,
         replay: &mut Replay,
-        span: Span,
+        span: &Span,
         watcher: &mut V,
     ) -> Result<(), ReplayFault> {
         let Some(memory) = self.live.remove(&span.start) else {
-            return replay.tally.of_nothing.add(Place::NotAlive {
-                moment: span.moment,
-                addr: span.start,
-                len: span.len,
-            });
+            let place = Place::not_alive(span.moment, span.start, span.len);
+            return replay.tally.of_nothing.add(place);
         };
         let freed = Freed {
             buffer: memory.buffer,
@@ -214,28 +208,20 @@ impl Radv {
         &mut self,
         alloc: Global,
         replay: &mut Replay,
-        span: Span,
-        to: u64,
+        what: (&Span, u64),
         watcher: &mut V,
     ) -> Result<(), ReplayFault> {
+        let (span, to) = what;
         let found = self.below(to.saturating_add(1));
-        let Some((start, memory)) = found.filter(|(_, memory)| to < memory.end) else {
-            return replay.tally.to_no_memory.add(Place::Nowhere {
-                moment: span.moment,
-                addr: span.start,
-                len: span.len,
-                to,
-            });
-        };
-        let op = Op::Map {
-            addr: span.start,
-            len: span.len,
-            buffer: memory.buffer,
-            offset: to.saturating_sub(start),
-            flags: WRITABLE,
-        };
-        let act = span.act(Cause::SparseBound, op);
-        let _done = replay.carry_out(alloc, &act, watcher)?;
-        Ok(())
+        match found {
+            Some((start, memory)) if to < memory.end => {
+                let act = span.bound(&memory.buffer, to.saturating_sub(start));
+                replay.go_on(alloc, &act, watcher)
+            }
+            _ => {
+                let place = Place::nowhere(span.moment, [span.start, span.len, to]);
+                replay.tally.to_no_memory.add(place)
+            }
+        }
     }
 }

@@ -3,8 +3,9 @@
 use crate::fault::ReplayFault;
 use crate::left::Left;
 use crate::machine::Machine;
+use crate::place::Place;
 use crate::row::{Act, Moment};
-use crate::tally::{Place, Tally};
+use crate::tally::Tally;
 use crate::text::number_of;
 use crate::waiting::FreedBuffers;
 use crate::watcher::Watcher;
@@ -87,21 +88,18 @@ impl Replay {
     }
 
     /// Counts a map that meets live mappings.
-    pub fn note_over(&mut self, act: &Act) -> Result<(), ReplayFault> {
+    fn note_over(&mut self, act: &Act) -> Result<(), ReplayFault> {
         let mappings = self.met_by(act.op.addr(), act.op.len());
         if mappings > 0 {
-            self.tally.over_live.add(Place::Over {
-                act: *act,
-                mappings,
-            })?;
+            self.tally.over_live.add(Place::over(act, mappings))?;
         }
         Ok(())
     }
 
     /// Counts an unmap that meets none.
-    pub fn note_nothing(&mut self, act: &Act) -> Result<(), ReplayFault> {
+    fn note_nothing(&mut self, act: &Act) -> Result<(), ReplayFault> {
         if self.met_by(act.op.addr(), act.op.len()) == 0 {
-            self.tally.of_nothing.add(Place::Nothing { act: *act })?;
+            self.tally.of_nothing.add(Place::nothing(act))?;
         }
         Ok(())
     }
@@ -133,11 +131,9 @@ impl Replay {
                 Ok(Some(id))
             }
             Err(fault) => {
-                self.tally.refused.add(Place::NotMade {
-                    moment,
-                    pages,
-                    fault,
-                })?;
+                self.tally
+                    .refused
+                    .add(Place::not_made(moment, pages, fault))?;
                 Ok(None)
             }
         }
@@ -154,6 +150,50 @@ impl Replay {
         self.carry_out_as(alloc, act, ops, watcher)
     }
 
+    /// Carries out a map, and counts it where it meets live mappings. Whether it was accepted.
+    pub fn map<V: Watcher>(
+        &mut self,
+        alloc: Global,
+        act: &Act,
+        watcher: &mut V,
+    ) -> Result<bool, ReplayFault> {
+        self.note_over(act)?;
+        self.carry_out(alloc, act, watcher)
+    }
+
+    /// Carries out a map and counts it so, whether or not it is accepted.
+    pub fn put<V: Watcher>(
+        &mut self,
+        alloc: Global,
+        act: &Act,
+        watcher: &mut V,
+    ) -> Result<(), ReplayFault> {
+        self.note_over(act)?;
+        self.go_on(alloc, act, watcher)
+    }
+
+    /// Carries out an unmap, and counts it where it meets none.
+    pub fn unmap<V: Watcher>(
+        &mut self,
+        alloc: Global,
+        act: &Act,
+        watcher: &mut V,
+    ) -> Result<(), ReplayFault> {
+        self.note_nothing(act)?;
+        self.go_on(alloc, act, watcher)
+    }
+
+    /// Carries out an operation, whether or not it is accepted.
+    pub fn go_on<V: Watcher>(
+        &mut self,
+        alloc: Global,
+        act: &Act,
+        watcher: &mut V,
+    ) -> Result<(), ReplayFault> {
+        let _done = self.carry_out(alloc, act, watcher)?;
+        Ok(())
+    }
+
     /// Carries out these operations, which come to the same as the one that is told.
     fn carry_out_as<V: Watcher>(
         &mut self,
@@ -165,8 +205,7 @@ impl Replay {
         self.make_room(watcher)?;
         match refusal(self.machine.bind(alloc, ops))? {
             Ok(_) => {
-                self.note_bound(act)?;
-                self.note_mapped(alloc, act)?;
+                self.note_done(alloc, act)?;
                 watcher.bound(act, None, self.machine.newest(), self.machine.space())?;
                 Ok(true)
             }
@@ -176,6 +215,11 @@ impl Replay {
                 Ok(false)
             }
         }
+    }
+
+    fn note_done(&mut self, alloc: Global, act: &Act) -> Result<(), ReplayFault> {
+        self.note_bound(act)?;
+        self.note_mapped(alloc, act)
     }
 
     fn note_bound(&mut self, act: &Act) -> Result<(), ReplayFault> {
@@ -216,7 +260,7 @@ impl Replay {
     }
 
     fn note_refused(&mut self, act: &Act, fault: Fault) -> Result<(), ReplayFault> {
-        self.tally.refused.add(Place::Refused { act: *act, fault })
+        self.tally.refused.add(Place::refused(act, fault))
     }
 
     /// Ends it: the machine has to be closed.

@@ -2,9 +2,10 @@
 
 use crate::alive::Alive;
 use crate::outcome::Outcome;
-use crate::past::Past;
+use crate::past::{Before, Past};
+use crate::place::Place;
 use crate::spaces::SpaceOutcome;
-use crate::tally::{Finding, Tally};
+use crate::tally::{FINDINGS, Finding, Tally};
 use crate::text::{write_act, write_place, write_reached};
 use std::alloc::AllocError;
 use std::fmt::Write;
@@ -77,15 +78,10 @@ fn write_tally(out: &mut String, tally: &Tally) -> Result<(), AllocError> {
         let touched = tally.touched;
         writeln!(out, "{touched:>6} events that only touch what stands")?;
     }
-    write_finding(out, "maps over live mappings", &tally.over_live)?;
-    write_finding(out, "unmaps of nothing", &tally.of_nothing)?;
-    write_finding(
-        out,
-        "freed buffers that other mappings still reached",
-        &tally.still_reached,
-    )?;
-    write_finding(out, "binds to no live memory", &tally.to_no_memory)?;
-    write_finding(out, "refused", &tally.refused)
+    for told in FINDINGS {
+        write_finding(out, told.name, tally.finding(told))?;
+    }
+    Ok(())
 }
 
 /// Writes a finding's count, and its places below it.
@@ -93,11 +89,16 @@ fn write_finding(out: &mut String, name: &str, finding: &Finding) -> Result<(), 
     let count = finding.count();
     writeln!(out, "{count:>6} {name}")?;
     for place in finding.places() {
-        out.push_str("         ")?;
-        write_place(out, place)?;
-        out.push_str("\n")?;
+        write_row(out, place)?;
     }
     Ok(())
+}
+
+/// Writes a place on a line of its own.
+fn write_row(out: &mut String, place: &Place) -> Result<(), AllocError> {
+    out.push_str("         ")?;
+    write_place(out, place)?;
+    out.push_str("\n")
 }
 
 /// Writes what is alive.
@@ -108,8 +109,15 @@ fn write_alive(out: &mut String, alive: &Alive) -> Result<(), AllocError> {
         "{mappings:>6} mappings alive at the end, of {buffers} buffers, "
     )?;
     write_size(out, alive.bytes)?;
-    let [four, three, two, one, zero] = alive.tables;
-    writeln!(out, "; tables {four} {three} {two} {one} {zero}")
+    write_tables(out, &alive.tables)
+}
+
+fn write_tables(out: &mut String, tables: &[u64]) -> Result<(), AllocError> {
+    out.push_str("; tables")?;
+    for count in tables {
+        write!(out, " {count}")?;
+    }
+    out.push_str("\n")
 }
 
 /// Writes a number of bytes, rounded down.
@@ -127,17 +135,21 @@ fn write_size(out: &mut String, bytes: u64) -> Result<(), AllocError> {
 fn write_past(out: &mut String, past: &Past, first: u64) -> Result<(), AllocError> {
     let addr = past.addr;
     write!(out, "0x{addr:x}: ")?;
-    write_reached(out, past.now)?;
+    write_reached(out, &past.now)?;
     out.push_str("\n")?;
     for before in &past.before {
-        out.push_str("  ")?;
-        write_act(out, &before.act)?;
-        out.push_str(": ")?;
-        write_reached(out, before.reached)?;
-        out.push_str(" before\n")?;
+        write_before(out, before)?;
     }
     if first > 0 {
         writeln!(out, "  the first {first} binds are no longer held")?;
     }
     Ok(())
+}
+
+fn write_before(out: &mut String, before: &Before) -> Result<(), AllocError> {
+    out.push_str("  ")?;
+    write_act(out, &before.act)?;
+    out.push_str(": ")?;
+    write_reached(out, &before.reached)?;
+    out.push_str(" before\n")
 }

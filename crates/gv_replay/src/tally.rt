@@ -1,64 +1,13 @@
 //! What a replay counts.
 
 use crate::fault::ReplayFault;
+use crate::place::{Head, Place};
 use crate::row::{Act, Cause, Moment};
-use gv_types::{BufferId, Fault, Op};
+use gv_types::Op;
 use std::alloc::Global;
 
 /// A finding is told with so many places, unless all are asked for.
 const PLACES: usize = 3;
-
-/// One place where a finding was made.
-#[derive(Clone, Copy)]
-pub enum Place {
-    /// The operation, and how many live mappings its range met.
-    Over {
-        act: Act,
-        mappings: u64,
-    },
-    /// An unmap of a range in which nothing was mapped.
-    Nothing {
-        act: Act,
-    },
-    /// The unbind of a VMA that this line bound at other bytes.
-    Elsewhere {
-        act: Act,
-        addr: u64,
-        len: u64,
-        made_at: u64,
-    },
-    /// Memory, in bytes, that was freed and isn't known to live.
-    NotAlive {
-        moment: Moment,
-        addr: u64,
-        len: u64,
-    },
-    /// A buffer that was freed while so many other mappings of it were alive.
-    Reached {
-        moment: Moment,
-        buffer: BufferId,
-        made_at: u64,
-        pages: u64,
-        mappings: u64,
-    },
-    /// A bind of a range of bytes to an address where no memory lives.
-    Nowhere {
-        moment: Moment,
-        addr: u64,
-        len: u64,
-        to: u64,
-    },
-    Refused {
-        act: Act,
-        fault: Fault,
-    },
-    /// No buffer of so many pages could be made.
-    NotMade {
-        moment: Moment,
-        pages: u64,
-        fault: Fault,
-    },
-}
 
 /// How often a finding was made, and where: the first places, or all.
 #[derive(Drop)]
@@ -88,13 +37,15 @@ impl Finding {
     /// It was made here too.
     pub fn add(&mut self, place: Place) -> Result<(), ReplayFault> {
         // The borrow checker proves this only where the function names the types inside the place.
-        let _act = Act {
-            moment: Moment {
-                line: 0,
-                time: None,
+        let _head = Head::Act {
+            act: Act {
+                moment: Moment {
+                    line: 0,
+                    time: None,
+                },
+                op: Op::Unmap { addr: 0, len: 0 },
+                cause: Cause::Plain,
             },
-            op: Op::Unmap { addr: 0, len: 0 },
-            cause: Cause::Plain,
         };
         self.count = self.count.saturating_add(1);
         if self.is_whole || self.places.len() < PLACES {
@@ -103,6 +54,53 @@ impl Finding {
         Ok(())
     }
 }
+
+/// A finding by its key in JSON, and as it is told in text.
+#[derive(Clone, Copy)]
+pub struct Told {
+    pub key: &'static str,
+    pub name: &'static str,
+    of: Kind,
+}
+
+/// What may be found.
+#[derive(Clone, Copy)]
+enum Kind {
+    OverLive,
+    OfNothing,
+    StillReached,
+    ToNoMemory,
+    Refused,
+}
+
+/// The findings in the order in which they are told.
+pub const FINDINGS: &[Told] = &[
+    Told {
+        key: "over_live",
+        name: "maps over live mappings",
+        of: Kind::OverLive,
+    },
+    Told {
+        key: "of_nothing",
+        name: "unmaps of nothing",
+        of: Kind::OfNothing,
+    },
+    Told {
+        key: "still_reached",
+        name: "freed buffers that other mappings still reached",
+        of: Kind::StillReached,
+    },
+    Told {
+        key: "to_no_memory",
+        name: "binds to no live memory",
+        of: Kind::ToNoMemory,
+    },
+    Told {
+        key: "refused",
+        name: "refused",
+        of: Kind::Refused,
+    },
+];
 
 /// What a replay counts, and its findings.
 #[derive(Drop)]
@@ -135,6 +133,17 @@ impl Tally {
             still_reached: Finding::new(alloc, all),
             to_no_memory: Finding::new(alloc, all),
             refused: Finding::new(alloc, all),
+        }
+    }
+
+    /// The finding that is told so.
+    pub fn finding(&self, told: &Told) -> &Finding {
+        match told.of {
+            Kind::OverLive => &self.over_live,
+            Kind::OfNothing => &self.of_nothing,
+            Kind::StillReached => &self.still_reached,
+            Kind::ToNoMemory => &self.to_no_memory,
+            Kind::Refused => &self.refused,
         }
     }
 

@@ -1,7 +1,7 @@
 //! Operations, moments and places in words.
 
+use crate::place::{Digits, Field, Head, Place};
 use crate::row::{Act, Moment};
-use crate::tally::Place;
 use gv_types::{BufferId, Flags, Op};
 use gv_vm::{Place as Reached, Target};
 use std::alloc::AllocError;
@@ -31,9 +31,27 @@ fn write_flags(out: &mut String, flags: Flags) -> Result<(), AllocError> {
     Ok(())
 }
 
+/// Writes a number in hexadecimal digits behind a text.
+fn write_hex(out: &mut String, before: &str, number: u64) -> Result<(), AllocError> {
+    out.push_str(before)?;
+    write!(out, "0x{number:x}")
+}
+
+/// Writes the bytes that an operation covers behind its word.
+fn write_range(out: &mut String, word: &str, addr: u64, len: u64) -> Result<(), AllocError> {
+    write_hex(out, word, addr)?;
+    write_hex(out, " ", len)
+}
+
+/// Writes a byte of a buffer.
+fn write_byte(out: &mut String, id: &BufferId, byte: u64) -> Result<(), AllocError> {
+    write_buffer(out, id)?;
+    write_hex(out, " ", byte)
+}
+
 /// Writes an operation as a script has it.
 pub fn write_op(out: &mut String, op: &Op) -> Result<(), AllocError> {
-    match *op {
+    match op {
         Op::Map {
             addr,
             len,
@@ -41,19 +59,19 @@ pub fn write_op(out: &mut String, op: &Op) -> Result<(), AllocError> {
             offset,
             flags,
         } => {
-            write!(out, "map 0x{addr:x} 0x{len:x} ")?;
-            write_buffer(out, &buffer)?;
-            write!(out, " 0x{offset:x}")?;
-            write_flags(out, flags)
+            write_range(out, "map ", *addr, *len)?;
+            out.push_str(" ")?;
+            write_byte(out, buffer, *offset)?;
+            write_flags(out, *flags)
         }
         Op::MapZero { addr, len, flags } => {
-            write!(out, "zero 0x{addr:x} 0x{len:x}")?;
-            write_flags(out, flags)
+            write_range(out, "zero ", *addr, *len)?;
+            write_flags(out, *flags)
         }
-        Op::Unmap { addr, len } => write!(out, "unmap 0x{addr:x} 0x{len:x}"),
+        Op::Unmap { addr, len } => write_range(out, "unmap ", *addr, *len),
         Op::UnmapBuffer { buffer } => {
             out.push_str("unmapall ")?;
-            write_buffer(out, &buffer)
+            write_buffer(out, buffer)
         }
     }
 }
@@ -88,82 +106,57 @@ pub fn write_act(out: &mut String, act: &Act) -> Result<(), AllocError> {
 }
 
 /// Writes what an address reaches, in bytes of its buffer.
-pub fn write_reached(out: &mut String, reached: Option<Reached>) -> Result<(), AllocError> {
-    let Some(Reached { target, flags }) = reached else {
-        return out.push_str("none");
-    };
-    match target {
-        Target::Buffer { id, byte } => {
-            write_buffer(out, &id)?;
-            write!(out, " 0x{byte:x}")?;
+pub fn write_reached(out: &mut String, reached: &Option<Reached>) -> Result<(), AllocError> {
+    match reached {
+        Some(reached) => {
+            write_target(out, &reached.target)?;
+            write_flags(out, reached.flags)
         }
-        Target::Zero => out.push_str("zero")?,
+        None => out.push_str("none"),
     }
-    write_flags(out, flags)
+}
+
+fn write_target(out: &mut String, target: &Target) -> Result<(), AllocError> {
+    match target {
+        Target::Buffer { id, byte } => write_byte(out, id, *byte),
+        Target::Zero => out.push_str("zero"),
+    }
 }
 
 /// Writes where a finding was made.
 pub fn write_place(out: &mut String, place: &Place) -> Result<(), AllocError> {
-    match place {
-        Place::Over { act, mappings } => {
-            write_act(out, act)?;
-            write!(out, ": {mappings} mapping{}", plural(*mappings))
-        }
-        Place::Nothing { act } => write_act(out, act),
-        Place::Elsewhere {
-            act,
-            addr,
-            len,
-            made_at,
-        } => {
-            write_act(out, act)?;
-            write!(out, ": at 0x{addr:x} 0x{len:x}, line {made_at}")
-        }
-        Place::NotAlive { moment, addr, len } => {
+    write_head(out, &place.head)?;
+    for (field, number) in place.kind.fields().iter().zip(&place.numbers) {
+        write_field(out, field, *number)?;
+    }
+    match place.fault {
+        Some(fault) => write!(out, ": {fault}"),
+        None => Ok(()),
+    }
+}
+
+fn write_head(out: &mut String, head: &Head) -> Result<(), AllocError> {
+    match head {
+        Head::Act { act } => write_act(out, act),
+        Head::Moment { moment } => write_moment(out, *moment),
+        Head::Buffer { moment, buffer } => {
             write_moment(out, *moment)?;
-            write!(out, "free 0x{addr:x} 0x{len:x}, where no memory is known")
-        }
-        Place::Reached {
-            moment,
-            buffer,
-            made_at,
-            pages,
-            mappings,
-        } => {
-            write_moment(out, *moment)?;
-            write_buffer(out, buffer)?;
-            write!(
-                out,
-                ", made at line {made_at}, {pages} page{}",
-                plural(*pages)
-            )?;
-            write!(out, ": {mappings} mapping{}", plural(*mappings))
-        }
-        Place::Nowhere {
-            moment,
-            addr,
-            len,
-            to,
-        } => {
-            write_moment(out, *moment)?;
-            write!(out, "bind 0x{addr:x} 0x{len:x} to 0x{to:x}")
-        }
-        Place::Refused { act, fault } => {
-            write_act(out, act)?;
-            write!(out, ": {fault}")
-        }
-        Place::NotMade {
-            moment,
-            pages,
-            fault,
-        } => {
-            write_moment(out, *moment)?;
-            write!(out, "buffer of {pages} page{}: {fault}", plural(*pages))
+            write_buffer(out, buffer)
         }
     }
 }
 
-/// What ends a word of which there are so many.
-fn plural(count: u64) -> &'static str {
-    if count == 1 { "" } else { "s" }
+/// Writes a number between its words.
+fn write_field(out: &mut String, field: &Field, number: u64) -> Result<(), AllocError> {
+    out.push_str(field.before)?;
+    write_number(out, field.digits, number)?;
+    out.push_str(field.after)?;
+    out.push_str(field.digits.plural(number))
+}
+
+fn write_number(out: &mut String, digits: Digits, number: u64) -> Result<(), AllocError> {
+    match digits {
+        Digits::Hex => write_hex(out, "", number),
+        Digits::Decimal | Digits::Counted => write!(out, "{number}"),
+    }
 }

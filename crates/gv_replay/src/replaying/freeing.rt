@@ -2,8 +2,8 @@
 
 use super::{Replay, pages_of};
 use crate::fault::ReplayFault;
+use crate::place::Place;
 use crate::row::{Act, Cause, Moment};
-use crate::tally::Place;
 use crate::watcher::Watcher;
 use gv_types::{BufferId, Op, PAGE_BYTES, PageRange};
 use std::alloc::Global;
@@ -22,6 +22,17 @@ pub struct Freed {
 }
 
 impl Freed {
+    /// A buffer whose pointer is another's from here on: each mapping that is left still reaches it.
+    pub fn replaced(buffer: BufferId, made_at: u64) -> Freed {
+        Freed {
+            buffer,
+            addr: 0,
+            len: 0,
+            made_at,
+            cause: Cause::MadeAnew,
+        }
+    }
+
     fn act(&self, moment: Moment) -> Act {
         Act {
             moment,
@@ -72,13 +83,9 @@ impl Replay {
         mappings: u64,
     ) -> Result<(), ReplayFault> {
         let pages = self.machine.space().pages(freed.buffer).unwrap_or(0);
-        self.tally.still_reached.add(Place::Reached {
-            moment,
-            buffer: freed.buffer,
-            made_at: freed.made_at,
-            pages,
-            mappings,
-        })
+        let numbers = [freed.made_at, pages, mappings];
+        let place = Place::reached(moment, freed.buffer, numbers);
+        self.tally.still_reached.add(place)
     }
 }
 
