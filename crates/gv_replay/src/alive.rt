@@ -1,5 +1,6 @@
 //! What is alive at the end of a replay.
 
+use gv_packed::Packed;
 use gv_space::Space;
 use gv_types::{Backing, PAGE_BYTES};
 use std::alloc::{AllocError, Global};
@@ -18,19 +19,23 @@ impl Alive {
     pub fn of(alloc: Global, space: &Space) -> Result<Alive, AllocError> {
         let mut buffers = HashSet::new(alloc);
         let mut pages: u64 = 0;
-        let mut mappings: u64 = 0;
         for mapping in space.list().iter() {
-            mappings = mappings.saturating_add(1);
             pages = pages.saturating_add(mapping.count());
-            if let Backing::Buffer { id, .. } = mapping.backing() {
-                let _is_new = buffers.insert(id.generation.get())?;
-            }
+            note_buffer(&mut buffers, mapping)?;
         }
         Ok(Alive {
-            mappings,
+            mappings: space.list().len() as u64,
             buffers: buffers.len() as u64,
             bytes: pages.saturating_mul(PAGE_BYTES),
             tables: space.tables(),
         })
     }
+}
+
+/// A mapping's buffer is one of those that are mapped, by the number that no other has.
+fn note_buffer(buffers: &mut HashSet<u64>, mapping: &Packed) -> Result<(), AllocError> {
+    if let Backing::Buffer { id, .. } = mapping.backing() {
+        let _is_new = buffers.insert(id.generation.get())?;
+    }
+    Ok(())
 }

@@ -29,17 +29,22 @@ fn write_mapping(out: &mut String, mapping: &Packed) -> Result<(), AllocError> {
     out.push_str(" ")?;
     write_hex(out, byte_of(mapping.end()))?;
     out.push_str(" ")?;
-    match mapping.backing() {
-        Backing::Buffer { id, page } => {
-            write_buffer(out, &id)?;
-            out.push_str(" ")?;
-            write_hex(out, byte_of(page))?;
-        }
-        Backing::Zero => out.push_str("zero")?,
-    }
+    write_backing(out, &mapping.backing())?;
     out.push_str(if mapping.flags().read_only {
         " ro\n"
     } else {
         " rw\n"
     })
+}
+
+/// Writes what stands behind a mapping: a buffer and the byte that it begins at, or zeroes.
+fn write_backing(out: &mut String, backing: &Backing) -> Result<(), AllocError> {
+    match backing {
+        Backing::Buffer { id, page } => {
+            write_buffer(out, id)?;
+            out.push_str(" ")?;
+            write_hex(out, byte_of(*page))
+        }
+        Backing::Zero => out.push_str("zero"),
+    }
 }

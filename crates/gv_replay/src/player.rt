@@ -87,23 +87,34 @@ impl Player {
         watcher: &mut V,
     ) -> Result<bool, ReplayFault> {
         let (number, text) = line;
-        let Some(line) = terms.format.parse(text) else {
-            return Ok(false);
-        };
+        match terms.format.parse(text) {
+            Some(line) => self.take_parsed(alloc, (number, &line), terms, watcher),
+            None => Ok(false),
+        }
+    }
+
+    /// Carries out a line of the format. Whether it is of the process and the address space that are taken.
+    fn take_parsed<V: Watcher>(
+        &mut self,
+        alloc: Global,
+        line: (u64, &LogLine),
+        terms: &Terms<'_>,
+        watcher: &mut V,
+    ) -> Result<bool, ReplayFault> {
         self.playing.replay.tally.count_line();
-        if !self.chooses(&line, terms.pid) {
+        if !self.chooses(line.1, terms.pid) {
             return Ok(false);
         }
-        self.playing.take(alloc, (number, &line), terms, watcher)?;
+        self.playing.take(alloc, line, terms, watcher)?;
         Ok(true)
     }
 
     /// Whether a line is of the process and the address space that are taken; those of others are passed over.
     fn chooses(&mut self, line: &LogLine, pid: Option<u64>) -> bool {
-        match *line {
+        match line {
             LogLine::Radv(_) => true,
-            LogLine::Amdgpu(line) => self.chooses_event(&line, pid),
-            LogLine::Vma(line) => self.chosen.takes(&line, pid),
+            LogLine::Amdgpu(line) => self.chooses_event(line, pid),
+            LogLine::Vma(line) => self.chosen.takes(line, pid),
             LogLine::Gpuvas(GpuvasLine::Head) => {
                 self.heads = self.heads.saturating_add(1);
                 self.chosen.takes_head(self.heads)

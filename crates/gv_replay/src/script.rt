@@ -6,7 +6,7 @@ use crate::text::write_op;
 use crate::watcher::Watcher;
 use gv_io::{Output, SCRIPT_LIMIT, Sink, write_all};
 use gv_space::Space;
-use gv_types::{Fault, MAX_TOLD, PageOp};
+use gv_types::{Fault, MAX_TOLD, Op, PageOp};
 use gv_vm::QUEUES;
 use std::alloc::{AllocError, Global};
 use std::fmt::Write;
@@ -42,19 +42,24 @@ impl<'a, W: Sink> ScriptWriter<'a, W> {
 
     /// Sends the line that was written on its way.
     fn send(&mut self) -> Result<(), ReplayFault> {
-        let line = self.text.as_bytes();
-        if !self.is_long && SCRIPT_LIMIT.saturating_sub(self.front.len()) < line.len() {
-            self.is_long = true;
-            write_all(self.sink, TOO_LONG)?;
-            write_all(self.sink, &self.front)?;
-            self.front.clear();
+        if !self.is_long && SCRIPT_LIMIT.saturating_sub(self.front.len()) < self.text.len() {
+            self.let_front_go()?;
         }
         if self.is_long {
-            self.output.push(self.sink, line)?;
+            self.output.push(self.sink, self.text.as_bytes())?;
         } else {
-            self.front.extend_from_slice(line)?;
+            self.front.extend_from_slice(self.text.as_bytes())?;
         }
         self.text.clear();
+        Ok(())
+    }
+
+    /// The script is too long: its front is written.
+    fn let_front_go(&mut self) -> Result<(), ReplayFault> {
+        self.is_long = true;
+        write_all(self.sink, TOO_LONG)?;
+        write_all(self.sink, &self.front)?;
+        self.front.clear();
         Ok(())
     }
 
@@ -73,12 +78,7 @@ impl<'a, W: Sink> ScriptWriter<'a, W> {
             self.text.push_str(TOO_MANY)?;
         }
         self.requests = self.requests.saturating_add(1);
-        self.text.push_str("bind ")?;
-        write_op(&mut self.text, &act.op)?;
-        if queue > 0 && queue < QUEUES as u64 {
-            write!(self.text, " ; queue {queue}")?;
-        }
-        self.text.push_str("\n")
+        write_bind(&mut self.text, &act.op, queue)
     }
 }
 
@@ -108,4 +108,14 @@ impl<'a, W: Sink> Watcher for ScriptWriter<'a, W> {
         writeln!(self.text, "destroy b{buffer}")?;
         self.send()
     }
+}
+
+/// Writes a request of a queue. The first queue has no name, nor one that isn't there.
+fn write_bind(out: &mut String, op: &Op, queue: u64) -> Result<(), AllocError> {
+    out.push_str("bind ")?;
+    write_op(out, op)?;
+    if queue > 0 && queue < QUEUES as u64 {
+        write!(out, " ; queue {queue}")?;
+    }
+    out.push_str("\n")
 }

@@ -70,21 +70,8 @@ pub fn measure<R: Source>(
     terms: &Terms<'_>,
 ) -> Result<Sizes, ReplayFault> {
     let mut lines = LineReader::new(alloc)?;
-    let mut measured = Measured {
-        one: Objects::new(alloc),
-        places: HashMap::new(alloc),
-        each: Vec::new(alloc),
-        heads: 0,
-        chosen: Chosen::new(terms)?,
-        are_apart: terms.takes_each(),
-    };
-    for _lines in 0..u64::MAX {
-        match lines.find_next(reader)? {
-            Found::Line => measured.take(alloc, lines.line(), terms)?,
-            Found::TooLong => {}
-            Found::End => break,
-        }
-    }
+    let mut measured = Measured::new(alloc, terms)?;
+    measured.take_all(alloc, reader, &mut lines, terms)?;
     Ok(measured.end(alloc)?)
 }
 
@@ -97,7 +84,51 @@ fn pages_of(alloc: Global, objects: Objects<Size>) -> Result<Vec<u64>, AllocErro
     Ok(pages)
 }
 
+/// The pages of the objects of each space, and none where the spaces aren't told apart.
+fn pages_of_each(
+    alloc: Global,
+    each: Vec<Objects<Size>>,
+    are_apart: bool,
+) -> Result<Vec<Vec<u64>>, AllocError> {
+    let mut pages = Vec::new(alloc);
+    if are_apart {
+        for objects in each {
+            pages.push(pages_of(alloc, objects)?)?;
+        }
+    }
+    Ok(pages)
+}
+
 impl Measured {
+    fn new(alloc: Global, terms: &Terms<'_>) -> Result<Measured, ReplayFault> {
+        let chosen = Chosen::new(terms)?;
+        Ok(Measured {
+            one: Objects::new(alloc),
+            places: HashMap::new(alloc),
+            each: Vec::new(alloc),
+            heads: 0,
+            chosen,
+            are_apart: terms.takes_each(),
+        })
+    }
+
+    fn take_all<R: Source>(
+        &mut self,
+        alloc: Global,
+        reader: &mut R,
+        lines: &mut LineReader,
+        terms: &Terms<'_>,
+    ) -> Result<(), ReplayFault> {
+        for _lines in 0..u64::MAX {
+            match lines.find_next(reader)? {
+                Found::Line => self.take(alloc, lines.line(), terms)?,
+                Found::TooLong => {}
+                Found::End => break,
+            }
+        }
+        Ok(())
+    }
+
     fn take(&mut self, alloc: Global, line: &[u8], terms: &Terms<'_>) -> Result<(), AllocError> {
         if !terms.format.wants_sizes() {
             return Ok(());
@@ -167,16 +198,11 @@ impl Measured {
             chosen: _,
             are_apart,
         } = self;
-        let mut pages = Vec::new(alloc);
-        if are_apart {
-            for objects in each {
-                pages.push(pages_of(alloc, objects)?)?;
-            }
-        }
+        let each = pages_of_each(alloc, each, are_apart)?;
         Ok(Sizes {
             one: pages_of(alloc, one)?,
             places,
-            each: pages,
+            each,
         })
     }
 }

@@ -53,11 +53,29 @@ pub fn play_each<R: Source>(
         heads: 0,
         read: 0,
     };
-    let played = spaces.take_all(alloc, reader, &mut lines, terms);
+    let played = spaces.take_whole(alloc, reader, &mut lines, terms);
     spaces.end(alloc, terms, played)
 }
 
 impl Spaces {
+    /// Carries out all lines. At least one is of the format, and one space comes up.
+    fn take_whole<R: Source>(
+        &mut self,
+        alloc: Global,
+        reader: &mut R,
+        lines: &mut LineReader,
+        terms: &Terms<'_>,
+    ) -> Result<(), ReplayFault> {
+        self.take_all(alloc, reader, lines, terms)?;
+        if self.lines == 0 {
+            return Err(ReplayFault::NoLine);
+        }
+        if self.all.is_empty() {
+            let _place = self.add(alloc, 0, terms)?;
+        }
+        Ok(())
+    }
+
     fn take_all<R: Source>(
         &mut self,
         alloc: Global,
@@ -73,16 +91,10 @@ impl Spaces {
             }
             self.read = number;
         }
-        if self.lines == 0 {
-            return Err(ReplayFault::NoLine);
-        }
-        if self.all.is_empty() {
-            let _place = self.add(alloc, 0, terms)?;
-        }
         Ok(())
     }
 
-    /// Carries out a line in its space. The head before the first row of a list counts as a line of the space.
+    /// Carries out a line in its space, if it is of one.
     fn take(
         &mut self,
         alloc: Global,
@@ -94,18 +106,27 @@ impl Spaces {
             return Ok(());
         };
         self.lines = self.lines.saturating_add(1);
-        let Some(of) = self.space_of(&line) else {
-            return Ok(());
-        };
+        match self.space_of(&line) {
+            Some(of) => self.carry_out(alloc, (number, &line), of, terms),
+            None => Ok(()),
+        }
+    }
+
+    /// Carries out a line in the space of this number. The head before the first row of a list counts as a line of the space.
+    fn carry_out(
+        &mut self,
+        alloc: Global,
+        line: (u64, &LogLine),
+        of: u64,
+        terms: &Terms<'_>,
+    ) -> Result<(), ReplayFault> {
         let is_below_head = self.heads > 0 && !self.places.contains_key(&of);
         let place = self.place_of(alloc, of, terms)?;
         let Some(space) = self.all.get_mut(place) else {
             return Ok(());
         };
-        space.count_line(line.is_of_mapping(), is_below_head);
-        space
-            .playing
-            .take(alloc, (number, &line), terms, &mut Nobody)
+        space.count_line(line.1.is_of_mapping(), is_below_head);
+        space.playing.take(alloc, line, terms, &mut Nobody)
     }
 
     /// The number of the space that a line does something in: of a VMA's line none before a VMA of the space came up, and of an event
