@@ -1,7 +1,8 @@
 //! Lines of any length: requests and jobs.
 use crate::lines::{Row, expect};
-use gv_lines::{Line, parse_line};
+use gv_lines::{Clause, Line, parse_line};
 use std::alloc::{AllocError, Global};
+use std::fmt::Write;
 use std::test::Fail;
 
 /// A text that says something so many times.
@@ -31,14 +32,25 @@ const TAKEN: [Row; 2] = [
     ("bind queue 3", "Some(Queue { queue: 3 }) None"),
 ];
 
+/// A clause, if it is one of those that are wanted.
+fn write_clause(out: &mut String, clause: Option<Clause>) -> Result<(), AllocError> {
+    match clause {
+        Some(Clause::Queue { queue }) => write!(out, "Some(Queue {{ queue: {queue} }})"),
+        Some(_) => out.push_str("another clause"),
+        None => out.push_str("None"),
+    }
+}
+
 /// The first two clauses that are taken of a request.
 fn taken(alloc: Global, text: &str) -> Result<String, Fail> {
     let Some(Line::Bind { mut clauses }) = parse_line(text.as_bytes()) else {
         return Err("no bind line".into());
     };
-    let first = clauses.take();
-    let second = clauses.take();
-    Ok(format!(in alloc; "{first:?} {second:?}")?)
+    let mut said = String::new(alloc);
+    write_clause(&mut said, clauses.take())?;
+    said.push_str(" ")?;
+    write_clause(&mut said, clauses.take())?;
+    Ok(said)
 }
 
 #[test]
