@@ -70,7 +70,8 @@ fn are_known(words: &str) -> bool {
         let is_known = match name {
             "format" => matches!(value, "radv" | "amdgpu" | "xe" | "i915" | "gpuvas"),
             "flags" => matches!(value, "entry" | "call"),
-            "pid" | "space" | "at" => !value.is_empty(),
+            "pid" | "at" => !value.is_empty(),
+            "space" => true,
             "json" | "script" | "mappings" | "all" => value.is_empty(),
             _ => false,
         };
