@@ -12,12 +12,12 @@ use Rattle.gv_types.specs.Limits.{IsFromOneTo}
 use Rattle.gv_session.specs.declared.fault.ScriptFault.{ScriptFault}
 use Rattle.gv_serve.specs.declared.fault.ServeFault.{ServeFault}
 use Rattle.gv_threads.specs.declared.fault.ThreadsFault.{ThreadsFault}
-use Rattle.gv_words.specs.CommandLine.{AreReadAs, IsEntered, IsTask, NamesFile, command_line, entered, file_named, most_queues, text_of}
-use Rattle.gv_words.specs.declared.words.Task.{Task}
-use Rattle.gv_words.specs.declared.words.Task.TheVariants.{Run, Serve, Replay, Draw, Compare, Threads}
-use Rattle.gv_words.specs.declared.words.WordsFault.{WordsFault}
-use Rattle.gv_words.specs.declared.words.WordsFault.TheVariants.{OutOfMemory}
-use Rattle.gv_program.specs.CommandLine.{IsStatusOfKind, IsStatusOfOne}
+use Rattle.gv_program.specs.CommandLine.{AreReadAs, IsEntered, IsTask, NamesFile, command_line, entered, file_named, most_queues, text_of}
+use Rattle.gv_program.specs.declared.words.Task.{Task}
+use Rattle.gv_program.specs.declared.words.Task.TheVariants.{Run, Serve, Replay, Draw, Compare, Threads}
+use Rattle.gv_program.specs.declared.words.WordsFault.{WordsFault}
+use Rattle.gv_program.specs.declared.words.WordsFault.TheVariants.{OutOfMemory}
+use Rattle.gv_program.specs.Refused.{IsStatusOfKind, IsStatusOfOne}
 use Rattle.gv_program.specs.Run.{HasRun, HasRunSome, HasRunThreads, exit_status, threads_status}
 use Rattle.gv_program.specs.Serving.{HasServed, serve_status}
 use Rattle.gv_program.specs.Status.{bad_words, broken_stream, done}

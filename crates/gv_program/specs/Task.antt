@@ -3,8 +3,8 @@ use Rattle.std.specs.Prelude.{◌≡◌, ℕ, List, Bool, false, Option, Some, N
 use Rattle.gv_session.specs.declared.fault.ScriptFault.{ScriptFault}
 use Rattle.gv_serve.specs.declared.fault.ServeFault.{ServeFault}
 use Rattle.gv_threads.specs.declared.fault.ThreadsFault.{ThreadsFault}
-use Rattle.gv_words.specs.declared.words.Task.{Task}
-use Rattle.gv_words.specs.declared.words.Task.TheVariants.{Run, Serve, Threads}
+use Rattle.gv_program.specs.declared.words.Task.{Task}
+use Rattle.gv_program.specs.declared.words.Task.TheVariants.{Run, Serve, Threads}
 use Rattle.gv_program.specs.Run.{HasRun, HasRunSome, HasRunThreads, exit_status, threads_status}
 use Rattle.gv_program.specs.Serving.{HasServed, serve_status}
 use Rattle.gv_program.specs.Status.{IsStatus}

@@ -7,9 +7,9 @@ use crate::files::opened;
 use crate::progress::Onlooker;
 use crate::replaying::list_log;
 use crate::status::{BAD_WORDS, DIFFERENT, DONE};
+use crate::words::CompareWords;
 use gv_compare::{CompareFault, compare_of};
 use gv_text::{MemorySink, Pipe, ScriptFault, Sink, write_all};
-use gv_words::CompareWords;
 use std::alloc::Global;
 use std::rt::{Clock, Files};
 

@@ -6,9 +6,9 @@ ghost use Rattle.gv_session.specs.declared.fault.ScriptFault.{ScriptFault};
 ghost use Rattle.clap.specs.Words.{fault_of, kind_of};
 ghost use Rattle.clap.specs.declared.error.kind.ErrorKind.TheVariants as kind;
 ghost use Rattle.gv_types.specs.Limits.{IsFromOneTo};
-ghost use Rattle.gv_words.specs.CommandLine.{AreReadAs, IsTask, command_line, file_named, most_queues, words_of};
+ghost use Rattle.gv_program.specs.CommandLine.{AreReadAs, IsTask, command_line, file_named, most_queues, words_of};
 ghost use Rattle.gv_program.specs.Task.{IsDone};
-ghost use Rattle.gv_program.specs.CommandLine.{AskForText, IsStatusOfOne};
+ghost use Rattle.gv_program.specs.Refused.{AskForText, IsStatusOfOne};
 ghost use Rattle.gv_program.specs.Fault.{status_of};
 ghost use Rattle.gv_threads.specs.declared.fault.ThreadsFault.{ThreadsFault};
 ghost use Rattle.gv_serve.specs.declared.fault.ServeFault.{ServeFault};
@@ -24,12 +24,12 @@ use crate::replaying::replay;
 use crate::serving::{serve, serve_file};
 use crate::stack::is_stack_there;
 use crate::status::{BAD_WORDS, BROKEN_STREAM, DONE};
+use crate::words::{Task, WordsFault, read_words};
 use clap::Error;
 use gv_text::{
     Pipe, ReadSource, ScriptFault, Sink, Source, WriteSink, is_broken_pipe, run_script_explained,
 };
 use gv_threads::{RunTerms, run_threads_explained};
-use gv_words::{Task, WordsFault, read_words};
 use std::rt::{Clock, Env, Files};
 use std::sync::Wait;
 use std::thread::Threads;

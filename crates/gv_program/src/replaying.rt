@@ -6,10 +6,10 @@ use crate::files::{address, opened};
 use crate::log_drawing::draw_log;
 use crate::progress::Onlooker;
 use crate::status::DONE;
+use crate::words::{CompareWords, ReplayWords};
 use gv_draw::Options;
 use gv_replay::{FlagBits, Form, Format, ReplayFault, Sizes, Terms, measure, replay as play};
 use gv_text::{MemorySource, Pipe, ScriptFault, Sink, Source};
-use gv_words::{CompareWords, ReplayWords};
 use std::alloc::Global;
 use std::rt::{Clock, Files};
 

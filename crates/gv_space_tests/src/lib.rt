@@ -10,6 +10,8 @@ mod changes;
 #[cfg(test)]
 mod course;
 #[cfg(test)]
+mod edits;
+#[cfg(test)]
 mod faults;
 #[cfg(test)]
 mod journal;

@@ -1,5 +1,5 @@
 use Rattle.std.proofs.Common.{inl, inr, ⊎_elim}
-use Rattle.gv_words.specs.CommandLine.{words_of}
+use Rattle.gv_program.specs.CommandLine.{words_of}
 use Rattle.gv_program.proofs.Reading.{read_has_no_error, run_alone, run_done, run_file_done, serve_alone, status_of_one, threads_done, version_is_no_task, version_is_shown}
 use Rattle.gv_program.proofs.entry.obey.Goals as goal
 
