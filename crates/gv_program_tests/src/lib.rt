@@ -1,4 +1,4 @@
-//! Tests of the program over a runtime in memory.
+//! Tests of the program over a runtime in memory, and of threads scripts.
 #![tactic(auto)]
 
 #[cfg(test)]
@@ -11,6 +11,8 @@ mod forms;
 mod helps;
 #[cfg(test)]
 mod telling;
+#[cfg(test)]
+mod threads;
 #[cfg(test)]
 mod trial;
 #[cfg(test)]
