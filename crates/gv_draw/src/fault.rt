@@ -1,6 +1,6 @@
 //! Why a script isn't drawn.
 
-use gv_text::LineFault;
+use gv_session::LineFault;
 use gv_types::OutOfMemory;
 use std::alloc::{AllocError, AllocFailed};
 use std::fmt;

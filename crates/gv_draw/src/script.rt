@@ -6,7 +6,7 @@ use crate::options::Options;
 use crate::page::write_picture;
 use crate::row::{RowKind, Told};
 use gv_lines::{Line, parse_line, split_once};
-use gv_text::{LineFault, Session, run_line};
+use gv_session::{LineFault, Session, run_line};
 use gv_types::{OutOfMemory, PageRange};
 use std::alloc::Global;
 use std::str;
