@@ -1,4 +1,5 @@
-//! Tests of scripts, of pictures and of dialogues: the worked rows, scripts at the limits, and devices that fail, from bytes to replies.
+//! Tests of scripts, pictures, dialogues and replayed logs: the worked rows, texts at the limits, and devices that fail, from bytes to
+//! replies.
 #![tactic(auto)]
 
 #[cfg(test)]
@@ -15,6 +16,8 @@ mod drawn;
 mod failing;
 #[cfg(test)]
 mod fits;
+#[cfg(test)]
+mod logs;
 #[cfg(test)]
 mod many;
 #[cfg(test)]

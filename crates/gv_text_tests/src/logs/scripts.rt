@@ -1,6 +1,6 @@
 //! Logs written as scripts.
 
-use crate::told::{expect_ends, expect_told, times};
+use crate::logs::told::{expect_ends, expect_told, times};
 use gv_text::{MemorySink, MemorySource, run_script};
 use std::alloc::AllocError;
 use std::process::Abort;

@@ -1,6 +1,6 @@
 //! Logs by chance, and addresses to ask of them.
 
-use crate::forms::{Numbers, write_form};
+use crate::logs::forms::{Numbers, write_form};
 use gv_model::Random;
 use std::alloc::{AllocError, Global};
 

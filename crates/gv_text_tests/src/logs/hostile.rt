@@ -1,6 +1,6 @@
 //! Logs that are no logs, or that end anywhere.
 
-use crate::told::{expect_lines, expect_told, told};
+use crate::logs::told::{expect_lines, expect_told, told};
 use std::alloc::AllocError;
 
 const MADE: &[u8] =

@@ -1,7 +1,7 @@
 //! Logs of VMAs by chance, against pages that are kept by the rules alone.
 
-use crate::forms::{Given, write_form};
-use crate::told::{expect_lines, told_at};
+use crate::logs::forms::{Given, write_form};
+use crate::logs::told::{expect_lines, told_at};
 use gv_model::Random;
 use std::alloc::AllocError;
 use std::fmt::Write;

@@ -1,7 +1,7 @@
 //! A watcher is told each step.
 
-use crate::counts::{Counts, NONE};
-use crate::told::terms_of;
+use crate::logs::counts::{Counts, NONE};
+use crate::logs::told::terms_of;
 use gv_replay::{ReplayFault, watch};
 use gv_text::MemorySource;
 

@@ -1,6 +1,6 @@
 //! Rows for each kind of finding and of place as JSON. The lines that are wanted are written from the rules.
 
-use crate::told::Row;
+use crate::logs::told::Row;
 
 /// Memory that is reached when it is freed, and what is bound past its end and after it.
 pub const FREED: &str =

@@ -1,7 +1,7 @@
 //! Reports as JSON.
 
-use crate::json_rows::{FREED, ROWS};
-use crate::told::{expect_ends, expect_rows, times, told};
+use crate::logs::json_rows::{FREED, ROWS};
+use crate::logs::told::{expect_ends, expect_rows, times, told};
 use serde_json::Value;
 use std::alloc::AllocError;
 use std::test::Fail;

@@ -1,8 +1,8 @@
 //! More memory comes and goes than may live at once.
 
-use crate::counts::NONE;
-use crate::forms::{Given, write_form};
-use crate::told::terms_of;
+use crate::logs::counts::NONE;
+use crate::logs::forms::{Given, write_form};
+use crate::logs::told::terms_of;
 use gv_replay::watch;
 use gv_text::MemorySource;
 use std::test::Fail;

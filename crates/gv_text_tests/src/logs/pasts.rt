@@ -1,9 +1,9 @@
 //! What a replay tells of addresses, against what comes of taking its entries back one by one.
 
-use crate::forms::{Given, write_form};
-use crate::made::{Drawn, OF_AMDGPU, OF_RADV, OF_XE};
-use crate::rewound::rewound;
-use crate::told::terms_of;
+use crate::logs::forms::{Given, write_form};
+use crate::logs::made::{Drawn, OF_AMDGPU, OF_RADV, OF_XE};
+use crate::logs::rewound::rewound;
+use crate::logs::told::terms_of;
 use gv_replay::{ReplayFault, Terms, replay};
 use gv_text::{MemorySink, MemorySource};
 use std::alloc::{AllocError, Global};

@@ -1,7 +1,7 @@
 //! Address spaces told apart: each as it is told alone, and what is wrong with their names.
 
-use crate::made::Drawn;
-use crate::told::{expect_told, told};
+use crate::logs::made::Drawn;
+use crate::logs::told::{expect_told, told};
 use std::alloc::AllocError;
 use std::process::Abort;
 

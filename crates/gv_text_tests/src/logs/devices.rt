@@ -1,6 +1,6 @@
 //! Devices that fail.
 
-use crate::told::terms_of;
+use crate::logs::told::terms_of;
 use gv_replay::{ReplayFault, replay};
 use gv_text::{MemorySink, MemorySource, ReadSource, WriteSink};
 use std::io;

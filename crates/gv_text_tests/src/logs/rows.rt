@@ -1,6 +1,6 @@
 //! Rows for each kind of line and each trap of a format. The lines that are wanted are written from the rules.
 
-use crate::told::Row;
+use crate::logs::told::Row;
 
 pub const ROWS: &[Row<'static>] = &[
     (

@@ -1,6 +1,6 @@
 //! Rows of lists of several address spaces, and of logs of several processes. The lines that are wanted are written from the rules.
 
-use crate::told::Row;
+use crate::logs::told::Row;
 
 /// Lists of two spaces: objects of one are none of the other's.
 const LISTS: &str = "DRM GPU VA space (vm) [0x0;0x1]\n\

@@ -1,7 +1,7 @@
 //! Logs of many lines against the counts that must come.
 
-use crate::forms::{Given, write_form};
-use crate::told::{expect_lines, told};
+use crate::logs::forms::{Given, write_form};
+use crate::logs::told::{expect_lines, told};
 use std::alloc::AllocError;
 
 /// So many rounds of five lines.

@@ -1,6 +1,6 @@
 //! Rows of logs of several address spaces. The lines that are wanted are written from the rules.
 
-use crate::told::Row;
+use crate::logs::told::Row;
 
 /// Two spaces of xe, in each of which one pointer is bound at one range; the second unbinds another.
 const TWO: &str = "xe_vma_bind: vma=f0, asid=0x00021, start=0x200000, end=0x200fff, userptr=0x0,\n\

@@ -1,6 +1,6 @@
 //! Rows for each event and each trap of i915. The lines that are wanted are written from the rules.
 
-use crate::told::Row;
+use crate::logs::told::Row;
 
 pub const ROWS: &[Row<'static>] = &[
     (

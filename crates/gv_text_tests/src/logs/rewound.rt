@@ -1,7 +1,7 @@
 //! What addresses reached before, as it was told before the journal was asked: the held entries are taken back one after another, the
 //! newest first.
 
-use crate::mirror::{DIFFERS, Mirror};
+use crate::logs::mirror::{DIFFERS, Mirror};
 use gv_journal::{Item, ItemKind};
 use gv_replay::{Act, ReplayFault, Terms, number_of, watch, write_act};
 use gv_text::MemorySource;
