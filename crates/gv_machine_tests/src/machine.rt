@@ -1,0 +1,20 @@
+//! Tests of the machine and of the world: rows of calls, and random events against a model.
+mod agreement;
+mod asking;
+mod calls;
+mod chance;
+mod counts;
+mod entries;
+mod events;
+mod forgetting;
+mod jobs;
+mod limits;
+mod past;
+mod play;
+mod refusals;
+mod rounds;
+mod rows;
+mod stage;
+mod tally;
+mod trimming;
+mod turns;
