@@ -1,4 +1,4 @@
-//! The arguments of the subcommands, each made of a row.
+//! The arguments of the subcommands, each made from a row.
 ghost use Rattle.std.specs.Prelude.{◌≡◌, false};
 ghost use Rattle.clap.specs.Words.{rule_of};
 ghost use Rattle.gv_program.specs.Rows.{rule_of_row};
@@ -16,13 +16,13 @@ pub enum Kind {
     Place(&'static str),
     /// `--NAME VALUE`.
     Text(&'static str),
-    /// `--NAME VALUE`, as often as it is given.
+    /// `--NAME VALUE`, any number of times.
     Texts(&'static str),
     /// `--NAME N`.
     Number(&'static str, Numbers),
 }
 
-/// The numbers that an argument takes, and the one that stands for it where it is left out, if any.
+/// The numbers that an argument takes, and the default, if there is one.
 #[derive(Clone, Copy)]
 pub struct Numbers {
     pub least: u64,

@@ -1,4 +1,4 @@
-//! The subcommands and their words, in a table.
+//! The subcommands and their arguments, in a table.
 ghost use Rattle.std.specs.Prelude.{◌≡◌, IfOk};
 ghost use Rattle.clap.specs.Words.{app_of, with_subcommand};
 ghost use Rattle.gv_program.specs.CommandLine.{IsLine, bare_line, command_line};
@@ -18,7 +18,7 @@ use std::alloc::{AllocError, Global};
 pub struct Line {
     pub name: &'static str,
     pub about: &'static str,
-    /// The text behind its long help.
+    /// The text after its long help.
     pub after: &'static str,
     pub rows: &'static [Row],
 }
@@ -110,7 +110,7 @@ fn with_line<'a>(
     command.subcommand(line_command(alloc, line)?)
 }
 
-/// A subcommand and its words.
+/// A subcommand and its arguments.
 fn line_command<'a>(alloc: Global, line: &Line) -> Result<Command<'a>, AllocError>
     ensures { IfOk result (IsLine (line_of line.now)) }
 {

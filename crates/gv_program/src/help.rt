@@ -4,112 +4,111 @@
 pub const VERSION: &str = "0.1.0";
 
 /// What the program is for.
-pub const PROGRAM: &str = "Manages the address space of a GPU by the lines of a script";
+pub const PROGRAM: &str = "Manages a GPU's address space by scripts, and replays drivers' logs";
 
 /// What `run` does.
 pub const RUN: &str =
     "Runs the script of FILE, or of standard input, and writes its replies to standard output";
 
 /// What `serve` does.
-pub const SERVE: &str = "Answers the lines of standard input one after another";
+pub const SERVE: &str = "Answers the lines of FILE, or of standard input, one after another";
 
 /// What `--explain` says.
-pub const EXPLAIN: &str = "Says of a bad line what is wrong with it";
+pub const EXPLAIN: &str = "Says why a line is bad";
 
 /// What `--json` says.
-pub const JSON: &str = "Answers each line with a line of JSON";
+pub const JSON: &str = "Writes each reply as one line of JSON";
 
 /// What `FILE` says.
-pub const FILE: &str = "The file to read in place of standard input";
+pub const FILE: &str = "The file to read instead of standard input";
 
 /// The lines of a dialogue.
 pub const SERVE_LINES: &str = "\
-Each line of 'vmbind run' is answered as there. Answers are written before the next read, so a program
-may wait for one before it sends the next line, over a pipe or at a terminal. It ends with its input:
-a script may be of any length, a line has at most 1048576 bytes, and a queue holds 65536 outcomes and
-waiting requests.
-A bad line changes nothing and is answered
+Each line of 'vmbind run' has the same reply here. Replies are written before the next read, so a
+program may wait for a reply before it sends the next line, over a pipe or at a terminal. The input
+may be of any length. A line has at most 1048576 bytes; a queue holds 65536 outcomes and waiting
+requests. The dialogue goes on after a bad line, which changes nothing. Its reply is
   bad line K: REASON
-and a line for which memory is refused
+A line that is out of memory did nothing, or all but its reply; 'turn' continues a half-done 'bind'
+or 'turn'. Its reply is
   out of memory
-and the dialogue goes on. It has more lines than a script:
-  put CLAUSE ; CLAUSE ..
-      Puts a request on its queue and carries nothing out: 'put N', its number, or 'refused FAULT'.
+Only a dialogue has these lines:
+  put, or put CLAUSE ; CLAUSE ..
+      Puts a request on its queue and does not serve it: 'put N', its number, or 'refused FAULT'.
   turn QUEUE
-      Goes on with a queue: its first request looks at its waits, and where all are reached it is bound
-      and its signals are raised. 'accepted N', 'refused K FAULT', 'waits NAME N have N' where it stays in
-      hand, or 'idle'.
+      Serves the next request of a queue: 'accepted N', its signals are raised; 'refused K FAULT';
+      'waits NAME N have N' if a wait is not reached, and the request stays; 'idle' if there is none.
   giveup QUEUE
-      Gives up the request in hand, whose last look lacked: 'notready NAME N have N', or 'idle'.
+      Gives up the request for which 'turn' answered 'waits': 'notready NAME N have N', or 'idle'.
   forget QUEUE TO
-      Lets the outcomes of a queue below the number TO go, so that it takes more requests: 'forgot N',
-      how many; 'refused NoOutcome' where there is no such number; or 'refused Held N', where item N of
-      the journal has one of them.
+      Drops the outcomes of a queue below the number TO, so that it takes more requests: 'forgot N';
+      'refused NoOutcome' if TO is neither an outcome's number nor the next; 'refused Held N' if item
+      N is still in the journal and has one of these outcomes.
   trim
-      Gives room back that nothing needs: 'trimmed', and nothing else changes; or 'refused Held N' where
-      the journal holds items, of which N is the oldest: 'settle' lets them go.
+      Frees memory that nothing needs: 'trimmed', and nothing else changes. 'refused Held N' if the
+      journal has items, of which N is the oldest: settle or rewind them first.
   show ENTRY
-      Prints what a journal item did, a line an operation, as 'bind' reads it.
+      Prints what a journal item did, an operation a line, as 'bind' reads it; or 'withdrawal of N'.
   past ADDR
-      Prints what the journal's items say of an address, newest first, and what lies under them:
-      'N live PLACE', 'N withdrawn PLACE' or 'none' for the place, then 'under PLACE'.
-A 'bind' on a queue where requests stand that were put is a bad line: 'turn' serves them.
+      Prints what an address reached by each journal item, newest first, as 'N live PLACE' or
+      'N withdrawn PLACE'; then 'under PLACE', below all items. PLACE may be 'none'.
+A 'bind' on a queue with requests, or with signals still to be raised, is a bad line: use 'turn'.
 
-With --json each answer is one line of JSON, with the number of its line:
+With --json each reply is one line of JSON, with the number of its line:
   {\"line\":2,\"accepted\":0}
 
 Exit statuses:
-  0  the input ended, whatever lines it had, or help was asked for
-  2  the words of the command line are refused
+  0  the input ended, even with bad lines, or help was asked for
+  2  the arguments are refused
   3  standard input or standard output failed, or FILE can't be opened or read
-  4  the system refused to give memory, but for a line";
+  4  out of memory before the first line";
 
 /// What `replay` does.
 pub const REPLAY: &str =
-    "Replays what a driver logged: what an address reached, and what was freed under it";
+    "Replays a driver's log: what an address reached, and which buffers were freed while mapped";
 
 /// How `replay` ends.
 pub const REPLAY_STATUSES: &str = "\
 Exit statuses:
-  0  the log was replayed, whatever was found in it, or help was asked for
+  0  the log was replayed, whatever was found, or help was asked for
   1  no line of the log is of the format, or of the address space
-  2  the words of the command line are refused
+  2  the arguments are refused
   3  standard input or standard output failed, or FILE can't be opened or read
-  4  the system refused to give memory";
+  4  out of memory";
 
 /// What `--format` says.
-pub const FORMAT: &str = "Whose log it is: radv, amdgpu, xe, i915 or gpuvas";
+pub const FORMAT: &str = "The format of the log: radv, amdgpu, xe, i915 or gpuvas";
 
-/// What `--at` says, as often as it is given.
-pub const ADDRESSES: &str = "An address whose past is told, in bytes";
+/// What `--at` of a log says.
+pub const ADDRESSES: &str = "Reports what this address, in bytes, reached and when; repeatable";
 
 /// What `--flags` says.
-pub const FLAGS: &str = "What flags of amdgpu's events mean: entry or call";
+pub const FLAGS: &str = "What the flags of amdgpu's events mean: entry or call";
 
 /// What `--format` of a comparison says.
-pub const LOG_FORMAT: &str = "Whose log B is: radv, amdgpu, xe, i915 or gpuvas";
+pub const LOG_FORMAT: &str = "B is a log of this format: radv, amdgpu, xe, i915 or gpuvas";
 
 /// What `--space` says.
-pub const SPACE: &str = "The address space that is taken, as a report names it";
+pub const SPACE: &str = "Takes this address space only, as a report names it";
 
 /// What `--quiet` says.
-pub const QUIET: &str = "Tells nothing of how far it is";
+pub const QUIET: &str = "Shows no progress on a terminal";
 
 /// What `--pid` says.
-pub const PID: &str = "The process whose events count";
+pub const PID: &str = "Takes this process only: its events, or its first address space";
 
 /// What `--all` says.
-pub const ALL: &str = "Tells all places of a finding, and not three";
+pub const ALL: &str = "Reports all places of a finding, not only three";
 
 /// What `--json` of a log says.
 pub const AS_JSON: &str = "Writes the report as one line of JSON";
 
 /// What `--script` says.
-pub const AS_SCRIPT: &str = "Writes a script in place of the report";
+pub const AS_SCRIPT: &str = "Writes a script instead of the report";
 
 /// What `--draw` says.
 pub const AS_PICTURE: &str =
-    "Writes a picture in place of the report, as SVG, around the first address if one is given";
+    "Writes a picture instead of the report, as SVG, around the first --at if there is one";
 
 /// What `draw` does.
 pub const DRAW: &str = "Runs a script and writes a picture of it, as SVG";
@@ -119,57 +118,57 @@ pub const DRAW_STATUSES: &str = "\
 Exit statuses:
   0  the picture was written, or help was asked for
   1  the script has a bad line: nothing is written
-  2  the words of the command line are refused
+  2  the arguments are refused
   3  standard input or standard output failed, or FILE can't be opened or read
-  4  the system refused to give memory";
+  4  out of memory";
 
 /// What `--at` of a picture says.
-pub const AT: &str = "The address around which is drawn, in bytes";
+pub const AT: &str = "Draws only requests that changed a page near this address, in bytes";
 
 /// What `--width` says.
-pub const WIDTH: &str = "How many pixels wide the picture is, 1 to 16384; less than 900 is 900";
+pub const WIDTH: &str = "The width of the picture in pixels, 1 to 16384; less than 900 is 900";
 
 /// What `compare` does.
-pub const COMPARE: &str = "Compares two lists of mappings, or one and that of a log, page by page";
+pub const COMPARE: &str = "Compares two lists of mappings, or a list and the end of a log";
 
 /// How `compare` ends.
 pub const COMPARE_STATUSES: &str = "\
 Exit statuses:
   0  the lists are alike, or help was asked for
   1  the lists differ
-  2  the words of the command line are refused, a list is none, or a log gives none
-  3  standard output failed, or a list can't be opened or read
-  4  the system refused to give memory";
+  2  the arguments are refused, A or B is no list, or a log gives no list
+  3  standard output failed, or A or B can't be opened or read
+  4  out of memory";
 
 /// What a list is.
-pub const LIST: &str = "A file of mappings: the answer to 'map', or a kernel's gpuvas";
+pub const LIST: &str = "A file: the reply to 'map' or a kernel's gpuvas; with --format B is a log";
 
 /// What `threads` does.
 pub const THREADS: &str =
-    "Reads a script whose requests are put on running queues, each with a thread of its own";
+    "Runs a script from standard input; each queue serves its requests on its own thread";
 
 /// What `--queues` says.
-pub const QUEUES: &str = "How many queues there are, 1 to 16";
+pub const QUEUES: &str = "The number of queues, 1 to 16";
 
 /// What `--turns` says.
-pub const TURNS: &str = "After how many looks that lacked a request is given up, 1 to 1000000000";
+pub const TURNS: &str = "Gives up a request after this many looks at a wait, 1 to 1000000000";
 
 /// A threads script and an example.
 pub const THREADS_SCRIPT: &str = "\
 The script is read from standard input, and the replies are written to standard output. It has the
 lines of 'vmbind run' in three parts:
   space, limits, buffer, timeline, raise
-      Run one after another, before the queues are opened.
+      Run in order, before the queues start.
   bind
-      Put in order, each on its queue, and served by the queue's thread. They give no reply.
+      Put in order, each on its queue, and served by the queue's thread. They have no reply.
   map, at, tables, uses, value, told, journal
-      Asked when all queues have ended.
-Empty lines and comments stand anywhere. Between the replies of the first part and those of the last
-one stands a line for each queue: how many requests were put on it, were told an outcome and were
-left. A queue takes 65536 requests; those behind them are not put.
+      Answered after all queues have ended.
+Empty lines and comments may be anywhere. Between the replies of the first and of the last part is a
+line for each queue. It counts requests: 'put' on the queue, 'told' with an outcome, 'left' without.
+A queue takes 65536 requests; those after them are not put.
 
-The entries' numbers, their order, and the outcomes of requests that meet depend on which queue is
-served first.
+The entries' numbers, their order, and the outcomes of requests that overlap depend on which queue
+is served first.
 
 An example of a script, for --queues 2:
   buffer a 8
@@ -186,34 +185,34 @@ Its replies:
 Exit statuses:
   0  the script was run to its end, or help was asked for
   1  the script has a bad line, or is too long
-  2  the words of the command line are refused
+  2  the arguments are refused
   3  standard input or standard output failed
-  4  the system refused to give memory
-  5  a queue's thread was not started, or its ends disagree";
+  4  out of memory
+  5  a queue's thread did not start, or the two ends of a queue disagree";
 
 /// The lines of a script, the exit statuses and an example.
 pub const SCRIPT: &str = "\
 The lines of a script:
   space START LEN RSTART RLEN
-      The bytes of the address space, and of its reserved region: the start and the length of each,
+      Sets the address space and its reserved region: the start and the length of each, in bytes,
       multiples of 4096. First line only.
   limits BUFFERS MAPPINGS ITEMS
-      How many live buffers, mappings and journal items there may be. Before all lines but 'space'.
+      Limits the live buffers, mappings and journal items. Before all lines but 'space'.
   buffer NAME PAGES
       Makes a buffer of PAGES pages of 4096 bytes.
   destroy NAME
       Destroys a buffer that no mapping in the list or in an undo value names and no job uses. Its
-      name stays taken.
+      name stays declared.
   uses NAME
-      Prints how many mappings of a buffer are in the list and are kept in undo values.
+      Prints how many mappings of a buffer are in the list, and how many are kept in undo values.
   timeline NAME
-      Declares the next timeline, of 64, which is 0.
+      Declares a timeline, at 0. There are at most 64.
   raise NAME NUM, value NAME
-      Raises a timeline where it is lower; both print its number.
+      'raise' raises a timeline to NUM if it is lower. Both print its number.
   bind, or bind CLAUSE ; CLAUSE ..
-      One request, applied whole or not at all. Answers 'accepted N', the entry; 'refused K FAULT',
-      K the operation that is refused, counted from 0, and nothing changes; 'notready NAME N have N'
-      where a wait is not reached; or 'refused FAULT' where its queue took 65536 requests already.
+      One request, applied whole or not at all: 'accepted N', N the entry; 'refused K FAULT', K the
+      operation that is refused, from 0; 'notready NAME N have N' if a wait is not reached; or
+      'refused FAULT' if its queue has taken 65536 requests. Only an accepted one changes mappings.
   plan OPERATION
       Prints the unmap, remap and map steps of the operation, and changes nothing.
   map
@@ -223,17 +222,17 @@ The lines of a script:
   tables
       Prints how many tables the page table has at its levels 4, 3, 2, 1 and 0.
   rewind
-      Takes the newest journal item back.
+      Undoes the newest journal item.
   withdraw ENTRY
-      Withdraws an older request that no live later one touches; that is an item too.
+      Undoes an older request that no live later one touches. The withdrawal is an item too.
   settle TO
-      Lets the items below TO go: they stay done, and what they kept is given up.
+      Makes the items below TO permanent and drops their undo values: they can't be undone any more.
   journal
       Prints the items: their numbers, queues and requests' numbers, and which are withdrawn.
   told QUEUE
-      Prints what a queue, 0 to 15, was told.
+      Prints the outcomes of the requests of a queue, 0 to 15.
   job ACCESS ; ACCESS ..
-      Begins a job, which holds the buffers behind its accesses; prints the place of each.
+      Begins a job, which holds the buffers that its accesses reach; prints the place of each.
   end JOB
       Ends a job.
 
@@ -244,31 +243,31 @@ An ACCESS is 'read ADDR' or 'write ADDR'. An OPERATION is one of:
   zero ADDR LEN [ro]
       Maps LEN bytes at ADDR to no buffer: they read as zeros.
   unmap ADDR LEN
-      Takes away what is mapped in LEN bytes at ADDR.
+      Unmaps LEN bytes at ADDR.
 With 'ro' the mapping is read-only.
 
 A FAULT is one of:
   Unaligned, Empty, OutOfSpace, Reserved, NoBuffer, OutOfBuffer, TooManyMappings
-      of an operation, in this order
-  TooManyOps, JournalFull, QueueSpent
-      of a request, the first two written with a 0 that is no operation's; OutOfMemory of either
-  BadSize, TooManyBuffers, Mapped N, Kept N, InUse N
+      of an operation; the first in this order is answered
+  TooManyOps, JournalFull, OutOfMemory, QueueSpent
+      of a request; with the first three 'refused 0' may mean the whole request
+  BadSize, TooManyBuffers, NoBuffer, Mapped N, Kept N, InUse N
       of 'buffer' and 'destroy': N mappings in the list or in undo values, or N jobs
   NoEntry, NotABind, Withdrawn, Touched N, Crossed N
       of 'rewind', 'withdraw' and 'settle': N the later entry, or the later withdrawal
   TooManyAccesses, TooManyJobs, Unmapped N, WriteToReadOnly N, Conflict N, NoJob
       of 'job' and 'end': N the access, counted from 0, or the other job
 
-Numbers are decimal, or hexadecimal after 0x. '#' begins a comment. Words are separated by exactly
-one space, and every line ends with a line end. The first bad line ends the run.
+Numbers are decimal, or hexadecimal after 0x; in 'queue' decimal only. '#' begins a comment line.
+One space separates words, and a line end ends every line. The first bad line ends the run.
 
 Exit statuses:
   0  the script was run to its end, or help or the version was asked for
   1  the script has a bad line, or is too long; 'vmbind replay' found no line of the format, or of the
      address space; the lists of 'vmbind compare' differ
-  2  the words of the command line are refused, or a list of 'vmbind compare'
+  2  the arguments are refused, or a list or log of 'vmbind compare'
   3  standard input or standard output failed, or a FILE can't be opened or read
-  4  the system refused to give memory
+  4  out of memory
   5  the queues of 'vmbind threads' did not start, or disagree
 
 An example of a script:

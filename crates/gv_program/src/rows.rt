@@ -3,19 +3,19 @@
 use crate::args::{Kind, Numbers, Row};
 use crate::help;
 
-/// How many queues there may be.
+/// The greatest number of queues.
 pub const MAX_QUEUES: u64 = 16;
 
-/// How many turns a request may wait.
+/// The greatest number of turns that a request may wait.
 pub const MAX_TURNS: u64 = 1_000_000_000;
 
-/// How many pixels wide a picture may be.
+/// The greatest width of a picture, in pixels.
 pub const MAX_WIDTH: u64 = 16_384;
 
 /// The greatest number of a process.
 const MAX_PID: u64 = 4_294_967_295;
 
-/// The file that is read in place of standard input.
+/// The file that is read instead of standard input.
 pub const FILE: Row = Row {
     name: "file",
     help: help::FILE,
@@ -39,7 +39,7 @@ pub const SECOND: Row = Row {
     needed: true,
 };
 
-/// How many queues run.
+/// The number of queues.
 pub const QUEUES: Row = Row {
     name: "queues",
     help: help::QUEUES,
@@ -69,7 +69,7 @@ pub const TURNS: Row = Row {
     needed: false,
 };
 
-/// Whose log it is.
+/// The format of a log.
 pub const FORMAT: Row = Row {
     name: "format",
     help: help::FORMAT,
@@ -77,7 +77,7 @@ pub const FORMAT: Row = Row {
     needed: true,
 };
 
-/// Whose log the second file is, if it is one.
+/// The format of the second file, if it is a log.
 pub const LOG_FORMAT: Row = Row {
     name: "format",
     help: help::LOG_FORMAT,
@@ -85,7 +85,7 @@ pub const LOG_FORMAT: Row = Row {
     needed: false,
 };
 
-/// Addresses whose past is asked.
+/// Addresses whose past the report gives.
 pub const ADDRESSES: Row = Row {
     name: "at",
     help: help::ADDRESSES,
@@ -93,7 +93,7 @@ pub const ADDRESSES: Row = Row {
     needed: false,
 };
 
-/// The address around which is drawn.
+/// The address around which the picture is drawn.
 pub const AT: Row = Row {
     name: "at",
     help: help::AT,
@@ -101,7 +101,7 @@ pub const AT: Row = Row {
     needed: false,
 };
 
-/// What flags mean.
+/// What the flags of a log mean.
 pub const FLAGS: Row = Row {
     name: "flags",
     help: help::FLAGS,
@@ -109,7 +109,7 @@ pub const FLAGS: Row = Row {
     needed: false,
 };
 
-/// The process whose events count.
+/// The process whose events, or whose address space, a report takes.
 pub const PID: Row = Row {
     name: "pid",
     help: help::PID,
@@ -124,7 +124,7 @@ pub const PID: Row = Row {
     needed: false,
 };
 
-/// The address space that is taken.
+/// The address space that a report or a comparison takes.
 pub const SPACE: Row = Row {
     name: "space",
     help: help::SPACE,
@@ -132,7 +132,7 @@ pub const SPACE: Row = Row {
     needed: false,
 };
 
-/// How wide a picture is.
+/// The width of a picture.
 pub const WIDTH: Row = Row {
     name: "width",
     help: help::WIDTH,
@@ -147,7 +147,7 @@ pub const WIDTH: Row = Row {
     needed: false,
 };
 
-/// Nothing is told of how far it is.
+/// No progress is shown.
 pub const QUIET: Row = Row {
     name: "quiet",
     help: help::QUIET,
@@ -155,7 +155,7 @@ pub const QUIET: Row = Row {
     needed: false,
 };
 
-/// What is wrong with a bad line is told.
+/// The program says why a line is bad.
 pub const EXPLAIN: Row = Row {
     name: "explain",
     help: help::EXPLAIN,
@@ -163,7 +163,7 @@ pub const EXPLAIN: Row = Row {
     needed: false,
 };
 
-/// Lines are answered in JSON.
+/// Replies are JSON.
 pub const JSON: Row = Row {
     name: "json",
     help: help::JSON,
@@ -171,7 +171,7 @@ pub const JSON: Row = Row {
     needed: false,
 };
 
-/// A report is written in JSON.
+/// The report is JSON.
 pub const AS_JSON: Row = Row {
     name: "json",
     help: help::AS_JSON,
@@ -179,7 +179,7 @@ pub const AS_JSON: Row = Row {
     needed: false,
 };
 
-/// A script is written in place of a report.
+/// A script is written instead of the report.
 pub const AS_SCRIPT: Row = Row {
     name: "script",
     help: help::AS_SCRIPT,
@@ -187,7 +187,7 @@ pub const AS_SCRIPT: Row = Row {
     needed: false,
 };
 
-/// A picture is written in place of a report.
+/// A picture is written instead of the report.
 pub const AS_PICTURE: Row = Row {
     name: "draw",
     help: help::AS_PICTURE,
@@ -195,7 +195,7 @@ pub const AS_PICTURE: Row = Row {
     needed: false,
 };
 
-/// All places of a finding are told.
+/// The report has all places of a finding.
 pub const ALL: Row = Row {
     name: "all",
     help: help::ALL,

@@ -1,4 +1,4 @@
-//! What the words ask for.
+//! What the arguments ask for.
 ghost use Rattle.std.specs.Prelude.{◌≡◌, ◌≢◌, ◌⊎◌, ◌∷◌, [], ℕ, List, IfOk, Ok, Err, None, Some, codes, false};
 ghost use Rattle.clap.specs.Words.{fault_of, found_of, kind_of, rows_of, subcommand_name_of};
 ghost use Rattle.gv_program.specs.CommandLine.{IsEntered, IsFaultOf, IsTask, NamesFile, ReadsBy, command_line, entered, words_of};
@@ -11,12 +11,12 @@ use clap::error::ErrorKind;
 use clap::{ArgMatches, Error};
 use std::alloc::{AllocError, Global};
 
-/// Why the words lead to no task.
+/// Why the arguments give no task.
 #[derive(Drop)]
 pub enum WordsFault {
-    /// The words ask for help, or are refused: this is to be printed.
+    /// The arguments ask for help, or are refused: print this.
     Printed(Error),
-    /// The system refused to give memory.
+    /// Out of memory.
     OutOfMemory,
 }
 
@@ -39,32 +39,32 @@ impl From<Error> for WordsFault {
     }
 }
 
-/// What the words ask for. A file is read in place of standard input.
+/// What the arguments ask for. A file is read instead of standard input.
 #[derive(Drop)]
 pub enum Task<'a> {
-    /// A script is run. With `explain` it is told why a line is bad.
+    /// Run a script. With `explain`, say why a line is bad.
     Run {
         explain: bool,
         file: Option<&'a str>,
     },
-    /// Lines are answered one after another, in text or in JSON.
+    /// Answer lines one after another, in text or in JSON.
     Serve {
         json: bool,
         file: Option<&'a str>,
     },
-    /// A log of a driver is replayed.
+    /// Replay a driver's log.
     Replay(ReplayWords<'a>),
-    /// A script is drawn, around an address if one is given, so many pixels wide.
+    /// Draw a script, around an address if one is given. `width` is in pixels.
     Draw {
         at: Option<&'a str>,
         width: u64,
         quiet: bool,
         file: Option<&'a str>,
     },
-    /// Two lists of mappings are compared.
+    /// Compare two lists of mappings.
     Compare(CompareWords<'a>),
-    /// A threads script is run on so many queues, from 1 to 16. A request that waits is given up after so many turns,
-    /// from 1 to 1,000,000,000.
+    /// Run a threads script on `queues` queues, 1 to 16. Give up a request that waits after `turns` turns,
+    /// 1 to 1,000,000,000.
     Threads {
         queues: u64,
         turns: u64,
@@ -72,28 +72,28 @@ pub enum Task<'a> {
     },
 }
 
-/// What is given behind `replay`. Addresses are left as they are written.
+/// The arguments of `replay`. Addresses are kept as text.
 #[derive(Drop)]
 pub struct ReplayWords<'a> {
     pub format: &'a str,
-    /// The addresses whose past is asked.
+    /// The addresses whose past the report gives.
     pub at: Vec<&'a str>,
     pub flags: Option<&'a str>,
     pub pid: Option<u64>,
-    /// The address space that is taken.
+    /// The address space to take.
     pub space: Option<&'a str>,
     pub all: bool,
-    /// Nothing is told of how far it is.
+    /// No progress is shown.
     pub quiet: bool,
     pub json: bool,
     pub script: bool,
     pub draw: bool,
-    /// How many pixels wide a picture is.
+    /// The width of a picture, in pixels.
     pub width: u64,
     pub file: Option<&'a str>,
 }
 
-/// What is given behind `compare`: the files of two lists. With a format the second one is a log.
+/// The arguments of `compare`: the files of two lists. With a format the second one is a log.
 #[derive(Clone, Copy, Drop)]
 pub struct CompareWords<'a> {
     pub first: &'a str,
@@ -101,13 +101,13 @@ pub struct CompareWords<'a> {
     pub format: Option<&'a str>,
     pub flags: Option<&'a str>,
     pub pid: Option<u64>,
-    /// The address space that is taken.
+    /// The address space to take.
     pub space: Option<&'a str>,
-    /// Nothing is told of how far it is.
+    /// No progress is shown.
     pub quiet: bool,
 }
 
-/// Reads the words, of which the first is the program's name: what they ask for.
+/// Reads the arguments, of which the first is the program's name, and answers what they ask for.
 pub fn read_words<'a>(alloc: Global, words: &'a [String]) -> Result<Task<'a>, WordsFault>
     ensures kinds { ReadsBy (fault_of command_line (words_of words.entry.now)) result }
     ensures run { (name : List ℕ) → words_of words.entry.now ≡ name ∷ codes "run" ∷ []
@@ -134,7 +134,7 @@ fn task_of<'a>(alloc: Global, matches: &ArgMatches<'a>) -> Result<Task<'a>, Allo
     Ok(plain_task_of(matches))
 }
 
-/// The same, where it is not `replay`.
+/// The same for each subcommand but `replay`.
 fn plain_task_of<'a>(matches: &ArgMatches<'a>) -> Task<'a>
     ensures of { subcommand_name_of matches.now ≢ Some (codes "replay") → IsTaskOf matches.now result }
     ensures task { IsTask result }
@@ -160,7 +160,7 @@ fn plain_task_of<'a>(matches: &ArgMatches<'a>) -> Task<'a>
     }
 }
 
-/// What is given behind `run`.
+/// The arguments of `run`.
 fn run_of<'a>(given: &ArgMatches<'a>) -> Task<'a>
     ensures { IsRunOf (rows_of (found_of given.now)) result }
 {
@@ -170,7 +170,7 @@ fn run_of<'a>(given: &ArgMatches<'a>) -> Task<'a>
     }
 }
 
-/// What is given behind `serve`.
+/// The arguments of `serve`.
 fn serve_of<'a>(given: &ArgMatches<'a>) -> Task<'a>
     ensures { IsServeOf (rows_of (found_of given.now)) result }
 {
@@ -180,7 +180,7 @@ fn serve_of<'a>(given: &ArgMatches<'a>) -> Task<'a>
     }
 }
 
-/// What is given behind `threads`. Each number was read, in its range: none other is taken by the command line.
+/// The arguments of `threads`. Each number is in its range: the command line takes no other.
 fn threads_of<'a>(given: &ArgMatches<'_>) -> Task<'a>
     ensures threads { IsThreads result }
     ensures task { IsTask result }
@@ -194,7 +194,7 @@ fn threads_of<'a>(given: &ArgMatches<'_>) -> Task<'a>
     }
 }
 
-/// What is given behind `replay`: a format was given, or the words are refused.
+/// The arguments of `replay`. A format was given: without one they are refused.
 fn replay_of<'a>(alloc: Global, given: &ArgMatches<'a>) -> Result<Task<'a>, AllocError>
     ensures { IfOk result IsReplay }
 {
@@ -218,7 +218,7 @@ fn replay_of<'a>(alloc: Global, given: &ArgMatches<'a>) -> Result<Task<'a>, Allo
     }))
 }
 
-/// What is given behind `draw`.
+/// The arguments of `draw`.
 fn draw_of<'a>(given: &ArgMatches<'a>) -> Task<'a>
     ensures { IsDraw result }
 {
@@ -230,7 +230,7 @@ fn draw_of<'a>(given: &ArgMatches<'a>) -> Task<'a>
     }
 }
 
-/// What is given behind `compare`: both files were given, or the words are refused.
+/// The arguments of `compare`. Both files were given: without them the arguments are refused.
 fn compare_of<'a>(given: &ArgMatches<'a>) -> Task<'a>
     ensures { IsCompare result }
 {
