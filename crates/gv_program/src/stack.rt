@@ -1,13 +1,13 @@
-//! The stack of the program, made sure of.
+//! The program's stack is there before the arguments are read.
 
-/// How many bytes of stack the program makes sure of: more than was read. A table that the system refuses comes back by value, through
-/// frames of a table's size each, and so does one that is given back. A line of a script takes less than 64 KiB, a replay some 90; a
-/// life of a space from C was first read at 141, and since at 49.
+/// How many bytes of stack the program touches first: more than it needs. Tables are passed by value, in frames of a table's size
+/// each: a table that is freed, and one that the system has no memory for. A line of a script takes less than 64 KiB, a replay some
+/// 90.
 const FRAME_LEN: usize = 1 << 17;
 
-/// Whether a frame of `FRAME_LEN` bytes was written and read back. It always is; where the system has no memory for the
-/// stack, it ends the program. So want of memory at a later line meets no stack that can't grow just then.
-// A frame of its own, given back before the words are read. It is read back, else a compiler may leave it out.
+/// Writes a frame of `FRAME_LEN` bytes and reads it back: always true. If the system has no memory for the stack, it ends the
+/// program here, so a later line that is out of memory finds a stack that need not grow.
+// A frame of its own, freed before the arguments are read. It is read back, else a compiler may leave it out.
 #[inline(never)]
 pub fn is_stack_there(byte: u8) -> bool {
     let frame = [byte; FRAME_LEN];
