@@ -1,5 +1,5 @@
-// vmbind for C++17: an owner over vmbind.h, which says what each call does. A call that is refused throws vmbind::refused; serve and
-// try_bind answer instead.
+// vmbind for C++17: an owner of the handle of vmbind.h, which says what each call does. A call that is refused throws
+// vmbind::refused; serve and try_bind answer a result instead.
 #ifndef VMBIND_HPP
 #define VMBIND_HPP
 #include "vmbind.h"
@@ -13,7 +13,7 @@
 #include <utility>
 #include <vector>
 
-// Two ids are of the same buffer.
+// Whether two ids are of the same buffer.
 inline bool operator==(const vmbind_buffer &a, const vmbind_buffer &b) {
   return a.generation == b.generation && a.index == b.index && a.made == b.made;
 }
@@ -34,7 +34,7 @@ using config = vmbind_config;
 
 inline config default_config() { return VMBIND_CONFIG_DEFAULT; }
 
-// Items that lie in a row somewhere else: an array, a vector, a list in braces.
+// Items that are stored in a row somewhere else: an array, a vector, a list in braces.
 template <class T>
 class span {
   T *at_ = nullptr;
@@ -55,7 +55,7 @@ public:
   T &operator[](std::size_t k) const { return at_[k]; }
 };
 
-// Why a call was refused: its status, the number that the status carries (0: none), and what a request was told.
+// Why a call was refused: its status, the number that the status reports (0: none), and a request's outcome.
 class refused : public std::exception {
 public:
   explicit refused(vmbind_status status, std::uint64_t number = 0, const outcome &told = outcome{})
@@ -75,7 +75,7 @@ inline op map_zero(std::uint64_t start, std::uint64_t size, bool read_only = fal
 inline op unmap(std::uint64_t start, std::uint64_t size) { return {VMBIND_UNMAP, 0, start, size, {}, 0}; }
 inline op unmap_all(buffer of) { return {VMBIND_UNMAP_ALL, 0, 0, 0, of, 0}; }
 
-// What became of a request. True where it was accepted.
+// What became of a request. True if it was accepted.
 struct result {
   vmbind_status status;
   outcome told;
@@ -95,7 +95,7 @@ class space {
     if (status != VMBIND_OK) throw refused(status, number);
   }
 
-  // All of a list: how many there are, and then those.
+  // All of a list: first its length, then its items.
   template <class T, class Call>
   static std::vector<T> listed(Call call) {
     std::uint64_t count = 0, total = 0;
@@ -137,7 +137,7 @@ public:
     return found;
   }
 
-  // The entry's number. Refused also where it waits: VMBIND_NOT_READY, and it stays on its queue.
+  // Answers the entry's number. A request that waits is refused as VMBIND_NOT_READY, and stays on its queue.
   std::uint64_t bind(span<const op> ops, span<const point> waits = {}, span<const point> signals = {}, std::uint64_t queue = 0) {
     result came = try_bind(ops, waits, signals, queue);
     if (!came) throw refused(came.status, came.told.carried, came.told);
@@ -204,14 +204,14 @@ public:
     ok(status, number);
     return number;
   }
-  // Settles each entry and forgets each outcome, so that an endless run holds no more than it still needs: how many entries settled.
+  // Settles each entry and forgets each outcome, which an endless run has to do. Answers how many entries were settled.
   std::uint64_t settle_all() {
     const std::uint64_t settled = settle(journal().second);
     std::uint64_t count = 0, total = 0;
     for (std::uint64_t queue = 0; vmbind_told(&vm_, queue, 0, nullptr, 0, &count, &total) == VMBIND_OK; queue++) forget(queue, total);
     return settled;
   }
-  // Gives memory back that nothing needs, once no entry is held.
+  // Frees memory that nothing needs, once no entry is held.
   void trim() {
     std::uint64_t number = 0;
     vmbind_status status = vmbind_trim(&vm_, &number);
@@ -252,7 +252,7 @@ public:
       return vmbind_mappings(&vm_, 0, list, room, count, total);
     });
   }
-  // What the entries that are held say of an address, the newest first, and where it leads by what lies under them all.
+  // past: what the entries that are held did to an address, newest first. base: what it would reach if all were undone.
   std::vector<past_entry> past(std::uint64_t address) const {
     return listed<past_entry>([&](past_entry *list, std::size_t room, std::uint64_t *count, std::uint64_t *total) {
       return vmbind_past(&vm_, address, 0, list, room, count, total);

@@ -8,8 +8,8 @@
         vm.rewind()
 
 A call that is refused raises Refused. Calls hold the interpreter's lock, so threads may share a Vm.
-The library is looked for at the path in VMBIND_LIBRARY, beside this file, in build/ there, where `make install` puts it, and then by
-the loader.
+The library is the file in VMBIND_LIBRARY; without it, libvmbind.so beside this file, in build/ there, or where `make install` puts
+it; else the loader finds it.
 """
 import ctypes as c
 import os
@@ -36,14 +36,14 @@ _MOST = (1 << 64) - 1
 
 
 def _number(it: int) -> int:
-    """A number of 64 bits. ctypes would cut a greater one off in silence."""
+    """A number of 64 bits. ctypes would cut a greater one off without an error."""
     if not 0 <= it < 1 << 64:
         raise ValueError(f"not a number of 64 bits: {it}")
     return it
 
 
 class _Value(c.Structure):
-    """A structure that is compared and shown by its fields."""
+    """A structure that compares and prints by its fields."""
 
     def _fields_of(self) -> Tuple[Any, ...]:
         return tuple(getattr(self, name) for name, *_ in self._fields_)
@@ -118,7 +118,7 @@ class Outcome(_Value):
 
 
 class _Backed(_Value):
-    """What has a kind and flags. It is true where something stands behind it."""
+    """A structure with a kind and flags. It is false if its kind is NOTHING."""
     kind: int
     flags: int
 
@@ -131,7 +131,7 @@ class _Backed(_Value):
 
 
 class Translation(_Backed):
-    """Where an address leads. It is true where something is mapped."""
+    """What an address reaches. It is true if something is mapped."""
     run: int
     buffer: Buffer
     byte: int
@@ -139,7 +139,7 @@ class Translation(_Backed):
 
 
 class Mapping(_Backed):
-    """A mapping of the list. It is true where it is one."""
+    """A mapping of the list. It is false if there is none."""
     start: int
     size: int
     buffer: Buffer
@@ -158,7 +158,7 @@ class Step(_Value):
 
 
 class PastEntry(_Value):
-    """What an entry says of an address: its number, whether a later entry withdraws it, and where the address leads by it."""
+    """What an entry did to an address: its number, whether a later entry withdraws it, and what the address reached by it."""
     entry: int
     withdrawn: int
     reserved: int
@@ -167,7 +167,7 @@ class PastEntry(_Value):
 
 
 class Uses(_Value):
-    """A buffer's pages, and how many mappings of it are in the list and kept."""
+    """A buffer's pages, how many mappings of it are in the list, and how many are kept to undo entries."""
     pages: int
     mapped: int
     kept: int
@@ -187,7 +187,7 @@ class _Info(c.Structure):
 
 
 class Entry(NamedTuple):
-    """An entry of the journal. `ops` are a request's operations; a withdrawal has None there, and `of` is what it withdraws."""
+    """An entry of the journal. `ops` are a request's operations. A withdrawal has None there, and `of` is the entry that it withdraws."""
     entry: int
     queue: Optional[int]
     number: Optional[int]
@@ -197,9 +197,9 @@ class Entry(NamedTuple):
 
 
 class Refused(Exception):
-    """A call was refused: each fault below is a class of its own. `fault` is its status, `name` that status's name, `op` the operation of
-    a request that has the fault (None where there is none), `n` the number that the fault carries (0: none), `outcome` what a
-    request was told."""
+    """A call was refused. Each fault below is a class of its own. `fault` is its status, `name` the name of that status, `op` the
+    operation of a request that has the fault (None if there is none), `n` the number that the fault reports (0: none), `outcome` the
+    request's outcome."""
     fault: int
     name: str
     op: Optional[int]
@@ -216,7 +216,7 @@ class Refused(Exception):
 
 
 class NotReady(Refused):
-    """A request stays on its queue, or was given up (outcome.kind), since `point` isn't reached: its timeline is at `have`."""
+    """A request stays on its queue or was given up (outcome.kind): `point` isn't reached, its timeline is at `have`."""
     point: Point
     have: int
     outcome: Outcome
@@ -231,37 +231,37 @@ class Unaligned(Refused): """The address, the size or the offset is no multiple 
 class Empty(Refused): """The size is 0."""
 class OutOfSpace(Refused): """A page is outside the address space."""
 class Reserved(Refused): """A page is in the reserved region."""
-class NoBuffer(Refused): """The id is of no buffer, or the buffer was destroyed."""
+class NoBuffer(Refused): """No buffer has this id, or the buffer was destroyed."""
 class OutOfBuffer(Refused): """The offset plus the size is past the buffer's end."""
-class BadSize(Refused): """A buffer of no page, or of over 2^36."""
-class TooManyBuffers(Refused): """As many buffers live as the limit says."""
+class BadSize(Refused): """A buffer of no page, or of over 2^36 pages."""
+class TooManyBuffers(Refused): """The limit of live buffers is reached, or 2^64 - 1 buffers were made."""
 class Mapped(Refused): """`n` mappings of the buffer are in the list."""
-class Kept(Refused): """`n` mappings of the buffer are kept, so that entries can be taken back."""
+class Kept(Refused): """`n` mappings of the buffer are kept to undo entries."""
 class InUse(Refused): """`n` running jobs use the buffer."""
-class Conflict(Refused): """Job `n` uses the buffer, and one of the two writes it."""
-class TooManyMappings(Refused): """The list would pass its limit."""
+class Conflict(Refused): """Job `n` uses the buffer, and one of the two jobs writes it."""
+class TooManyMappings(Refused): """The list would pass its limit, or over 2^62 mappings would be kept."""
 class TooManyOps(Refused): """A request of over 256 operations."""
-class JournalFull(Refused): """The journal holds as many entries as the limit says."""
+class JournalFull(Refused): """The journal holds the limit of entries, or the next number would be 2^63."""
 class NoEntry(Refused): """The journal holds no such entry."""
 class NotABind(Refused): """The entry is a withdrawal."""
 class Withdrawn(Refused): """The entry is withdrawn already."""
 class Touched(Refused): """The live later entry `n` covers one of its pages."""
 class Crossed(Refused): """The later entry `n` withdraws one that would be settled."""
-class OutOfTurn(Refused): """Never raised here: a fault of the library's own users."""
-class QueueSpent(Refused): """As many outcomes and waiting requests are held on the queue as the limit says."""
-class Unmapped(Refused): """Access `n` is of a page that holds nothing."""
+class OutOfTurn(Refused): """Never raised here: a fault of the Rattle library."""
+class QueueSpent(Refused): """The queue has the limit of outcomes and waiting requests, or had 2^63 outcomes."""
+class Unmapped(Refused): """Access `n` is of a page without a mapping."""
 class WriteToReadOnly(Refused): """Access `n` writes a page that is read-only."""
-class QueueFull(Refused): """As many requests wait on the queue as it has places."""
-class TooManyJobs(Refused): """1,024 jobs run."""
+class QueueFull(Refused): """Each place of the queue has a request."""
+class TooManyJobs(Refused): """1,024 jobs run, or 2^64 - 1 jobs were begun."""
 class TooManyAccesses(Refused): """A job of over 256 accesses."""
 class NoJob(Refused): """No such job runs."""
 class QueueGone(Refused): """Never raised here, as OutOfTurn."""
-class OutOfMemory(Refused): """The system refused memory. Nothing changed."""
-class NoOutcome(Refused): """The number is that of no outcome that is still told, nor the next one."""
-class Held(Refused): """Entry `n` is held, and was told an outcome that would be forgotten, or needs the room that would be given back."""
-class BadArgument(Refused): """A kind, a flag, a queue or a timeline that there is not, or limits or bounds of no address space."""
+class OutOfMemory(Refused): """Out of memory. `outcome` says whether a request stays on its queue; else nothing changed."""
+class NoOutcome(Refused): """The number is neither an outcome's that is not forgotten nor the next one."""
+class Held(Refused): """Entry `n` is still in the journal: its outcome would be forgotten, or its undo may need memory that would be freed."""
+class BadArgument(Refused): """No such kind, flag, queue or timeline, or limits or bounds of no address space."""
 class NoVm(Refused): """The Vm was closed."""
-class NotNull(Refused): """Never raised here: of a handle of C's."""
+class NotNull(Refused): """Never raised here: a fault of a handle in C."""
 class Idle(Refused): """No request waits on the queue."""
 
 _KINDS: Dict[object, Type[Refused]] = {number: globals()[name] for number, name in NAMES.items() if number not in (OK, NOT_READY)}
@@ -326,22 +326,22 @@ _NO_BUFFER, _EMPTY = Buffer(), (None, 0)
 
 
 def Map(start: int, size: int, buffer: Buffer, offset: int = 0, read_only: bool = False) -> Op:
-    """Map a buffer's bytes from `offset` on."""
+    """Maps a buffer's bytes from `offset` on."""
     return Op(1, int(read_only), _number(start), _number(size), buffer, _number(offset))
 
 
 def MapZero(start: int, size: int, read_only: bool = False) -> Op:
-    """Map zeros."""
+    """Maps zeros."""
     return Op(2, int(read_only), _number(start), _number(size), _NO_BUFFER, 0)
 
 
 def Unmap(start: int, size: int) -> Op:
-    """Cut out what lies there."""
+    """Cuts the range out of all mappings."""
     return Op(3, 0, _number(start), _number(size), _NO_BUFFER, 0)
 
 
 def UnmapAll(buffer: Buffer) -> Op:
-    """Unmap every mapping of a buffer."""
+    """Unmaps every mapping of a buffer."""
     return Op(4, 0, 0, 0, buffer, 0)
 
 
@@ -355,7 +355,7 @@ def _points(points: Points) -> Tuple[Any, int]:
 
 
 def _numbers(items: Any) -> Tuple[Any, int]:
-    """An array of 64-bit numbers: where the items lie, if they lie in a buffer that may be written, else a copy."""
+    """An array of 64-bit numbers: the items themselves, if they are in a buffer that may be written, else a copy."""
     try:
         view = memoryview(items)
     except TypeError:
@@ -379,7 +379,7 @@ class Vm:
         self._check(_create(self._vm, _Config(*map(_number, numbers))))
 
     def close(self) -> None:
-        """Gives the address space up. A second time it does nothing; other calls are refused then, as NoVm."""
+        """Frees the address space. A second time it does nothing. Other calls are refused then, as NoVm."""
         _destroy(self._vm)
 
     def __del__(self) -> None:
@@ -405,7 +405,7 @@ class Vm:
         return number.value
 
     def _listed(self, kind: Any, call: Any, *arguments: Any, start: int = 0) -> List[Any]:
-        """All of a list from one number on, as it is at one call: the first that has room for it. Another thread may change the list
+        """All of a list from one number on, as one call finds it: the first that has room for it. Another thread may change the list
         between two calls."""
         count, total, room = _u64(), _u64(), 0
         while True:
@@ -419,7 +419,7 @@ class Vm:
     # Buffers
 
     def buffer(self, pages: int) -> Buffer:
-        """A new buffer of so many pages."""
+        """Makes a buffer of `pages` pages. Answers its id."""
         made = Buffer()
         self._check(_buffer_create(self._vm, _number(pages), made))
         return made
@@ -440,7 +440,7 @@ class Vm:
         lists = _array(Op, ops), _points(waits), _points(signals)
         places = (it for array, count in lists for it in (array and _address_of(array), count))
         asked = _Request(_number(queue), *places)
-        asked.lists = lists   # which live as long as the request
+        asked.lists = lists   # they must live as long as the request
         return asked
 
     @staticmethod
@@ -452,21 +452,21 @@ class Vm:
         return outcome
 
     def bind(self, *ops: Op, waits: Points = (), signals: Points = (), queue: int = 0) -> int:
-        """Puts a request and serves its queue up to it. The entry's number; Refused, or NotReady where it stays."""
+        """Puts a request and serves its queue up to it. Answers the entry's number; NotReady if it waits and stays on its queue."""
         outcome = Outcome()
         return self._told_of(_bind(self._vm, self._request(ops, waits, signals, queue), outcome), outcome).entry
 
     def submit(self, *ops: Op, waits: Points = (), signals: Points = (), queue: int = 0) -> int:
-        """Puts a request and serves nothing. Its number on the queue."""
+        """Puts a request and serves nothing. Answers its number on the queue."""
         return self._counted(_submit, self._request(ops, waits, signals, queue))
 
     def serve(self, queue: int = 0, give_up: bool = False) -> Outcome:
-        """Serves one request. Its Outcome; Refused (IDLE where nothing waits), or NotReady."""
+        """Serves one request. Answers its Outcome; NotReady if it waits, Idle if there is none."""
         outcome = Outcome()
         return self._told_of(_serve(self._vm, _number(queue), int(give_up), outcome), outcome)
 
     def told(self, queue: int = 0, start: int = 0) -> List[Outcome]:
-        """The Outcomes of a queue's requests that aren't forgotten, from one number on."""
+        """The Outcomes of a queue's requests that aren't forgotten, from number `start` on."""
         first, count, total = Outcome(), _u64(), _u64()
         self._check(_told(self._vm, _number(queue), _number(start), _address_of(first), 1, count, total))
         if not count.value:
@@ -474,35 +474,35 @@ class Vm:
         return self._listed(Outcome, _told, queue, first.number, start=first.number)
 
     def forget(self, queue: int, to: int) -> int:
-        """Lets go of the outcomes of a queue whose numbers are below this one. How many."""
+        """Drops the outcomes of a queue whose numbers are below `to`. Answers how many."""
         return self._counted(_forget, _number(queue), _number(to))
 
     # Timelines
 
     def raise_to(self, timeline: int, value: int) -> int:
-        """Raises a timeline, where it is lower. Its number then."""
+        """Raises a timeline to `value`, if it is lower. Answers its number after that."""
         return self._counted(_timeline_raise, _number(timeline), _number(value))
 
     def value(self, timeline: int) -> int:
         return self._counted(_timeline_value, _number(timeline))
 
-    # Going back
+    # Undoing
 
     def rewind(self) -> int:
-        """Takes the newest entry back. Its number."""
+        """Undoes the newest entry. Answers its number."""
         return self._counted(_rewind)
 
     def withdraw(self, entry: int) -> int:
-        """Withdraws an older request. The number of the withdrawal, which is an entry."""
+        """Undoes an older request. Answers the number of the withdrawal, which is an entry."""
         return self._counted(_withdraw, _number(entry))
 
     def settle(self, to: int) -> int:
-        """Lets go of the entries below a number. How many."""
+        """Makes the entries below `to` permanent. Answers how many."""
         return self._counted(_settle, _number(to))
 
     def settle_all(self) -> int:
-        """Settles what can be settled and forgets what can be forgotten, so that an endless run holds no more than it still needs:
-        entries and outcomes until now. How many entries were settled. Another thread may settle, rewind or forget between two calls."""
+        """Settles all entries and forgets all outcomes until now, which an endless run has to do. Answers how many entries were settled.
+        Another thread may settle, rewind or forget between two calls."""
         queues: List[int] = []   # the next number on each
         count, total = _u64(), _u64()
         while _told(self._vm, len(queues), 0, None, 0, count, total) == OK:
@@ -521,7 +521,7 @@ class Vm:
         return settled
 
     def trim(self) -> None:
-        """Gives memory back that nothing needs, once no entry is held."""
+        """Frees memory that nothing needs, once no entry is held."""
         self._counted(_trim)
 
     def journal(self) -> range:
@@ -543,23 +543,23 @@ class Vm:
             room = info.ops
 
     def entries(self) -> Iterator[Entry]:
-        """The entries that are held, the oldest one first, each as it is when it is asked for."""
+        """The entries that are held, the oldest first, each read when it is asked for."""
         return (self.entry(number) for number in self.journal())
 
     # Looking
 
     def translate(self, address: int) -> Translation:
-        """The Translation of an address, in bytes, by one search in the list."""
+        """The Translation of an address in bytes, by one search in the list."""
         return self._looked(_translate, address)
 
     def walk(self, address: int) -> Translation:
-        """The same by the page table, faster and without how far: its run is 0."""
+        """The same by the page table: faster, but its run is 0."""
         return self._looked(_walk, address)
 
     def translate_many(self, addresses: Any, out: Any = None) -> Any:
         """The Translations of many addresses, as an array. `addresses` is any row of numbers; a buffer of unsigned 64-bit
-        numbers (array.array("Q"), numpy.uint64) is read where it lies. `out` may be an earlier answer of as many, which is
-        written again."""
+        numbers (array.array("Q"), numpy.uint64) is read without a copy. `out` may be an earlier answer of the same length, which
+        is written again."""
         return self._looked_all(_translate_many, addresses, out)
 
     def walk_many(self, addresses: Any, out: Any = None) -> Any:
@@ -589,12 +589,12 @@ class Vm:
         return iter(self._listed(Mapping, _mappings, 0))
 
     def past(self, address: int) -> List[PastEntry]:
-        """What the entries that are held say of an address, in bytes: a PastEntry for each that covers its page, the newest first.
-        Nothing is taken back."""
+        """What the entries that are held did to an address in bytes: a PastEntry for each that covers its page, the newest first.
+        Nothing is undone."""
         return self._listed(PastEntry, _past, _number(address), 0)
 
     def base(self, address: int) -> Translation:
-        """Where an address leads by what lies under the oldest entry that is held: its run is 0."""
+        """What an address would reach if all entries that are held were undone. Its run is 0."""
         return self._looked(_base, address)
 
     def tables(self) -> Tuple[int, ...]:
@@ -611,8 +611,8 @@ class Vm:
 
     def job(self, reads: Iterable[int] = (), writes: Iterable[int] = (),
             accesses: Optional[Iterable[Tuple[int, bool]]] = None) -> int:
-        """Begins a job that reads and writes these addresses. `accesses` has pairs of an address and whether it is written,
-        where their order counts. The job's number."""
+        """Begins a job that reads and writes these addresses. If their order counts, `accesses` has pairs instead: an address, and
+        whether it is written. Answers the job's number."""
         if accesses is None:
             accesses = [(it, False) for it in reads] + [(it, True) for it in writes]
         return self._counted(_job_begin, *_array(_Access, [_Access(_number(at), int(writes), 0) for at, writes in accesses]))
