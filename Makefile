@@ -1,4 +1,4 @@
-# Every goal needs the Rattle toolchain's command `rt` on the path, and what `make check-tools` names.
+# Every goal needs the Rattle toolchain's command `rt` on the path. `make check-tools` says what else is missing.
 
 RT ?= rt
 PROGRAM := crates/gv_cli
@@ -6,12 +6,12 @@ SOURCES := crates.txt HANDLES $(shell find crates -type f \( -name '*.rt' -o -na
 
 .PHONY: goals check-tools build try run test check-documents long must-fail-long gate-minutes fuzz refuse-memory measure clean lib install capi-test capi-measure
 
-# The goals, with what each is for.
+# Lists the goals and what each does.
 goals:
 	@sed -n 's/^\([a-z-]*\):[^#]*## /\1 /p' Makefile | while read -r goal words; do printf 'make %-16s %s\n' "$$goal" "$$words"; done
 
-# What this machine lacks of what the goals need, in one line.
-check-tools: ## says what this machine lacks
+# One line: what the goals need and this machine doesn't have.
+check-tools: ## says what is missing on this machine
 	@RT="$(RT)" CC="$(CC)" CXX="$(CXX)" tools/check-tools
 
 # The proved program, at ./vmbind.
@@ -24,74 +24,73 @@ vmbind: $(SOURCES)
 	cd $(PROGRAM) && $(RT) run -- --help > /dev/null
 	cp $(PROGRAM)/out/gv_cli vmbind
 
-# The first example and its replies, by a build without proofs: it shows what the program answers, and proves nothing.
-run: ## runs the first example, by a build without proofs
+# Runs the first example and prints its replies. The build is without proofs.
+run: ## runs the first example, built without proofs
 	@echo '--- examples/first.vmb'
 	@cat examples/first.vmb
 	@echo '--- its replies, from a build without proofs: that takes one to three minutes'
 	@RT="$(RT)" tools/try run < examples/first.vmb
 	@echo '--- "make build" proves the program and leaves it at ./vmbind; "make try SCRIPT=my.vmb" runs your own script as this one'
 
-# A script of your own without proofs: its replies alone on standard output.
+# Runs your own script. Standard output has the replies and nothing else.
 SCRIPT ?= examples/first.vmb
 WORDS ?= run
-try: ## runs SCRIPT=my.vmb by a build without proofs
+try: ## runs SCRIPT=my.vmb, built without proofs
 	@RT="$(RT)" tools/try $(WORDS) < "$(SCRIPT)"
 
-# The gate: the proofs, the must-fail edits, the tests and the programs; of the first two only what changed since a run on this
-# machine passed, and what stands above it, from nothing (by kit 13b all, each time). Before it, what no contract can say: that the functions of the
-# timelines wait for nobody (a function may wait only under a bound of that name), that an undo value can't be let go, and that the
-# documents name what there is.
-# Behind it, a dialogue over two pipes with the program that was built, which says nothing where all is well.
-# Where there are 4 GiB of free memory for each core, as many parts run at once as there are cores (one was seen to hold 5.1 GB); else
-# the toolchain chooses, which reckons up to 7.4 GB for a part.
+# The gate: proofs, mutations that must be refused, tests and programs. It proves and tries again only what changed since a run that
+# passed on this machine, and the crates above (kit 13b: everything). Before that, checks that no contract can make: the functions of
+# the timelines don't wait (a function may wait only under the bound `Wait`), an undo value can't be dropped, and the documents name
+# what exists. After that, a dialogue with the built program over two pipes.
+# With 4 GiB of free memory for each core the gate runs one part on each core (a part was seen to take 5.1 GB). With less, the
+# toolchain chooses how many run at once. It reckons with up to 7.4 GB for a part.
 LANES = $(shell awk -v cores="$$(nproc)" '/^MemAvailable:/ && $$2 >= cores * 4194304 { print cores }' /proc/meminfo 2>/dev/null)
-test: check-documents ## the gate: proofs, wrong bodies, tests, programs
+test: check-documents ## the gate: proofs, mutations that must be refused, tests, programs
 	@! grep -rnw Wait crates/gv_sync/src
 	@RT="$(RT)" tools/check-undo
 	RT_JOBS=$(LANES) $(RT) ci
 	@sh examples/dialogue.sh $(PROGRAM)/out/gv_cli > /dev/null
 
-# Paths, names of the code, links and counts in the documents.
-check-documents: ## looks up what the documents name
+# Checks the paths, names of code, links and counts in the documents.
+check-documents: ## checks what the documents name
 	@tools/check-documents
 
-# What the gate leaves out, each to its end: must-fail-long, the programs in long/, refuse-memory, ten minutes of fuzz, capi-test with
-# ./vmbind there, and where OLD names the folder of an older build, bench/run --guard beside it. The last line is 'N passed, M failed'.
+# Runs what the gate leaves out: must-fail-long, the programs in long/, refuse-memory, ten minutes of fuzz, and capi-test with
+# ./vmbind. If OLD is the folder of an older build, also bench/run --guard against it. The last line is 'N passed, M failed'.
 long: SECONDS = 600
 long: ## runs what the gate leaves out
 	@RT="$(RT)" OLD="$(OLD)" tools/long $(SECONDS)
 
-# The wrong bodies in crates/NAME/must-fail-long, which the gate doesn't try: the prover must refuse each. It takes what the gate has
-# proved on this machine. The last line is 'N passed, M failed'.
-must-fail-long: ## tries the wrong bodies that the gate leaves out
+# Tries the mutations in crates/NAME/must-fail-long, which the gate leaves out: the prover must refuse each. It uses what the gate
+# has proved on this machine. The last line is 'N passed, M failed'.
+must-fail-long: ## tries the mutations that the gate leaves out
 	@RT="$(RT)" tools/must-fail-long
 
-# Processor minutes of each crate in the gate, from a run of it.
+# Runs the gate and prints each crate's processor minutes.
 gate-minutes: ## prints the processor minutes of each crate in the gate
 	@RT="$(RT)" tools/gate-minutes
 
-# Scripts by chance, from a seed on and for so many seconds, each run by the program's own call and by a model that is written
-# from the definitions. What differs is shrunk and printed; the last line is 'N passed, M failed'. The gate runs a few.
+# Runs random scripts from SEED on for SECONDS seconds, each by the program and by a model written from the definitions. A script on
+# which they differ is shrunk and printed. The last line is 'N passed, M failed'. The gate runs a few.
 SECONDS ?= 60
 SEED ?= 1000
-fuzz: ## runs scripts by chance beside the model, SECONDS=60
+fuzz: ## runs random scripts against the model, SECONDS=60
 	cd crates/gv_fuzz && $(RT) run -- --seed $(SEED) --seconds $(SECONDS)
 
-# Outside the gate, since it has no way to refuse memory: a long script under limits of the address space, then rows of
-# events, of calls on a space, on a journal and on running queues, a script, and every example, with each request for memory refused
-# in turn until a run meets none. Each run is compared with what it may come to; the last line is 'N passed, M failed'.
+# Refuses memory, which the gate can't do: a long script under limits of the process's addresses; then events, calls on a space, on a
+# journal and on running queues, a script, and every example, with each request for memory refused in turn. It compares each run
+# with its allowed results. The last line is 'N passed, M failed'.
 refuse-memory: vmbind ## refuses each request for memory in turn
 	@RT="$(RT)" tools/refuse-memory
 
-# Times of edits and look-ups, and of running queues, by programs of long/. The figures are of this machine.
+# Measures edits, look-ups and running queues on this machine, by programs of long/.
 measure: ## prints times of edits, look-ups and running queues
 	@work=$$(mktemp -d) && trap 'rm -rf "$$work"' EXIT && tools/lay-long "$$work" && cd "$$work" && $(RT) ci 1>&2 && \
 	    for name in gv_bench gv_queues_bench; do "crates/$$name/out/$$name" > /dev/null || exit 1; done
 
-# The C library, in capi/build: an archive and a shared library, the header, the C++ owner, the Python module, a file for
-# pkg-config. The crate gv_c and those below it are proved first, where an earlier run hasn't left that; the gate leaves nothing that
-# serves here. docs/C.md is for its users.
+# The C library in capi/build: an archive, a shared library, the header, the C++ owner, the Python module, and a file for pkg-config.
+# gv_c and the crates below it are proved first, unless an earlier run of this goal has left their proofs. The gate's proofs don't
+# serve here. docs/C.md is for users.
 CC ?= cc
 PREFIX ?= /usr/local
 DESTDIR ?=
@@ -103,14 +102,14 @@ LIBRARY := $(CAPI)/libvmbind.a $(CAPI)/libvmbind.so $(SHOWN:capi/%=$(CAPI)/%) $(
 
 lib: $(LIBRARY) ## builds the C library in capi/build
 
-# What the toolchain makes of the exports. A library that was built is left as it is where LIB_IS_BUILT is set.
+# The toolchain's archive of the exports. With LIB_IS_BUILT a library that exists is not built again.
 $(CAPI)/libgv_c.a: $(if $(LIB_IS_BUILT),,$(SOURCES))
 	@mkdir -p $(CAPI)
 	@RT="$(RT)" tools/prove gv_c
 	cd crates/gv_c && $(RT) lib
 	cp crates/gv_c/out/libgv_c.a $@
 
-# With the few functions of the toolchain that reach malloc and free.
+# Adds the toolchain's functions that call malloc and free.
 $(CAPI)/libvmbind.a: $(CAPI)/libgv_c.a capi/vmbind.h tools/one-object
 	@CC="$(CC)" tools/one-object $@ $< $(KIT)/c/liblibc_c.a
 
@@ -122,7 +121,7 @@ $(SHOWN:capi/%=$(CAPI)/%): $(CAPI)/%: capi/%
 	@mkdir -p $(CAPI)
 	cp $< $@
 
-# described FILE PREFIX INCLUDE LIB: what tells pkg-config or CMake where the library is
+# described FILE PREFIX INCLUDE LIB: writes where the library is, for pkg-config or CMake
 described = sed 's|@PREFIX@|$(2)|; s|@INCLUDE@|$(3)|; s|@LIB@|$(4)|; s|@VERSION@|$(VERSION)|; s|@MINOR@|$(basename $(VERSION))|' capi/$(1).in
 
 $(CAPI)/vmbind.pc: capi/vmbind.pc.in capi/vmbind.h
@@ -140,15 +139,15 @@ install: lib ## installs the C library below PREFIX
 	for file in vmbind-config.cmake vmbind-config-version.cmake; do \
 	    $(call described,$$file,$(PREFIX),$(PREFIX)/include,$(PREFIX)/lib) > $(DESTDIR)$(PREFIX)/lib/cmake/vmbind/$$file || exit 1; done
 
-# The tests of the C library. They stand beside the gate, and `make test` doesn't call them: a build of the library proves its crates
-# once more. With ./vmbind there (make build), scripts by chance are compared with what it writes. The last line is 'N passed, M failed'.
-# BINDS are the binds of a run in flat memory, and the lines of a dialogue with ./vmbind.
+# Tests the C library. `make test` leaves this out, since a build of the library proves its crates once more. If ./vmbind exists (make
+# build), random scripts are compared with what it writes. The last line is 'N passed, M failed'. BINDS is the number of binds in the
+# run that must take flat memory, and of lines in a dialogue with ./vmbind.
 SCRIPTS ?= 200
 BINDS ?= 1000000
 capi-test: lib ## tests the C library
 	@CC="$(CC)" CXX="$(CXX)" SEED=$(SEED) SCRIPTS=$(SCRIPTS) BINDS=$(BINDS) tools/capi-test
 
-# Times of calls from C and from Python. The figures are of this machine.
+# Measures calls from C and from Python on this machine.
 capi-measure: lib ## prints times of calls from C and from Python
 	$(CC) -std=c11 -O2 -Icapi capi/tests/speed.c $(CAPI)/libvmbind.a -o $(CAPI)/speed && $(CAPI)/speed
 	VMBIND_LIBRARY=$(CURDIR)/$(CAPI)/libvmbind.so python3 capi/tests/speed.py
