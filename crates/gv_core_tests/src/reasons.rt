@@ -13,11 +13,11 @@ const BYTES: [Row; 17] = [
     ),
     (
         b"value t1\r",
-        "column 9: a carriage return; lines end with byte 10 alone",
+        "column 9: a carriage return; lines end with byte 10 only",
     ),
     (
         b"\r",
-        "column 1: a carriage return; lines end with byte 10 alone",
+        "column 1: a carriage return; lines end with byte 10 only",
     ),
     (b"timeline t4 ", "column 12: a space at the end"),
     (b"map  ", "column 5: a space at the end"),
@@ -37,23 +37,23 @@ const BYTES: [Row; 17] = [
     ),
     (
         b"at \x00",
-        "column 4: byte 0x00; words have printable bytes alone",
+        "column 4: byte 0x00; words have only printable bytes",
     ),
     (
         b"at \x7f",
-        "column 4: byte 0x7f; words have printable bytes alone",
+        "column 4: byte 0x7f; words have only printable bytes",
     ),
     (
         b"bind unmap 0x0 0x1000; map",
-        "column 22: ; at a word; a space stands before and behind ;",
+        "column 22: ; at a word; put a space before and after ;",
     ),
     (
         b"bind unmap 0x0 0x1000 ;map",
-        "column 23: ; at a word; a space stands before and behind ;",
+        "column 23: ; at a word; put a space before and after ;",
     ),
     (
         b"map # the list",
-        "column 5: a comment; it has a line of its own",
+        "column 5: a comment; it needs a line of its own",
     ),
     (b"bind unmap 0x0 0x1000 ; ", "column 24: a space at the end"),
     (b"job  ", "column 5: a space at the end"),
@@ -74,14 +74,14 @@ const BEGINNINGS: [Row; 22] = [
         b"abcdefghijklmnopqrstuvwxyzabcdefghijklmnopqrstuvwxyz",
         "no such line: abcdefghijklmnopqrstuvwxyzabcdefghijklmn..",
     ),
-    (b"put zero 0x0 0x1000", "put stands in vmbind serve alone"),
-    (b"turn 0", "turn stands in vmbind serve alone"),
-    (b"giveup 0", "giveup stands in vmbind serve alone"),
-    (b"forget 0 1", "forget stands in vmbind serve alone"),
-    (b"trim", "trim stands in vmbind serve alone"),
+    (b"put zero 0x0 0x1000", "put is a line of vmbind serve only"),
+    (b"turn 0", "turn is a line of vmbind serve only"),
+    (b"giveup 0", "giveup is a line of vmbind serve only"),
+    (b"forget 0 1", "forget is a line of vmbind serve only"),
+    (b"trim", "trim is a line of vmbind serve only"),
     (b"trin", "no such line: trin"),
-    (b"show 0", "show stands in vmbind serve alone"),
-    (b"past 0x0", "past stands in vmbind serve alone"),
+    (b"show 0", "show is a line of vmbind serve only"),
+    (b"past 0x0", "past is a line of vmbind serve only"),
     (
         b"bind mpa 0x0 0x1000 b 0x0",
         "column 6: no such clause: mpa; did you mean map?",
@@ -131,39 +131,39 @@ const FORMS: [Row; 18] = [
         "column 5: no ACCESS; the form is job ACCESS ; ACCESS ..",
     ),
     (b"job read", "column 10: no ADDR; the form is read ADDR"),
-    (b"map 0x0", "column 5: 0x0; nothing stands behind map"),
-    (b"uses b 1", "column 8: 1; nothing stands behind uses NAME"),
+    (b"map 0x0", "column 5: 0x0; nothing may follow map"),
+    (b"uses b 1", "column 8: 1; nothing may follow uses NAME"),
     (
         b"bind unmap 0x0 0x1000 ro",
-        "column 23: ro; nothing stands behind unmap ADDR LEN",
+        "column 23: ro; nothing may follow unmap ADDR LEN",
     ),
     (
         b"bind zero 0x0 0x1000 ro ro",
-        "column 25: ro; nothing stands behind zero ADDR LEN",
+        "column 25: ro; nothing may follow zero ADDR LEN",
     ),
     (
         b"bind zero 0x0 0x1000 rw",
-        "column 22: rw; only ro may stand here",
+        "column 22: rw; only ro is allowed here",
     ),
     (
         b"bind map 0x0 0x1000 b 0x0 RO",
-        "column 27: RO; only ro may stand here",
+        "column 27: RO; only ro is allowed here",
     ),
     (
         b"plan zero 0x0 0x1000 readonly",
-        "column 22: readonly; only ro may stand here",
+        "column 22: readonly; only ro is allowed here",
     ),
     (
         b"bind ; unmap 0x0 0x1000",
-        "column 6: an empty clause; one stands on each side of ;",
+        "column 6: an empty clause; each side of ; needs one",
     ),
     (
         b"bind unmap 0x0 0x1000 ;",
-        "column 25: an empty clause; one stands on each side of ;",
+        "column 25: an empty clause; each side of ; needs one",
     ),
     (
         b"destroy b ; destroy c",
-        "column 11: ; stands between clauses and between accesses alone",
+        "column 11: ; separates only clauses and accesses",
     ),
     (
         b"bind queue 1 ; queue 1",
@@ -177,7 +177,7 @@ const NAMES: [Row; 6] = [
     (b"buffer 1b 1", "column 8: 1b; a name begins with a-z"),
     (
         b"buffer my-buf 1",
-        "column 10: my-buf; a name has a-z, 0-9 and _ alone",
+        "column 10: my-buf; a name has only a-z, 0-9 and _",
     ),
     (
         b"buffer a_3456789012345_7 1",
@@ -193,11 +193,11 @@ const NUMBERS: [Row; 18] = [
     ),
     (b"at 0x1g", "column 7: 0x1g; hexadecimal digits are 0-9a-f"),
     (b"at 04", "column 4: 04; a number has no leading zero"),
-    (b"at 0x", "column 4: 0x; digits 0-9a-f stand behind 0x"),
+    (b"at 0x", "column 4: 0x; digits 0-9a-f follow 0x"),
     (b"at 0X10", "column 5: 0X10; hexadecimal begins with 0x"),
     (
         b"at 0x00000000000001000",
-        "column 4: 0x00000000000001000; at most 16 digits stand behind 0x",
+        "column 4: 0x00000000000001000; at most 16 digits follow 0x",
     ),
     (
         b"at 18446744073709551616",

@@ -29,11 +29,11 @@ use word::word_slip;
 enum Language {
     /// Those of scripts.
     Run,
-    /// Those of scripts, and those that stand in a dialogue alone.
+    /// Those of scripts, and those that only a dialogue has.
     Serve,
 }
 
-/// Why a line, given without its line end, is not of the language. Memory is wanted for a guess at what was meant alone.
+/// Why a line, given without its line end, is not of the language. Only a guess at what was meant takes memory.
 pub fn explain(alloc: Global, text: &[u8]) -> Option<Slip<'_>>
     ensures { IsSome result ↔ (parsed text.now ≡ None) }
 {
@@ -65,7 +65,7 @@ fn slip_in(alloc: Global, language: Language, text: &[u8]) -> Slip<'_> {
     no_such_line(text)
 }
 
-/// A line that begins so is none, and nothing is much like it.
+/// No line begins so, and no first word is much like it.
 pub fn no_such_line(word: &[u8]) -> Slip<'_> {
     beginning(
         Found { word, column: 1 },
@@ -158,7 +158,7 @@ fn pattern_slip<'a>(pattern: Pattern, walk: &mut Walk<'a>) -> Option<Slip<'a>> {
     end_slip(pattern, walk)
 }
 
-/// What stands behind a form.
+/// Why what follows a form is bad.
 fn end_slip<'a>(pattern: Pattern, walk: &mut Walk<'a>) -> Option<Slip<'a>> {
     let form = pattern.text;
     let mut found = walk.take()?;

@@ -37,7 +37,7 @@ pub enum Reason<'a> {
     Form(Form<'a>),
     /// A word is no name.
     Name { word: &'a [u8], slip: NameSlip },
-    /// A word is no number, or none that may stand there.
+    /// A word is no number, or none that is allowed there.
     Number { word: &'a [u8], slip: NumberSlip },
     /// The line is of the language, and not at its place.
     Place(Place<'a>),
@@ -54,7 +54,7 @@ impl<'a> Slip<'a> {
         }
     }
 
-    /// A script whose last line, of so many bytes, has no line end.
+    /// A script whose last line has `bytes` bytes and no line end.
     pub fn no_line_end(bytes: usize) -> Self {
         Slip {
             column: (bytes as u64).saturating_add(1),
@@ -62,14 +62,14 @@ impl<'a> Slip<'a> {
         }
     }
 
-    /// The column, where the text says it.
+    /// The column, if the text has it.
     pub fn shown_column(&self) -> Option<u64> {
         self.reason.has_column().then_some(self.column)
     }
 }
 
 impl Reason<'_> {
-    /// Whether the text says the place of what was found.
+    /// Whether the text has the column.
     fn has_column(&self) -> bool {
         !matches!(
             self,

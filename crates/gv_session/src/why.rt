@@ -1,4 +1,4 @@
-//! Why a line may not stand where it stands in its script.
+//! Why a line is not allowed at its place in its script.
 use crate::names::Names;
 use crate::session::Session;
 use crate::stage::Stage;
@@ -26,7 +26,7 @@ pub fn why_bad<'a>(alloc: Global, session: &Session, text: &'a [u8]) -> Slip<'a>
     }
 }
 
-/// Why a line of the language, or of a dialogue, may not stand on this session.
+/// Why a line of the language, or of a dialogue, is not allowed on this session.
 pub fn why_misplaced<'a>(session: &Session, text: &'a [u8]) -> Slip<'a> {
     if let Some(slip) = why_not_set(session.stage(), text) {
         return slip;
@@ -38,7 +38,7 @@ pub fn why_misplaced<'a>(session: &Session, text: &'a [u8]) -> Slip<'a> {
     why_not_named(declared, text).unwrap_or(no_such_line(text))
 }
 
-/// Says why a line is bad, in place of what the text says. Nothing where memory is refused.
+/// Replaces the text by why a line is bad. The text is empty if out of memory.
 pub fn tell_why(why: &mut String, slip: &Slip<'_>) {
     why.clear();
     if write!(why, "{slip}").is_err() {
@@ -46,7 +46,7 @@ pub fn tell_why(why: &mut String, slip: &Slip<'_>) {
     }
 }
 
-/// Why a `space` line or a `limits` line may not stand at this stage. None for another line.
+/// Why a `space` line or a `limits` line is not allowed at this stage. None for another line.
 pub fn why_not_set(stage: Stage, text: &[u8]) -> Option<Slip<'_>> {
     match parse_line(text)? {
         Line::Space {
@@ -72,7 +72,7 @@ pub fn why_not_set(stage: Stage, text: &[u8]) -> Option<Slip<'_>> {
     }
 }
 
-/// A line may not stand where it does.
+/// A line is not allowed at its place.
 pub fn at_first_word(place: Place<'_>) -> Slip<'_> {
     Slip {
         column: 1,

@@ -9,7 +9,7 @@ pub const LINES: [&str; 20] = [
     "map", "at", "tables", "rewind", "journal", "withdraw", "settle", "told", "job", "end",
 ];
 
-/// The first words of the lines that stand in a dialogue alone.
+/// The first words of the lines that only a dialogue has.
 pub const SERVE_LINES: [&str; 7] = ["put", "turn", "giveup", "forget", "trim", "show", "past"];
 
 /// The first words of clauses.
@@ -27,7 +27,7 @@ pub const ACCESSES: [&str; 2] = ["read", "write"];
 const LONGEST: usize = 12;
 
 /// The text to which the fewest edits lead from a word, in whatever case it is written: one edit of a short text, two of a
-/// longer one. None also where memory is refused.
+/// longer one. None also if out of memory.
 pub fn meant(alloc: Global, word: &[u8], texts: &[&'static str]) -> Option<&'static str> {
     if word.len() > LONGEST {
         return None;

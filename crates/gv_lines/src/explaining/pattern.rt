@@ -1,8 +1,8 @@
 //! The forms of lines, clauses and accesses.
 use crate::reason::Set;
 
-/// A row of words: its first, and a part for each that stands behind it. NAME is a name of this set, QUEUE the number of a queue,
-/// Q the same in decimal, and any other part a number. Behind it may stand `ro`, if so said.
+/// A row of words: the first word, and a part for each word after it. NAME is a name of this set, QUEUE the number of a queue,
+/// Q the same in decimal, and any other part a number. `ro` may follow, if `may_be_read_only`.
 #[derive(Clone, Copy)]
 pub struct Pattern {
     pub text: &'static str,
@@ -10,7 +10,7 @@ pub struct Pattern {
     pub may_be_read_only: bool,
 }
 
-/// What stands behind the first word of a line.
+/// What follows the first word of a line.
 #[derive(Clone, Copy)]
 pub enum Shape {
     Words { pattern: Pattern },
@@ -28,7 +28,7 @@ pub enum Item {
     Access,
 }
 
-/// A first word, and what is said of the row of words that it begins, as in a `Pattern`.
+/// A first word, and the fields of the `Pattern` that it begins.
 type Row = (&'static [u8], &'static str, Set, bool);
 
 /// The lines of scripts that are rows of words.
@@ -53,7 +53,7 @@ const LINES: [Row; 17] = [
     (b"end", "end JOB", Set::Buffers, false),
 ];
 
-/// The rows of words that stand in a dialogue alone.
+/// The rows of words that only a dialogue has.
 #[rattlefmt::skip]
 const SERVE_LINES: [Row; 6] = [
     (b"turn", "turn QUEUE", Set::Buffers, false),
@@ -97,7 +97,7 @@ impl Shape {
         }
     }
 
-    /// The shape of the lines that stand in a dialogue alone.
+    /// The shape of the lines that only a dialogue has.
     pub fn of_serve(word: &[u8]) -> Option<Shape> {
         match word {
             b"put" => Some(Shape::Clauses),

@@ -45,7 +45,7 @@ impl<'a> Walk<'a> {
     }
 }
 
-/// The place this many bytes behind another.
+/// The place this many bytes after another.
 pub fn past(column: u64, bytes: usize) -> u64 {
     column.saturating_add(bytes as u64)
 }

@@ -1,11 +1,11 @@
-//! Words that are not what their place in a form wants.
+//! Words that are not what their place in a form requires.
 use super::walk::{Found, past};
 use crate::name::Name;
 use crate::number::{decimal_of, number_of};
 use crate::reason::{Form, NameSlip, NumberSlip, Reason, Slip};
 use crate::words::{QUEUES, queue_of};
 
-/// Which bytes stand in a word.
+/// Which bytes a word may have.
 #[derive(Clone, Copy)]
 enum Bytes {
     OfNames,
@@ -33,7 +33,7 @@ fn first_other(bytes: &[u8], wanted: Bytes) -> Option<usize> {
     None
 }
 
-/// Why a word may not stand where a form has this part. A part is a number, unless it is a name or a queue.
+/// Why a word is not allowed where a form has this part. A part is a number, unless it is a name or a queue.
 pub fn word_slip<'a>(part: &[u8], found: Found<'a>) -> Option<Slip<'a>> {
     let word = found.word;
     if word == b";".as_slice() {
@@ -134,7 +134,7 @@ fn queue_named_slip(word: &[u8]) -> Option<(usize, NumberSlip)> {
     }
 }
 
-/// There may be no queue of a number.
+/// Whether the number is of no queue.
 fn absent_slip(number: u64) -> Option<(usize, NumberSlip)> {
     match queue_of(number) {
         Some(_) => None,

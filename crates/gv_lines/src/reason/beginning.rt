@@ -6,7 +6,7 @@ use std::fmt;
 #[derive(Clone, Copy)]
 pub enum Beginning {
     NoSuchLine { meant: Option<&'static str> },
-    /// Such a line stands in a dialogue alone.
+    /// Only a dialogue has such a line.
     ServeAlone,
     NoSuchClause { meant: Option<&'static str> },
     NoSuchOperation { meant: Option<&'static str> },
@@ -16,21 +16,21 @@ pub enum Beginning {
 }
 
 impl Beginning {
-    /// Writes what is said of the word.
+    /// Writes the word and the reason.
     pub fn write<W: fmt::Write>(self, f: &mut fmt::Formatter<W>, word: &[u8]) -> fmt::Result {
         let (kind, meant) = match self {
             Beginning::NoSuchLine { meant } => ("line", meant),
             Beginning::NoSuchClause { meant } => ("clause", meant),
             Beginning::NoSuchOperation { meant } => ("operation", meant),
             Beginning::NoSuchAccess { meant } => ("access", meant),
-            Beginning::ServeAlone => return write_word(f, word, " stands in vmbind serve alone"),
+            Beginning::ServeAlone => return write_word(f, word, " is a line of vmbind serve only"),
             Beginning::NotPlanned => return write_word(f, word, "; a plan has map, zero or unmap"),
         };
         write_unknown(f, kind, word, meant)
     }
 }
 
-/// There is none that begins so, but perhaps one that is much like it.
+/// Nothing begins with this word, but perhaps something with a word that is much like it.
 fn write_unknown<W: fmt::Write>(
     f: &mut fmt::Formatter<W>,
     kind: &str,

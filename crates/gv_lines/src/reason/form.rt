@@ -10,18 +10,18 @@ pub enum Form<'a> {
         part: &'static [u8],
         form: &'static str,
     },
-    /// The line or clause goes on behind its form.
+    /// The line or clause goes on after its form.
     TooMany {
         word: &'a [u8],
         form: &'static str,
     },
-    /// Behind the form may stand `ro`, and this stands there.
+    /// After the form only `ro` may follow, and this does.
     NotReadOnly {
         word: &'a [u8],
     },
-    /// Nothing stands on a side of a separator.
+    /// One side of a separator is empty.
     NoClause,
-    /// A separator stands in a line that has no clauses.
+    /// A separator is in a line that has no clauses.
     StraySeparator,
     /// Two clauses name a queue.
     SecondQueue,
@@ -32,14 +32,12 @@ impl fmt::Display for Form<'_> {
         match *self {
             Form::Missing { part, form } => write_missing(f, part, form),
             Form::TooMany { word, form } => {
-                write_word(f, word, "; nothing stands behind ")?;
+                write_word(f, word, "; nothing may follow ")?;
                 f.write_str(form)
             }
-            Form::NotReadOnly { word } => write_word(f, word, "; only ro may stand here"),
-            Form::NoClause => f.write_str("an empty clause; one stands on each side of ;"),
-            Form::StraySeparator => f.write_str(
-                "; stands between clauses and between accesses alone",
-            ),
+            Form::NotReadOnly { word } => write_word(f, word, "; only ro is allowed here"),
+            Form::NoClause => f.write_str("an empty clause; each side of ; needs one"),
+            Form::StraySeparator => f.write_str("; separates only clauses and accesses"),
             Form::SecondQueue => f.write_str("a second queue clause; there is at most one"),
         }
     }

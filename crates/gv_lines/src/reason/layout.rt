@@ -18,7 +18,7 @@ pub enum Layout {
     SpaceAtEnd,
     /// A separator of clauses without a space on each side.
     GluedSeparator,
-    /// A comment behind the words of a line.
+    /// A comment after the words of a line.
     CommentBehind,
     /// More than `LINE_LIMIT` bytes.
     TooLong,
@@ -27,18 +27,18 @@ pub enum Layout {
 }
 
 impl Layout {
-    /// What is wanted in the place of the byte, or of the line.
+    /// What the byte or the line should be.
     fn wanted(self) -> &'static str {
         match self {
             Layout::HighByte { .. } => "all bytes are ASCII, also in a comment",
-            Layout::ControlByte { .. } => "words have printable bytes alone",
+            Layout::ControlByte { .. } => "words have only printable bytes",
             Layout::Tab => "a tab; words are separated by one space",
-            Layout::CarriageReturn => "a carriage return; lines end with byte 10 alone",
+            Layout::CarriageReturn => "a carriage return; lines end with byte 10 only",
             Layout::SpaceAtStart => "a space at the start",
             Layout::TwoSpaces => "a second space; words are separated by one space",
             Layout::SpaceAtEnd => "a space at the end",
-            Layout::GluedSeparator => "; at a word; a space stands before and behind ;",
-            Layout::CommentBehind => "a comment; it has a line of its own",
+            Layout::GluedSeparator => "; at a word; put a space before and after ;",
+            Layout::CommentBehind => "a comment; it needs a line of its own",
             Layout::TooLong => "a line of over 1048576 bytes",
             Layout::NoLineEnd => "no line end",
         }

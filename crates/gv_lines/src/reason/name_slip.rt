@@ -19,7 +19,7 @@ impl fmt::Display for NameSlip {
         f.write_str(match self {
             NameSlip::Zero => "zero is no name",
             NameSlip::Start => "a name begins with a-z",
-            NameSlip::Byte => "a name has a-z, 0-9 and _ alone",
+            NameSlip::Byte => "a name has only a-z, 0-9 and _",
             NameSlip::Long => "a name has at most 16 bytes",
         })
     }

@@ -1,7 +1,7 @@
 //! Why a word is no number.
 use std::fmt;
 
-/// Why a word is no number, or none that may stand at its place.
+/// Why a word is no number, or none that is allowed at its place.
 #[derive(Clone, Copy)]
 pub enum NumberSlip {
     /// It begins with no digit.
@@ -10,20 +10,20 @@ pub enum NumberSlip {
     Signed,
     /// It begins with `0X`.
     CapitalPrefix,
-    /// Nothing stands behind `0x`.
+    /// Nothing follows `0x`.
     NoDigits,
-    /// A byte behind `0x` is none of 0-9a-f.
+    /// A byte after `0x` is none of 0-9a-f.
     HexDigit,
-    /// Over 16 digits stand behind `0x`.
+    /// Over 16 digits follow `0x`.
     ManyDigits,
     /// Without `0x`, a byte is none of 0-9.
     DecimalDigit,
     LeadingZero,
     /// It is 2^64 or more.
     TooGreat,
-    /// A queue clause has a decimal number alone.
+    /// A queue clause has only a decimal number.
     HexQueue,
-    /// There are as many queues, numbered from 0.
+    /// There are only `queues` queues, numbered from 0.
     NoSuchQueue { queues: u64 },
 }
 
@@ -33,9 +33,9 @@ impl NumberSlip {
             NumberSlip::NoNumber => "a number is decimal, or 0x and digits 0-9a-f",
             NumberSlip::Signed => "a number has no sign",
             NumberSlip::CapitalPrefix => "hexadecimal begins with 0x",
-            NumberSlip::NoDigits => "digits 0-9a-f stand behind 0x",
+            NumberSlip::NoDigits => "digits 0-9a-f follow 0x",
             NumberSlip::HexDigit => "hexadecimal digits are 0-9a-f",
-            NumberSlip::ManyDigits => "at most 16 digits stand behind 0x",
+            NumberSlip::ManyDigits => "at most 16 digits follow 0x",
             NumberSlip::DecimalDigit => "decimal digits are 0-9, and hexadecimal begins with 0x",
             NumberSlip::LeadingZero => "a number has no leading zero",
             NumberSlip::TooGreat => "a number is below 2^64",

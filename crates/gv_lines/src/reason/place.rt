@@ -18,26 +18,26 @@ impl fmt::Display for Set {
     }
 }
 
-/// Why a line of the language may not stand at its place in its script.
+/// Why a line of the language is not allowed at its place in its script.
 #[derive(Clone, Copy)]
 pub enum Place<'a> {
-    /// It names what is not declared.
+    /// It uses a name that is not declared.
     Undeclared { set: Set, name: &'a [u8] },
-    /// It declares what is declared already.
+    /// It declares a name that is declared already.
     Declared { set: Set, name: &'a [u8] },
     /// All 64 timelines are declared.
     ManyTimelines,
     /// A `space` line that is not the first.
     SpaceFirst,
-    /// A `limits` line behind another than `space`.
+    /// A `limits` line after another line than `space`.
     LimitsFirst,
     /// No threads script has a line that begins with this word.
     NotInThreads { word: &'a [u8] },
-    /// In a threads script it stands before all `bind` lines and questions.
+    /// In a threads script it comes before all `bind` lines and questions.
     FirstPart { word: &'a [u8] },
-    /// In a threads script a `bind` line stands before all questions.
+    /// In a threads script a `bind` line comes before all questions.
     SecondPart,
-    /// In a dialogue a `bind` line stands where no request waits on its queue.
+    /// In a dialogue a `bind` line comes when no request waits on its queue.
     Busy { queue: u64 },
 }
 
@@ -45,15 +45,15 @@ impl fmt::Display for Place<'_> {
     fn fmt<W: fmt::Write>(&self, f: &mut fmt::Formatter<W>) -> fmt::Result {
         match *self {
             Place::Undeclared { set, name } => write_named(f, set, name, "not declared"),
-            Place::Declared { set, name } => write_named(f, set, name, "declared"),
+            Place::Declared { set, name } => write_named(f, set, name, "declared already"),
             Place::ManyTimelines => f.write_str("a 65th timeline; there are at most 64"),
-            Place::SpaceFirst => f.write_str("space stands before all other lines"),
-            Place::LimitsFirst => f.write_str("limits stands before all other lines but space"),
-            Place::NotInThreads { word } => write_word(f, word, " stands in no threads script"),
+            Place::SpaceFirst => f.write_str("space comes before all other lines"),
+            Place::LimitsFirst => f.write_str("limits comes before all other lines but space"),
+            Place::NotInThreads { word } => write_word(f, word, " is no line of a threads script"),
             Place::FirstPart { word } => {
-                write_word(f, word, " stands before all bind lines and questions")
+                write_word(f, word, " comes before all bind lines and questions")
             }
-            Place::SecondPart => f.write_str("bind stands before all questions"),
+            Place::SecondPart => f.write_str("bind comes before all questions"),
             Place::Busy { queue } => write!(
                 f,
                 "requests wait on queue {queue}; turn {queue} serves them"

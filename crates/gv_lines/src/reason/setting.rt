@@ -20,9 +20,9 @@ impl fmt::Display for Setting {
     fn fmt<W: fmt::Write>(&self, f: &mut fmt::Formatter<W>) -> fmt::Result {
         match *self {
             Setting::Unaligned { part } => write!(f, "{part} is a multiple of 4096"),
-            Setting::EmptySpace => f.write_str("an address space has at least a page"),
+            Setting::EmptySpace => f.write_str("an address space has at least one page"),
             Setting::PastEnd => f.write_str("an address space ends at 2^57 or below"),
-            Setting::Outside => f.write_str("the reserved region lies in the address space"),
+            Setting::Outside => f.write_str("the reserved region must be inside the address space"),
             Setting::OutOfRange { part, most } => write!(f, "{part} is from 1 to {most}"),
         }
     }

@@ -1,10 +1,10 @@
-//! Words of a line as they are shown.
+//! How the words of a line are shown.
 use std::fmt;
 
 /// How many bytes of a word are shown.
 const SHOWN: usize = 40;
 
-/// A word in printable ASCII: its first bytes, and two dots where it is longer. Another byte is shown as its number.
+/// A word in printable ASCII: its first bytes, and two dots if it is longer. Another byte is shown as its number.
 #[derive(Clone, Copy)]
 pub struct Shown<'a>(pub &'a [u8]);
 
@@ -20,7 +20,7 @@ impl fmt::Display for Shown<'_> {
     }
 }
 
-/// Writes a word, and what is said of it behind it.
+/// Writes a word, and the text `said` after it.
 pub fn write_word<W: fmt::Write>(
     f: &mut fmt::Formatter<W>,
     word: &[u8],

@@ -6,18 +6,18 @@ use gv_threads::{RunTerms, run_threads_explained};
 const ROWS: &[(&str, &str)] = &[
     (
         "bind\nraise t 1\n",
-        "raise stands before all bind lines and questions",
+        "raise comes before all bind lines and questions",
     ),
     (
         "map\nbuffer b 1\n",
-        "buffer stands before all bind lines and questions",
+        "buffer comes before all bind lines and questions",
     ),
-    ("map\nbind\n", "bind stands before all questions"),
-    ("rewind\n", "rewind stands in no threads script"),
-    ("job read 0x0\n", "job stands in no threads script"),
+    ("map\nbind\n", "bind comes before all questions"),
+    ("rewind\n", "rewind is no line of a threads script"),
+    ("job read 0x0\n", "job is no line of a threads script"),
     (
         "plan unmap 0x0 0x1000\n",
-        "plan stands in no threads script",
+        "plan is no line of a threads script",
     ),
     (
         "bind zero 0x0 0x1000 ; queue 2\n",
@@ -27,13 +27,13 @@ const ROWS: &[(&str, &str)] = &[
     ("told 16\n", "column 6: 16; a queue is below 16"),
     ("value t\n", "timeline t is not declared"),
     ("bind wait t 1\n", "timeline t is not declared"),
-    ("timeline t\ntimeline t\n", "timeline t is declared"),
-    ("buffer b 1\nbuffer b 1\n", "buffer b is declared"),
+    ("timeline t\ntimeline t\n", "timeline t is declared already"),
+    ("buffer b 1\nbuffer b 1\n", "buffer b is declared already"),
     ("buffer b 0\nbind unmapall b\n", "buffer b is not declared"),
     ("map\nuses b\n", "buffer b is not declared"),
     (
         "timeline t\nspace 0x0 0x1000 0x0 0x0\n",
-        "space stands before all other lines",
+        "space comes before all other lines",
     ),
     ("map\nmap", "no line end"),
 ];

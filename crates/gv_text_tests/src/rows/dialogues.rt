@@ -10,7 +10,7 @@ pub const DIALOGUES: &[Row<'static>] = &[
     (
         "it goes on after bad lines, and limits still come first",
         b"bnid\nspace 0x0 0x10000 0x0 0x0\nuses b\nlimits 2 2 2\nmap\nlimits 2 2 2\n",
-        "bad line 1: no such line: bnid; did you mean bind?\nok\nbad line 3: buffer b is not declared\nok\nempty\nbad line 6: limits stands before all other lines but space\n",
+        "bad line 1: no such line: bnid; did you mean bind?\nok\nbad line 3: buffer b is not declared\nok\nempty\nbad line 6: limits comes before all other lines but space\n",
     ),
     (
         "a bind that waits for a later signal",
@@ -35,7 +35,7 @@ pub const DIALOGUES: &[Row<'static>] = &[
     (
         "bad lines that forget",
         b"forget 16 0\nforget 0\nforget 0 0 0\nforget 0 x\n",
-        "bad line 1: column 8: 16; a queue is below 16\nbad line 2: column 10: no TO; the form is forget QUEUE TO\nbad line 3: column 12: 0; nothing stands behind forget QUEUE TO\nbad line 4: column 10: x; a number is decimal, or 0x and digits 0-9a-f\n",
+        "bad line 1: column 8: 16; a queue is below 16\nbad line 2: column 10: no TO; the form is forget QUEUE TO\nbad line 3: column 12: 0; nothing may follow forget QUEUE TO\nbad line 4: column 10: x; a number is decimal, or 0x and digits 0-9a-f\n",
     ),
     (
         "room is given back once no item is held, and nothing else is seen of it",
@@ -45,7 +45,7 @@ pub const DIALOGUES: &[Row<'static>] = &[
     (
         "bad lines that trim",
         b"trim 0\ntrim \ntirm\n",
-        "bad line 1: column 6: 0; nothing stands behind trim\nbad line 2: column 5: a space at the end\nbad line 3: no such line: tirm; did you mean trim?\n",
+        "bad line 1: column 6: 0; nothing may follow trim\nbad line 2: column 5: a space at the end\nbad line 3: no such line: tirm; did you mean trim?\n",
     ),
     (
         "the last line has no line end",
@@ -74,7 +74,7 @@ pub const JSON_DIALOGUES: &[Row<'static>] = &[
     (
         "room that is given back",
         b"bind\ntrim\nrewind\ntrim\ntrim x\n",
-        "{\"line\":1,\"accepted\":0}\n{\"line\":2,\"refused\":{\"fault\":\"Held\",\"number\":0}}\n{\"line\":3,\"rewound\":0}\n{\"line\":4,\"trimmed\":true}\n{\"line\":5,\"bad\":\"column 6: x; nothing stands behind trim\",\"column\":6}\n",
+        "{\"line\":1,\"accepted\":0}\n{\"line\":2,\"refused\":{\"fault\":\"Held\",\"number\":0}}\n{\"line\":3,\"rewound\":0}\n{\"line\":4,\"trimmed\":true}\n{\"line\":5,\"bad\":\"column 6: x; nothing may follow trim\",\"column\":6}\n",
     ),
     (
         "requests that wait",

@@ -9,12 +9,12 @@ pub const REASONS: &[(&str, &str)] = &[
         "buffer c is not declared",
     ),
     ("buffer b 0\nuses b\n", "buffer b is not declared"),
-    ("buffer b 1\nbuffer b 1\n", "buffer b is declared"),
+    ("buffer b 1\nbuffer b 1\n", "buffer b is declared already"),
     (
         "buffer b 1\ndestroy b\nbuffer b 1\n",
-        "buffer b is declared",
+        "buffer b is declared already",
     ),
-    ("timeline t\ntimeline t\n", "timeline t is declared"),
+    ("timeline t\ntimeline t\n", "timeline t is declared already"),
     ("value t\n", "timeline t is not declared"),
     ("raise t 1\n", "timeline t is not declared"),
     ("buffer t 1\nbind wait t 1\n", "timeline t is not declared"),
@@ -24,19 +24,19 @@ pub const REASONS: &[(&str, &str)] = &[
     ),
     (
         "map\nspace 0x0 0x1000 0x0 0x0\n",
-        "space stands before all other lines",
+        "space comes before all other lines",
     ),
     (
         "space 0x0 0x1000 0x0 0x0\nspace 0x0 0x1000 0x0 0x0\n",
-        "space stands before all other lines",
+        "space comes before all other lines",
     ),
     (
         "buffer b 1\nlimits 1 1 1\n",
-        "limits stands before all other lines but space",
+        "limits comes before all other lines but space",
     ),
     (
         "limits 1 1 1\nlimits 1 1 1\n",
-        "limits stands before all other lines but space",
+        "limits comes before all other lines but space",
     ),
     (
         "space 0x0 0x1001 0x0 0x0\n",
@@ -48,7 +48,7 @@ pub const REASONS: &[(&str, &str)] = &[
     ),
     (
         "space 0x1000 0 0 0\n",
-        "column 14: 0; an address space has at least a page",
+        "column 14: 0; an address space has at least one page",
     ),
     (
         "space 0x1000 0x200000000000000 0x0 0x0\n",
@@ -56,7 +56,7 @@ pub const REASONS: &[(&str, &str)] = &[
     ),
     (
         "space 0x1000 0x1000 0x0 0x1000\n",
-        "column 21: 0x0; the reserved region lies in the address space",
+        "column 21: 0x0; the reserved region must be inside the address space",
     ),
     ("limits 0 1 1\n", "column 8: 0; BUFFERS is from 1 to 65536"),
     (
@@ -68,7 +68,7 @@ pub const REASONS: &[(&str, &str)] = &[
         "column 12: 65537; ITEMS is from 1 to 65536",
     ),
     ("map", "no line end"),
-    ("put\n", "put stands in vmbind serve alone"),
+    ("put\n", "put is a line of vmbind serve only"),
     (
         "buffer b 1\nbnid\n",
         "no such line: bnid; did you mean bind?",
