@@ -91,7 +91,7 @@ pub extern "C" fn vmbind_submit(
     }
 }
 
-/// Serves the request in hand of a queue, or else the first that waits. With flag 1, where it lacks a point, it is given up.
+/// Serves the request in hand of a queue, or else the first that waits. With flag 1 it is given up if a point is not reached.
 #[unsafe(no_mangle)]
 pub extern "C" fn vmbind_serve(
     alloc: Global,

@@ -28,7 +28,7 @@ pub struct EntryInfo {
     pub of: u64,
 }
 
-/// An entry that is held, and its operations as they were asked for, as many as there is room for.
+/// Writes an entry that is held, and its first operations as they were asked for, as room allows.
 #[unsafe(no_mangle)]
 pub extern "C" fn vmbind_entry(
     alloc: Global,
@@ -120,7 +120,7 @@ fn write_ops(list: &mut [Operation], ops: &[Op]) -> u64
     count as u64
 }
 
-/// An operation in bytes, with zeros in the fields that its kind has none of.
+/// An operation in bytes, with zeros in the fields that its kind doesn't have.
 fn operation_of(op: &Op) -> Operation
     ensures { result ≡ c_op op.now }
 {

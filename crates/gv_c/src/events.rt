@@ -12,7 +12,7 @@ use gv_types::{OutOfMemory, Point};
 use gv_vm::{Event, Reply};
 use std::alloc::Global;
 
-/// Makes a buffer of so many pages, and writes its id.
+/// Makes a buffer of `pages` pages, and writes its id.
 #[unsafe(no_mangle)]
 pub extern "C" fn vmbind_buffer_create(
     alloc: Global,
@@ -31,7 +31,7 @@ pub extern "C" fn vmbind_buffer_create(
     of_reply(&reply)
 }
 
-/// Destroys a buffer that nothing names. Where something does, writes how many.
+/// Destroys a buffer that no mapping, undo value or job uses. If some do, writes how many.
 #[unsafe(no_mangle)]
 pub extern "C" fn vmbind_buffer_destroy(
     alloc: Global,
@@ -47,7 +47,7 @@ pub extern "C" fn vmbind_buffer_destroy(
     of_reply(&reply)
 }
 
-/// Takes the newest entry back, and writes its number.
+/// Undoes the newest entry, and writes its number.
 #[unsafe(no_mangle)]
 pub extern "C" fn vmbind_rewind(alloc: Global, vm: &mut Handle, entry: &mut u64) -> u32
     ensures { Answers vm.old.value Rewind vm.new.value (λ reply.
@@ -85,7 +85,7 @@ pub extern "C" fn vmbind_settle(alloc: Global, vm: &mut Handle, to: u64, number:
     of_reply(&reply)
 }
 
-/// Lets the outcomes of a queue below a number go, and writes how many.
+/// Drops the outcomes of a queue below a number, and writes how many.
 #[unsafe(no_mangle)]
 pub extern "C" fn vmbind_forget(
     alloc: Global,
@@ -102,7 +102,7 @@ pub extern "C" fn vmbind_forget(
     of_reply(&reply)
 }
 
-/// Gives room back that nothing needs, and writes 0. Where entries are held, writes the number of the least.
+/// Frees memory that nothing needs, and writes 0. If entries are held, writes the number of the least.
 #[unsafe(no_mangle)]
 pub extern "C" fn vmbind_trim(alloc: Global, vm: &mut Handle, number: &mut u64) -> u32
     ensures { Answers vm.old.value Trim vm.new.value (λ reply.
@@ -121,7 +121,7 @@ pub extern "C" fn vmbind_job_end(alloc: Global, vm: &mut Handle, job: u64) -> u3
     of_reply(&vm.step(alloc, Event::JobEnd { job }))
 }
 
-/// Raises a timeline to a value where it is lower, and writes its number after that.
+/// Raises a timeline to a value, if it is lower, and writes its number after that.
 #[unsafe(no_mangle)]
 pub extern "C" fn vmbind_timeline_raise(
     alloc: Global,
@@ -139,7 +139,7 @@ pub extern "C" fn vmbind_timeline_raise(
     of_reply(&reply)
 }
 
-/// The number that a reply carries, or that of its fault, and else 0.
+/// The number that a reply has, or that of its fault, else 0.
 pub fn number_of(reply: &Option<Result<Reply, OutOfMemory>>) -> u64
     ensures { result ≡ number_in reply.now }
 {

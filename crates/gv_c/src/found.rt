@@ -1,4 +1,4 @@
-//! What crosses to C of the address space: where addresses lead, mappings, steps and counts.
+//! What crosses to C of the address space: what addresses reach, mappings, steps and counts.
 ghost use Rattle.std.specs.Prelude.{◌≡◌};
 ghost use Rattle.gv_c.specs.Values.{c_place, c_mapping, c_rest, c_step, no_mapping, no_uses, bit};
 
@@ -7,14 +7,14 @@ use gv_split::Step;
 use gv_types::{Backing, Mapping, PAGE_BYTES};
 use gv_vm::{Place, Target};
 
-/// Kinds of what stands behind an address or a mapping.
+/// Kinds of what an address or a mapping reaches.
 pub const NOTHING: u32 = 0;
 
 pub const IN_BUFFER: u32 = 1;
 
 pub const ZEROS: u32 = 2;
 
-/// Where an address leads, and how many bytes from there on lead on the same way.
+/// What an address reaches, and how many bytes from there on are in the same mapping or hole.
 #[repr(C)]
 #[derive(Clone, Copy)]
 pub struct Translation {
@@ -55,14 +55,14 @@ pub struct SplitStep {
     pub next: ListedMapping,
 }
 
-/// How many tables stand at the levels 4 to 0.
+/// How many tables there are at the levels 4 to 0.
 #[repr(C)]
 #[derive(Clone, Copy)]
 pub struct TableCounts {
     pub tables: [u64; 5],
 }
 
-/// What a buffer has, and what is mapped of it.
+/// A buffer's pages, and how many mappings of it are in the list and kept.
 #[repr(C)]
 #[derive(Clone, Copy)]
 pub struct BufferUses {
@@ -72,7 +72,7 @@ pub struct BufferUses {
 }
 
 impl BufferUses {
-    /// No uses of no buffer.
+    /// No pages and no mappings.
     pub fn none() -> BufferUses
         ensures { result ≡ no_uses }
     {
@@ -165,7 +165,7 @@ impl ListedMapping {
     }
 }
 
-/// 1 where it is so, else 0.
+/// 1 if it is so, else 0.
 pub fn bit(is: bool) -> u32
     ensures { result ≡ bit is }
 {

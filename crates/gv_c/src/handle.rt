@@ -74,7 +74,7 @@ impl Handle {
         }
     }
 
-    /// What is there comes out, and the handle is null.
+    /// Takes what is there out: then the handle is null.
     pub fn take(&mut self, alloc: Global) -> Option<Box<Held>>
         ensures was { MatchOption result (self.old.value ≡ None) (λ b. self.old.value ≡ Some b.value) }
         ensures is { self.new.value ≡ None }
@@ -93,7 +93,7 @@ impl Handle {
         *self = Handle::pack(Loose::of(held));
     }
 
-    /// Carries out one event on the world that is there. None where none is, and nothing changes.
+    /// Carries out one event on the world that is there. Without a world: None, and nothing changes.
     pub fn step(&mut self, alloc: Global, event: Event) -> Option<Result<Reply, OutOfMemory>>
         ensures { Steps self.old.value event result self.new.value }
     {

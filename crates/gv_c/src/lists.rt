@@ -17,7 +17,7 @@ use gv_types::Op;
 use gv_vm::{Outcome, QUEUES, Vm};
 use std::alloc::Global;
 
-/// What the requests of a queue came to, from the one with the number `from` on, as many as there is room for.
+/// Lists the outcomes of a queue's requests, from the one with the number `from` on, as room allows.
 #[unsafe(no_mangle)]
 pub extern "C" fn vmbind_told(
     alloc: Global,
@@ -48,7 +48,7 @@ pub extern "C" fn vmbind_told(
     status
 }
 
-/// The mappings from the one with the number `from` on, as many as there is room for.
+/// Lists the mappings from the one with the number `from` on, as room allows.
 #[unsafe(no_mangle)]
 pub extern "C" fn vmbind_mappings(
     alloc: Global,
@@ -73,7 +73,7 @@ pub extern "C" fn vmbind_mappings(
     OK
 }
 
-/// The split steps of an operation, as many as there is room for. Nothing changes.
+/// Lists the split steps of an operation, as room allows. Nothing changes.
 #[unsafe(no_mangle)]
 pub extern "C" fn vmbind_plan(
     alloc: Global,
@@ -130,7 +130,7 @@ fn write_plan(alloc: Global, vm: &Vm, op: &Op, list: &mut [SplitStep]) -> Listin
     }
 }
 
-/// So many there are from one on, and so many there is room for.
+/// How many of the `all` items are written: those from number `from` on, as room allows.
 pub fn fitting(room: usize, all: usize, from: u64) -> usize
     ensures { result ≡ min room (all - from) }
 {
@@ -140,7 +140,7 @@ pub fn fitting(room: usize, all: usize, from: u64) -> usize
     room.min(all - from as usize)
 }
 
-/// Writes what a queue was told, but for what is forgotten, from a number on.
+/// Writes the outcomes of a queue that are not forgotten, from a number on.
 fn write_told(list: &mut [RequestOutcome], vm: &Vm, queue: u64, from: u64) -> u64
     requires { queue < queues }
     ensures { IsWritten (numbered 0 (told_to vm.now.told queue)) (max (forgotten_of vm.now queue) from) list.old list.new result

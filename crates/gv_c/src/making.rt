@@ -1,4 +1,4 @@
-//! A world is made, and given up.
+//! A world is made, and freed.
 ghost use Rattle.std.specs.Prelude.{◌≡◌, IfOk, None};
 ghost use Rattle.gv_c.specs.Making.{IsCreated, IsGood, IsNew, destroyed};
 
@@ -10,7 +10,7 @@ use gv_types::{Bounds, Limits};
 use gv_vm::{Sizes, World};
 use std::alloc::{AllocFailed, Global};
 
-/// Makes a world. `NOT_NULL` where the handle has one, `BAD_ARGUMENT` where a number is out of its range, then `OUT_OF_MEMORY`:
+/// Makes a world. `NOT_NULL` if the handle has one, `BAD_ARGUMENT` if a number is out of its range, then `OUT_OF_MEMORY`:
 /// the handle is as it was.
 #[unsafe(no_mangle)]
 pub extern "C" fn vmbind_create(alloc: Global, vm: &mut Handle, config: &Config) -> u32
@@ -37,7 +37,7 @@ pub extern "C" fn vmbind_create(alloc: Global, vm: &mut Handle, config: &Config)
     }
 }
 
-/// Gives the world up, and leaves the handle empty. It takes no memory. `NO_VM` where it was empty.
+/// Frees the world, and leaves the handle empty. It takes no memory. `NO_VM` if it was empty.
 #[unsafe(no_mangle)]
 pub extern "C" fn vmbind_destroy(alloc: Global, vm: &mut Handle) -> u32
     ensures status { result ≡ destroyed vm.old.value }

@@ -7,7 +7,7 @@ use crate::values::SyncPoint;
 use gv_types::OutOfMemory;
 use gv_vm::{Outcome, Turn};
 
-/// Kinds of what became of a request: nothing is told, it was told one of three outcomes, or it stays on its queue.
+/// Kinds of what became of a request: there is no outcome, it is one of three, or the request stays on its queue.
 pub const NOT_PUT: u32 = 0;
 
 pub const ACCEPTED: u32 = 1;
@@ -18,7 +18,7 @@ pub const GIVEN_UP: u32 = 3;
 
 pub const PENDING: u32 = 4;
 
-/// What became of a request: its number on its queue, and what it was told.
+/// What became of a request: its number on its queue, and its outcome.
 #[repr(C)]
 #[derive(Clone, Copy)]
 pub struct RequestOutcome {
@@ -33,7 +33,7 @@ pub struct RequestOutcome {
 }
 
 impl RequestOutcome {
-    /// Nothing is told.
+    /// There is no outcome.
     pub fn none() -> RequestOutcome
         ensures { result ≡ no_outcome }
     {
@@ -60,7 +60,7 @@ impl RequestOutcome {
         }
     }
 
-    /// A request with this number was told this.
+    /// A request with this number has this outcome.
     pub fn of(number: u64, outcome: Outcome) -> RequestOutcome
         ensures { result ≡ c_outcome number outcome }
     {
@@ -90,7 +90,7 @@ impl RequestOutcome {
         }
     }
 
-    /// What a turn came to, where the request that it is asked for has this number.
+    /// The result of a turn for the request with this number.
     pub fn of_turn(number: u64, turn: &Result<Turn, OutOfMemory>) -> RequestOutcome
         ensures { result ≡ turned number turn.now }
     {

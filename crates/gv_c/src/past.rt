@@ -1,4 +1,4 @@
-//! What the entries of the journal say of an address, as it crosses to C.
+//! What the entries of the journal did to an address, as it crosses to C.
 ghost use Rattle.std.specs.Prelude.{◌≡◌, map, length};
 ghost use Rattle.gv_vm.specs.AddressPast.{past_of, place_under};
 ghost use Rattle.gv_c.specs.Lists.{IsWritten};
@@ -12,7 +12,7 @@ use crate::status::{NO_VM, OK, OUT_OF_MEMORY};
 use gv_vm::{PastItem, Vm};
 use std::alloc::Global;
 
-/// What an entry says of an address: where it leads by it, and whether a later entry withdraws it.
+/// What an entry did to an address: what the address reached by it, and whether a later entry withdraws it.
 #[repr(C)]
 #[derive(Clone, Copy)]
 pub struct PastEntry {
@@ -22,8 +22,8 @@ pub struct PastEntry {
     pub place: Translation,
 }
 
-/// What the held entries say of an address, the newest first: from the one with the number `from` on, as many as there is room
-/// for. Nothing is taken back.
+/// Lists what the held entries did to an address, the newest first: from the one with the number `from` on, as room
+/// allows. Nothing is undone.
 #[unsafe(no_mangle)]
 pub extern "C" fn vmbind_past(
     alloc: Global,
@@ -49,7 +49,7 @@ pub extern "C" fn vmbind_past(
     listing.status
 }
 
-/// Where an address leads by what lies under the oldest entry that is held.
+/// What an address would reach if all held entries were undone.
 #[unsafe(no_mangle)]
 pub extern "C" fn vmbind_base(
     alloc: Global,

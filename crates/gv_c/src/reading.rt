@@ -12,7 +12,7 @@ use gv_types::{BufferId, Fault};
 use gv_vm::{Stretch, Vm};
 use std::alloc::Global;
 
-/// Where an address leads, and for how many bytes from there on: one search in the list.
+/// What an address reaches, and how many bytes from there on are in the same mapping or hole: one search in the list.
 #[unsafe(no_mangle)]
 pub extern "C" fn vmbind_translate(
     alloc: Global,
@@ -32,7 +32,7 @@ pub extern "C" fn vmbind_translate(
     OK
 }
 
-/// Where so many addresses lead. The two lists have to be equally long.
+/// What each of the addresses reaches. The two lists must have the same length.
 #[unsafe(no_mangle)]
 pub extern "C" fn vmbind_translate_many(
     alloc: Global,
@@ -56,7 +56,7 @@ pub extern "C" fn vmbind_translate_many(
     status
 }
 
-/// Where an address leads by the page table: at most five steps. How far is not looked for: `run` is 0.
+/// What an address reaches by the page table: at most five steps. `run` is 0.
 #[unsafe(no_mangle)]
 pub extern "C" fn vmbind_walk(
     alloc: Global,
@@ -76,7 +76,7 @@ pub extern "C" fn vmbind_walk(
     OK
 }
 
-/// Where so many addresses lead by the page table. The two lists have to be equally long.
+/// What each of the addresses reaches by the page table. The two lists must have the same length.
 #[unsafe(no_mangle)]
 pub extern "C" fn vmbind_walk_many(
     alloc: Global,
@@ -100,7 +100,7 @@ pub extern "C" fn vmbind_walk_many(
     status
 }
 
-/// Where an address leads, and how far, by one search in the list.
+/// What an address reaches, with `run`, by one search in the list.
 fn found(vm: &Vm, address: u64) -> Translation
     ensures { result ≡ found_in vm.now.space.mappings address }
 {
@@ -108,14 +108,14 @@ fn found(vm: &Vm, address: u64) -> Translation
     Translation::of(place, run)
 }
 
-/// Where an address leads by the page table.
+/// What an address reaches by the page table.
 fn walked(vm: &Vm, address: u64) -> Translation
     ensures { result ≡ walked_in vm.now.space.mappings address }
 {
     Translation::of(vm.translate(address), 0)
 }
 
-/// The one or the other.
+/// By the page table or by the list.
 fn look(vm: &Vm, address: u64, walks: bool) -> Translation
     ensures { result ≡ look_in walks vm.now.space.mappings address }
 {
@@ -126,7 +126,7 @@ fn look(vm: &Vm, address: u64, walks: bool) -> Translation
     }
 }
 
-/// Where each of so many addresses leads.
+/// What each of the addresses reaches.
 fn look_all(vm: &Vm, addresses: &[u64], translations: &mut [Translation], walks: bool)
     requires { length addresses.now ≡ length translations.old }
     ensures { translations.new ≡ map (look_in walks vm.now.space.mappings) addresses.now }
@@ -198,7 +198,7 @@ fn uses_of(space: &Space, id: BufferId) -> Option<BufferUses>
     })
 }
 
-/// How many tables stand at the levels 4 to 0.
+/// How many tables there are at the levels 4 to 0.
 #[unsafe(no_mangle)]
 pub extern "C" fn vmbind_tables(alloc: Global, vm: &mut Handle, counts: &mut TableCounts) -> u32
     ensures tables { AreTables vm.old.value result counts.new }

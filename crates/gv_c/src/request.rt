@@ -24,7 +24,7 @@ pub fn put(alloc: Global, world: &mut World, asked: &BindRequest<'_>) -> Result<
     }
 }
 
-/// The request that a structure asks for. `BAD_ARGUMENT` where an operation is none, `OUT_OF_MEMORY` where memory is refused
+/// The request that a structure asks for. `BAD_ARGUMENT` if an operation is none, `OUT_OF_MEMORY` if memory is refused
 /// before.
 fn read(alloc: Global, asked: &BindRequest<'_>) -> Result<Request, u32>
     ensures { IsRead asked.now result }

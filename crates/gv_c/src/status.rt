@@ -9,10 +9,10 @@ use gv_vm::{Outcome, Reply, Turn};
 /// All went well.
 pub const OK: u32 = 0;
 
-/// The system refused to give memory: the number of that fault.
+/// Out of memory: the number of that fault.
 pub const OUT_OF_MEMORY: u32 = 33;
 
-/// An argument is none: a kind, a flag, a queue or a timeline that there is not, or limits or bounds of no address space.
+/// A bad argument: no such kind, flag, queue or timeline, or limits or bounds of no address space.
 pub const BAD_ARGUMENT: u32 = 64;
 
 /// The handle is empty.
@@ -34,7 +34,7 @@ pub fn of(fault: Fault) -> u32
     u32::from(fault.number())
 }
 
-/// What a request came to.
+/// The status of a request's outcome.
 pub fn of_outcome(outcome: Outcome) -> u32
     ensures { result ≡ outcome_status outcome }
 {
@@ -45,7 +45,7 @@ pub fn of_outcome(outcome: Outcome) -> u32
     }
 }
 
-/// What a turn of a queue came to.
+/// The status of a turn of a queue.
 pub fn of_turn(turn: &Result<Turn, OutOfMemory>) -> u32
     ensures { result ≡ turn_status turn.now }
 {
@@ -57,7 +57,7 @@ pub fn of_turn(turn: &Result<Turn, OutOfMemory>) -> u32
     }
 }
 
-/// What an event came to. The events that are asked for here are idle only where a queue or a timeline is none.
+/// The status of an event's reply. The events that are asked for here are idle only if a queue or a timeline doesn't exist.
 pub fn of_reply(reply: &Option<Result<Reply, OutOfMemory>>) -> u32
     ensures { result ≡ status_of reply.now }
 {

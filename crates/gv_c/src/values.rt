@@ -1,10 +1,10 @@
-//! What crosses from C: numbers alone, in the order in which `vmbind.h` declares them.
+//! What crosses from C: only numbers, in the order in which `vmbind.h` declares them.
 ghost use Rattle.std.specs.Prelude.{◌≡◌};
 ghost use Rattle.gv_c.specs.Values.{id_of, c_buffer, c_flags, flags_of, op_of, c_point, point_of, no_buffer, no_point};
 
 use gv_types::{BufferId, Flags, Op, Point};
 
-/// The address space and its reserved region, in bytes, how many there may be of each kind, and its queues and timelines.
+/// The address space and its reserved region, in bytes, the limit of each kind, and its queues and timelines.
 #[repr(C)]
 #[derive(Clone, Copy)]
 pub struct Config {
@@ -21,7 +21,7 @@ pub struct Config {
     pub timelines: u64,
 }
 
-/// A buffer's id: `made` is 1 in one that was given.
+/// A buffer's id: `made` is 1 in an id that a call wrote.
 #[repr(C)]
 #[derive(Clone, Copy)]
 pub struct Buffer {
@@ -111,7 +111,7 @@ impl Buffer {
     }
 }
 
-/// The flags of a number: bit 0 is `read_only`. None where another bit is set.
+/// The flags of a number: bit 0 is `read_only`. None if another bit is set.
 fn flags_in(bits: u32) -> Option<Flags>
     ensures { result ≡ flags_of bits }
 {
@@ -130,7 +130,7 @@ pub fn bits_of(flags: Flags) -> u32
 }
 
 impl Operation {
-    /// None where the kind or the flags are none.
+    /// None if the kind or the flags don't exist.
     pub fn op(&self) -> Option<Op>
         ensures { result ≡ op_of self.now }
     {

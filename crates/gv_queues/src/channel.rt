@@ -12,7 +12,7 @@ use gv_types::Request;
 use std::alloc::{AllocError, Global};
 use std::marker::Brand;
 
-/// What was taken, and then what the channel holds, is what was put.
+/// What was put is what was taken, and after that what the channel holds.
 pub struct InOrder;
 
 impl Protocol<Request, Log> for InOrder {
@@ -34,7 +34,7 @@ impl Bound for Brand {
     ghost about = { about_queue 0 0 };
 }
 
-/// The first pass of a channel is cut into the submitter's and the worker's.
+/// The first pass of a channel is split into the submitter's and the worker's.
 struct Roles<B> {
     of: std::marker::PhantomData<B>,
 }
@@ -48,7 +48,7 @@ impl<B: Bound> Split<Log> for Roles<B> {
     ghost right = { λ v. worker_log B.about [] };
 }
 
-/// What a put tells.
+/// What a put shows.
 pub struct Puts;
 
 impl Outcome<Request, Log> for Puts {
@@ -63,7 +63,7 @@ impl Lesson<Request, Log> for Puts {
     ghost fact = { HoldsLast };
 }
 
-/// What a take tells.
+/// What a take shows.
 pub struct Takes;
 
 impl Outcome<Request, Log> for Takes {
@@ -116,7 +116,7 @@ fn open_branded<B: Bound>(
     })
 }
 
-/// A channel of this queue, of so many places for requests that fit so many timelines. Nothing was put or taken.
+/// A channel of this queue, with `depth` places for requests that fit `timelines` timelines. Nothing was put or taken.
 pub fn open(alloc: Global, depth: usize, queue: u64, timelines: u64) -> Result<Ends, AllocError>
     requires { 0 < depth }
     ensures depth { IfOk result (λ e. ruled_capacity (sends_on e.sends) ≡ depth) }

@@ -1,4 +1,4 @@
-//! What puts requests while the workers run.
+//! The driver puts requests while the workers run.
 ghost use Rattle.std.specs.Prelude.{◌≡◌, ◌≤◌, ℕ, List, length};
 ghost use Rattle.gv_types.specs.declared.request.Request.{Request};
 ghost use Rattle.gv_sync.specs.Seats.{IsSeatOf, SeatState, timeline_count};
@@ -19,15 +19,15 @@ pub trait Driver {
     /// them.
     ghost may_put: { Self → ℕ → List Request → Type 0 };
 
-    /// What the driver relies on: of how many requests each queue takes, how many places it has, and how many queues there
+    /// What the driver relies on: how many requests each queue takes, how many places it has, and how many queues there
     /// are.
     ghost relies_on: { Self → ℕ → ℕ → ℕ → Type 0 };
 
     /// What the driver did with the seat that it was lent: of the seat as it got it, and as it left it.
     ghost does_with: { Self → SeatState → SeatState → Type 0 };
 
-    /// Each place has the submitter of its queue, which put nothing yet; all have one limit and one depth, which are such as
-    /// the driver relies on. Afterwards the same submitters stand there, on the same channels.
+    /// Each place has the submitter of its queue, which put nothing yet; all have one limit and one depth, on which
+    /// the driver relies. Afterwards the same submitters are there, on the same channels.
     fn drive<R: Wait>(
         &mut self,
         rt: &R,

@@ -1,4 +1,4 @@
-//! What is known when all is done.
+//! What is known after all queues have ended.
 ghost use Rattle.std.specs.Prelude.{◌≡◌, ◌<◌, ◌≤◌, ℕ, [], IfOk, IfErr, length, vec_len, vec_capacity};
 ghost use Rattle.gv_vm.specs.Outcomes.{queues};
 ghost use Rattle.gv_queues.specs.Ending.{AgreesAt, AreEndsOf, AreInOrder, EndOnOwnChannels, IsFirstOther};
@@ -10,7 +10,7 @@ use gv_types::Request;
 use gv_vm::Vm;
 use std::alloc::AllocError;
 
-/// How many requests were put on a queue, how many outcomes were told, and the requests that were left, in order.
+/// How many requests were put on a queue, how many have an outcome, and the requests that were left, in order.
 #[derive(Debug, PartialEq, Drop)]
 pub struct QueueEnd {
     pub put: u64,
@@ -25,7 +25,7 @@ pub enum QueuesFault {
     NotMade,
     /// The system refused the thread of this queue's worker. No request was put.
     NotStarted { queue: u64 },
-    /// What was put on this queue, what its worker took and what it was told don't agree.
+    /// What was put on this queue, what its worker took and the queue's outcomes don't agree.
     Disagree { queue: u64 },
 }
 
@@ -51,8 +51,8 @@ impl From<SyncFault> for QueuesFault {
     }
 }
 
-/// The end of each queue. Ok exactly where of each queue the worker took as many requests as its submitter put, and gave
-/// the outcomes that the address space tells; else `Disagree` with the first other queue. It takes no memory.
+/// The end of each queue. Ok exactly if each queue's worker took the number of requests that its submitter put, and gave
+/// the outcomes that the address space has; else `Disagree` with the first other queue. It takes no memory.
 pub fn finish(
     vm: &Vm,
     puts: &[PutEnd],

@@ -10,8 +10,8 @@ pub enum Turn {
 
 /// Decides how long requests wait. All workers share it.
 pub trait Gate {
-    /// Asked after each look that lacked, of the request with this number of a queue. So many looks of the request have
-    /// lacked, over all its waits, this one included.
+    /// Asked after each look at a wait not reached, of the request with this number of a queue. `turns` looks of the request
+    /// have found a wait not reached, over all its waits, this one included.
     fn turn(&self, queue: u64, number: u64, lacking: &Lacking, turns: u64) -> Turn;
 
     /// Called before a worker takes the lock for this request.

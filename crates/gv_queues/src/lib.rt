@@ -1,5 +1,5 @@
 //! Running queues over one address space: each has one submitter and one worker on a thread of its own. The address space
-//! is under a lock, and the timelines stand outside of it.
+//! is under a lock, and the timelines are outside of it.
 #![tactic(auto)]
 
 pub mod channel;

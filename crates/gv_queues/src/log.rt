@@ -2,13 +2,13 @@
 use gv_types::Request;
 use std::collections::LinkedList;
 
-/// Which queue a channel is of, and for how many timelines. It exists in proofs alone.
+/// Which queue a channel is of, and for how many timelines. It exists only in proofs.
 pub struct About {
     pub queue: u64,
     pub timelines: u64,
 }
 
-/// What a pass may do, what its channel is, and what was put and taken with it. It exists in proofs alone.
+/// What a pass may do, what its channel is, and what was put and taken with it. It exists only in proofs.
 pub struct Log {
     pub puts: bool,
     pub takes: bool,

@@ -1,4 +1,4 @@
-//! All that running queues takes, asked for before any of them starts.
+//! The memory that queues need to run, taken before any of them starts.
 ghost use Rattle.std.specs.Prelude.{◌≡◌, ◌<◌, ◌≤◌, ℕ, [], IfOk, IfErr, vec_len, vec_capacity};
 ghost use Rattle.std.specs.List.{All};
 ghost use Rattle.gv_sync.specs.Seats.{IsSeatOf, timeline_count};
@@ -20,7 +20,7 @@ use gv_sync::{Seat, Timelines};
 use std::alloc::Global;
 use std::thread::PromisedHandle;
 
-/// The room for what the workers leave. Each list is empty.
+/// Room for the workers' handles, and for what submitters and workers leave at their ends. Each list is empty.
 #[derive(Drop)]
 pub struct Rooms {
     pub handles: Vec<PromisedHandle<WorkerEnd, OfWorker>>,
@@ -28,7 +28,7 @@ pub struct Rooms {
     pub workers: Vec<WorkerEnd>,
 }
 
-/// Queues of which nothing was put or taken.
+/// Queues on which nothing was put, and from which nothing was taken.
 #[derive(Drop)]
 pub struct Opened {
     pub submitters: Vec<Submitter>,
@@ -43,7 +43,7 @@ pub struct Sizes {
     pub limit: u64,
 }
 
-/// Room for so many queues.
+/// Room for `count` queues.
 pub fn make_rooms(alloc: Global, count: u64) -> Result<Rooms, QueuesFault>
     requires { count ≤ queues }
     ensures none { IfOk result (λ r. (r.handles.items ≡ []) × (r.puts.items ≡ []) × (r.workers.items ≡ [])) }

@@ -13,8 +13,8 @@ use gv_vm::QUEUES;
 use std::marker::Model;
 use std::sync::Wait;
 
-/// Puts requests in order, each on its queue, and counts those that were put. One that is refused is let go, and so is one of
-/// another queue or with another timeline than there are. It takes no memory.
+/// Puts requests in order, each on its queue, and counts those that were put. One that is refused is dropped, and so is one of
+/// a queue or with a timeline that doesn't exist. It takes no memory.
 #[derive(Drop)]
 pub struct PutAll {
     requests: Option<Vec<(u64, Request)>>,
@@ -30,7 +30,7 @@ impl Model for PutAll {
 }
 
 impl PutAll {
-    /// Each request stands behind its queue.
+    /// Each request comes after its queue.
     pub fn new(requests: Vec<(u64, Request)>) -> Self
         ensures { result.asked ≡ requests.items }
     {

@@ -31,10 +31,10 @@ pub struct Queues<'a, G> {
 }
 
 impl<G: Gate + Sync> Queues<'_, G> {
-    /// Runs the queues, with a worker on a thread of its own for each, until the driver is done. Each queue takes as many
-    /// requests as outcomes may be told; the driver may rely on these numbers.
-    /// `NotMade` where the system refuses the memory that they start with, `NotStarted` where it refuses a thread: no request
-    /// was put. `Disagree` with the first queue on which what was put, taken and told don't agree. The address space comes back
+    /// Runs the queues, with a worker on a thread of its own for each, until the driver is done. A queue takes one request for
+    /// each outcome that it may have; the driver may rely on these numbers.
+    /// `NotMade` if the system refuses the memory that they start with, `NotStarted` if it refuses a thread: no request
+    /// was put. `Disagree` with the first queue on which requests put, taken and outcomes don't agree. The address space comes back
     /// on every path.
     pub fn run_queues<D: Driver, R: Threads + Wait + Sync>(
         &self,

@@ -50,7 +50,7 @@ fn close_all(submitters: Vec<Submitter>, mut puts: Vec<PutEnd>) -> Vec<PutEnd>
     puts
 }
 
-/// Waits for the workers, and takes what still stands in a channel. The queues are closed.
+/// Waits for the workers, and takes what is still in a channel. The queues are closed.
 fn join_all<R: Threads + Wait>(
     rt: &R,
     handles: Vec<PromisedHandle<WorkerEnd, OfWorker>>,
@@ -74,7 +74,7 @@ struct Started {
     refused: Option<u64>,
 }
 
-/// What workers and their driver share: the lock round the address space, the timelines, and what workers ask while they
+/// What workers and their driver share: the lock of the address space, the timelines, and what workers ask while they
 /// wait.
 #[derive(Drop)]
 pub struct Around<'a, L, G> {
@@ -149,7 +149,7 @@ impl<'s, L: Locked + Sync, G: Gate + Sync> Around<'s, L, G> {
         Started { handles, refused }
     }
 
-    /// Lets the driver run, and closes the queues.
+    /// Runs the driver, and closes the queues.
     fn drive_all<D: Driver, R: Wait>(
         &self,
         rt: &R,
@@ -177,7 +177,7 @@ impl<'s, L: Locked + Sync, G: Gate + Sync> Around<'s, L, G> {
     }
 }
 
-/// All that running queues takes.
+/// All that queues need to run.
 #[derive(Drop)]
 pub struct Made {
     pub opened: Opened,
@@ -185,7 +185,7 @@ pub struct Made {
 }
 
 impl Made {
-    /// Starts all workers, lets the driver run, closes the queues and joins the workers. Where a worker isn't started, the
+    /// Starts all workers, runs the driver, closes the queues and joins the workers. If a worker isn't started, the
     /// driver doesn't run.
     pub fn run_workers<L: Locked + Sync, G: Gate + Sync, D: Driver, R: Threads + Wait + Sync>(
         self,

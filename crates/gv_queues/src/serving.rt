@@ -83,7 +83,7 @@ pub fn serve(
     Ok(outcome)
 }
 
-/// Gives up a request, a point of whose waits lacks, as `Vm::give_up` does.
+/// Gives up a request, a point of whose waits is not reached, as `Vm::give_up` does.
 pub fn decline(vm: &mut Vm, taken: Taken, lacking: Lacking) -> Result<Outcome, NotTold>
     requires { Contains taken.request.waits.items lacking.point }
     ensures fault { MatchOption (tell_fault (told_limit vm.old taken.queue) vm.old.told taken.queue taken.number)

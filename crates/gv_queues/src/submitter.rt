@@ -115,7 +115,7 @@ impl Submitter {
         self.limit
     }
 
-    /// How many timelines there are: a request fits where all that it names are below this count.
+    /// How many timelines there are: a request fits if all that it names are below this count.
     pub fn timelines(&self) -> u64
         ensures { result ≡ self.now.timelines }
     {
@@ -129,8 +129,8 @@ impl Submitter {
         self.count
     }
 
-    /// Puts a request behind those put before, and answers how many these are. `QueueSpent` exactly where the limit's number
-    /// was put, `QueueFull` where each place of the channel was taken at some moment, `QueueGone` where it has no other end.
+    /// Puts a request after those put before, and answers how many these are. `QueueSpent` exactly if the limit of requests
+    /// was put, `QueueFull` if each place of the channel had a request at some moment, `QueueGone` if its other end is gone.
     /// A request that is refused comes back. It takes no memory. It may wait, while the worker is in the middle of a take.
     pub fn put<R: Wait>(&mut self, rt: &R, request: Request) -> Result<u64, PutFault>
         requires fits { FitsTimelines self.old.timelines request }

@@ -70,7 +70,7 @@ impl Taker {
         self.queue
     }
 
-    /// Takes the request at the front. So many were taken before. It waits until there is one, and answers None where the
+    /// Takes the request at the front. `number` were taken before. It waits until there is one, and answers None if the
     /// queue is closed and empty.
     pub(crate) fn take<R: Wait>(&mut self, rt: &R, number: u64) -> Option<Taken>
         requires { number ≡ length self.old.taken }

@@ -1,4 +1,4 @@
-//! The lock round the address space.
+//! The lock of the address space.
 use gv_vm::Vm;
 use std::sync::{Mutex, MutexGuard, Wait};
 
@@ -23,7 +23,7 @@ impl VmLock {
     }
 }
 
-/// What leads to an address space under a lock. Threads that are generic over it ask that it may be shared; that `VmLock` may
+/// What gives an address space under a lock. Threads that are generic over it require that it may be shared; that `VmLock` may
 /// be is then shown once, where they are called.
 pub trait Locked {
     fn vm_lock(&self) -> &VmLock;

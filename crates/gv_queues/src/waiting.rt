@@ -11,7 +11,7 @@ use gv_types::Point;
 use std::sync::Wait;
 use std::thread;
 
-/// What a gate is asked for one request: so many of its looks have lacked, over all its waits.
+/// What a gate is asked for one request: `turns` of its looks have found a wait not reached, over all its waits.
 #[derive(Drop)]
 pub struct Asking<'a, G> {
     gate: &'a G,
@@ -21,7 +21,7 @@ pub struct Asking<'a, G> {
 }
 
 impl<'a, G: Gate> Asking<'a, G> {
-    /// No look at this request has lacked yet.
+    /// No look of this request has found a wait not reached yet.
     pub fn new(gate: &'a G, queue: u64, number: u64) -> Asking<'a, G> {
         Asking {
             gate,
@@ -31,7 +31,7 @@ impl<'a, G: Gate> Asking<'a, G> {
         }
     }
 
-    /// Asks after one more look that lacked.
+    /// Asks after one more look at a wait not reached.
     fn turn(&mut self, lacking: &Lacking) -> Turn {
         self.turns = self.turns.saturating_add(1);
         self.gate.turn(self.queue, self.number, lacking, self.turns)

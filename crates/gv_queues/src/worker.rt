@@ -84,7 +84,7 @@ impl Worker {
     }
 }
 
-/// Sees to one request: waits for its points, then under the lock serves it, or declines it where the gate gave up.
+/// Handles one request: waits for its points, then under the lock serves it, or declines it if the gate gave up.
 fn attend<G: Gate, R: Wait>(
     rt: &R,
     alloc: Global,
@@ -123,8 +123,8 @@ fn attend<G: Gate, R: Wait>(
     }
 }
 
-/// Takes the requests of a queue in order and sees to each, until the queue is closed and empty, memory for its lists is
-/// refused, or an outcome can't be told. The request in hand is then left, and so are those behind it.
+/// Takes the requests of a queue in order and handles each, until the queue is closed and empty, memory for its lists is
+/// refused, or an outcome can't be added. Then the request in hand is left, and so are those after it.
 pub fn work<G: Gate, R: Wait>(
     rt: &R,
     alloc: Global,

@@ -70,8 +70,8 @@ impl WorkerEnd {
         self.gave.len() as u64 + self.left.len() as u64
     }
 
-    /// Whether the worker took as many requests as were put, and gave as many outcomes as the address space was told, those that
-    /// it still tells among them.
+    /// Whether the worker took the number of requests that were put, and gave the number of outcomes that the queue has had, those
+    /// that aren't forgotten among them.
     pub(crate) fn agrees(&self, vm: &Vm, put: &PutEnd) -> bool
         ensures { IsTrue result ↔ Agrees vm.now put.now self.now }
     {
@@ -83,7 +83,7 @@ impl WorkerEnd {
         &self.gave[first..] == vm.told(queue)
     }
 
-    /// Takes what still stands in the channel of a closed queue and leaves it, as far as there is room.
+    /// Takes what is still in the channel of a closed queue and leaves it, as far as there is room.
     pub(crate) fn drained<R: Wait>(self, rt: &R) -> WorkerEnd
         ensures queue { result.queue ≡ self.queue }
         ensures channel { result.channel ≡ self.channel }

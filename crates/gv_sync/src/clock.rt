@@ -31,7 +31,7 @@ impl Model for Clock {
 }
 
 impl Clock {
-    /// So many timelines, from 1 to 64, all at 0.
+    /// `count` timelines, from 1 to 64, all at 0.
     pub fn new(alloc: Global, count: u64) -> Result<Clock, OutOfMemory>
         requires { IsFromOneTo most_timelines count }
         ensures zero { IfOk result (λ c. c ≡ replicate count 0) }
@@ -49,7 +49,7 @@ impl Clock {
         self.numbers.len() as u64
     }
 
-    /// Raises a timeline to the point's value where it is lower. Answers the number after it.
+    /// Raises a timeline to the point's value, if it is lower. Answers its number after that.
     #[tactic(auto, using(crate::proofs::Raised::is_after_more))]
     pub fn raise(&mut self, point: Point) -> u64
         requires { point.timeline < length self.old }

@@ -12,7 +12,7 @@ pub fn raises()
     ensures once_more { RaisedOnceMore }
 {}
 
-/// The seats' rule holds of new timelines, and each kind of step keeps it, whatever the other
+/// The seats' rule holds for new timelines, and each kind of step keeps it, whatever the other
 /// threads did: what a seat raised is at most what it has seen, and that at most the number; a
 /// number is 0 or what some seat raised it to; the seats' shares are one whole. Seats that were
 /// dropped count too.
@@ -25,7 +25,7 @@ pub fn steps()
 
 /// What follows from shares that are one whole: no seat comes from elsewhere than a split, so a
 /// seat whose share is as before was not split, and while the first seat is whole nobody else
-/// stepped.
+/// took a step.
 pub fn shares()
     ensures no_more { NoSeatFromElsewhere }
     ensures only { WholeIsTheOnlySeat }

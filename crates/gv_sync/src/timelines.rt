@@ -18,7 +18,7 @@ pub const MAX_TIMELINES: u64 = 64;
 
 const MAX_WORDS: usize = 64;
 
-/// Why timelines or a seat were not made: for want of memory.
+/// Why timelines or a seat were not made: out of memory.
 #[derive(Clone, Copy, Debug, PartialEq, Eq)]
 pub enum SyncFault {
     NotMade,
@@ -116,13 +116,13 @@ impl Seat {
     pub fn has_each_mark(&self)
         ensures { length self.now.marks ≡ timeline_count self.now.of }
     {
-        // For the prover: what the pass tells.
+        // For the prover: what the pass says.
         let _pass = &self.pass;
     }
 }
 
 impl Timelines {
-    /// So many timelines, from 1 to 64, all at 0, with the first seat.
+    /// `count` timelines, from 1 to 64, all at 0, with the first seat.
     pub fn new(alloc: Global, count: u64) -> Result<(Timelines, Seat), SyncFault>
         requires { IsFromOneTo most_timelines count }
         ensures count { IfOk result (λ r. timeline_count r.0 ≡ count) }
@@ -166,8 +166,8 @@ impl Timelines {
         self.load(seat, timeline)
     }
 
-    /// Raises a timeline to the point's value where it is lower, by one fetch_max. Answers the
-    /// number after it.
+    /// Raises a timeline to the point's value, if it is lower, by one fetch_max. Answers its
+    /// number after that.
     pub fn raise(&self, seat: &mut Seat, point: Point) -> u64
         requires own { IsSeatOf self.now seat.old }
         requires named { point.timeline < timeline_count self.now }
@@ -202,7 +202,7 @@ impl Timelines {
         compare(*point, self.value(seat, point.timeline))
     }
 
-    /// A seat that has seen as much, and raised and took nothing, with half the share. It never fails.
+    /// A seat that has seen the same numbers, with half the share. It has raised nothing and taken no step. It never fails.
     pub fn split(&self, seat: &mut Seat) -> Result<Seat, SyncFault>
         requires { IsSeatOf self.now seat.old }
         ensures ok { IsOk result }

@@ -10,7 +10,7 @@ use crate::page_range::{PageRange, SPACE_PAGES};
 use std::marker::Model;
 
 /// The pages of an address space, and a region of them that is reserved, as the region that DRM GPUVM keeps for
-/// the kernel. An empty region is none, wherever it was said to begin.
+/// the kernel. An empty region reserves nothing, wherever it begins.
 #[derive(Clone, Copy, Debug)]
 pub struct Bounds {
     space: PageRange,
@@ -28,8 +28,8 @@ impl Model for Bounds {
 }
 
 impl Bounds {
-    /// The space of `len` bytes from the byte `start` on, with a region of bytes reserved. None where a number is no
-    /// multiple of 4,096, or there are no such bounds in pages.
+    /// The space of `len` bytes from the byte `start` on, with a region of bytes reserved. None if a number is no
+    /// multiple of 4,096, or `new` answers None for the numbers of pages.
     pub fn from_bytes(
         start: u64,
         len: u64,
@@ -54,7 +54,7 @@ impl Bounds {
     }
 
     /// The space of `count` pages from the page `first` on, with a region of pages reserved. None unless the space
-    /// is a range of pages and the region is empty or lies in it.
+    /// is a range of pages and the region is empty or inside it.
     pub fn new(first: u64, count: u64, reserved_first: u64, reserved_count: u64) -> Option<Bounds>
         ensures { result ≡ area first count reserved_first reserved_count }
     {
@@ -88,7 +88,7 @@ impl Bounds {
 
     /// The operation in pages, or its first fault in this order: `Unaligned` (its address, length or offset is no
     /// multiple of 4,096 bytes), `Empty` (its length is 0), `OutOfSpace` (a page is outside the space), `Reserved`
-    /// (a page is reserved). An unmap of a whole buffer names no pages, and is always answered. It takes no memory.
+    /// (a page is reserved). An unmap of a whole buffer names no pages, and has none of these faults. It takes no memory.
     pub fn check(&self, op: &Op) -> Result<PageOp, Fault>
         ensures value { result ≡ checked self.now op.now }
         ensures same { IfOk result (λ p. p ≡ in_pages op.now) }

@@ -47,13 +47,13 @@ pub enum Fault {
     Withdrawn,
     /// A live later item covers one of its pages.
     Touched { by: u64 },
-    /// An item that is to stay withdraws one that is to be settled.
+    /// A later item withdraws one that would be settled.
     Crossed { by: u64 },
     /// The number is not the next one of its queue.
     OutOfTurn { next: u64 },
     /// The limit of outcomes of a queue is reached.
     QueueSpent,
-    /// This access, counted from 0, is of a page that holds nothing.
+    /// This access, counted from 0, is of a page without a mapping.
     Unmapped { access: u64 },
     /// This access, counted from 0, writes a page that is read-only.
     WriteToReadOnly { access: u64 },
@@ -65,13 +65,13 @@ pub enum Fault {
     TooManyAccesses,
     /// No such job is running.
     NoJob,
-    /// The queue has no other end.
+    /// The other end of the queue is gone.
     QueueGone,
-    /// The number is that of no outcome that is told, nor the next one.
+    /// The number is neither an outcome's that is not forgotten nor the next one.
     NoOutcome,
-    /// A held item needs what is to go.
+    /// An item that is held needs what would be dropped: its outcome, or memory that may be needed to undo it.
     Held { by: u64 },
-    /// The system refused to give memory.
+    /// Out of memory.
     OutOfMemory,
 }
 
@@ -190,7 +190,7 @@ impl fmt::Display for Fault {
 
 impl Error for Fault {}
 
-/// The system refused to give memory.
+/// Out of memory.
 #[derive(Clone, Copy, Debug, PartialEq, Eq)]
 pub struct OutOfMemory;
 

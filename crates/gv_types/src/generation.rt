@@ -7,7 +7,7 @@ const HALF_BITS: u32 = 32;
 
 const LOW_HALF: u64 = 0xffff_ffff;
 
-/// A number of 64 bits that needs an alignment of four bytes alone, so that a mapping has 48 bytes.
+/// A number of 64 bits that needs only an alignment of four bytes, so that a mapping has 48 bytes.
 #[derive(Clone, Copy, Debug, PartialEq, Eq)]
 pub struct Generation {
     high: u32,

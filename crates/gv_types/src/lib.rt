@@ -1,4 +1,4 @@
-//! The values that every part of the address space manager speaks of: pages, mappings, operations and faults.
+//! The values that every part of the address space manager uses: pages, mappings, operations and faults.
 #![tactic(auto)]
 
 mod bounds;

@@ -13,10 +13,10 @@ pub const MAX_MAPPINGS: u64 = 1_048_576;
 /// The greatest limit of items in the journal.
 pub const MAX_ITEMS: u64 = 65_536;
 
-/// The greatest limit of outcomes told a queue.
+/// The greatest limit of a queue's outcomes.
 pub const MAX_TOLD: u64 = 65_536;
 
-/// How many live buffers, mappings in the list, items in the journal and outcomes told a queue there may be: each
+/// The limits of live buffers, mappings in the list, items in the journal and outcomes of a queue: each
 /// from 1 to its greatest.
 #[derive(Clone, Copy, Debug, PartialEq, Eq)]
 pub struct Limits {
@@ -99,7 +99,7 @@ impl Limits {
         self.items
     }
 
-    /// How many outcomes told a queue there may be.
+    /// How many outcomes a queue may have.
     pub fn told(self) -> u64
         ensures value { result ≡ self.told }
         ensures within { IsWithin self }

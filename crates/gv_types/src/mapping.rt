@@ -1,4 +1,4 @@
-//! What stands behind a run of pages.
+//! What a run of pages maps.
 ghost use Rattle.std.specs.Prelude.{◌≡◌, IsTrue};
 
 use crate::generation::Generation;
@@ -15,7 +15,7 @@ pub struct BufferId {
     pub generation: Generation,
 }
 
-/// What stands behind pages: a buffer's pages from `page` on, or nothing but zeros. DRM GPUVM calls the first a
+/// What pages map: a buffer's pages from `page` on, or nothing but zeros. DRM GPUVM calls the first a
 /// backing buffer object with its offset, and the second sparse.
 #[derive(Clone, Copy, Debug, PartialEq, Eq)]
 pub enum Backing {
@@ -36,7 +36,7 @@ pub struct Entry {
     pub flags: Flags,
 }
 
-/// A run of pages with what stands behind them, `drm_gpuva` in DRM GPUVM.
+/// A run of pages and what they map, `drm_gpuva` in DRM GPUVM.
 #[derive(Clone, Copy, Debug, PartialEq, Eq)]
 pub struct Mapping {
     pub range: PageRange,
@@ -52,7 +52,7 @@ impl Default for Mapping {
 
     ghost is_default = { λ m. m ≡ one_page_of_zeros };
 
-    /// One page of zeros at page 0: what stands in the unused places of a short list that lies in its value.
+    /// One page of zeros at page 0: it fills the unused places of a short list that is stored in its value.
     fn default() -> Mapping {
         Mapping {
             range: PageRange::between(0, 1),
@@ -79,7 +79,7 @@ impl BufferId {
 impl Backing {
     ghost use Rattle.gv_types.specs.Mapping.{advanced, is_of, HasSmallPages};
 
-    /// Whether the buffer stands behind the pages.
+    /// Whether the pages map the buffer.
     pub fn is_of(self, buffer: BufferId) -> bool
         ensures { result ≡ is_of buffer self }
     {
@@ -106,7 +106,7 @@ impl Backing {
 impl Entry {
     ghost use Rattle.gv_types.specs.Mapping.{entry_advanced, HasSmallPages};
 
-    /// What the page holds that lies `pages` past the entry's, in the same mapping.
+    /// What the page holds that is `pages` after the entry's, in the same mapping.
     pub fn advanced(self, pages: u64) -> Entry
         ensures { HasSmallPages self.backing pages → result ≡ entry_advanced self pages }
     {
@@ -133,8 +133,8 @@ impl Mapping {
         }
     }
 
-    /// What of the mapping lies at the page `low` or above and below the page `high`, if anything does. Its first
-    /// page stands before the same page of the buffer as in the whole mapping.
+    /// The part of the mapping from the page `low` on and below the page `high`, if there is one. Its first
+    /// page maps the same page of the buffer as in the whole mapping.
     pub fn clip(&self, low: u64, high: u64) -> Option<Mapping>
         requires { IsMapping self.now }
         ensures { result ≡ clip low high self.now }

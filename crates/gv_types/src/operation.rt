@@ -47,7 +47,7 @@ impl Op {
         }
     }
 
-    /// Its first byte, and 0 where it names no pages.
+    /// Its first byte, or 0 if it names no pages.
     pub fn addr(&self) -> u64
         ensures { result ≡ addr_of self.now }
     {
@@ -57,7 +57,7 @@ impl Op {
         }
     }
 
-    /// How many bytes it covers, and 0 where it names no pages.
+    /// How many bytes it covers, or 0 if it names no pages.
     pub fn len(&self) -> u64
         ensures { result ≡ len_of self.now }
     {
@@ -67,7 +67,7 @@ impl Op {
         }
     }
 
-    /// The byte of the buffer that it begins at, and 0 where it maps no buffer.
+    /// The byte of the buffer that it begins at, or 0 if it maps no buffer.
     pub fn offset(&self) -> u64
         ensures { result ≡ offset_of self.now }
     {
@@ -77,7 +77,7 @@ impl Op {
         }
     }
 
-    /// The operation on these pages, which have to be those that its bytes are in.
+    /// The operation on these pages, which must be the pages of its bytes.
     pub(crate) fn on_pages(&self, range: PageRange) -> PageOp
         requires same { range ≡ range_of (in_pages self.now) }
         requires ranged { IsTrue (has_range self.now) }
@@ -142,7 +142,7 @@ impl PageOp {
         }
     }
 
-    /// The mapping that the operation puts in, if any.
+    /// The mapping that the operation adds, if any.
     pub fn own_mapping(&self) -> Option<Mapping>
         ensures { option_to_list result ≡ own_mapping self.now }
     {

@@ -30,7 +30,7 @@ impl PageRange {
     ghost use Rattle.gv_types.specs.Page.{PAGES};
     ghost use Rattle.gv_types.specs.PageRange.{IsInSpace, span, end_of, covers, meets, lies_in};
 
-    /// The range of `count` pages from the page `first` on. None where there is no page, or one past the end of
+    /// The range of `count` pages from the page `first` on. None if it has no page, or one past the end of
     /// the address space.
     pub fn new(first: u64, count: u64) -> Option<PageRange>
         ensures valid { IsSome result ↔ IsInSpace (span first count) }
@@ -80,7 +80,7 @@ impl PageRange {
         self.first + self.count
     }
 
-    /// Whether the page is one of it.
+    /// Whether the page is in it.
     pub fn covers(self, page: u64) -> bool
         ensures { result ≡ covers self page }
     {

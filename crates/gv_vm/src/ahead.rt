@@ -1,19 +1,19 @@
-//! What a turn of a queue has before it.
+//! What is left to do in a turn of a queue.
 ghost use Rattle.std.specs.Prelude.{◌≡◌, false};
 ghost use Rattle.gv_vm.specs.TurnInside.{AreLeft};
 
 use gv_types::Request;
 
-/// What is left of a request: so many of its waits, and its signals.
+/// What is left of a request: how many of its waits, and of its signals.
 #[derive(Clone, Copy)]
 pub struct Left {
-    /// Whether it is in hand, or else the first that waits.
+    /// Whether it is in hand; else it is the first that waits.
     pub in_hand: bool,
     pub waits: usize,
     pub signals: usize,
 }
 
-/// So many signals owed, and what is left of the request in hand or else of the first that waits.
+/// How many signals are owed, and what is left of the request in hand, or else of the first that waits.
 pub struct Ahead {
     pub owed: usize,
     pub left: Option<Left>,

@@ -24,7 +24,7 @@ pub fn seen_of(alloc: Global, reached: &[Reached]) -> Result<Vec<u64>, OutOfMemo
     Ok(seen)
 }
 
-/// Applies a request whole or not at all, and answers what it came to.
+/// Applies a request whole or not at all, and answers its outcome.
 pub fn dispatch(
     alloc: Global,
     space: &mut Space,

@@ -7,18 +7,18 @@ use crate::outcome::Outcome;
 use crate::places::Place;
 use gv_types::{BufferId, Fault, Point, Request};
 
-/// One event: a request put on a queue, taken from it, looked at, bound or given up, a signal paid, or a call.
+/// One event: a request put on a queue, taken from it, looked at, bound or given up, a signal raised, or a call.
 #[derive(Drop)]
 pub enum Event {
     /// A request at the back of a queue.
     Put { queue: u64, request: Request },
-    /// The request at the front of a queue comes in hand.
+    /// The request at the front of a queue is taken in hand.
     Take { queue: u64 },
     /// A look at the first wait, of the request in hand, that is not reached yet.
     Look { queue: u64 },
     /// The request in hand is carried out.
     Bind { queue: u64 },
-    /// The request in hand is given up, since its last look lacked.
+    /// The request in hand is given up, since the wait of its last look was not reached.
     GiveUp { queue: u64 },
     /// The first signal owed is raised.
     Pay { queue: u64 },
@@ -28,17 +28,17 @@ pub enum Event {
     Rewind,
     Withdraw { entry: u64 },
     Settle { to: u64 },
-    /// The outcomes of a queue below a number are let go.
+    /// The outcomes of a queue below a number are dropped.
     Forget { queue: u64, to: u64 },
-    /// Room that nothing needs is given back.
+    /// Memory that nothing needs is freed.
     Trim,
     JobBegin { accesses: Vec<Access> },
     JobEnd { job: u64 },
-    /// Where does an address, in bytes, lead?
+    /// What does an address, in bytes, reach?
     Translate { addr: u64 },
 }
 
-/// The answer to an event. `Idle` where the event is not enabled, and only there.
+/// The answer to an event. `Idle` exactly if the event is not enabled.
 #[derive(Debug, PartialEq, Drop)]
 pub enum Reply {
     Idle,
@@ -62,7 +62,7 @@ pub enum Reply {
     Refused { fault: Fault },
 }
 
-/// What a look came to, or all looks of a request.
+/// The result of a look, or of all looks of a request.
 #[derive(Clone, Copy, Debug, PartialEq, Eq)]
 pub enum Looked {
     AllReached,
@@ -82,7 +82,7 @@ impl Reply {
         }
     }
 
-    /// Whether a request came in hand.
+    /// Whether a request was taken in hand.
     pub fn is_taken(&self) -> bool
         ensures { result ≡ is_taken self.now }
     {
@@ -115,7 +115,7 @@ impl Reply {
         }
     }
 
-    /// What a look came to.
+    /// The result of a look.
     pub fn looked(&self) -> Looked
         ensures { result ≡ looked_of self.now }
     {

@@ -15,8 +15,8 @@ use gv_space::Space;
 use gv_types::Fault;
 use std::alloc::Global;
 
-/// Finds the place of one access, the one with this number counted from 0, and lets the job hold the buffer behind it.
-/// `Unmapped`, then `WriteToReadOnly`, then `Conflict` with the least other job that uses the buffer where one of the two
+/// Finds the place of one access, the one with this number counted from 0, and makes the job hold the buffer there.
+/// `Unmapped`, then `WriteToReadOnly`, then `Conflict` with the least other job that uses the buffer if one of the two
 /// writes it, then `OutOfMemory`.
 fn hold(
     alloc: Global,
@@ -44,7 +44,7 @@ fn hold(
     Ok(place)
 }
 
-/// Lets the job hold what stands behind a place: a buffer, or a zero, which needs no reservation.
+/// Makes the job hold what a place reaches: a buffer, or a zero, which needs no reservation.
 fn hold_target(
     alloc: Global,
     space: &mut Space,
@@ -67,7 +67,7 @@ fn hold_target(
     }
 }
 
-/// Finds the places of all accesses of a job in turn, and lets it hold what is behind them. After a refusal it may hold some
+/// Finds the places of all accesses of a job in turn, and makes it hold what they reach. After a refusal it may hold some
 /// of that.
 pub fn hold_all(
     alloc: Global,

@@ -19,10 +19,10 @@ use gv_types::{Fault, OutOfMemory};
 use std::alloc::Global;
 use std::marker::Model;
 
-/// So many jobs run at most.
+/// The greatest number of running jobs.
 pub const MAX_RUNNING: usize = 1024;
 
-/// A job has no more accesses.
+/// The greatest number of accesses of a job.
 pub const MAX_ACCESSES: usize = 256;
 
 /// What a job does at an address, in bytes.
@@ -32,15 +32,15 @@ pub struct Access {
     pub usage: Usage,
 }
 
-/// A job as it began: its number, and where its accesses led then, whatever is unmapped or taken back meanwhile.
+/// A job as it began: its number, and what its accesses reached then, whatever is unmapped or undone meanwhile.
 #[derive(Debug, PartialEq, Drop)]
 pub struct Job {
     pub number: u64,
     pub places: Vec<Place>,
 }
 
-/// The jobs that run. Each holds the buffers behind its places, as the kernel's Reservation Objects do: a job that would
-/// have to wait there is refused here. They stand in the order of their numbers, which only grow: a new job is put behind the
+/// The running jobs. Each holds the buffers of its places, as the kernel's Reservation Objects do: a job that would
+/// have to wait there is refused here. They are in the order of their numbers, which only grow: a new job comes after the
 /// others, and one that ends is found by binary search.
 #[derive(Drop)]
 pub struct Jobs {
@@ -75,14 +75,14 @@ impl Jobs {
         }
     }
 
-    /// Gives room back that no running job needs.
+    /// Frees memory that no running job needs.
     pub fn shrink(&mut self)
         ensures { self.new ≡ self.old }
     {
         self.running.shrink_to_fit();
     }
 
-    /// Where the accesses of a running job led when it began. None where no such job runs.
+    /// What the accesses of a running job reached when it began. None if no such job runs.
     pub fn places(&self, number: u64) -> Option<&[Place]>
         ensures { option_copied result ≡ places_in self.now.running number }
     {
@@ -92,8 +92,8 @@ impl Jobs {
         }
     }
 
-    /// Begins a job: each access in turn finds its place, and the buffer behind it is held for the job until it ends.
-    /// `TooManyAccesses` over 256, `TooManyJobs` where 1,024 run or 2^64 - 1 were begun, then per access `Unmapped`,
+    /// Begins a job: each access in turn finds its place, and the job holds the buffer there until it ends.
+    /// `TooManyAccesses` over 256, `TooManyJobs` if 1,024 run or 2^64 - 1 were begun, then per access `Unmapped`,
     /// `WriteToReadOnly`, `Conflict` and `OutOfMemory`. After a refusal nothing is held and no number is used.
     pub fn begin(
         &mut self,
@@ -125,7 +125,7 @@ impl Jobs {
         }
     }
 
-    /// Ends a job, and gives up what it holds. `NoJob` exactly where no such job runs. It takes no memory.
+    /// Ends a job, which then holds nothing. `NoJob` exactly if no such job runs. It takes no memory.
     pub fn end(&mut self, space: &mut Space, number: u64) -> Result<(), Fault>
         requires { AreHeld space.old.buffers self.old.running }
         ensures fault { MatchOption (end_fault self.old number)
@@ -144,7 +144,7 @@ impl Jobs {
         Ok(())
     }
 
-    /// Why no job of so many accesses can begin.
+    /// Why no job of this number of accesses can begin.
     fn many_fault(&self, accesses: usize) -> Option<Fault>
         ensures fault { result ≡ many_fault self.now accesses }
         ensures running { AreRunning self.now }
@@ -208,7 +208,7 @@ impl Jobs {
         Ok(Job { number, places })
     }
 
-    /// Takes a job off the running ones. Whether it ran.
+    /// Removes a job from the running ones. Answers whether it ran.
     fn remove(&mut self, number: u64) -> bool
         ensures ran { result ≡ runs self.old.running number }
         ensures jobs { self.new ≡ record self.old { running = without_job number self.old.running } }
@@ -224,7 +224,7 @@ impl Jobs {
     }
 }
 
-/// Where the job with this number stands. None where no such job runs.
+/// The index of the job with this number. None if no such job runs.
 fn place_of(running: &[Job], number: u64) -> Option<usize>
     requires { AreAscending running.now }
     ensures some { IfSome result (IsAt running.now number) }

@@ -1,7 +1,7 @@
 //! Laws of worlds, each proved once for all callers.
 ghost use Rattle.gv_vm.specs.Laws.{StepIsAFunction, WantOfMemoryIsNoStep, HeadlineGoesOn, RequestsStayInOrder, WhatIsToldWasPut, WaitsAreReachedFirst, NoTimelineFalls, TimelinesFollowRaises, JobsKeepTheirPlaces};
 
-/// What each step has: the same event in the same world gets the same reply, but for want of memory, after which a world goes on
+/// What each step has: the same event in the same world gets the same reply, unless it is out of memory: then the world goes on
 /// as if it had not been asked.
 pub fn steps()
     ensures function { StepIsAFunction }
@@ -9,7 +9,7 @@ pub fn steps()
     ensures headline { HeadlineGoesOn }
 {}
 
-/// What a queue has after any run of a new world: requests are told in the order in which they were put, each once, and only
+/// What a queue has after any run of a new world: outcomes are in the order in which requests were put, one for each, and only
 /// accepted ones are signalled.
 pub fn queues()
     ensures order { RequestsStayInOrder }

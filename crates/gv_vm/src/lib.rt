@@ -1,15 +1,15 @@
-//! One GPU address space as a whole: requests carried out or given up, each told what it came to; entries taken back,
-//! withdrawn and settled; the places that addresses reach, and the running jobs that hold the buffers behind them.
+//! One GPU address space as a whole: requests carried out or given up, each with its outcome; entries undone,
+//! withdrawn and settled; the places that addresses reach, and the running jobs that hold the buffers there.
 //!
 //! A `World` answers one event after another. It has a machine (`Vm`), timelines, and queues of requests:
 //!
 //! ```text
 //!   Put -> waits in its queue -> Take -> in hand -> Look for each of its waits -> Bind -> accepted: an entry of the journal; Pay for each signal
 //!                                                        |                          `---> refused: the machine is as before
-//!                                                        `-> a wait lacks: Look again, or GiveUp
+//!                                                        `-> a wait is not reached: Look again, or GiveUp
 //! ```
 //!
-//! Rewind, Withdraw and Settle go back over the entries; Forget lets outcomes go; Create, Destroy, JobBegin, JobEnd and Translate ask
+//! Rewind, Withdraw and Settle change the entries; Forget drops outcomes; Create, Destroy, JobBegin, JobEnd and Translate ask
 //! the machine alone.
 #![tactic(auto)]
 

@@ -1,7 +1,7 @@
-//! What requests come to.
+//! The outcomes of requests.
 use gv_types::{Fault, Point, Request};
 
-/// What a request was told: that it is this entry of the journal, that this operation was refused and why, or that it was
+/// The outcome of a request: it is this entry of the journal; this operation was refused, and why; or it was
 /// given up, since this point was not reached.
 #[derive(Clone, Copy, Debug, PartialEq, Eq)]
 pub enum Outcome {
@@ -10,7 +10,7 @@ pub enum Outcome {
     NotReady { point: Point, have: u64 },
 }
 
-/// Why nothing was told. The request comes back as it was.
+/// Why there is no outcome. The request comes back as it was.
 #[derive(Debug, PartialEq, Drop)]
 pub struct NotTold {
     pub fault: Fault,

@@ -10,22 +10,22 @@ use gv_ranges::RangeList;
 use gv_space::Space;
 use gv_types::{Backing, BufferId, Entry, Flags, PAGE_BYTES, PageOp, SPACE_PAGES};
 
-/// What stands behind one byte of the address space: a byte of a buffer, or a zero.
+/// What one byte of the address space reaches: a byte of a buffer, or a zero.
 #[derive(Clone, Copy, Debug, PartialEq, Eq)]
 pub enum Target {
     Buffer { id: BufferId, byte: u64 },
     Zero,
 }
 
-/// Where an address leads, and how that may be accessed.
+/// What an address reaches, and how it may be accessed.
 #[derive(Clone, Copy, Debug, PartialEq, Eq)]
 pub struct Place {
     pub target: Target,
     pub flags: Flags,
 }
 
-/// Where an address leads, and for how many bytes from there on the addresses lead on as it does: to the end of its mapping, or
-/// where none holds its page, to nothing up to the next mapping or the end of the address space. 0 past that end.
+/// What an address reaches, and how many bytes from there on are in the same mapping; without a mapping, how many there are to the
+/// next one or to the end of the address space. 0 past that end.
 #[derive(Clone, Copy, Debug, PartialEq, Eq)]
 pub struct Stretch {
     pub place: Option<Place>,
@@ -33,7 +33,7 @@ pub struct Stretch {
 }
 
 impl Target {
-    /// What stands `rest` bytes behind the first byte of a backing's first page.
+    /// What is `rest` bytes after the first byte of a backing's first page.
     fn of(backing: Backing, rest: u64) -> Target
         requires backing { HasBytes backing }
         requires rest { rest < bytes_per_page }
@@ -50,7 +50,7 @@ impl Target {
 }
 
 impl Place {
-    /// Where the byte leads that stands `rest` bytes into a page.
+    /// What the byte reaches that is `rest` bytes after the start of a page.
     pub(crate) fn of(entry: Entry, rest: u64) -> Place
         requires backing { HasBytes entry.backing }
         requires rest { rest < bytes_per_page }
@@ -63,7 +63,7 @@ impl Place {
     }
 }
 
-/// Where an address, in bytes, leads, by the page table: at most five steps. None where no mapping holds its page, and past
+/// What an address, in bytes, reaches, by the page table: at most five steps. None if no mapping holds its page, and past
 /// the end of the address space.
 pub fn translate(space: &Space, addr: u64) -> Option<Place>
     ensures { result ≡ place_at space.now.mappings addr }
@@ -76,7 +76,7 @@ pub fn translate(space: &Space, addr: u64) -> Option<Place>
     Some(Place::of(entry, addr % PAGE_BYTES))
 }
 
-/// Where an address, in bytes, leads by an operation that covers its page. None by an unmap.
+/// What an address, in bytes, reaches by an operation that covers its page. None by an unmap.
 pub fn place_by(op: &PageOp, addr: u64) -> Option<Place>
     requires covered { IsTrue (covers (range_of op.now) (addr / bytes_per_page)) }
     requires bytes { IfSome (own_part op.now (addr / bytes_per_page)) (λ e. HasBytes e.backing) }
@@ -96,7 +96,7 @@ pub fn place_by(op: &PageOp, addr: u64) -> Option<Place>
     }
 }
 
-/// Where an address, in bytes, leads, and for how many bytes from there on the addresses lead on as it does. One search in the
+/// What an address, in bytes, reaches, and how many bytes from there on are in the same mapping or hole. One search in the
 /// list.
 pub fn find(space: &Space, addr: u64) -> Stretch
     ensures place { result.place ≡ place_at space.now.mappings addr }
@@ -121,7 +121,7 @@ pub fn find(space: &Space, addr: u64) -> Stretch
     }
 }
 
-/// What a page holds, and where its stretch ends.
+/// What a page holds, and where its mapping or hole ends.
 fn held_until(list: &RangeList, page: u64) -> (Option<Entry>, u64)
     requires page { page < PAGES }
     requires laid_out { IsLaidOut list.now.mappings }

@@ -15,7 +15,7 @@ use std::alloc::Global;
 use std::collections::VecDeque;
 use std::marker::Model;
 
-/// A request that was taken, its waits that were reached, in order, and its last look, if that lacked.
+/// A request that was taken, its waits that were reached, in order, and its last look, if its wait was not reached.
 #[derive(Drop)]
 pub struct Hand {
     pub request: Request,
@@ -35,10 +35,10 @@ impl Model for Hand {
     ghost invariant = { IsSoundHand };
 }
 
-/// So many places the first request makes.
+/// How many places the first request makes.
 const FIRST_PLACES: usize = 4;
 
-/// One queue. Room for requests comes with them. The signals owed stand the first one last.
+/// One queue. Room for requests is made as they come. The signals owed are stored with the first one last.
 #[derive(Drop)]
 pub struct Queue {
     put: u64,
@@ -79,7 +79,7 @@ impl Hand {
         }
     }
 
-    /// One wait more is reached. `OutOfMemory` leaves all as it was.
+    /// One more wait is reached. `OutOfMemory` leaves all as it was.
     pub fn reach(&mut self, reached: Reached) -> Result<(), OutOfMemory>
         requires { next_wait self.old ≡ Some reached.point }
         ensures ok { OnOk result (self.new
@@ -92,7 +92,7 @@ impl Hand {
         Ok(())
     }
 
-    /// The first wait that is not reached yet lacks.
+    /// A look at the first wait that is left found it not reached.
     pub fn lack(&mut self, lacking: Lacking)
         requires { next_wait self.old ≡ Some lacking.point }
         ensures { self.new ≡ record self.old { lacked = Some lacking } }
@@ -114,8 +114,8 @@ impl Queue {
         }
     }
 
-    /// Puts a request at the back and answers how many were put before. `QueueSpent` where the limit's requests were put,
-    /// `QueueFull` where so many wait as there are places, then `OutOfMemory`: the request comes back.
+    /// Puts a request at the back and answers how many were put before. `QueueSpent` if the limit of requests was put,
+    /// `QueueFull` if a request waits at each place, then `OutOfMemory`: the request comes back.
     pub fn put(&mut self, limit: u64, depth: u64, request: Request) -> Result<u64, NotTold>
         ensures fault { MatchOption (put_fault_of limit depth self.old)
             (IfErr result (λ n. n.fault ≡ Fault.OutOfMemory)) (λ fault. IsErrAnd result (λ n. n.fault ≡ fault)) }
@@ -143,7 +143,7 @@ impl Queue {
         Ok(number)
     }
 
-    /// Takes the request at the front in hand, where one waits, none is in hand and nothing is owed. Whether it did.
+    /// Takes the request at the front in hand, if one waits, none is in hand and nothing is owed. Answers whether it did.
     pub fn take(&mut self, alloc: Global) -> bool
         ensures took { result ≡ true → TookFront self.old self.new }
         ensures not { result ≡ false → MayTake self.old → ⊥ }
@@ -185,7 +185,7 @@ impl Queue {
         }
     }
 
-    /// That wait lacks.
+    /// A look found that wait not reached.
     pub fn lack(&mut self, lacking: Lacking)
         requires { wait_of self.old ≡ Some lacking.point }
         ensures { self.new ≡ with_lacked lacking self.old }
@@ -196,7 +196,7 @@ impl Queue {
         }
     }
 
-    /// Gives the request in hand away, where each of its waits is reached.
+    /// Hands out the request in hand, if each of its waits is reached.
     pub fn ready(&mut self) -> Option<Hand>
         ensures not { IfNone result (IsReadyToBind self.old → ⊥) }
         ensures same { IfNone result (self.new ≡ self.old) }
@@ -215,7 +215,7 @@ impl Queue {
         self.hand.take()
     }
 
-    /// Gives the request in hand away, where its last look lacked.
+    /// Hands out the request in hand, if the wait of its last look was not reached.
     pub fn lacking(&mut self) -> Option<Hand>
         ensures not { IfNone result (IsLacking self.old → ⊥) }
         ensures same { IfNone result (self.new ≡ self.old) }
@@ -248,7 +248,7 @@ impl Queue {
         self.owed = signals;
     }
 
-    /// What its next turn has before it.
+    /// What is left to do in its next turn.
     pub fn ahead(&self) -> Ahead
         ensures owed { length self.now.owed ≡ result.owed }
         ensures left { IsLeftIn self.now.hand self.now.waiting result.left }
@@ -264,7 +264,7 @@ impl Queue {
         }
     }
 
-    /// Takes the first signal off those owed.
+    /// Removes the first signal from those owed.
     pub fn pay(&mut self) -> Option<Point>
         ensures none { IfNone result (self.old.owed ≡ []) }
         ensures same { IfNone result (self.new ≡ self.old) }
@@ -274,7 +274,7 @@ impl Queue {
     }
 }
 
-/// Puts a request at the back. Where there is no room there are twice the places after it, and four at first. `OutOfMemory`
+/// Puts a request at the back. Without room the places double; at first there are four. `OutOfMemory`
 /// hands the request back.
 fn push(waiting: &mut VecDeque<Request>, request: Request) -> Result<(), NotTold>
     ensures back { IfOk result (λ _. waiting.new.items ≡ waiting.old.items ++ request ∷ []) }

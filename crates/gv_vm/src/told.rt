@@ -1,4 +1,4 @@
-//! The outcomes that each queue was told.
+//! The outcomes of each queue.
 ghost use Rattle.std.specs.Prelude.{◌≡◌, ◌<◌, ◌≤◌, ◌++◌, ◌∷◌, min, replicate, length, take, drop, [], IfOk, IsOkUnless, OnOk, MatchOption};
 ghost use Rattle.gv_vm.specs.Outcomes.{queues, with_outcome, tell_fault, forgotten_outcome, most_told};
 ghost use Rattle.gv_vm.specs.Telling.{lists_of, forgotten_in, HasRoomToTell, HaveQueue};
@@ -8,14 +8,14 @@ use gv_types::{Fault, OutOfMemory};
 use std::alloc::Global;
 use std::marker::Model;
 
-/// So many queues there are.
+/// The number of queues.
 pub const QUEUES: usize = 16;
 
-/// So many outcomes a queue is told in its life.
+/// The greatest number of outcomes that a queue has in its life.
 pub const MOST_TOLD: u64 = 1 << 63;
 
-/// What a queue was told. Of the first outcomes, those that are forgotten, only the count is kept. Of those that stand, `gone` are
-/// forgotten too: they give way once they are at least half of what stands.
+/// The outcomes of a queue. Of the first ones, which are forgotten, only the count is kept. Of those in the list the first `gone` are
+/// forgotten too: they are removed once they are at least half of the list.
 #[derive(Drop)]
 pub struct Told {
     first: u64,
@@ -36,7 +36,7 @@ impl Model for Told {
 impl Told {
     ghost use Rattle.gv_vm.specs.Telling.{HasSlot};
 
-    /// Nothing. It takes no memory.
+    /// No outcome. It takes no memory.
     fn new(alloc: Global) -> Told
         ensures list { result.list ≡ [] }
         ensures forgotten { result.forgotten ≡ 0 }
@@ -80,7 +80,7 @@ impl Told {
         &rest[..count as usize]
     }
 
-    /// Makes room for one outcome more.
+    /// Makes room for one more outcome.
     fn reserve(&mut self) -> Result<(), OutOfMemory>
         ensures list { self.new.list ≡ self.old.list }
         ensures forgotten { self.new.forgotten ≡ self.old.forgotten }
@@ -90,7 +90,7 @@ impl Told {
         Ok(())
     }
 
-    /// One outcome more, for which there is room.
+    /// Adds an outcome, for which there is room.
     fn push(&mut self, outcome: Outcome)
         requires { HasSlot self.old }
         ensures list { self.new.list ≡ self.old.list ++ outcome ∷ [] }
@@ -99,7 +99,7 @@ impl Told {
         self.outcomes.push_reserved(outcome);
     }
 
-    /// Lets those below a number go. It takes no memory.
+    /// Drops those below a number. It takes no memory.
     pub fn forget(&mut self, to: u64)
         requires from { self.old.forgotten ≤ to }
         requires up_to { to ≤ length self.old.list }
@@ -113,7 +113,7 @@ impl Told {
         }
     }
 
-    /// Gives room back: it has room for just what isn't forgotten then.
+    /// Frees memory: then it has room for just what isn't forgotten.
     fn shrink(&mut self)
         ensures list { self.new.list ≡ self.old.list }
         ensures forgotten { self.new.forgotten ≡ self.old.forgotten }
@@ -122,7 +122,7 @@ impl Told {
         self.outcomes.shrink_to_fit();
     }
 
-    /// Lets go of what is left of forgotten ones.
+    /// Drops what is left of forgotten ones.
     fn compact(&mut self)
         ensures list { self.new.list ≡ self.old.list }
         ensures forgotten { self.new.forgotten ≡ self.old.forgotten }
@@ -134,7 +134,7 @@ impl Told {
     }
 }
 
-/// Sixteen queues that were told nothing.
+/// Sixteen queues without outcomes.
 pub fn nothing_told(alloc: Global) -> Result<Vec<Told>, OutOfMemory>
     ensures none { IfOk result (λ told. lists_of told ≡ replicate queues []) }
     ensures forgotten { IfOk result (λ told. forgotten_in told ≡ replicate queues 0) }
@@ -146,7 +146,7 @@ pub fn nothing_told(alloc: Global) -> Result<Vec<Told>, OutOfMemory>
     Ok(told)
 }
 
-/// Gives back the room that no outcome needs.
+/// Frees the memory that no outcome needs.
 pub fn shrink_all(told: &mut Vec<Told>)
     ensures list { lists_of told.new ≡ lists_of told.old }
     ensures forgotten { forgotten_in told.new ≡ forgotten_in told.old }
@@ -156,8 +156,8 @@ pub fn shrink_all(told: &mut Vec<Told>)
     }
 }
 
-/// Makes room to tell a queue the outcome with this number. `QueueSpent` where the limit's outcomes are told, `OutOfTurn`
-/// with the next number where this is another, then `OutOfMemory`.
+/// Makes room for a queue's outcome with this number. `QueueSpent` if the queue has the limit of outcomes, `OutOfTurn`
+/// with the next number if this is another, then `OutOfMemory`.
 pub fn prepare(told: &mut Vec<Told>, limit: u64, queue: u64, number: u64) -> Result<(), Fault>
     requires queue { HaveQueue told.old queue }
     requires limit { limit ≤ most_told }
@@ -178,7 +178,7 @@ pub fn prepare(told: &mut Vec<Told>, limit: u64, queue: u64, number: u64) -> Res
     Ok(())
 }
 
-/// Tells a queue an outcome, for which there is room.
+/// Adds an outcome to a queue, for which there is room.
 pub fn tell(told: &mut Vec<Told>, queue: u64, outcome: Outcome)
     requires queue { HaveQueue told.old queue }
     requires room { HasRoomToTell told.old queue }

@@ -1,4 +1,4 @@
-//! One address space with its journal, its running jobs and what its queues were told.
+//! One address space with its journal, its running jobs and its queues' outcomes.
 ghost use Rattle.std.specs.Prelude.{◌≡◌, ◌<◌, ◌+◌, [], ℕ, None, reverse, map, length, IfOk, Contains, IfErr, IsOk, IsOkUnless, OnOk, OnErr, IsErrAnd, MatchOption};
 ghost use Rattle.std.specs.Option.{option_copied};
 ghost use Rattle.gv_types.specs.Operation.{in_pages};
@@ -32,8 +32,8 @@ mod trimming;
 
 pub use past::PastItem;
 
-/// One GPU address space, of which each accepted request is an entry that can be taken back. It owns undo values, so it is
-/// not `Drop`: a program that lets one go without closing it is refused.
+/// One GPU address space. Each accepted request is an entry that can be undone. It owns undo values, so it is
+/// not `Drop`: the compiler rejects a program that drops one without closing it.
 pub struct Vm {
     space: Space,
     journal: Journal,
@@ -59,7 +59,7 @@ impl Vm {
     ghost use Rattle.gv_vm.specs.State.{new_vm, roomless, told_limit, IsVm, HasOtherJobs};
     ghost use Rattle.gv_vm.specs.Jobs.{begin_fault, end_fault, places_in, IsBegun, IsEnded, IsBeginRefused};
 
-    /// A machine of no mapping, no buffer, no entry and no job. `OutOfMemory` where the system refuses its first room.
+    /// A machine without mappings, buffers, entries and jobs. `OutOfMemory` if the system refuses its first memory.
     pub fn new(alloc: Global, bounds: Bounds, limits: Limits) -> Result<Vm, OutOfMemory>
         ensures { IfOk result (λ v. v ≡ new_vm bounds limits) }
     {
@@ -107,7 +107,7 @@ impl Vm {
         self.journal.items()
     }
 
-    /// The number of the oldest entry that is held, and of the next one where none is.
+    /// The number of the oldest entry that is held, or of the next one if none is.
     pub fn first(&self) -> u64
         ensures { result ≡ self.now.journal.first }
     {
@@ -121,7 +121,7 @@ impl Vm {
         self.journal.next()
     }
 
-    /// Where an address, in bytes, leads, by the page table. None where no mapping holds its page, and past the end of the
+    /// What an address, in bytes, reaches, by the page table. None if no mapping holds its page, and past the end of the
     /// address space.
     pub fn translate(&self, addr: u64) -> Option<Place>
         ensures { result ≡ place_at self.now.space.mappings addr }
@@ -129,8 +129,8 @@ impl Vm {
         translate(&self.space, addr)
     }
 
-    /// Where an address, in bytes, leads, by the list, and for how many bytes from there on the addresses lead on as it does: to
-    /// the end of its mapping, or where none holds its page, to nothing up to the next mapping or the end of the address space.
+    /// What an address, in bytes, reaches, by the list, and how many bytes from there on are in the same mapping; without a mapping,
+    /// how many there are to the next one or to the end of the address space.
     /// 0 past that end. One search.
     pub fn find(&self, addr: u64) -> Stretch
         ensures place { result.place ≡ place_at self.now.space.mappings addr }
@@ -154,8 +154,8 @@ impl Vm {
         self.space.plan(alloc, op)
     }
 
-    /// Begins a job: each access in turn finds its place, and the buffer behind it is held for the job until it ends.
-    /// `TooManyAccesses` over 256, `TooManyJobs` where 1,024 run or 2^64 - 1 were begun, then per access `Unmapped`,
+    /// Begins a job: each access in turn finds its place, and the job holds the buffer there until it ends.
+    /// `TooManyAccesses` over 256, `TooManyJobs` if 1,024 run or 2^64 - 1 were begun, then per access `Unmapped`,
     /// `WriteToReadOnly`, `Conflict` and `OutOfMemory`. After a refusal nothing is held and no number is used.
     pub fn job_begin(&mut self, alloc: Global, accesses: &[Access]) -> Result<Job, Fault>
         ensures none { OnOk result (begin_fault self.old.space self.old.jobs accesses.now ≡ None) }
@@ -171,7 +171,7 @@ impl Vm {
         begun
     }
 
-    /// Where the accesses of a running job led when it began, whatever was unmapped or taken back since. None where no such job
+    /// What the accesses of a running job reached when it began, whatever was unmapped or undone since. None if no such job
     /// runs.
     pub fn job_places(&self, number: u64) -> Option<&[Place]>
         ensures { option_copied result ≡ places_in self.now.jobs.running number }
@@ -179,7 +179,7 @@ impl Vm {
         self.jobs.places(number)
     }
 
-    /// Ends a job, and gives up what it holds. `NoJob` exactly where no such job runs. It takes no memory.
+    /// Ends a job, which then holds nothing. `NoJob` exactly if no such job runs. It takes no memory.
     pub fn job_end(&mut self, number: u64) -> Result<(), Fault>
         ensures fault { MatchOption (end_fault self.old.jobs number)
             (IsOk result) (λ fault. result ≡ Err fault) }
@@ -194,9 +194,9 @@ impl Vm {
         ended
     }
 
-    /// Carries out a request, the one with this number of its queue, whose waits were reached at these points, and tells the
-    /// queue what it came to: it is accepted as an entry, or refused at an operation as `Journal::bind` refuses it.
-    /// `QueueSpent` where the limit's outcomes are told, `OutOfTurn` where the number is not how many were told, then
+    /// Carries out a request, the one with this number of its queue, whose waits were reached at these points, and adds its
+    /// outcome to the queue: it is accepted as an entry, or refused at an operation as `Journal::bind` refuses it.
+    /// `QueueSpent` if the queue has the limit of outcomes, `OutOfTurn` if the number is not the next outcome's, then
     /// `OutOfMemory`: the request comes back and nothing changed.
     pub fn bind(
         &mut self,
@@ -241,8 +241,8 @@ impl Vm {
         Ok(outcome)
     }
 
-    /// Gives a request up, the one with this number of its queue, since this point of its waits lacks, and tells the queue
-    /// so. The faults are those of `bind`.
+    /// Gives up a request, the one with this number of its queue, since this point of its waits is not reached, and adds that
+    /// outcome to the queue. The faults are those of `bind`.
     pub fn give_up(
         &mut self,
         queue: u64,
@@ -272,7 +272,7 @@ impl Vm {
         Ok(outcome)
     }
 
-    /// Gives up all undo values and ends all jobs. It takes no memory.
+    /// Drops all undo values and ends all jobs. It takes no memory.
     pub fn close(self) {
         let Vm {
             mut space,

@@ -22,8 +22,8 @@ mod turn;
 pub use run::Stopped;
 pub use turn::Turn;
 
-/// One address space with the requests that wait for it. It owns a `Vm`, so it is not `Drop`: a program that lets one go
-/// without closing it is refused.
+/// One address space with the requests that wait for it. It owns a `Vm`, so it is not `Drop`: the compiler rejects a program
+/// that drops one without closing it.
 pub struct World {
     vm: Vm,
     clock: Clock,
@@ -49,8 +49,8 @@ impl World {
     ghost use Rattle.gv_vm.specs.Step.{IsStep, NoneFalls};
     ghost use Rattle.gv_vm.specs.Headline.{Says};
 
-    /// A world that holds nothing, in which nothing was put and every timeline is at 0. It asks for room for the first
-    /// things alone, and for none that grows with the depth.
+    /// An empty world: nothing was put, and every timeline is at 0. It takes memory for the first
+    /// things only, and none that grows with the depth.
     pub fn new(
         alloc: Global,
         bounds: Bounds,
@@ -84,7 +84,7 @@ impl World {
         &self.vm
     }
 
-    /// How many queues it has, which have the numbers below that.
+    /// How many queues it has. They are numbered from 0.
     pub fn queues(&self) -> u64
         ensures { result ≡ length self.now.queues }
     {
@@ -98,9 +98,9 @@ impl World {
         &self.clock
     }
 
-    /// Carries out one event and answers it. `Idle` exactly where it is not enabled, and then nothing changes. `OutOfMemory`
-    /// comes only at an event that may grow (`Put`, `Look` where the wait is reached, `Bind`, `GiveUp`, `Create`, `Withdraw`,
-    /// `JobBegin`, where it is enabled and not refused before), and all is as it was; a request that was to be put is
+    /// Carries out one event and answers it. `Idle` exactly if it is not enabled, and then nothing changes. `OutOfMemory`
+    /// comes only at an event that may grow (`Put`, `Look` if the wait is reached, `Bind`, `GiveUp`, `Create`, `Withdraw`,
+    /// `JobBegin`, if it is enabled and not refused before), and all is as it was; a request that was to be put is
     /// dropped.
     pub fn step(&mut self, alloc: Global, event: Event) -> Result<Reply, OutOfMemory>
         ensures step { IsStep self.old event result self.new }
@@ -139,7 +139,7 @@ impl World {
         }
     }
 
-    /// Closes its machine: all undo values are given up and all jobs end. It takes no memory.
+    /// Closes its machine: all undo values are dropped and all jobs end. It takes no memory.
     pub fn close(self) {
         let World {
             vm,
@@ -151,7 +151,7 @@ impl World {
     }
 }
 
-/// So many queues on which nothing was put.
+/// `count` queues on which nothing was put.
 fn no_requests(alloc: Global, count: u64) -> Result<Vec<Queue>, OutOfMemory>
     ensures { IfOk result (λ queues. queues.items ≡ replicate count new_queue) }
 {

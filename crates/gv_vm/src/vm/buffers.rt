@@ -9,8 +9,8 @@ use gv_types::{BufferId, Fault};
 use std::alloc::Global;
 
 impl Vm {
-    /// Makes a buffer of `pages` pages. `BadSize` at 0 pages or over 2^36, then `TooManyBuffers` where the limit's buffers are
-    /// alive or 2^64 - 1 were made, then `OutOfMemory`.
+    /// Makes a buffer of `pages` pages. `BadSize` at 0 pages or over 2^36, then `TooManyBuffers` if the limit of live buffers is
+    /// reached or 2^64 - 1 were made, then `OutOfMemory`.
     pub fn create(&mut self, alloc: Global, pages: u64) -> Result<BufferId, Fault>
         ensures fault { MatchOption (create_fault self.old.space.buffers pages)
             (IsOkUnless result Fault.OutOfMemory) (λ fault. result ≡ Err fault) }
@@ -25,8 +25,8 @@ impl Vm {
         created
     }
 
-    /// Destroys a buffer that nothing names. `NoBuffer` where the id is dead, then `Mapped` where mappings of it are in the
-    /// list, `Kept` where they are in undo values, and `InUse` where jobs use it. It takes no memory.
+    /// Destroys a buffer that nothing uses. `NoBuffer` if the id is of no live one, then `Mapped` if mappings of it are in the
+    /// list, `Kept` if they are in undo values, and `InUse` if jobs use it. It takes no memory.
     pub fn destroy(&mut self, id: BufferId) -> Result<(), Fault>
         ensures fault { MatchOption (destroy_fault self.old.space.buffers id)
             (IsOk result) (λ fault. result ≡ Err fault) }

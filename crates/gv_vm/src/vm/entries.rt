@@ -1,4 +1,4 @@
-//! Entries of the journal taken back, withdrawn and settled.
+//! Entries of the journal undone, withdrawn and settled.
 ghost use Rattle.std.specs.Prelude.{◌≡◌, ◌+◌, [], ℕ, Some, None, IfOk, IfErr, IfSome, IfNone, OnOk, OnErr};
 ghost use Rattle.gv_journal.specs.Items.{entries, is_withdrawn, next};
 ghost use Rattle.gv_journal.specs.History.{back};
@@ -21,9 +21,9 @@ impl Vm {
         self.journal.entry(number)
     }
 
-    /// Takes the newest entry back and answers its number: the list of mappings is what it was before that entry, boundaries
-    /// included, and so are the page table and the uses of each buffer. `NoEntry` only where no entry is held. It takes no
-    /// memory. What was told, the jobs and the making of buffers are not taken back.
+    /// Undoes the newest entry and answers its number: the list of mappings is what it was before that entry, boundaries
+    /// included, and so are the page table and the uses of each buffer. `NoEntry` only if no entry is held. It takes no
+    /// memory. Outcomes, jobs and the making of buffers are not undone.
     pub fn rewind(&mut self) -> Result<u64, Fault>
         ensures number { IfOk result (λ n. n ≡ next self.new.journal) }
         ensures item { OnOk result
@@ -67,8 +67,8 @@ impl Vm {
         withdrawn
     }
 
-    /// Settles the entries below a number: they can't be taken back or withdrawn any more, and what their undo values kept is
-    /// given up. It answers how many. `NoEntry` where the number is below that of the oldest entry held or above the next
+    /// Settles the entries below a number: they can't be undone or withdrawn any more, and their undo values are
+    /// dropped. It answers how many. `NoEntry` if the number is below that of the oldest entry held or above the next
     /// one, then `Crossed` with the least later entry that withdraws one of them. It takes no memory.
     pub fn settle(&mut self, to: u64) -> Result<u64, Fault>
         ensures accepted { OnOk result (settle_fault self.old.journal to ≡ None) }

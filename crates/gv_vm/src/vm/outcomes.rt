@@ -1,4 +1,4 @@
-//! What the queues were told, and outcomes let go.
+//! The outcomes of the queues, and how they are dropped.
 ghost use Rattle.std.specs.Prelude.{◌≡◌, ◌+◌, ◌<◌, ◌≤◌, ◌++◌, min, length, take, drop, replicate, position, None, IfOk, IsOk, OnOk, OnErr, MatchOption};
 ghost use Rattle.gv_journal.specs.Notes.{lesser};
 ghost use Rattle.gv_vm.specs.Outcomes.{queues, most_told, told_to, forgotten_outcome};
@@ -13,7 +13,7 @@ use gv_journal::{HeldItem, Item, ItemKind};
 use gv_types::Fault;
 
 impl Vm {
-    /// What a queue was told, in the order of the requests' numbers, but for what is forgotten.
+    /// The outcomes of a queue that are not forgotten, in the order of the requests' numbers.
     pub fn told(&self, queue: u64) -> &[Outcome]
         requires { queue < queues }
         ensures { result.now ≡ drop (forgotten_of self.now queue) (told_to self.now.told queue) }
@@ -21,7 +21,7 @@ impl Vm {
         self.told[queue as usize].rest()
     }
 
-    /// The number of the first outcome of a queue that isn't forgotten, and of the next one where there is none.
+    /// The number of the first outcome of a queue that isn't forgotten, or of the next one if there is none.
     pub fn told_from(&self, queue: u64) -> u64
         requires { queue < queues }
         ensures number { result ≡ forgotten_of self.now queue }
@@ -30,7 +30,7 @@ impl Vm {
         self.told[queue as usize].first()
     }
 
-    /// The number of the next outcome of a queue: how many it was told, forgotten or not.
+    /// The number of the next outcome of a queue: how many it has had, forgotten or not.
     pub fn told_next(&self, queue: u64) -> u64
         requires { queue < queues }
         ensures number { result ≡ length (told_to self.now.told queue) }
@@ -39,7 +39,7 @@ impl Vm {
         self.told[queue as usize].next()
     }
 
-    /// How many outcomes a queue may be told in all: as many as the limit says beside those that are forgotten, and at most 2^63.
+    /// How many outcomes a queue may have in all: the limit in addition to those that are forgotten, and at most 2^63.
     pub fn told_limit(&self, queue: u64) -> u64
         requires { queue < queues }
         ensures { result ≡ told_limit self.now queue }
@@ -47,7 +47,7 @@ impl Vm {
         MOST_TOLD.min(self.told_from(queue).saturating_add(self.limits().told()))
     }
 
-    /// Lets the outcomes of a queue go whose numbers are below this one, and answers how many. `NoOutcome` where the number is below
+    /// Drops the outcomes of a queue whose numbers are below this one, and answers how many. `NoOutcome` if the number is below
     /// that of the first one that isn't forgotten, or above the next one, or there is no such queue; then `Held` with the least held
     /// entry of that queue whose number there is below it. Numbers go on. It takes no memory.
     pub fn forget(&mut self, queue: u64, to: u64) -> Result<u64, Fault>
@@ -73,7 +73,7 @@ impl Vm {
     }
 
     /// The least held entry of a queue whose number there is below this one. It looks at the outcomes below that number or at the
-    /// entries held, whichever are fewer: so whoever keeps many entries and forgets a few outcomes at a time pays for the few.
+    /// entries held, whichever are fewer: with many entries held it is fast to forget a few outcomes at a time.
     fn held_below(&self, queue: u64, to: u64) -> Option<u64>
         ensures { result ≡ held_below self.now.journal queue to }
     {
@@ -90,7 +90,7 @@ impl Vm {
         }
     }
 
-    /// What a queue was told below a number, but for what is forgotten.
+    /// The outcomes of a queue below a number that are not forgotten.
     fn told_below(&self, queue: u64, to: u64) -> &[Outcome]
         requires { queue < queues }
         ensures { take to (told_to self.now.told queue)
@@ -99,8 +99,8 @@ impl Vm {
         self.told[queue as usize].rest_below(to)
     }
 
-    /// The least of the held entries that outcomes tell of. The first need not be the least: after a rewind the numbers of entries
-    /// are given out again.
+    /// The least of the held entries that outcomes name. The first need not be the least: after a rewind the numbers of entries
+    /// are used again.
     fn least_held(&self, told: &[Outcome], queue: u64, to: u64) -> Option<u64>
         ensures { result ≡ least_held self.now.journal queue to None told.now }
     {
@@ -111,7 +111,7 @@ impl Vm {
         least
     }
 
-    /// The entry that an outcome tells of, if what is held by that number is the queue's and has a number there below `to`: it may
+    /// The entry that an outcome names, if what is held by that number is the queue's and has a number there below `to`: it may
     /// be another request's by now.
     fn held_by(&self, outcome: &Outcome, queue: u64, to: u64) -> Option<u64>
         ensures { result ≡ held_by self.now.journal queue to outcome.now }

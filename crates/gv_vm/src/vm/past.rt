@@ -1,4 +1,4 @@
-//! What the entries of the journal say of an address.
+//! What the entries of the journal did to an address.
 ghost use Rattle.std.specs.Prelude.{◌≡◌, ◌<◌, ◌≤◌, IfOk, IsErr, length};
 ghost use Rattle.std.specs.Option.{option_and_then};
 ghost use Rattle.gv_journal.specs.Items.{entries, is_withdrawn, next};
@@ -10,8 +10,8 @@ use crate::places::{Place, Target, place_by};
 use gv_types::{Backing, Flags, OutOfMemory, PAGE_BYTES};
 use std::alloc::Global;
 
-/// What a held item of the journal says of an address: its number, whether a later item withdraws it, and where the address leads
-/// by it, which is nowhere where its last operation that covers the page is an unmap.
+/// What a held item of the journal did to an address: its number, whether a later item withdraws it, and what the address reaches
+/// by it, which is nothing if its last operation that covers the page is an unmap.
 #[derive(Clone, Copy, Debug, PartialEq, Eq)]
 pub struct PastItem {
     pub entry: u64,
@@ -20,8 +20,8 @@ pub struct PastItem {
 }
 
 impl Vm {
-    /// What the held items say of an address, in bytes: those with an operation that covers its page, the newest first. Nothing is
-    /// taken back. `OutOfMemory` only where there is something to list.
+    /// What the held items did to an address, in bytes: those with an operation that covers its page, the newest first. Nothing is
+    /// undone. `OutOfMemory` only if there is something to list.
     pub fn past(&self, alloc: Global, addr: u64) -> Result<Vec<PastItem>, OutOfMemory>
         ensures items { IfOk result (λ list. list.items ≡ past_of self.now.journal addr) }
         ensures some { IsErr result → 0 < length (past_of self.now.journal addr) }
@@ -40,7 +40,7 @@ impl Vm {
         Ok(list)
     }
 
-    /// Where an address, in bytes, leads by what lies under the oldest held item. None where nothing holds its page there, and past
+    /// What an address, in bytes, would reach if all held items were undone. None if no mapping would hold its page, and past
     /// the end of the address space. It takes no memory.
     pub fn base_at(&self, addr: u64) -> Option<Place>
         ensures { result ≡ place_under self.now addr }
@@ -51,7 +51,7 @@ impl Vm {
         Some(Place::of(entry, addr % PAGE_BYTES))
     }
 
-    /// What the item with this number says of an address.
+    /// What the item with this number did to an address.
     fn past_item(&self, number: u64, addr: u64) -> Option<PastItem>
         requires not_settled { self.now.journal.first ≤ number }
         requires there { number < next self.now.journal }

@@ -1,4 +1,4 @@
-//! Room given back.
+//! Memory that is freed.
 ghost use Rattle.std.specs.Prelude.{◌≡◌, IsOk, MatchOption};
 ghost use Rattle.gv_vm.specs.Trimming.{trim_fault};
 
@@ -7,8 +7,8 @@ use crate::told::shrink_all;
 use gv_types::Fault;
 
 impl Vm {
-    /// Gives room back that nothing needs any more: list, page table, ids, journal, told lists and jobs have room for what they hold
-    /// then, and nothing else is seen of it. `Held` with the least entry held, since what could come back needs its room: settle before.
+    /// Frees memory that nothing needs any more: list, page table, ids, journal, outcomes and jobs keep room for what they hold
+    /// now. Nothing else changes. `Held` with the least entry held, since its undo may need the memory: settle or rewind first.
     /// It takes no memory.
     pub fn trim(&mut self) -> Result<(), Fault>
         ensures fault { MatchOption (trim_fault self.old.journal) (IsOk result) (λ fault. result ≡ Err fault) }

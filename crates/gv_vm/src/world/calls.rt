@@ -10,7 +10,7 @@ use std::alloc::Global;
 impl World {
     ghost use Rattle.gv_vm.specs.Step.{step, IsStep};
 
-    /// A timeline that there is is raised.
+    /// Raises a timeline, if it exists.
     pub(super) fn raise(&mut self, point: Point) -> Reply
         ensures { step self.old (Event.Raise point) result self.new }
     {
@@ -66,7 +66,7 @@ impl World {
         }
     }
 
-    /// Outcomes of a queue are let go.
+    /// Drops outcomes of a queue.
     pub(super) fn forget(&mut self, queue: u64, to: u64) -> Reply
         ensures { step self.old (Event.Forget queue to) result self.new }
     {
@@ -76,7 +76,7 @@ impl World {
         }
     }
 
-    /// Room that nothing needs is given back.
+    /// Frees memory that nothing needs.
     pub(super) fn trim(&mut self) -> Reply
         ensures { step self.old Event.Trim result self.new }
     {
@@ -120,7 +120,7 @@ impl World {
     }
 }
 
-/// A refusal is a reply, but for want of memory.
+/// A refusal is a reply, except out of memory.
 fn refused(fault: Fault) -> Result<Reply, OutOfMemory>
     ensures reply { IfOk result (λ reply. reply ≡ Reply.Refused fault) }
     ensures named { OnOk result (fault ≢ Fault.OutOfMemory) }

@@ -1,4 +1,4 @@
-//! The events of a queue: a request is put, taken, looked at, bound or given up, and its signals are paid.
+//! The events of a queue: a request is put, taken, looked at, bound or given up, and its signals are raised.
 ghost use Rattle.std.specs.Prelude.{◌≡◌, ◌≢◌, ◌<◌, map, None, OnErr, IfErr, IfOk, reverse};
 ghost use Rattle.gv_vm.specs.World.{next_wait};
 ghost use Rattle.gv_vm.specs.Outcomes.{queues, told_to, tell_fault};
@@ -15,7 +15,7 @@ use crate::vm::Vm;
 use gv_types::{Fault, OutOfMemory, Point, Request};
 use std::alloc::{AllocError, Global};
 
-/// What a request in hand came to, and the signals that are owed for it, the first one last.
+/// The outcome of a request in hand, and the signals that are owed for it, the first one last.
 struct Bound {
     outcome: Outcome,
     owed: Vec<Point>,
@@ -24,7 +24,7 @@ struct Bound {
 impl World {
     ghost use Rattle.gv_vm.specs.Step.{step, IsStep};
 
-    /// A request at the back of a queue that there is, where it fits the timelines.
+    /// Puts a request at the back of a queue, if the queue exists and the request fits the timelines.
     pub(super) fn put(&mut self, queue: u64, request: Request) -> Result<Reply, OutOfMemory>
         ensures { IsStep self.old (Event.Put queue request) result self.new }
     {
@@ -36,7 +36,7 @@ impl World {
         put_reply(put)
     }
 
-    /// The front of a queue comes in hand.
+    /// Takes the request at the front of a queue in hand.
     pub(super) fn take(&mut self, alloc: Global, queue: u64) -> Reply
         ensures { step self.old (Event.Take queue) result self.new }
     {
@@ -51,7 +51,7 @@ impl World {
         }
     }
 
-    /// A look at the first wait that is not reached yet.
+    /// Looks at the first wait that is not reached yet.
     pub(super) fn look(&mut self, queue: u64) -> Result<Reply, OutOfMemory>
         ensures { IsStep self.old (Event.Look queue) result self.new }
     {
@@ -77,7 +77,7 @@ impl World {
         Ok(Reply::Reached { point, seen })
     }
 
-    /// The request in hand is carried out, where each of its waits is reached.
+    /// Carries out the request in hand, if each of its waits is reached.
     pub(super) fn bind(&mut self, alloc: Global, queue: u64) -> Result<Reply, OutOfMemory>
         ensures { IsStep self.old (Event.Bind queue) result self.new }
     {
@@ -100,7 +100,7 @@ impl World {
         Ok(Reply::Told { number, outcome })
     }
 
-    /// The request in hand is given up, where its last look lacked.
+    /// Gives up the request in hand, if the wait of its last look was not reached.
     pub(super) fn give_up(&mut self, queue: u64) -> Result<Reply, OutOfMemory>
         ensures { IsStep self.old (Event.GiveUp queue) result self.new }
     {
@@ -121,7 +121,7 @@ impl World {
         }
     }
 
-    /// The first signal owed is raised.
+    /// Raises the first signal owed.
     pub(super) fn pay(&mut self, queue: u64) -> Reply
         ensures { step self.old (Event.Pay queue) result self.new }
     {
@@ -153,7 +153,7 @@ fn put_reply(put: Result<u64, NotTold>) -> Result<Reply, OutOfMemory>
     }
 }
 
-/// Carries a request in hand out. For want of memory it comes back.
+/// Carries out a request in hand. If out of memory, it comes back.
 fn bind_hand(alloc: Global, vm: &mut Vm, queue: u64, number: u64, hand: Hand) -> Result<Bound, Hand>
     requires queue { queue < queues }
     requires turn { tell_fault (told_limit vm.old queue) vm.old.told queue number ≡ None }
@@ -198,7 +198,7 @@ fn last_first(alloc: Global, points: &[Point]) -> Result<Vec<Point>, AllocError>
     points.iter().rev().copied().collect(alloc)
 }
 
-/// Those signals where the request was accepted, and else none.
+/// These signals if the request was accepted, else none.
 fn owed(alloc: Global, outcome: Outcome, signals: Vec<Point>) -> Vec<Point>
     ensures { result.items ≡ owed_in outcome signals.items }
 {
@@ -208,7 +208,7 @@ fn owed(alloc: Global, outcome: Outcome, signals: Vec<Point>) -> Vec<Point>
     }
 }
 
-/// Gives a request in hand up. For want of memory it comes back.
+/// Gives up a request in hand. If out of memory, it comes back.
 fn give_up_hand(vm: &mut Vm, queue: u64, number: u64, hand: Hand) -> Result<Outcome, Hand>
     requires queue { queue < queues }
     requires turn { tell_fault (told_limit vm.old queue) vm.old.told queue number ≡ None }

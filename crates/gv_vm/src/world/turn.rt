@@ -16,18 +16,18 @@ use crate::told::QUEUES;
 use gv_types::{OutOfMemory, Point};
 use std::alloc::Global;
 
-/// What a turn of a queue came to.
+/// The result of a turn of a queue.
 #[derive(Clone, Copy, Debug, PartialEq, Eq)]
 pub enum Turn {
-    /// The request with this number of the queue was told this.
+    /// The request with this number of the queue has this outcome.
     Told { number: u64, outcome: Outcome },
-    /// The request stays in hand, since this wait lacks: its timeline stands at `have`.
+    /// The request stays in hand, since this wait is not reached: its timeline is at `have`.
     Waits { point: Point, have: u64 },
     /// There was nothing to do.
     Idle,
 }
 
-/// What all looks of a request came to.
+/// The result of all looks of a request.
 #[derive(Clone, Copy)]
 enum Seen {
     AllReached,
@@ -52,7 +52,7 @@ fn turn_in(reply: &Reply) -> Turn
     }
 }
 
-/// What one look came to.
+/// The result of one look.
 fn seen_in(reply: &Reply) -> Seen
     ensures { result ≡ seen_of reply.now }
 {
@@ -66,7 +66,7 @@ fn seen_in(reply: &Reply) -> Seen
     }
 }
 
-/// Whether a turn told a request before the one with this number.
+/// Whether a turn gave an outcome to a request before the one with this number.
 fn is_earlier(number: u64, turn: &Result<Turn, OutOfMemory>) -> bool
     ensures { result ≡ is_earlier number turn.now }
 {
@@ -77,10 +77,10 @@ fn is_earlier(number: u64, turn: &Result<Turn, OutOfMemory>) -> bool
 }
 
 impl World {
-    /// A turn of a queue: the signals that it owes are raised; then the request in hand, or else the first that waits, looks at
-    /// its waits, and where all are reached it is carried out and, if it is accepted, its signals are raised. Where a wait
-    /// lacks it stays in hand, or is given up if `gives_up`. `Idle` where nothing is in hand and nothing waits, and on a queue
-    /// that there is not. `OutOfMemory` at an event of it that may grow: it is left as the events before it made it, and the
+    /// A turn of a queue raises the signals that it owes. Then it looks at the waits of the request in hand, or else of the first
+    /// that waits. If all are reached, it carries the request out and, if it is accepted, raises its signals. If a wait is not
+    /// reached, the request stays in hand, or is given up if `gives_up`. `Idle` if nothing is in hand and nothing waits, and on a
+    /// queue that doesn't exist. `OutOfMemory` at an event of it that may grow: all is as the events before made it, and the
     /// next turn goes on from there.
     pub fn turn(&mut self, alloc: Global, queue: u64, gives_up: bool) -> Result<Turn, OutOfMemory>
         ensures { IsTurn gives_up queue self.old result self.new }
@@ -95,8 +95,8 @@ impl World {
         }
     }
 
-    /// Turns of a queue until the request with this number is told, without giving up: what the last one came to. An
-    /// earlier request that waits, or wants memory, is the last one. `Idle` where that request was told before.
+    /// Turns of a queue until the request with this number has its outcome, without giving up: the result of the last one. An
+    /// earlier request that waits, or is out of memory, is the last one. `Idle` if that request had its outcome before.
     pub fn serve_up_to(
         &mut self,
         alloc: Global,
@@ -118,7 +118,7 @@ impl World {
         self.turn(alloc, queue, false)
     }
 
-    /// What the next turn of a queue has before it: nothing on a queue that there is not.
+    /// What is left to do in the next turn of a queue: nothing on a queue that doesn't exist.
     fn ahead(&self, queue: u64) -> Ahead
         ensures owed { length (queue_at self.now queue).owed ≡ result.owed }
         ensures left { IsLeftIn (queue_at self.now queue).hand (queue_at self.now queue).waiting result.left }
@@ -133,7 +133,7 @@ impl World {
         }
     }
 
-    /// Whether a queue has nothing before it: no request waits or is in hand, and no signal is owed. So on a queue that there is not.
+    /// Whether a queue has nothing left to do: no request waits or is in hand, and no signal is owed. True if there is no such queue.
     #[tactic(auto, using(crate::proofs::QueueTurns::quiet_iff))]
     pub fn is_quiet(&self, queue: u64) -> bool
         ensures { IsTrue result ↔ IsQuiet self.now queue }
@@ -142,7 +142,7 @@ impl World {
         owed == 0 && left.is_none()
     }
 
-    /// The number of the request that the queue is told of next.
+    /// The number of the request that gets the queue's next outcome.
     pub fn next_number(&self, queue: u64) -> u64
         ensures { result ≡ next_number self.now queue }
     {
@@ -153,7 +153,7 @@ impl World {
         }
     }
 
-    /// Pays so many signals of a queue. Whether each was raised.
+    /// Raises this number of a queue's signals. Answers whether each was raised.
     fn pay_all(&mut self, alloc: Global, queue: u64, signals: usize) -> bool
         ensures { (replies : List Answer) × AreQuiet replies × ((points : List At) (next : Plan) → length points ≡ signals
             → Goes (paying queue points next) self.old replies self.new (if result then next else nothing)) }
@@ -224,7 +224,7 @@ impl World {
         }
     }
 
-    /// Looks at so many waits of the request in hand, until one lacks.
+    /// Looks at this number of waits of the request in hand, until one is not reached.
     fn look_all(&mut self, alloc: Global, queue: u64, waits: usize) -> Result<Seen, OutOfMemory>
         ensures looked { IfOk result (λ seen. (replies : List Answer) × AreLooks seen replies
             × ((gives_up : Bool) (points signals : List At) → length points ≡ waits
@@ -244,7 +244,7 @@ impl World {
         Ok(Seen::AllReached)
     }
 
-    /// Carries out the request in hand, all of whose waits are reached, and pays its signals, so many, if it is accepted.
+    /// Carries out the request in hand, all of whose waits are reached. If it is accepted, raises its signals, `signals` in number.
     fn carry_out(&mut self, alloc: Global, queue: u64, signals: usize) -> Result<Turn, OutOfMemory>
         ensures carried { IfOk result (λ turn. (replies : List Answer) × (turn ≡ turn_of replies)
             × ((points : List At) → length points ≡ signals
