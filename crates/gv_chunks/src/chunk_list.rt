@@ -8,8 +8,7 @@ use crate::parts::Parts;
 use crate::piece::piece_of;
 use crate::spot::Spot;
 use crate::starts::Starts;
-use gv_packed::Packed;
-use gv_types::OutOfMemory;
+use gv_types::{OutOfMemory, Packed};
 use std::alloc::Global;
 use std::marker::Model;
 

@@ -7,7 +7,7 @@ ghost use Rattle.gv_chunks.specs.Chunks.{chunks_joined, AreChunks};
 use crate::CHUNK;
 use crate::replace::append;
 use crate::walk::index_in;
-use gv_packed::Packed;
+use gv_types::Packed;
 
 /// Cuts the list before `index`, and answers how many chunks stand before the cut. The last chunk has to be empty: it
 /// takes what stands behind the index in its chunk.

@@ -6,7 +6,7 @@ ghost use Rattle.gv_types.specs.declared.mapping.Mapping.{Mapping};
 ghost use Rattle.gv_chunks.specs.Chunks.{chunks_joined, AreChunks};
 
 use crate::cut::divide;
-use gv_packed::Packed;
+use gv_types::Packed;
 
 /// Empties a chunk. It comes to stand behind all others.
 fn turn_out(chunks: &mut [Vec<Packed>], chunk: usize)

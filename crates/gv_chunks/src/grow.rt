@@ -3,8 +3,7 @@ ghost use Rattle.std.specs.Prelude.{◌≡◌, ◌+◌, ◌*◌, ◌<◌, ◌≤
 ghost use Rattle.gv_chunks.specs.Chunks.{chunks_joined, AreChunks};
 
 use crate::CHUNK;
-use gv_packed::Packed;
-use gv_types::OutOfMemory;
+use gv_types::{OutOfMemory, Packed};
 
 /// How many chunks a list needs that has room for `room` mappings: one where all fit into one. Else those that stand are filled by
 /// half or more on average, but for one, and an edit needs two that hold nothing.

@@ -4,8 +4,7 @@ ghost use Rattle.gv_types.specs.declared.mapping.Mapping.{Mapping};
 ghost use Rattle.gv_chunks.specs.Chunks.{chunks_joined, AreFilled, AreStarts, AreFirsts};
 
 use crate::starts::Starts;
-use gv_packed::Packed;
-use gv_types::OutOfMemory;
+use gv_types::{OutOfMemory, Packed};
 
 /// Puts copies of a value behind the items until there are `count`. Where the system refuses the memory nothing changes.
 pub fn pad<T: Copy>(items: &mut Vec<T>, count: usize, value: T) -> Result<(), OutOfMemory>

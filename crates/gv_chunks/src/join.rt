@@ -6,7 +6,7 @@ ghost use Rattle.gv_chunks.specs.Chunks.{chunks_joined, AreChunks};
 
 use crate::CHUNK;
 use crate::replace::append;
-use gv_packed::Packed;
+use gv_types::Packed;
 
 /// Moves what the chunk behind a chunk holds into that chunk, which has room for it. The one that was emptied comes to stand
 /// behind all others.

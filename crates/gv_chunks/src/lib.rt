@@ -1,26 +1,27 @@
 //! Mappings in chunks, so that an edit of a long list moves what lies near it and not all that stands behind.
 #![tactic(auto)]
 
-pub mod chunk_list;
-pub mod cut;
-pub mod gap;
-pub mod grow;
-pub mod index;
-pub mod join;
+mod chunk_list;
+mod cut;
+mod gap;
+mod grow;
+mod index;
+mod join;
 pub mod laws;
-pub mod parts;
-pub mod piece;
-pub mod put;
-pub mod replace;
-pub mod replacing;
-pub mod row;
-pub mod run;
-pub mod settle;
-pub mod spot;
-pub mod starts;
-pub mod walk;
+mod parts;
+mod piece;
+mod put;
+mod replace;
+mod replacing;
+mod row;
+mod run;
+mod settle;
+mod spot;
+mod starts;
+mod walk;
 
 pub use chunk_list::{ChunkList, Standing};
+pub use piece::piece_of;
 pub use spot::Spot;
 
 /// How many mappings a chunk has room for.

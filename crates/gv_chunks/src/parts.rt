@@ -17,8 +17,7 @@ use crate::row::{put_entry, take_entry};
 use crate::run::replace_anywhere;
 use crate::spot::Spot;
 use crate::starts::Starts;
-use gv_packed::Packed;
-use gv_types::OutOfMemory;
+use gv_types::{OutOfMemory, Packed};
 use std::alloc::Global;
 
 /// How a run is replaced: within its chunk, which may be emptied by it, or over chunks.

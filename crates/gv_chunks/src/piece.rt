@@ -4,7 +4,7 @@ ghost use Rattle.std.specs.Global.{Vec};
 ghost use Rattle.gv_types.specs.declared.mapping.Mapping.{Mapping};
 ghost use Rattle.gv_chunks.specs.Chunks.{chunks_joined};
 
-use gv_packed::Packed;
+use gv_types::Packed;
 
 /// The mappings of a chunk from its index `left` on.
 pub fn piece_of(chunks: &[Vec<Packed>], chunk: usize, left: usize) -> &[Packed]

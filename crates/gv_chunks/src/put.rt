@@ -6,7 +6,7 @@ ghost use Rattle.gv_chunks.specs.Chunks.{chunks_joined, AreChunks};
 
 use crate::CHUNK;
 use crate::cut::fill;
-use gv_packed::Packed;
+use gv_types::Packed;
 
 /// Puts the pieces before all that the first `standing` chunks hold, in chunks from behind them, which hold nothing. Answers how
 /// many chunks stand now.

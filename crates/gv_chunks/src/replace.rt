@@ -3,7 +3,7 @@ ghost use Rattle.std.specs.Prelude.{◌≡◌, ◌+◌, ◌-◌, ◌≤◌, leng
 ghost use Rattle.std.specs.Prelude.{vec_len, vec_capacity};
 ghost use Rattle.std.specs.List.{splice};
 
-use gv_packed::Packed;
+use gv_types::Packed;
 
 /// Appends `pieces`, for which there is room.
 pub fn append(items: &mut Vec<Packed>, pieces: &[Packed])

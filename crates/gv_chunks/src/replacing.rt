@@ -7,7 +7,7 @@ ghost use Rattle.gv_chunks.specs.declared.TheConstants.{CHUNK};
 use crate::CHUNK;
 use crate::parts::{Parts, Way, are_few};
 use crate::spot::Spot;
-use gv_packed::Packed;
+use gv_types::Packed;
 
 impl Parts {
     /// Replaces `out_count` mappings from `index` on by the pieces: in their chunk, where they lie in one and fit.

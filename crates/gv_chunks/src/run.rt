@@ -9,7 +9,7 @@ use crate::CHUNK;
 use crate::cut::{clear, cut};
 use crate::put::put_first;
 use crate::settle::settle;
-use gv_packed::Packed;
+use gv_types::Packed;
 
 /// Cuts the list before `index`, and answers how many chunks stand before the cut. Of the first `used` chunks the last has to be
 /// empty, and so have those behind them.

@@ -6,7 +6,7 @@ ghost use Rattle.gv_chunks.specs.Chunks.{chunks_joined, AreChunks, Settled};
 
 use crate::CHUNK;
 use crate::join::join;
-use gv_packed::Packed;
+use gv_types::Packed;
 
 /// Joins neighbours that fit into one chunk, from the last pair of the first `used` chunks down, and answers how many
 /// chunks stand now. Those behind them hold nothing, before and after.

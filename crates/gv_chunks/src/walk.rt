@@ -4,7 +4,7 @@ ghost use Rattle.std.specs.Global.{Vec};
 ghost use Rattle.gv_types.specs.declared.mapping.Mapping.{Mapping};
 ghost use Rattle.gv_chunks.specs.Chunks.{chunks_joined};
 
-use gv_packed::Packed;
+use gv_types::Packed;
 
 /// The chunk that an index lies in or at the end of, and the index in it.
 pub fn index_in(chunks: &[Vec<Packed>], index: usize) -> (usize, usize)

@@ -2,7 +2,7 @@
 use crate::fixtures::mapping;
 use gv_chunks::{CHUNK, ChunkList, Spot};
 use gv_model::Random;
-use gv_packed::Packed;
+use gv_types::Packed;
 use std::alloc::Global;
 use std::test::Fail;
 

@@ -9,9 +9,8 @@ ghost use Rattle.gv_types.specs.declared.mapping.Backing.TheVariants.{Buffer};
 ghost use Rattle.gv_ranges.specs.List.{run, IsLaidOut};
 ghost use Rattle.gv_ranges.specs.Edit.{edited};
 
-use gv_packed::Packed;
 use gv_ranges::{RangeList, Run, next_rest, prev_rest};
-use gv_types::{Backing, BufferId, Entry, Flags, Mapping, OutOfMemory, PageOp, PageRange};
+use gv_types::{Backing, BufferId, Entry, Flags, Mapping, OutOfMemory, Packed, PageOp, PageRange};
 use std::alloc::Global;
 use std::test::Fail;
 

@@ -1,5 +1,5 @@
-//! Tests of the crates below the space: ranges, split, page table, buffers; of the lines of the script language; of replies as
-//! JSON; and of lists compared. They stand in a crate of their own, so that none of those is proved a second time with them.
+//! Tests of the crates below the space: mappings in 32 bytes, ranges, split, page table, buffers; of the lines of the script language;
+//! of replies as JSON; and of lists compared. They have a crate of their own, so that none of those is proved twice.
 #![tactic(auto)]
 
 #[cfg(test)]
@@ -22,6 +22,8 @@ mod lists;
 mod many_buffers;
 #[cfg(test)]
 mod no_lines;
+#[cfg(test)]
+mod packed;
 #[cfg(test)]
 mod places;
 #[cfg(test)]

@@ -8,9 +8,8 @@ use crate::fixtures::{
     Pages, are_left, edit, entry, is_of, list_of, list_of_one, mapping, spread, unmap,
 };
 use gv_chunks::Spot;
-use gv_packed::Packed;
 use gv_ranges::{RangeList, laws, next_rest, prev_rest};
-use gv_types::{PageRange, SPACE_PAGES};
+use gv_types::{Packed, PageRange, SPACE_PAGES};
 use std::test::Fail;
 
 /// What the definitions say of worked examples.

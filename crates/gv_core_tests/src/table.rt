@@ -13,10 +13,9 @@ ghost use Rattle.gv_table.specs.Kinds.{AreEnough};
 ghost use Rattle.gv_table.specs.Table.{IsTree, FitsOutside, gained_by};
 
 use crate::fixtures::{edit, entry, map, spread, to_vec, unmap};
-use gv_packed::Packed;
 use gv_ranges::RangeList;
 use gv_table::{PageTable, Spares, laws};
-use gv_types::{BufferId, Fault, PageOp, PageRange};
+use gv_types::{BufferId, Fault, Packed, PageOp, PageRange};
 use std::alloc::Global;
 use std::process::Abort;
 use std::test::Fail;

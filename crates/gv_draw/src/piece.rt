@@ -1,7 +1,6 @@
 //! What is drawn of a mapping.
 
-use gv_packed::Packed;
-use gv_types::Backing;
+use gv_types::{Backing, Packed};
 
 /// The pages of a mapping that are drawn, and what stands behind the first of them.
 #[derive(Clone, Copy, PartialEq, Eq)]

@@ -10,11 +10,8 @@ ghost use Rattle.gv_ranges.specs.List.{at, first_behind, IsLaidOut, IsOverlappin
 
 use crate::cut::Cut;
 use crate::search::{count_begun, count_ended, entry_at, first_behind_in, step_past};
-use gv_chunks::Spot;
-use gv_chunks::chunk_list::Standing;
-use gv_chunks::piece::piece_of;
-use gv_packed::Packed;
-use gv_types::{Entry, PageRange, SPACE_PAGES};
+use gv_chunks::{Spot, Standing, piece_of};
+use gv_types::{Entry, Packed, PageRange, SPACE_PAGES};
 
 /// Where to look for the last chunk whose first mapping begins at `page` or before it: from a chunk on, at three chunks at most. Each
 /// step leaves a quarter, whatever it finds, and its three looks don't wait for one another.

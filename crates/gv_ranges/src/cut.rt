@@ -1,7 +1,7 @@
 //! Where a range meets a list.
 
 use gv_chunks::Spot;
-use gv_packed::Packed;
+use gv_types::Packed;
 
 /// Where a range meets a list: the spot of the first mapping that meets it, and how many do. Where none does, the spot is that behind
 /// all mappings that end before the range.

@@ -8,8 +8,7 @@ use crate::chunk_search::{chunk_of_page, cut_in, entry_in, first_behind_of};
 use crate::cut::Cut;
 use crate::run::Run;
 use gv_chunks::{ChunkList, Spot};
-use gv_packed::Packed;
-use gv_types::{Entry, OutOfMemory, PageRange, SPACE_PAGES};
+use gv_types::{Entry, OutOfMemory, Packed, PageRange, SPACE_PAGES};
 use std::alloc::Global;
 use std::marker::Model;
 

@@ -4,7 +4,7 @@ ghost use Rattle.gv_types.specs.declared.mapping.Mapping.{Mapping};
 ghost use Rattle.gv_ranges.specs.List.{IsLaidOut};
 
 use crate::RangeList;
-use gv_packed::Packed;
+use gv_types::Packed;
 use std::marker::Model;
 
 /// A list, or a slice of pieces, read near an index: the block of memory that holds it is looked up once.

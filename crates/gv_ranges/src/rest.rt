@@ -7,8 +7,7 @@ ghost use Rattle.gv_types.specs.PageRange.{end_of};
 ghost use Rattle.gv_ranges.specs.List.{IsLaidOut};
 ghost use Rattle.gv_ranges.specs.Edit.{clipped};
 
-use gv_packed::Packed;
-use gv_types::SPACE_PAGES;
+use gv_types::{Packed, SPACE_PAGES};
 
 /// What of the mappings lies below `page`, where each of them ends past the page: at most the rest of the first.
 #[inline(always)]

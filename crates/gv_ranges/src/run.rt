@@ -5,7 +5,7 @@ ghost use Rattle.gv_ranges.specs.List.{run};
 
 use crate::RangeList;
 use gv_chunks::Spot;
-use gv_packed::Packed;
+use gv_types::Packed;
 use std::iter::FusedIterator;
 use std::marker::Model;
 

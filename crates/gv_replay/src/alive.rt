@@ -1,8 +1,7 @@
 //! What is alive at the end of a replay.
 
-use gv_packed::Packed;
 use gv_space::Space;
-use gv_types::{Backing, PAGE_BYTES};
+use gv_types::{Backing, PAGE_BYTES, Packed};
 use std::alloc::{AllocError, Global};
 use std::collections::HashSet;
 

@@ -2,9 +2,8 @@
 
 use crate::text::write_buffer;
 use gv_lines::write_hex;
-use gv_packed::Packed;
 use gv_ranges::RangeList;
-use gv_types::{Backing, PAGE_BYTES};
+use gv_types::{Backing, PAGE_BYTES, Packed};
 use std::alloc::AllocError;
 
 /// The first byte of a page.

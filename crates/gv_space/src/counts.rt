@@ -11,9 +11,8 @@ ghost use Rattle.gv_space.specs.Live.{IsLiveBacking};
 ghost use Rattle.gv_space.specs.Placed.{BeginAlike, HasRow, CanCount, HaveLeft, HaveCome, HaveGivenWay, HaveNoMore};
 
 use gv_buffers::{Buffers, PlaceTable};
-use gv_packed::Packed;
 use gv_ranges::Run;
-use gv_types::{Backing, BufferId, OutOfMemory};
+use gv_types::{Backing, BufferId, OutOfMemory, Packed};
 
 /// Makes room for the places of mappings that come into the list.
 pub fn make_room(places: &mut PlaceTable, mappings: &[Packed]) -> Result<(), OutOfMemory>

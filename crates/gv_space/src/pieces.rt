@@ -7,9 +7,8 @@ ghost use Rattle.gv_ranges.specs.List.{run, IsLaidOut};
 ghost use Rattle.gv_ranges.specs.Edit.{clipped, restored};
 ghost use Rattle.gv_space.specs.Refusal.{count_met};
 
-use gv_packed::Packed;
 use gv_ranges::{Cut, RangeList, next_rest, prev_rest};
-use gv_types::{OutOfMemory, PageRange};
+use gv_types::{OutOfMemory, Packed, PageRange};
 use smallvec::SmallVec;
 use std::array::from_ref;
 

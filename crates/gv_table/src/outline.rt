@@ -4,9 +4,8 @@ ghost use Rattle.gv_types.specs.declared.mapping.Mapping.{Mapping};
 ghost use Rattle.gv_ranges.specs.List.{IsLaidOut};
 ghost use Rattle.gv_table.specs.Names.{unnamed, unnamed_mapping};
 
-use gv_packed::Packed;
 use gv_ranges::Reader;
-use gv_types::{Backing, BufferId, Mapping};
+use gv_types::{Backing, BufferId, Mapping, Packed};
 use std::marker::Model;
 
 /// A list of mappings whose buffers are told by their indexes alone, so that none tells a generation.

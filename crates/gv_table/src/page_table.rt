@@ -21,9 +21,8 @@ use crate::spare::needed_in_tree;
 use crate::spares::Spares;
 use crate::table_counts::TableCounts;
 use crate::walk::walk_tree;
-use gv_packed::Packed;
 use gv_ranges::{RangeList, Reader};
-use gv_types::{BufferId, Entry, Fault, PageRange, SPACE_PAGES};
+use gv_types::{BufferId, Entry, Fault, Packed, PageRange, SPACE_PAGES};
 use std::alloc::Global;
 use std::marker::Model;
 

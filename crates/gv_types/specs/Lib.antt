@@ -3,6 +3,8 @@ pub mod PageRange
 pub mod Generation
 pub mod Mapping
 pub mod Operation
+pub mod Packed
+pub mod Examples
 pub mod Fault
 pub mod Bounds
 pub mod Limits

@@ -32,7 +32,7 @@ use Rattle.gv_journal.proofs.item.ItemKind.TheSendSync.{the_send as kind_send}
 use Rattle.gv_journal.proofs.columns.Columns.TheSendSync.{the_send as columns_send}
 use Rattle.gv_vm.proofs.jobs.Jobs.TheSendSync.{the_send as jobs_send}
 use Rattle.gv_vm.proofs.told.Told.TheSendSync.{the_send as told_send}
-use Rattle.gv_packed.proofs.packed.Packed.TheSendSync.{the_send as packed_send}
+use Rattle.gv_types.proofs.packed.Packed.TheSendSync.{the_send as packed_send}
 use Rattle.smallvec.proofs.small_vec.SmallVec.TheSendSync.{the_send as small_vec_send}
 use Rattle.gv_space.specs.contracts.list_with_table.ListWithTable.TheInside.{the_row as list_with_table_inside, the_type as list_with_table_type}
 use Rattle.gv_space.specs.contracts.space.Space.TheInside.{the_row as space_inside, the_type as space_type}

@@ -14,10 +14,9 @@ ghost use Rattle.gv_table.specs.declared.page_table.PageTable.{PageTable};
 
 use super::ListWithTable;
 use gv_chunks::Spot;
-use gv_packed::Packed;
 use gv_ranges::RangeList;
 use gv_table::{PageTable, Spares};
-use gv_types::{Fault, PageRange};
+use gv_types::{Fault, Packed, PageRange};
 use std::alloc::Global;
 
 impl ListWithTable {

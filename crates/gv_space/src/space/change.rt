@@ -15,9 +15,8 @@ use super::Space;
 use crate::counts;
 use crate::pieces::{Pieces, copy_run, with_rests};
 use gv_chunks::Spot;
-use gv_packed::Packed;
 use gv_table::Spares;
-use gv_types::{Fault, PageRange};
+use gv_types::{Fault, Packed, PageRange};
 use smallvec::SmallVec;
 use std::alloc::Global;
 

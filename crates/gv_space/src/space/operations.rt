@@ -19,8 +19,7 @@ use crate::counts;
 use crate::pieces::as_pieces;
 use crate::undo::OpUndo;
 use gv_chunks::Spot;
-use gv_packed::Packed;
-use gv_types::{Fault, Op, PageOp, PageRange};
+use gv_types::{Fault, Op, Packed, PageOp, PageRange};
 use smallvec::SmallVec;
 use std::alloc::Global;
 

@@ -14,9 +14,8 @@ ghost use Rattle.gv_space.specs.Refusal.{operation_fault, buffer_fault, dead_fau
 use super::Space;
 use crate::pieces::count_in_range;
 use gv_buffers::Buffers;
-use gv_packed::Packed;
 use gv_ranges::{Cut, RangeList};
-use gv_types::{Backing, BufferId, Fault, Op, PageOp, PageRange, SPACE_PAGES};
+use gv_types::{Backing, BufferId, Fault, Op, Packed, PageOp, PageRange, SPACE_PAGES};
 
 /// Undo values of one space hold at most so many mappings.
 const MAX_KEPT: u64 = 1 << 62;

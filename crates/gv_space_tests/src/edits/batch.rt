@@ -3,9 +3,8 @@ ghost use Rattle.gv_space.specs.State.{IsUnchanged};
 
 use crate::edits::failure::Failure;
 use gv_model::{Edit, PlainList};
-use gv_packed::Packed;
 use gv_space::Space;
-use gv_types::{BUFFER_PAGES, Backing, Bounds, BufferId, Limits};
+use gv_types::{BUFFER_PAGES, Backing, Bounds, BufferId, Limits, Packed};
 use std::alloc::{AllocError, Global};
 
 /// A space, and the plain list of the same mappings.

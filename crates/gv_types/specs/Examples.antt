@@ -4,7 +4,7 @@ use Rattle.gv_types.specs.PageRange.{span}
 use Rattle.gv_types.specs.Mapping.{buffer_id}
 use Rattle.gv_types.specs.declared.mapping.Backing.TheVariants.{Buffer, Zero}
 use Rattle.gv_types.specs.declared.mapping.Mapping.{Mapping}
-use Rattle.gv_packed.specs.Packed.{words_of, unpacked, IsPacked}
+use Rattle.gv_types.specs.Packed.{words_of, unpacked, IsPacked}
 
 -- three pages from page 5 on, read-only, before the pages of a buffer from its page 7 on
 abbrev pub three_pages : Mapping

@@ -1,5 +1,5 @@
 //! What the definitions say of worked examples.
-ghost use Rattle.gv_packed.specs.Examples.{BufferIsPacked, ZerosArePacked, BothComeBack, ZerosHaveNoPage};
+ghost use Rattle.gv_types.specs.Examples.{BufferIsPacked, ZerosArePacked, BothComeBack, ZerosHaveNoPage};
 
 /// Each worked example holds.
 pub fn examples()

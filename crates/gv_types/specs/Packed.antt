@@ -6,7 +6,7 @@ use Rattle.gv_types.specs.declared.mapping.Backing.{Backing}
 use Rattle.gv_types.specs.declared.mapping.Backing.TheVariants.{Buffer, Zero}
 use Rattle.gv_types.specs.declared.mapping.Flags.{Flags}
 use Rattle.gv_types.specs.declared.mapping.Mapping.{Mapping}
-use Rattle.gv_packed.specs.declared.packed.Packed.TheInside.{Inside}
+use Rattle.gv_types.specs.declared.packed.Packed.TheInside.{Inside}
 
 -- the first page in units of 2^19, and what the count has above 32 bits below it
 abbrev pub unpacked_range : Inside → PageRangeState

@@ -6,7 +6,9 @@ ghost use Rattle.gv_types.specs.PageRange.{end_of, covers};
 ghost use Rattle.gv_types.specs.Mapping.{clip, is_of, part, piece, IsMapping};
 ghost use Rattle.gv_types.specs.Operation.{own_mapping, IsPageOp};
 
-use gv_types::{Backing, BufferId, Entry, Flags, Mapping, PageOp, PageRange};
+use crate::mapping::{Backing, BufferId, Entry, Flags, Mapping};
+use crate::operation::PageOp;
+use crate::page_range::PageRange;
 use std::marker::Model;
 
 /// So many bits of `head` are below the first page.
@@ -48,7 +50,7 @@ const _: () = prove!(size_of::<Packed>() == 32);
 
 impl Model for Packed {
     ghost use Rattle.gv_types.specs.declared.mapping.Mapping.{Mapping};
-    ghost use Rattle.gv_packed.specs.Packed.{unpacked, words_of, IsPacked, words_of-unpacked};
+    ghost use Rattle.gv_types.specs.Packed.{unpacked, words_of, IsPacked, words_of-unpacked};
 
     ghost Value = { Mapping };
 

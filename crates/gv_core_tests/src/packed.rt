@@ -3,9 +3,7 @@ ghost use Rattle.std.specs.Prelude.{◌+◌, ◌≤◌, IfOk};
 ghost use Rattle.gv_types.specs.Page.{backing_pages};
 ghost use Rattle.gv_types.specs.Mapping.{IsMapping};
 
-use crate::laws;
-use crate::packed::Packed;
-use gv_types::{Backing, BufferId, Flags, Mapping, PageRange, SPACE_PAGES};
+use gv_types::{Backing, BufferId, Flags, Mapping, Packed, PageRange, SPACE_PAGES, laws};
 use std::test::Fail;
 
 /// No mapping reaches past this page of its buffer.
