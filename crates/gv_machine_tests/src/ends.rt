@@ -2,8 +2,7 @@
 ghost use Rattle.std.specs.Prelude.{◌≡◌, [], IfOk};
 ghost use Rattle.gv_sync.specs.Seats.{IsSeatOf};
 
-use gv_queues::channel::{Ends, open};
-use gv_queues::{PutEnd, QueueEnd, QueuesFault, Submitter, Taker, WorkerEnd, finish};
+use gv_queues::{Ends, PutEnd, QueueEnd, QueuesFault, Submitter, Taker, WorkerEnd, finish, open};
 use gv_sync::{Seat, Timelines};
 use gv_types::{Bounds, Limits, Request};
 use gv_vm::Vm;

@@ -4,7 +4,7 @@ use Rattle.std.proofs.lemmas.List.{get_or_append_left, get_or-map, length-map, m
 use Rattle.gv_queues.specs.Ending.{AreClosed, AreInOrder, AreOnOwnChannels, EndOnOwnChannels, no_put, put_at}
 use Rattle.gv_queues.specs.Submitting.{AreOpened, AreSameSubmitters, ChannelId, PutEndState, SubmitterState, no_channel, no_submitter, put_end_of, submitter_at}
 use Rattle.gv_queues.specs.Working.{AreEndsOfWorkers, IsEndOfWorker, WorkerEndState, WorkerState, no_end, no_worker, worker_at}
-use Rattle.gv_queues.proofs.Ends.{each_more}
+use Rattle.gv_queues.proofs.QueueEnds.{each_more}
 
 abbrev pub of_submitters : List SubmitterState → List ChannelId
 of_submitters submitters = map (λ (s : SubmitterState). s.channel) submitters

@@ -1,6 +1,6 @@
 pub mod Handovers
 pub mod Owed
-pub mod Ends
+pub mod QueueEnds
 pub mod Putting
 pub mod PutLemmas
 pub mod Channels

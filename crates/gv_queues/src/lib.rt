@@ -2,7 +2,7 @@
 //! is under a lock, and the timelines are outside of it.
 #![tactic(auto)]
 
-pub mod channel;
+mod channel;
 mod driver;
 mod finishing;
 mod gate;
@@ -20,6 +20,7 @@ mod waiting;
 mod worker;
 mod worker_end;
 
+pub use channel::{Ends, open};
 pub use driver::Driver;
 pub use finishing::{QueueEnd, QueuesFault, finish};
 pub use gate::{Gate, Turn};

@@ -7,7 +7,7 @@ use Rattle.gv_queues.specs.declared.finishing.QueueEnd.{QueueEnd}
 use Rattle.gv_queues.specs.Ending.{AgreesAt, Agrees, IsEndOf, no_put, put_at}
 use Rattle.gv_queues.specs.Submitting.{PutEndState}
 use Rattle.gv_queues.specs.Working.{WorkerEndState, end_at, no_end}
-use Rattle.gv_queues.proofs.Ends.{ends_more, left_count}
+use Rattle.gv_queues.proofs.QueueEnds.{ends_more, left_count}
 use Rattle.gv_queues.proofs.finishing.finish.Goals as goal
 
 pub returns-then-not-agrees-clause-disagree : goal.returns-then-not-agrees-clause-disagree

@@ -6,7 +6,7 @@ use Rattle.gv_queues.specs.Submitting.{IsOpened, SubmitterState}
 use Rattle.gv_queues.specs.Taking.{TakerState}
 use Rattle.gv_queues.specs.Working.{WorkerState, no_worker}
 use Rattle.gv_queues.proofs.Channels.{channels_more, own_channels}
-use Rattle.gv_queues.proofs.Ends.{each_more, one_more, opened_more, in_order_more}
+use Rattle.gv_queues.proofs.QueueEnds.{each_more, one_more, opened_more, in_order_more}
 use Rattle.gv_queues.proofs.opening.open_all.Goals as goal
 
 -- two seats that agree in each part are one

@@ -6,7 +6,7 @@ use Rattle.gv_queues.specs.Sharing.{ComesBack, after_splits}
 use Rattle.gv_queues.specs.Submitting.{AreOpened, SubmitterState}
 use Rattle.gv_queues.specs.declared.finishing.QueuesFault.{QueuesFault}
 use Rattle.gv_queues.specs.declared.finishing.QueuesFault.TheVariants.{Disagree}
-use Rattle.gv_queues.proofs.Ends.{counted_ends, if_ok, if_ok_both}
+use Rattle.gv_queues.proofs.QueueEnds.{counted_ends, if_ok, if_ok_both}
 use Rattle.gv_queues.proofs.Sends.{lock_sync}
 use Rattle.gv_queues.proofs.queues.Queues.run_queues.Goals as goal
 

@@ -1,7 +1,7 @@
 use Rattle.std.proofs.Common.{rules, ◌≡◌, ◌∙◌, List, drop, ap, map, length}
 use Rattle.gv_queues.specs.Submitting.{SubmitterState, put_end_of}
 use Rattle.gv_queues.proofs.Channels.{closed_of}
-use Rattle.gv_queues.proofs.Ends.{puts_of, taken_whole}
+use Rattle.gv_queues.proofs.QueueEnds.{puts_of, taken_whole}
 use Rattle.gv_queues.proofs.running.Around.drive_all.Goals as goal
 
 pub returns-clause-puts : goal.returns-clause-puts

@@ -5,7 +5,7 @@ use Rattle.gv_queues.specs.declared.worker_end.WorkerEnd.{WorkerEnd}
 use Rattle.gv_queues.specs.declared.running.OfWorker.{OfWorker}
 use Rattle.gv_queues.specs.Working.{WorkerState}
 use Rattle.gv_queues.proofs.Channels.{started_more}
-use Rattle.gv_queues.proofs.Ends.{head_at, if_some_none, if_some_of, one_further, plus_none, tail_at}
+use Rattle.gv_queues.proofs.QueueEnds.{head_at, if_some_none, if_some_of, one_further, plus_none, tail_at}
 use Rattle.gv_queues.proofs.running.Around.start_all.Goals.{in-None, in-Some+in-None-start}
 use Rattle.gv_queues.proofs.running.Around.start_all.Goals as goal
 

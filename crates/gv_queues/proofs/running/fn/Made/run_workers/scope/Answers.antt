@@ -8,7 +8,7 @@ use Rattle.gv_queues.specs.Ending.{AreClosed}
 use Rattle.gv_queues.specs.Submitting.{SubmitterState}
 use Rattle.gv_queues.specs.Working.{AreEndsOfWorkers, WorkerState}
 use Rattle.gv_queues.proofs.Channels.{end_channels, ended_among, ended_in_order}
-use Rattle.gv_queues.proofs.Ends.{if_none, if_none_of, if_some_none, if_some_with}
+use Rattle.gv_queues.proofs.QueueEnds.{if_none, if_none_of, if_some_none, if_some_with}
 use Rattle.gv_queues.proofs.running.fn.Made.run_workers.scope.Goals.{then-is_none, else-is_none}
 use Rattle.gv_queues.proofs.running.fn.Made.run_workers.scope.Goals as goal
 
