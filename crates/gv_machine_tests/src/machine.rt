@@ -14,6 +14,7 @@ mod play;
 mod refusals;
 mod rounds;
 mod rows;
+mod run;
 mod stage;
 mod tally;
 mod trimming;

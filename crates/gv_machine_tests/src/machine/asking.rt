@@ -16,8 +16,8 @@ pub fn named(alloc: Global, ids: &[BufferId], text: String) -> Result<String, Al
     Ok(text)
 }
 
-/// The answer of a question: what a queue was told, what the entries say of an address, which mappings stand, and how
-/// many entries and mappings there are.
+/// The answer to a question: the outcomes of a queue, what the entries say of an address, the mappings, the numbers of entries and
+/// of mappings, and what the accesses of a job reached.
 pub fn question(alloc: Global, vm: &Vm, line: &str) -> Result<Option<String>, Fail> {
     let (word, number) = line.split_once(' ').unwrap_or((line, ""));
     let number = number_of(number);
@@ -26,6 +26,7 @@ pub fn question(alloc: Global, vm: &Vm, line: &str) -> Result<Option<String>, Fa
         "past" => past(alloc, vm, number),
         "list" => list(alloc, vm),
         "held" => held(alloc, vm),
+        "places" => places(alloc, vm, number),
         _ => Ok(None),
     }
 }
@@ -72,6 +73,11 @@ fn list(alloc: Global, vm: &Vm) -> Result<Option<String>, Fail> {
         write!(&mut text, "; {mapping:?}")?;
     }
     Ok(Some(text))
+}
+
+fn places(alloc: Global, vm: &Vm, job: u64) -> Result<Option<String>, Fail> {
+    let places = vm.job_places(job);
+    Ok(Some(format!(in alloc; "{places:?}")?))
 }
 
 fn held(alloc: Global, vm: &Vm) -> Result<Option<String>, Fail> {
