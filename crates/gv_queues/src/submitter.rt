@@ -100,21 +100,6 @@ impl Submitter {
         PutEnd::new(pass, queue, count)
     }
 
-    /// Its queue.
-    pub fn queue(&self) -> u64
-        ensures value { result ≡ self.now.queue }
-        ensures below { result < queues }
-    {
-        self.queue
-    }
-
-    /// How many requests may be put.
-    pub fn limit(&self) -> u64
-        ensures { result ≡ self.now.limit }
-    {
-        self.limit
-    }
-
     /// How many timelines there are: a request fits if all that it names are below this count.
     pub fn timelines(&self) -> u64
         ensures { result ≡ self.now.timelines }
