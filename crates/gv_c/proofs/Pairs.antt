@@ -1,5 +1,7 @@
 -- A pointer beside an allocator: how a struct of the two, or a tuple, is stored, taken apart and made. Assumes `Logic`.
+--     shape, Pair         the struct of a pointer and an allocator
 --     both, both_good     the machine value of two fields, and that it has its type
+--     at_words            what is owned at machine values is owned at equal ones
 --     word_of             a proof's step: what is owned at an allocator, or at a box, is one machine value
 --     pair_out, pair_in   proof's steps: of a pointer and an allocator only the allocator owns something, and back
 use Rattle.std.proofs.Common.{◌≡◌, List, [], ◌∷◌, ◌++◌, refl, ◌∙◌, sym, subst}
@@ -31,7 +33,7 @@ all_true true true s t = tt
 all_true true false s t = absurd t
 all_true false y s t = absurd s
 
--- a walk may begin from what the arguments are known to be
+-- what is owned at machine values is owned at equal ones
 pub at_words : {M : Type 1} (𝓤 : Ura M) (P : List Val → SProp 𝓤) {vs ws : List Val} → vs ≡ ws → ent 𝓤 (P ws) (P vs)
 at_words 𝓤 P {ws = ws} e = subst (λ us. ent 𝓤 (P ws) (P us)) (sym e) (id⊢ 𝓤 (P ws))
 

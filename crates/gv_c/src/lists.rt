@@ -1,7 +1,7 @@
 //! Calls that write lists, and change nothing.
 ghost use Rattle.std.specs.Prelude.{◌≡◌, ◌+◌, ◌-◌, ◌<◌, ◌≤◌, map, max, min, length};
 ghost use Rattle.gv_space.specs.Refusal.{operation_fault};
-ghost use Rattle.gv_vm.specs.Outcomes.{queues, most_told, told_to};
+ghost use Rattle.gv_vm.specs.Outcomes.{queues, lifetime_told, told_to};
 ghost use Rattle.gv_vm.specs.State.{forgotten_of};
 ghost use Rattle.gv_c.specs.Lists.{IsTold, AreListed, IsPlanned, ArePlanned, IsWritten, numbered, written_over};
 ghost use Rattle.gv_c.specs.Values.{c_mapping, c_step};
@@ -154,7 +154,7 @@ fn write_told(list: &mut [RequestOutcome], vm: &Vm, queue: u64, from: u64) -> u6
 
 /// Writes outcomes, of which the first has this number, from the one at the place `from` on.
 fn write_outcomes(list: &mut [RequestOutcome], first: u64, told: &[Outcome], from: u64) -> u64
-    requires { first + length told.now ≤ most_told }
+    requires { first + length told.now ≤ lifetime_told }
     ensures { IsWritten (numbered first told.now) from list.old list.new result (length told.now) }
 {
     let count = fitting(list.len(), told.len(), from);

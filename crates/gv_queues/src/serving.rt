@@ -6,7 +6,7 @@ ghost use Rattle.gv_sync.specs.Seats.{IsSeatOf, timeline_count};
 ghost use Rattle.gv_sync.specs.Turns.{HasRaised};
 ghost use Rattle.gv_vm.specs.Outcomes.{tell_fault, with_outcome};
 ghost use Rattle.gv_vm.specs.State.{told_limit};
-ghost use Rattle.gv_vm.specs.Told.{IsBoundAndTold, seen_by};
+ghost use Rattle.gv_vm.specs.BindOutcome.{IsBoundAndTold, seen_by};
 ghost use Rattle.gv_queues.specs.Paying.{AreReached, IfBind, ArePaid};
 
 use crate::taking::Taken;

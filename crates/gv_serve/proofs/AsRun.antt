@@ -32,7 +32,7 @@ as_replies old new first last [] text others answered none = (0, (answered.0, an
 as_replies old new first last (line ∷ lines) text others answered none =
     let here = served_only old answered.1 first line answered.0 answered.2 answered.5 (omega (arith, none, answered.8)) in
     let after = as_replies answered.1 new (following first) last lines answered.3 answered.4 answered.6 (omega (arith, none, answered.8)) in
-    (refusals_of here.0.lacking + after.0, (here.0, answered.1, answered.3, after.0, here.1, after.1, answered.7 ∙ ap (λ (t : List ℕ). t ++ answered.3) here.2, refl))
+    (refusals_of here.0.out_of_memory + after.0, (here.0, answered.1, answered.3, after.0, here.1, after.1, answered.7 ∙ ap (λ (t : List ℕ). t ++ answered.3) here.2, refl))
 
 ends_so : (number : ℕ) (rest last : List ℕ) (others : ℕ) → EndsWith number rest last others → 0 ≡ others → (rest ≡ []) × (last ≡ [])
 ends_so number [] last others ends none = (refl, ends.0)

@@ -15,7 +15,7 @@ use Rattle.gv_session.specs.declared.fault.LineFault.TheVariants.{Bad, OutOfMemo
 use Rattle.gv_session.specs.State.{SessionState, Buffers, begun}
 use Rattle.gv_vm.specs.Plans.{once, IsCarriedOut, Steps, nothing}
 use Rattle.gv_session.specs.Reply.{reply}
-use Rattle.gv_session.specs.Said.{is_lacking}
+use Rattle.gv_session.specs.Said.{reply_out_of_memory}
 use Rattle.gv_session.specs.Line.{Written, plain, Does, Runs}
 use Rattle.gv_session.specs.Question.{IsAnswer, with_vm}
 use Rattle.gv_session.specs.Serving.{Wrote}
@@ -29,7 +29,7 @@ once_done event reply w v here = carried_out (once event) nothing w v (reply ∷
 pub wrote_once : (event : Event) (say : Reply → List ℕ) (s t : SessionState) (reply : Reply) (old out : String Global) → Steps s.world event reply t.world →
     t ≡ record (begun s) { world = t.world } → string_bytes out ≡ string_bytes old ++ say reply → Wrote (Does (once event) (flat_map say)) s old out t
 wrote_once event say s t reply old out here state bytes = record {
-  written = record { text = flat_map say (reply ∷ []); lacking = list_any is_lacking (reply ∷ []) };
+  written = record { text = flat_map say (reply ∷ []); out_of_memory = list_any reply_out_of_memory (reply ∷ []) };
   text = bytes ∙ ap (λ (text : List ℕ). string_bytes old ++ text) (sym (append-nil (say reply)));
   runs = record { replies = reply ∷ []; carried_out = once_done event reply s.world t.world here; written = refl; state = state };
 }

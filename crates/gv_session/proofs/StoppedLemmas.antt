@@ -16,7 +16,7 @@ use Rattle.gv_session.specs.Asking.{IsRequest}
 use Rattle.std.specs.List.{flat_map, list_any}
 use Rattle.gv_vm.specs.Plans.{once, Steps}
 use Rattle.gv_session.specs.Line.{Written, Runs, Does}
-use Rattle.gv_session.specs.Said.{is_lacking}
+use Rattle.gv_session.specs.Said.{reply_out_of_memory}
 use Rattle.gv_session.proofs.LinesLemmas.{once_done}
 use Rattle.gv_session.specs.Serving.{StopsAt}
 use Rattle.gv_session.specs.State.{SessionState, begun}
@@ -85,7 +85,7 @@ leaves_any said s t (Err fault) same = leaves_same said s t fault same
 pub lost_once : (event : Event) (say : Reply → List ℕ) (s t : SessionState) (reply : Reply) → Steps s.world event reply t.world → t ≡ record (begun s) { world = t.world } →
     (w : Written) × Does (once event) (flat_map say) s w t
 lost_once event say s t reply here state = (
-  record { text = flat_map say (reply ∷ []); lacking = list_any is_lacking (reply ∷ []) },
+  record { text = flat_map say (reply ∷ []); out_of_memory = list_any reply_out_of_memory (reply ∷ []) },
   record { replies = reply ∷ []; carried_out = once_done event reply s.world t.world here; written = refl; state = state },
 )
 

@@ -28,21 +28,21 @@ use Rattle.gv_session.specs.State.{SessionState, Buffers, names_alone, buffer_na
 use Rattle.gv_session.specs.Asking.{op_named, point_named, access_named, IsRequest}
 use Rattle.gv_vm.specs.Plans.{Plan, once, serving, IsCarriedOut}
 use Rattle.gv_session.specs.Reply.{ok_reply, refused_reply, lines_reply, mapping_text, place_reply, tables_reply, number_reply, journal_reply}
-use Rattle.gv_session.specs.Said.{said, said_of_withdrawal, told, is_lacking, told_said, uses_said, plan_said}
+use Rattle.gv_session.specs.Said.{said, said_of_withdrawal, told, reply_out_of_memory, told_said, uses_said, plan_said}
 
 -- What a line wrote, and whether memory was refused to its request.
 pub record Written : Type 0 where
   pub text : List ℕ
-  pub lacking : Bool
+  pub out_of_memory : Bool
 
 abbrev pub plain : List ℕ → Written
-plain text = record { text = text; lacking = false }
+plain text = record { text = text; out_of_memory = false }
 
--- A line carries out a plan, and writes what the replies say: the world goes on so. The names are as they were.
+-- A line carries out a plan: it writes what the replies say, and the world is as the plan leaves it. No name changes.
 pub record Does (plan : Plan) (say : List Reply → List ℕ) (s : SessionState) (w : Written) (t : SessionState) : Type 0 where
   pub replies : List Reply
   pub carried_out : IsCarriedOut plan s.world replies t.world
-  pub written : w ≡ record { text = say replies; lacking = list_any is_lacking replies }
+  pub written : w ≡ record { text = say replies; out_of_memory = list_any reply_out_of_memory replies }
   pub state : t ≡ record (begun s) { world = t.world }
 
 -- a line asks for one event, and writes what is said
@@ -62,13 +62,13 @@ abbrev pub Of : {X : Type 0} → Option X → (X → Type 0) → Type 0
 Of None P = ⊥
 Of (Some x) P = P x
 
--- settings of bounds come first, those of limits before all but these
+-- limits are set before any line but the one that sets bounds
 abbrev pub MaySetLimits : Stage → Type 0
 MaySetLimits Fresh = Unit {0}
 MaySetLimits Bounded = Unit {0}
 MaySetLimits Begun = ⊥
 
--- bounds that there are are set before any other line
+-- bounds are valid, and are set before any other line
 abbrev pub SetsBounds : Option BoundsState → SessionState → Written → SessionState → Type 0
 SetsBounds asked s w t =
     (s.stage ≡ Fresh) × Of asked
@@ -102,16 +102,16 @@ HasTooMany accesses s w t =
     (many_fault s.world.vm.jobs (length accesses) ≡ Some TooManyAccesses) × Answers (refused_reply TooManyAccesses) s w t
 
 -- A request of the line's clauses is put on its queue and served.
-pub record Serves (clauses : List Clause) (s : SessionState) (w : Written) (t : SessionState) : Type 0 where
+pub record BindsRequest (clauses : List Clause) (s : SessionState) (w : Written) (t : SessionState) : Type 0 where
   pub request : Request
   pub asked : IsRequest s clauses request
   pub does : Does (serving (queue_asked clauses) request) (flat_map (told s.timelines)) s w t
 
--- the numbers that a `limits` line sets; what queues are told keeps its greatest limit
-abbrev pub caps_of : ℕ → ℕ → ℕ → LimitsState
-caps_of buffers mappings items = caps buffers mappings items greatest.told
+-- the limits that a `limits` line sets; a queue's outcomes keep their greatest limit
+abbrev pub line_limits : ℕ → ℕ → ℕ → LimitsState
+line_limits buffers mappings items = caps buffers mappings items greatest.told
 
--- a name is not declared, and not all timelines are
+-- the name is no timeline's, and there may be one more timeline
 abbrev pub MayDeclare : List (List ℕ) → List ℕ → Type 0
 MayDeclare names name = (timeline_named names name ≡ None) × (length names < most_timelines)
 
@@ -120,8 +120,8 @@ abbrev pub Runs : Line → SessionState → Written → SessionState → Type 0
 Runs line.Silent s w t = (w ≡ plain []) × (t ≡ s)
 Runs (line.Space start len reserved_start reserved_len) s w t = SetsBounds (byte_area start len reserved_start reserved_len) s w t
 Runs (line.Limits buffers mappings items) s w t =
-    MaySetLimits s.stage × IsWithin (caps_of buffers mappings items) × (w ≡ plain ok_reply)
-    × (t ≡ record (begun s) { world = empty_world s.world.vm.space.area (caps_of buffers mappings items) })
+    MaySetLimits s.stage × IsWithin (line_limits buffers mappings items) × (w ≡ plain ok_reply)
+    × (t ≡ record (begun s) { world = empty_world s.world.vm.space.area (line_limits buffers mappings items) })
 Runs (line.Buffer name pages) s w t = Makes name pages s w t
 Runs (line.Destroy name) s w t = Of (buffer_named s.buffers name) (λ id. DoesOnce (Destroy id) s w t)
 Runs (line.Uses name) s w t = Of (buffer_named s.buffers name) (λ id. Answers (uses_said s.world.vm.space.buffers id) s w t)
@@ -131,7 +131,7 @@ Runs (line.Timeline name) s w t =
 Runs (line.Raise point) s w t = Of (point_named s.timelines point) (λ p. DoesOnce (Raise p) s w t)
 Runs (line.Value name) s w t =
     Of (timeline_named s.timelines name) (λ place. Answers (number_reply s.timelines place (slice_index s.world.numbers place)) s w t)
-Runs (line.Bind clauses) s w t = Serves clauses s w t
+Runs (line.Bind clauses) s w t = BindsRequest clauses s w t
 Runs (line.Plan operation) s w t =
     Of (op_named s.buffers operation) (λ op. Answers (plan_said (names_alone s.buffers) s.world.vm.space op) s w t)
 Runs line.Map s w t = Answers (lines_reply (mapping_text (names_alone s.buffers)) s.world.vm.space.mappings) s w t
@@ -151,16 +151,16 @@ pub record AreDeclared (buffers : Buffers) (timelines : List (List ℕ)) (clause
   pub waits : IsSome (all_read (point_named timelines) (waits_of clauses))
   pub signals : IsSome (all_read (point_named timelines) (signals_of clauses))
 
--- A line is not bad: it stands at its place, what it names is declared, and what it declares is not. Whether it is depends on no
--- memory.
+-- A line is not bad: it may come at this point, the names that it uses are declared, and the one that it declares is new. It
+-- does not depend on memory.
 abbrev pub IsGood : Line → SessionState → Type 0
 IsGood line.Silent s = Unit {0}
 IsGood (line.Space start len reserved_start reserved_len) s = MaySetBounds (byte_area start len reserved_start reserved_len) s
-IsGood (line.Limits buffers mappings items) s = MaySetLimits s.stage × IsWithin (caps_of buffers mappings items)
+IsGood (line.Limits buffers mappings items) s = MaySetLimits s.stage × IsWithin (line_limits buffers mappings items)
 IsGood (line.Buffer name pages) s = buffer_named s.buffers name ≡ None
 IsGood (line.Destroy name) s = IsSome (buffer_named s.buffers name)
 IsGood (line.Uses name) s = IsSome (buffer_named s.buffers name)
-IsGood (line.Timeline name) s = (timeline_named s.timelines name ≡ None) × (length s.timelines < most_timelines)
+IsGood (line.Timeline name) s = MayDeclare s.timelines name
 IsGood (line.Raise point) s = IsSome (point_named s.timelines point)
 IsGood (line.Value name) s = IsSome (timeline_named s.timelines name)
 IsGood (line.Bind clauses) s = AreDeclared s.buffers s.timelines clauses
@@ -176,10 +176,10 @@ IsGood (line.Told queue) s = queue < queues
 IsGood (line.Job accesses) s = Unit {0}
 IsGood (line.End job) s = Unit {0}
 
--- a line as it stands in a script is of the language, and may be carried out so
+-- the text of a line parses, and the line may be carried out so
 abbrev pub RunsText : List ℕ → SessionState → Written → SessionState → Type 0
 RunsText text s w t = IsSomeAnd (parsed text) (λ line. Runs line s w t)
 
--- it is of the language, and not bad
+-- the text of a line parses, and the line is not bad
 abbrev pub IsGoodText : List ℕ → SessionState → Type 0
 IsGoodText text s = IsSomeAnd (parsed text) (λ line. IsGood line s)

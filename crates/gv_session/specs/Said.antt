@@ -44,19 +44,19 @@ told timelines (NotPut fault back) = refused_reply fault
 told timelines (Told number outcome) = reply_line (outcome_text timelines outcome ∷ [])
 told timelines reply = []
 
-abbrev pub is_memory : Fault → Bool
-is_memory OutOfMemory = true
-is_memory fault = false
+abbrev pub is_out_of_memory : Fault → Bool
+is_out_of_memory OutOfMemory = true
+is_out_of_memory fault = false
 
--- an outcome is want of memory
-abbrev pub lacked : Outcome → Bool
-lacked (RefusedAt op fault) = is_memory fault
-lacked outcome = false
+-- an outcome is out of memory
+abbrev pub outcome_out_of_memory : Outcome → Bool
+outcome_out_of_memory (RefusedAt op fault) = is_out_of_memory fault
+outcome_out_of_memory outcome = false
 
 -- a reply says that memory was refused to a request
-abbrev pub is_lacking : Reply → Bool
-is_lacking (Told number outcome) = lacked outcome
-is_lacking reply = false
+abbrev pub reply_out_of_memory : Reply → Bool
+reply_out_of_memory (Told number outcome) = outcome_out_of_memory outcome
+reply_out_of_memory reply = false
 
 -- the outcomes of a queue that aren't forgotten, with their numbers
 abbrev pub told_said : List (List ℕ) → VmState → ℕ → List ℕ

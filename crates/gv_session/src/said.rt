@@ -2,7 +2,7 @@
 ghost use Rattle.std.specs.Prelude.{◌≡◌, ◌+◌, ◌≤◌, ◌++◌, ◌∷◌, [], length, OnOk, codes, decimal, string_bytes};
 ghost use Rattle.std.specs.List.{flat_map};
 ghost use Rattle.gv_types.specs.Fault.{fault_text};
-ghost use Rattle.gv_vm.specs.Outcomes.{most_told};
+ghost use Rattle.gv_vm.specs.Outcomes.{lifetime_told};
 ghost use Rattle.gv_session.specs.State.{names_alone};
 ghost use Rattle.gv_session.specs.Reply.{reply, place_text, begun_reply, refused_reply, outcome_text, outcome_line, told_reply};
 ghost use Rattle.gv_session.specs.Reply.{timeline_text, number_reply, counted_reply, withdrawn_reply};
@@ -145,7 +145,7 @@ pub fn write_told(
     first: u64,
     outcomes: &[Outcome],
 ) -> Result<(), AllocError>
-    requires { first + length outcomes.now ≤ most_told }
+    requires { first + length outcomes.now ≤ lifetime_told }
     ensures { OnOk result (string_bytes out.new ≡ string_bytes out.old ++ told_reply timelines.now.names first outcomes.now) }
 {
     if outcomes.is_empty() {

@@ -85,8 +85,8 @@ same_run (l ∷ ls) [] rest rest' s s' now now' text text' stop stop' before ali
     (subst (λ (x : SessionState). AreAlikeStates s x) (sym run'.1) alike) ends' run.4 (sym same ∙ ap (λ (more : List (List ℕ)). l ∷ more) behind.2))
 same_run (l ∷ ls) (l' ∷ ls') rest rest' s s' now now' text text' stop stop' before alike same run run' ends ends' =
     let line : l ≡ l' = head_same l l' (ls ++ rest) (ls' ++ rest') same in
-    let lacks = no_refusal run.0.lacking run.3 run.7 in
-    let lacks' = no_refusal run'.0.lacking run'.3 run'.7 in
+    let lacks = no_refusal run.0.out_of_memory run.3 run.7 in
+    let lacks' = no_refusal run'.0.out_of_memory run'.3 run'.7 in
     let here : WriteAlike run.0 run'.0 run.1 run'.1 =
     text_alike l s s' run.1 run'.1 run.0 run'.0 alike run.4 (subst (λ (t : List ℕ). RunsText t s' run'.0 run'.1) (sym line) run'.4) lacks.0 lacks'.0 in
     let count : before + length (l ∷ ls) ≡ (before + 1) + length ls = omega arith in

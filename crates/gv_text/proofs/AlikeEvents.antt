@@ -17,7 +17,7 @@ use Rattle.gv_vm.specs.declared.outcome.Outcome.{Outcome}
 use Rattle.gv_vm.specs.declared.outcome.Outcome.TheVariants.{Refused as RefusedAt}
 use Rattle.gv_text.specs.AlikePlans.{AreAmple}
 use Rattle.gv_vm.specs.Plans.{once, AreAsked}
-use Rattle.gv_session.specs.Said.{is_memory, lacked, is_lacking}
+use Rattle.gv_session.specs.Said.{is_out_of_memory, outcome_out_of_memory, reply_out_of_memory}
 
 -- No reply is want of memory where none is told so.
 
@@ -25,21 +25,21 @@ neither : (a b : Bool) → a || b ≡ false → (a ≡ false) × (b ≡ false)
 neither true b ample = absurd cc
 neither false b ample = (refl, ample)
 
-other_fault : (fault : Fault) → is_memory fault ≡ false → fault ≢ OutOfMemory
-other_fault fault ample = λ is. let memory : is_memory OutOfMemory ≡ false = subst (λ (f : Fault). is_memory f ≡ false) is ample in absurd cc
+other_fault : (fault : Fault) → is_out_of_memory fault ≡ false → fault ≢ OutOfMemory
+other_fault fault ample = λ is. let memory : is_out_of_memory OutOfMemory ≡ false = subst (λ (f : Fault). is_out_of_memory f ≡ false) is ample in absurd cc
 
-ample_outcome : (outcome : Outcome) → lacked outcome ≡ false → IsAmple outcome
+ample_outcome : (outcome : Outcome) → outcome_out_of_memory outcome ≡ false → IsAmple outcome
 ample_outcome (RefusedAt op fault) ample = other_fault fault ample
 ample_outcome outcome ample = tt
 
-ample_reply : (r : Reply) → is_lacking r ≡ false → IsAmpleReply r
+ample_reply : (r : Reply) → reply_out_of_memory r ≡ false → IsAmpleReply r
 ample_reply (Told number outcome) ample = ample_outcome outcome ample
 ample_reply r ample = tt
 
-pub are_ample : (rs : List Reply) → list_any is_lacking rs ≡ false → AreAmple rs
+pub are_ample : (rs : List Reply) → list_any reply_out_of_memory rs ≡ false → AreAmple rs
 are_ample [] ample = tt
 are_ample (r ∷ rs) ample =
-    let each = neither (is_lacking r) (list_any is_lacking rs) ample in
+    let each = neither (reply_out_of_memory r) (list_any reply_out_of_memory rs) ample in
     (ample_reply r each.0, are_ample rs each.1)
 
 -- making a buffer is not told as an outcome

@@ -100,11 +100,11 @@ pub text_good : (text : List ℕ) (s s' t : SessionState) (w : Written) → AreA
 text_good text s s' t w alike here = read_good (parsed text) s s' t w alike here
 
 read_alike : (o : Option Line) (s s' t t' : SessionState) (w w' : Written) → AreAlikeStates s s' → IsSomeAnd o (λ l. Runs l s w t) → IsSomeAnd o (λ l. Runs l s' w' t') →
-    w.lacking ≡ false → w'.lacking ≡ false → WriteAlike w w' t t'
+    w.out_of_memory ≡ false → w'.out_of_memory ≡ false → WriteAlike w w' t t'
 read_alike None s s' t t' w w' alike here here' ample ample' = absurd here
 read_alike (Some l) s s' t t' w w' alike here here' ample ample' = line_alike s s' t t' w w' alike l here here' ample ample'
 
 -- a line that both run
 pub text_alike : (text : List ℕ) (s s' t t' : SessionState) (w w' : Written) → AreAlikeStates s s' → RunsText text s w t → RunsText text s' w' t' →
-    w.lacking ≡ false → w'.lacking ≡ false → WriteAlike w w' t t'
+    w.out_of_memory ≡ false → w'.out_of_memory ≡ false → WriteAlike w w' t t'
 text_alike text s s' t t' w w' alike here here' ample ample' = read_alike (parsed text) s s' t t' w w' alike here here' ample ample'

@@ -30,12 +30,12 @@ refused_job list w many = (
 )
 
 -- what is refused for the number of its accesses alone is no other than a job that the world refuses
-pub too_many_alike : (accesses : List Access) (s s' t t' : SessionState) (w w' : Written) → AreAlikeStates s s' → BeginsJob accesses s w t → HasTooMany accesses s' w' t' → w.lacking ≡ false → WriteAlike w w' t t'
+pub too_many_alike : (accesses : List Access) (s s' t t' : SessionState) (w w' : Written) → AreAlikeStates s s' → BeginsJob accesses s w t → HasTooMany accesses s' w' t' → w.out_of_memory ≡ false → WriteAlike w w' t t'
 too_many_alike accesses s s' t t' w w' alike here many lacks =
     let does = here.does in
     let run = does.carried_out.under_way in
     let one = once_only (JobBegin here.list) run.events does.replies s.world t.world run.asked run.ran does.carried_out.done in
-    let ample = are_ample does.replies (ap (λ (x : Written). x.lacking) (sym does.written) ∙ lacks) in
+    let ample = are_ample does.replies (ap (λ (x : Written). x.out_of_memory) (sym does.written) ∙ lacks) in
     let fault : many_fault s'.world.vm.jobs (length here.list.items) ≡ Some TooManyAccesses =
     subst (λ (l : List Access). many_fault s'.world.vm.jobs (length l) ≡ Some TooManyAccesses) (sym here.list_is) many.0 in
     let stays : StaysAlike one.0 (Refused TooManyAccesses) t.world s'.world =

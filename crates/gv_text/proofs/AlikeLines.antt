@@ -27,7 +27,7 @@ use Rattle.gv_lines.specs.declared.point.NamedPoint.{NamedPoint}
 use Rattle.gv_text.specs.AlikePlans.{AreAllAlike, AreAmple, StayAlike}
 use Rattle.gv_session.specs.Asking.{op_named, point_named, access_named}
 use Rattle.gv_vm.specs.Plans.{once, serving, IsCarriedOut}
-use Rattle.gv_session.specs.Line.{Written, DoesOnce, Withdraws, Answers, Of, SetsBounds, Makes, declared, BeginsJob, HasTooMany, Serves, caps_of, Runs}
+use Rattle.gv_session.specs.Line.{Written, DoesOnce, Withdraws, Answers, Of, SetsBounds, Makes, declared, BeginsJob, HasTooMany, BindsRequest, line_limits, Runs}
 use Rattle.gv_session.specs.Reply.{refused_reply, lines_reply, mapping_text, place_reply, tables_reply, number_reply, journal_reply}
 use Rattle.gv_session.specs.Said.{said, said_of_withdrawal, told, told_said, uses_said, plan_said}
 use Rattle.gv_session.specs.State.{SessionState, Buffers, names_alone, buffer_named, timeline_named, begun, empty_world}
@@ -65,18 +65,18 @@ module _ (s s' t t' : SessionState) (w w' : Written) (alike : AreAlikeStates s s
       ∙ ap (λ (timelines : List (List ℕ)). flat_map (told timelines) rs') alike.timelines
 
   -- a line that asks for one event
-  once_same : (e e' : Event) → AreAlikeEvents e e' → DoesOnce e s w t → DoesOnce e' s' w' t' → w.lacking ≡ false → w'.lacking ≡ false → WriteAlike w w' t t'
+  once_same : (e e' : Event) → AreAlikeEvents e e' → DoesOnce e s w t → DoesOnce e' s' w' t' → w.out_of_memory ≡ false → w'.out_of_memory ≡ false → WriteAlike w w' t t'
   once_same e e' same does does' ample ample' =
       does_alike s s' alike w w' t t' (once e) (once e') (flat_map (said (names_alone s.buffers) s.timelines)) (flat_map (said (names_alone s'.buffers) s'.timelines))
       (once_alike e e' same) all_said_same does does' ample ample'
 
-  withdrawal_same : (entry : ℕ) → Withdraws entry s w t → Withdraws entry s' w' t' → w.lacking ≡ false → w'.lacking ≡ false → WriteAlike w w' t t'
+  withdrawal_same : (entry : ℕ) → Withdraws entry s w t → Withdraws entry s' w' t' → w.out_of_memory ≡ false → w'.out_of_memory ≡ false → WriteAlike w w' t t'
   withdrawal_same entry does does' ample ample' =
       does_alike s s' alike w w' t t' (once (Withdraw entry)) (once (Withdraw entry)) (flat_map (said_of_withdrawal entry)) (flat_map (said_of_withdrawal entry))
       (once_alike (Withdraw entry) (Withdraw entry) refl)
       (λ rs rs' all. all_said_alike (said_of_withdrawal entry) (said_of_withdrawal_alike entry) rs rs' all) does does' ample ample'
 
-  served_same : (clauses : List Clause) → Serves clauses s w t → Serves clauses s' w' t' → w.lacking ≡ false → w'.lacking ≡ false → WriteAlike w w' t t'
+  served_same : (clauses : List Clause) → BindsRequest clauses s w t → BindsRequest clauses s' w' t' → w.out_of_memory ≡ false → w'.out_of_memory ≡ false → WriteAlike w w' t t'
   served_same clauses here here' ample ample' =
       does_alike s s' alike w w' t t' (serving (queue_asked clauses) here.request) (serving (queue_asked clauses) here'.request)
       (flat_map (told s.timelines)) (flat_map (told s'.timelines))
@@ -98,7 +98,7 @@ module _ (s s' t t' : SessionState) (w w' : Written) (alike : AreAlikeStates s s
 
   limits_line_same : (buffers mappings items : ℕ) → Runs (line.Limits buffers mappings items) s w t → Runs (line.Limits buffers mappings items) s' w' t' → WriteAlike w w' t t'
   limits_line_same buffers mappings items here here' =
-      let limits = caps_of buffers mappings items in
+      let limits = line_limits buffers mappings items in
       record {
         text = ap (λ (x : Written). x.text) here.2 ∙ sym (ap (λ (x : Written). x.text) here'.2);
         states = moved_states (record (begun s) { world = empty_world s.world.vm.space.area limits }) (record (begun s') { world = empty_world s'.world.vm.space.area limits }) t t' here.3 here'.3
@@ -154,7 +154,7 @@ module _ (s s' t t' : SessionState) (w w' : Written) (alike : AreAlikeStates s s
   id_same : (name : List ℕ) (id id' : BufferId) → buffer_named s.buffers name ≡ Some id → buffer_named s'.buffers name ≡ Some id' → id ≡ id'
   id_same name id id' is is' = same_Some id id' (sym is ∙ ap (λ (buffers : Buffers). buffer_named buffers name) alike.buffers ∙ is')
 
-  destroy_line_same : (name : List ℕ) → Runs (line.Destroy name) s w t → Runs (line.Destroy name) s' w' t' → w.lacking ≡ false → w'.lacking ≡ false → WriteAlike w w' t t'
+  destroy_line_same : (name : List ℕ) → Runs (line.Destroy name) s w t → Runs (line.Destroy name) s' w' t' → w.out_of_memory ≡ false → w'.out_of_memory ≡ false → WriteAlike w w' t t'
   destroy_line_same name here here' ample ample' =
       let x = of_there (buffer_named s.buffers name) (λ id. DoesOnce (Destroy id) s w t) here in
       let x' = of_there (buffer_named s'.buffers name) (λ id. DoesOnce (Destroy id) s' w' t') here' in
@@ -168,7 +168,7 @@ module _ (s s' t t' : SessionState) (w w' : Written) (alike : AreAlikeStates s s
       (ap (λ (table : BuffersState). uses_said table x.0) (table_alike s.world.vm s'.world.vm alike.worlds.vm)
       ∙ ap (uses_said s'.world.vm.space.buffers) (id_same name x.0 x'.0 x.1 x'.1)) x.2 x'.2
 
-  raise_line_same : (point : NamedPoint) → Runs (line.Raise point) s w t → Runs (line.Raise point) s' w' t' → w.lacking ≡ false → w'.lacking ≡ false → WriteAlike w w' t t'
+  raise_line_same : (point : NamedPoint) → Runs (line.Raise point) s w t → Runs (line.Raise point) s' w' t' → w.out_of_memory ≡ false → w'.out_of_memory ≡ false → WriteAlike w w' t t'
   raise_line_same point here here' ample ample' =
       let x = of_there (point_named s.timelines point) (λ p. DoesOnce (Raise p) s w t) here in
       let x' = of_there (point_named s'.timelines point) (λ p. DoesOnce (Raise p) s' w' t') here' in
@@ -198,7 +198,7 @@ module _ (s s' t t' : SessionState) (w w' : Written) (alike : AreAlikeStates s s
   -- a job
 
   job_line_same : (accesses : List Access) → BeginsJob accesses s w t ⊎ HasTooMany accesses s w t → BeginsJob accesses s' w' t' ⊎ HasTooMany accesses s' w' t' →
-      w.lacking ≡ false → w'.lacking ≡ false → WriteAlike w w' t t'
+      w.out_of_memory ≡ false → w'.out_of_memory ≡ false → WriteAlike w w' t t'
   job_line_same accesses (inl here) (inl here') ample ample' =
       once_same (JobBegin here.list) (JobBegin here'.list) (here.list_is ∙ sym here'.list_is) here.does here'.does ample ample'
   job_line_same accesses (inl here) (inr here') ample ample' = too_many_alike accesses s s' t t' w w' alike here here' ample
@@ -209,7 +209,7 @@ module _ (s s' t t' : SessionState) (w w' : Written) (alike : AreAlikeStates s s
       answers_alike s s' alike w w' t t' (refused_reply TooManyAccesses) (refused_reply TooManyAccesses) refl here.1 here'.1
 
   -- any line
-  pub line_alike : (l : Line) → Runs l s w t → Runs l s' w' t' → w.lacking ≡ false → w'.lacking ≡ false → WriteAlike w w' t t'
+  pub line_alike : (l : Line) → Runs l s w t → Runs l s' w' t' → w.out_of_memory ≡ false → w'.out_of_memory ≡ false → WriteAlike w w' t t'
   line_alike line.Silent here here' ample ample' = record {
     text = ap (λ (x : Written). x.text) here.0 ∙ sym (ap (λ (x : Written). x.text) here'.0);
     states = moved_states s s' t t' here.1 here'.1 alike;

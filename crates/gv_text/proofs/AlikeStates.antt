@@ -71,12 +71,12 @@ module _ (s s' : SessionState) (alike : AreAlikeStates s s') where
 
     -- plans that ask the same
     pub does_alike : (plan plan' : Plan) (say say' : List Reply → List ℕ) → AskAlike plan plan' → ((rs rs' : List Reply) → AreAllAlike rs rs' → say rs ≡ say' rs') →
-        Does plan say s w t → Does plan' say' s' w' t' → w.lacking ≡ false → w'.lacking ≡ false → WriteAlike w w' t t'
+        Does plan say s w t → Does plan' say' s' w' t' → w.out_of_memory ≡ false → w'.out_of_memory ≡ false → WriteAlike w w' t t'
     does_alike plan plan' say say' ask same does does' lacks lacks' =
         let stay : StayAlike does.replies does'.replies t.world t'.world =
         carried_alike plan plan' does.replies does'.replies s.world s'.world t.world t'.world alike.worlds ask does.carried_out does'.carried_out
-        (are_ample does.replies (ap (λ (x : Written). x.lacking) (sym does.written) ∙ lacks))
-        (are_ample does'.replies (ap (λ (x : Written). x.lacking) (sym does'.written) ∙ lacks')) in
+        (are_ample does.replies (ap (λ (x : Written). x.out_of_memory) (sym does.written) ∙ lacks))
+        (are_ample does'.replies (ap (λ (x : Written). x.out_of_memory) (sym does'.written) ∙ lacks')) in
         record {
           text = ap (λ (x : Written). x.text) does.written ∙ same does.replies does'.replies stay.replies_are ∙ sym (ap (λ (x : Written). x.text) does'.written);
           states = moved_states (record (begun s) { world = t.world }) (record (begun s') { world = t'.world }) t t' does.state does'.state (goes_on t.world t'.world stay.worlds);

@@ -11,7 +11,7 @@ use Rattle.gv_text.specs.Script.{Replies, IsFront, IsStart, refusals_of}
 
 Replies-more : (old mid new : SessionState) (lines : List (List ℕ)) (line text : List ℕ) (here : Written) (refusals : ℕ) →
     Replies old lines text mid refusals → RunsText line mid here new →
-    Replies old (lines ++ line ∷ []) (text ++ here.text) new (refusals + refusals_of here.lacking)
+    Replies old (lines ++ line ∷ []) (text ++ here.text) new (refusals + refusals_of here.out_of_memory)
 Replies-more old mid new [] line text here refusals before ran = (
   here,
   new,
@@ -26,7 +26,7 @@ Replies-more old mid new (first ∷ lines) line text here refusals before ran = 
   before.0,
   before.1,
   before.2 ++ here.text,
-  before.3 + refusals_of here.lacking,
+  before.3 + refusals_of here.out_of_memory,
   before.4,
   Replies-more before.1 mid new lines line before.2 here before.3 before.5 ran,
   rw before.6 (append_assoc before.0.text before.2 here.text),
@@ -39,7 +39,7 @@ front_start script = record { lines = []; cut = refl; run = (refl, refl, refl); 
 
 pub front_more : (script text line : List ℕ) (here : Written) (rest : List (List ℕ)) (count refusals : ℕ) (now new : SessionState) →
     IsFront script text (line ∷ rest) count refusals now → RunsText line now here new →
-    IsFront script (text ++ here.text) rest (count + 1) (refusals + refusals_of here.lacking) new
+    IsFront script (text ++ here.text) rest (count + 1) (refusals + refusals_of here.out_of_memory) new
 front_more script text line here rest count refusals now new front ran = record {
   lines = front.lines ++ line ∷ [];
   cut = front.cut ∙ sym (append_assoc front.lines (line ∷ []) rest);

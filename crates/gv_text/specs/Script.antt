@@ -21,7 +21,7 @@ Replies old [] text new refusals = (text ≡ []) × (new ≡ old) × (refusals �
 Replies old (line ∷ lines) text new refusals =
     (here : Written) × (mid : SessionState) × (after : List ℕ) × (more : ℕ)
     × RunsText line old here mid × Replies mid lines after new more
-    × (text ≡ here.text ++ after) × (refusals ≡ refusals_of here.lacking + more)
+    × (text ≡ here.text ++ after) × (refusals ≡ refusals_of here.out_of_memory + more)
 
 -- The text is the replies of a front of the script's lines, `count` of them, and the rest of the script follows:
 -- lines, and at last what stands behind the last line end.

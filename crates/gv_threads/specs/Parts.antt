@@ -8,7 +8,7 @@ use Rattle.gv_lines.specs.Words.{parts}
 use Rattle.gv_lines.specs.declared.clause.Clause.{Clause}
 use Rattle.gv_lines.specs.declared.line.Line.{Line}
 use Rattle.gv_lines.specs.declared.line.Line.TheVariants as line
-use Rattle.gv_session.specs.Line.{caps_of}
+use Rattle.gv_session.specs.Line.{line_limits}
 use Rattle.gv_session.specs.Question.{IsQuestion}
 use Rattle.gv_threads.specs.Script.{ThreadsScriptState}
 use Rattle.gv_threads.specs.declared.setting.Setting.{Setting}
@@ -39,7 +39,7 @@ areas_in other = []
 
 -- the limits that a line sets
 abbrev pub limits_in : Line → List LimitsState
-limits_in (line.Limits buffers mappings items) = caps_of buffers mappings items ∷ []
+limits_in (line.Limits buffers mappings items) = line_limits buffers mappings items ∷ []
 limits_in other = []
 
 -- the clauses of a line of the second part

@@ -11,7 +11,7 @@ use Rattle.gv_lines.specs.declared.clause.Clause.TheVariants.{Change, Wait, Sign
 use Rattle.gv_lines.specs.declared.line.Line.{Line}
 use Rattle.gv_lines.specs.declared.line.Line.TheVariants as line
 use Rattle.gv_session.specs.Asking.{point_named}
-use Rattle.gv_session.specs.Line.{MayDeclare, MaySetLimits, caps_of}
+use Rattle.gv_session.specs.Line.{MayDeclare, MaySetLimits, line_limits}
 use Rattle.gv_session.specs.State.{timeline_named}
 use Rattle.gv_session.specs.declared.stage.Stage.{Stage}
 use Rattle.gv_session.specs.declared.stage.Stage.TheVariants.{Fresh, Bounded, Begun}
@@ -81,7 +81,7 @@ AreTimed timelines (Queue queue ∷ more) = AreTimed timelines more
 -- a line is of the first part, and what it sets, declares or raises may be
 abbrev pub MaySet : Standing → Line → Type 0
 MaySet p (line.Space start len reserved_start reserved_len) = (p.stage ≡ Fresh) × IsSome (byte_area start len reserved_start reserved_len)
-MaySet p (line.Limits buffers mappings items) = MaySetLimits p.stage × IsWithin (caps_of buffers mappings items)
+MaySet p (line.Limits buffers mappings items) = MaySetLimits p.stage × IsWithin (line_limits buffers mappings items)
 MaySet p (line.Timeline name) = MayDeclare p.timelines name
 MaySet p (line.Buffer name pages) = Unit {0}
 MaySet p (line.Raise point) = IsSome (point_named p.timelines point)

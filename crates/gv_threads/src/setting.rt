@@ -1,7 +1,7 @@
 //! The lines of the first part of a threads script, read.
 ghost use Rattle.std.specs.Prelude.{◌≡◌, ◌++◌, ◌∷◌, [], Err, IfOk, IsErr, IsSome, OnOk};
 ghost use Rattle.gv_types.specs.Limits.{IsWithin};
-ghost use Rattle.gv_session.specs.Line.{MaySetLimits, caps_of};
+ghost use Rattle.gv_session.specs.Line.{MaySetLimits, line_limits};
 ghost use Rattle.gv_threads.specs.Parts.{areas_in, areas_of, last_of, limits_in, settings_in, timelines_in};
 ghost use Rattle.gv_threads.specs.Standing.{MaySet, standing_of, stages_in};
 
@@ -91,9 +91,9 @@ impl<'a> ThreadsScript<'a> {
         items: u64,
     ) -> Result<Setting, LineFault>
         ensures done { IfOk result (λ setting. setting ≡ Setting.Stands) }
-        ensures state { OnOk result (self.new ≡ record self.old { limits = caps_of buffers mappings items }) }
-        ensures may { OnOk result (MaySetLimits stage × IsWithin (caps_of buffers mappings items)) }
-        ensures bad { IsErr result → ¬ (MaySetLimits stage × IsWithin (caps_of buffers mappings items)) }
+        ensures state { OnOk result (self.new ≡ record self.old { limits = line_limits buffers mappings items }) }
+        ensures may { OnOk result (MaySetLimits stage × IsWithin (line_limits buffers mappings items)) }
+        ensures bad { IsErr result → ¬ (MaySetLimits stage × IsWithin (line_limits buffers mappings items)) }
         ensures queues { self.new.queues ≡ self.old.queues }
     {
         if stage == Stage::Begun {

@@ -10,7 +10,7 @@ use Rattle.gv_journal.specs.Bare.{BareBind, BareItem, BareJournal, bind_of, bare
 use Rattle.gv_journal.specs.declared.item.ItemKind.{ItemKind}
 use Rattle.gv_journal.specs.declared.item.ItemKind.TheVariants.{Bind, Withdrawal}
 use Rattle.gv_journal.proofs.BareItemLemmas.{position-map}
-use Rattle.gv_vm.specs.Outcomes.{most_told, told_to}
+use Rattle.gv_vm.specs.Outcomes.{lifetime_told, told_to}
 use Rattle.gv_vm.specs.State.{VmState, forgotten_of, told_limit}
 use Rattle.gv_vm.specs.Forgetting.{is_told_below, held_below, forget_fault, with_forgotten}
 use Rattle.gv_vm.specs.Alike.{AreAlikeVms}
@@ -51,8 +51,8 @@ module _ (v v' : VmState) (alike : AreAlikeVms v v') where
 
   pub told_limit_alike : (queue : ℕ) → told_limit v queue ≡ told_limit v' queue
   told_limit_alike queue =
-      ap (λ k. min most_told (k + v.space.limits.told)) (forgotten_of_alike queue)
-      ∙ ap (λ (s : SpaceState). min most_told (forgotten_of v' queue + s.limits.told)) alike.space
+      ap (λ k. min lifetime_told (k + v.space.limits.told)) (forgotten_of_alike queue)
+      ∙ ap (λ (s : SpaceState). min lifetime_told (forgotten_of v' queue + s.limits.told)) alike.space
 
   pub vm_forgotten : (queue to : ℕ) → AreAlikeVms (with_forgotten v queue to) (with_forgotten v' queue to)
   vm_forgotten queue to = record {

@@ -18,7 +18,7 @@ use Rattle.gv_vm.proofs.AlikeTurnLemmas.{vms_alike}
 use Rattle.gv_vm.proofs.AlikeTakingLemmas.{moved, put_step, take_step}
 use Rattle.gv_vm.proofs.AlikeServingLemmas.{look_step, bind_step, give_up_step, pay_step, raise_step}
 use Rattle.gv_vm.proofs.AlikeAnsweringLemmas.{IsRefusal, call_pair, create_step, destroy_step, trim_step, translate_step}
-use Rattle.gv_vm.proofs.AlikeRewindingLemmas.{rewind_step, withdraw_step, settle_step, forget_step}
+use Rattle.gv_vm.proofs.AlikeUndoStepLemmas.{rewind_step, withdraw_step, settle_step, forget_step}
 
 -- A job begins.
 

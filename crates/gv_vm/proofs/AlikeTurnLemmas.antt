@@ -8,7 +8,7 @@ use Rattle.gv_sync.specs.Raises.{with_raise}
 use Rattle.gv_sync.specs.Sights.{Sight}
 use Rattle.gv_journal.specs.Bare.{BareRequest, bare_request}
 use Rattle.gv_vm.specs.Outcomes.{with_outcome}
-use Rattle.gv_vm.specs.Told.{IsBoundAndTold, seen_by}
+use Rattle.gv_vm.specs.BindOutcome.{IsBoundAndTold, seen_by}
 use Rattle.gv_vm.specs.World.{WorldState, HandState, queue_at}
 use Rattle.gv_vm.specs.Step.{owed_for, IsBoundNow, IsGivenUp, IsPaidNow, IsRaisedNow}
 use Rattle.gv_vm.specs.Alike.{BareHand, bare_hand, BareQueue, bare_queue, AreAlikeVms, AreAlikeWorlds, IsAmple}

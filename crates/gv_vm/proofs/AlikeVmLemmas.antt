@@ -24,7 +24,7 @@ use Rattle.gv_vm.specs.Places.{place_at}
 use Rattle.gv_vm.specs.Jobs.{JobsState, JobState, begin_fault, end_fault, without_job, all_held, job_state, IsBegun, IsEnded}
 use Rattle.gv_vm.specs.State.{VmState, HasOtherBuffers, HasOtherJobs}
 use Rattle.gv_vm.specs.Outcomes.{with_outcome}
-use Rattle.gv_vm.specs.Told.{CameTo, IsBoundAndTold}
+use Rattle.gv_vm.specs.BindOutcome.{CameTo, IsBoundAndTold}
 use Rattle.gv_vm.specs.Trimming.{held_from, trim_fault}
 use Rattle.gv_vm.specs.Step.{event_fault, rewind_fault}
 use Rattle.gv_vm.proofs.AlikeForgettingLemmas.{forget_fault_alike}

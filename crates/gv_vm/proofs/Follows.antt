@@ -15,7 +15,7 @@ use Rattle.gv_journal.specs.declared.item.Item.{Item}
 use Rattle.gv_vm.specs.State.{VmState}
 use Rattle.gv_vm.specs.World.{WorldState, HandState, QueueState, new_queue, new_world, queue_at, next_number}
 use Rattle.gv_vm.specs.Outcomes.{told_to, with_outcome}
-use Rattle.gv_vm.specs.Told.{CameTo}
+use Rattle.gv_vm.specs.BindOutcome.{CameTo}
 use Rattle.gv_vm.specs.Step.{step, owed_for, CanBind, IsBoundNow, IsGivenUp, IsPaidNow, IsReachedNow, IsLackingNow, IsRewoundNow, IsWithdrawnNow, IsSettledNow, IsForgottenNow}
 use Rattle.gv_vm.specs.Run.{IsRunOf}
 use Rattle.gv_vm.specs.Past.{Past, HasReached, IsInTurn, HasReachedAll, no_past, one_more, past_from, due_for, HoldsPut, IsQueueAfter, AreHeldAsPut, AreAfter, IsAfterPast}

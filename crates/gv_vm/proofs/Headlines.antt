@@ -20,7 +20,7 @@ use Rattle.gv_journal.specs.Binding.{IsRewound}
 use Rattle.gv_journal.specs.declared.item.Item.{Item}
 use Rattle.gv_vm.specs.State.{VmState, IsVm}
 use Rattle.gv_vm.specs.World.{WorldState}
-use Rattle.gv_vm.specs.Told.{CameTo}
+use Rattle.gv_vm.specs.BindOutcome.{CameTo}
 use Rattle.gv_types.specs.declared.request.Request.{Request}
 use Rattle.gv_vm.specs.Step.{step, IsStep, IsGivenUp}
 use Rattle.gv_vm.specs.Headline.{EachPageTranslates, LeavesAll, TakesBack, SaysOfOutcome, SaysOfReply, Says}

@@ -16,7 +16,7 @@ use Rattle.gv_journal.specs.Applying.{all_do, after_all}
 use Rattle.gv_journal.specs.Binding.{IsRewound}
 use Rattle.gv_journal.specs.Withdrawing.{after_restore, after_withdrawal, list_before, ops_at, IsWithdrawn}
 use Rattle.gv_vm.specs.State.{VmState}
-use Rattle.gv_vm.specs.Told.{CameTo}
+use Rattle.gv_vm.specs.BindOutcome.{CameTo}
 use Rattle.gv_vm.specs.declared.outcome.Outcome.{Outcome}
 use Rattle.gv_vm.specs.declared.outcome.Outcome.TheVariants.{Accepted, Refused, NotReady}
 

@@ -12,7 +12,7 @@ use Rattle.gv_types.specs.declared.request.Request.{Request}
 use Rattle.gv_sync.specs.Raises.{IsReached, with_raise}
 use Rattle.gv_sync.specs.Sights.{Sight, sight}
 use Rattle.gv_vm.specs.Outcomes.{told_to, with_outcome, tell_fault}
-use Rattle.gv_vm.specs.Told.{IsBoundAndTold, seen_by}
+use Rattle.gv_vm.specs.BindOutcome.{IsBoundAndTold, seen_by}
 use Rattle.gv_vm.specs.State.{VmState, told_limit}
 use Rattle.gv_vm.specs.World.{WorldState, HandState, QueueState, put_fault_of, new_queue, queue_at, with_queue, next_number, next_wait, seen_at}
 use Rattle.gv_vm.specs.Turns.{IsPutReply, MayTake, TookFront, wait_in, wait_of, hand_reached, with_reached, hand_lacked, with_lacked, IsReadyToBind, IsLacking, without_hand, PaidFirst, IsToldLacking}

@@ -6,7 +6,7 @@ use Rattle.std.proofs.lemmas.Bool.{eqb-true, eqb-false}
 use Rattle.std.proofs.lemmas.List.{get_or-set_same, get_or-set_other, length-set, length-append}
 use Rattle.gv_types.specs.Limits.{LimitsState}
 use Rattle.gv_types.specs.declared.request.Point.{Point}
-use Rattle.gv_vm.specs.Outcomes.{most_told, told_to, with_outcome}
+use Rattle.gv_vm.specs.Outcomes.{lifetime_told, told_to, with_outcome}
 use Rattle.gv_vm.specs.State.{VmState, forgotten_of, told_limit}
 use Rattle.gv_vm.specs.declared.outcome.Outcome.{Outcome}
 use Rattle.gv_vm.specs.World.{WorldState, HandState, QueueState, new_queue, queue_at, with_queue, next_number}
@@ -30,8 +30,8 @@ pub record IsLike (w new : WorldState) : Type 0 where
 -- so the limit of each queue is the same
 limit_like : (w new : WorldState) (n : ℕ) → IsLike w new → told_limit new.vm n ≡ told_limit w.vm n
 limit_like w new n like =
-    ap (λ (ls : List ℕ). min most_told (slice_index_or ls n 0 + new.vm.space.limits.told)) like.forgotten
-    ∙ ap (λ k. min most_told (forgotten_of w.vm n + k)) like.limit
+    ap (λ (ls : List ℕ). min lifetime_told (slice_index_or ls n 0 + new.vm.space.limits.told)) like.forgotten
+    ∙ ap (λ k. min lifetime_told (forgotten_of w.vm n + k)) like.limit
 
 -- what is said of the queue with this number
 abbrev pub IsOf : WorldState → ℕ → QueueState → Type 0

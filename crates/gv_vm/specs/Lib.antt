@@ -9,7 +9,7 @@ pub mod Forgetting
 pub mod HeldInside
 pub mod Trimming
 pub mod VmInside
-pub mod Told
+pub mod BindOutcome
 pub mod World
 pub mod Queues
 pub mod WorldInside

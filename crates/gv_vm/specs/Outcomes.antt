@@ -14,8 +14,8 @@ abbrev pub forgotten_outcome : Outcome
 forgotten_outcome = Refused 0 OutOfMemory
 
 -- so many outcomes a queue is told in its life
-abbrev pub most_told : ℕ
-most_told = 2 ^ 63
+abbrev pub lifetime_told : ℕ
+lifetime_told = 2 ^ 63
 
 -- what a queue was told, the first outcome first: an outcome's number is its place
 abbrev pub told_to : List (List Outcome) → ℕ → List Outcome

@@ -12,7 +12,7 @@ use Rattle.gv_journal.specs.History.{base, kept_by, Translates, UndoSavesTheView
 use Rattle.gv_journal.specs.declared.item.ItemKind.{ItemKind}
 use Rattle.gv_journal.specs.declared.item.ItemKind.TheVariants.{Bind, Withdrawal}
 use Rattle.gv_vm.specs.Jobs.{JobsState, AreHeld, no_jobs}
-use Rattle.gv_vm.specs.Outcomes.{queues, most_told, told_to}
+use Rattle.gv_vm.specs.Outcomes.{queues, lifetime_told, told_to}
 use Rattle.gv_vm.specs.declared.outcome.Outcome.{Outcome}
 use Rattle.gv_vm.specs.declared.outcome.Outcome.TheVariants.{Accepted}
 
@@ -45,7 +45,7 @@ forgotten_of v queue = slice_index_or v.forgotten queue 0
 
 -- how many outcomes a queue may be told: as many as the limit says beside those that are forgotten
 abbrev pub told_limit : VmState → ℕ → ℕ
-told_limit v queue = min most_told (forgotten_of v queue + v.space.limits.told)
+told_limit v queue = min lifetime_told (forgotten_of v queue + v.space.limits.told)
 
 -- `uses` counts the list, `kept` what undo values keep, and every buffer that one of these or a running job's place names
 -- is alive; each mapping lies inside its buffer, inside the bounds and off the reserved region

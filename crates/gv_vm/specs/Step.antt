@@ -22,7 +22,7 @@ use Rattle.gv_vm.specs.Jobs.{begin_fault, end_fault, IsBegun, IsEnded, IsBeginRe
 use Rattle.gv_vm.specs.Outcomes.{with_outcome}
 use Rattle.gv_vm.specs.Forgetting.{forget_fault, with_forgotten}
 use Rattle.gv_vm.specs.Trimming.{trim_fault}
-use Rattle.gv_vm.specs.Told.{IsBoundAndTold, seen_by}
+use Rattle.gv_vm.specs.BindOutcome.{IsBoundAndTold, seen_by}
 use Rattle.gv_vm.specs.State.{VmState, forgotten_of, told_limit, HasOtherBuffers, HasOtherJobs}
 use Rattle.gv_vm.specs.World.{WorldState, HandState, put_fault_of, queue_at, with_queue, taken, next_number, next_wait, seen_at}
 use Rattle.gv_vm.specs.declared.event.Event.{Event}

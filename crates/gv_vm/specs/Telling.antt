@@ -1,7 +1,7 @@
 -- The lists of outcomes with their room. No public clause cites this module.
 use Rattle.std.specs.Prelude.{ℕ, ◌+◌, ◌-◌, ◌<◌, ◌≤◌, ◌++◌, List, map, length, drop, replicate, slice_index_or, vec_len, vec_capacity}
 use Rattle.std.specs.Global.{Vec}
-use Rattle.gv_vm.specs.Outcomes.{forgotten_outcome, most_told}
+use Rattle.gv_vm.specs.Outcomes.{forgotten_outcome, lifetime_told}
 use Rattle.gv_vm.specs.declared.outcome.Outcome.{Outcome}
 use Rattle.gv_vm.specs.declared.told.Told.TheInside.{Inside}
 
@@ -22,7 +22,7 @@ told_of t =
 
 pub record IsSoundTold (t : Inside) : Type 0 where
   pub within : t.gone ≤ length t.outcomes.items
-  pub few : t.first + length t.outcomes.items ≤ t.gone + most_told
+  pub few : t.first + length t.outcomes.items ≤ t.gone + lifetime_told
 
 abbrev pub Lists : Type 0
 Lists = Vec ToldState
@@ -42,7 +42,7 @@ HaveQueue told queue = queue < length told.items
 -- there is room for one outcome more
 pub record HasSlot (t : ToldState) : Type 0 where
   pub room : 0 < t.room
-  pub few : length t.list < most_told
+  pub few : length t.list < lifetime_told
 
 -- there is room for one outcome more of this queue
 abbrev pub HasRoomToTell : Lists → ℕ → Type 0

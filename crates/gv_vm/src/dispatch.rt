@@ -3,7 +3,7 @@ ghost use Rattle.std.specs.Prelude.{◌≡◌, ◌≤◌, map, take, IfOk, OnOk}
 ghost use Rattle.std.specs.List.{All};
 ghost use Rattle.gv_journal.specs.State.{FitsSpace};
 ghost use Rattle.gv_vm.specs.State.{roomless};
-ghost use Rattle.gv_vm.specs.Told.{CameTo, seen_by};
+ghost use Rattle.gv_vm.specs.BindOutcome.{CameTo, seen_by};
 
 use crate::outcome::Outcome;
 use gv_journal::{Journal, ReadyRequest, Refusal};

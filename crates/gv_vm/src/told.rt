@@ -1,6 +1,6 @@
 //! The outcomes of each queue.
 ghost use Rattle.std.specs.Prelude.{◌≡◌, ◌<◌, ◌≤◌, ◌++◌, ◌∷◌, min, replicate, length, take, drop, [], IfOk, IsOkUnless, OnOk, MatchOption};
-ghost use Rattle.gv_vm.specs.Outcomes.{queues, with_outcome, tell_fault, forgotten_outcome, most_told};
+ghost use Rattle.gv_vm.specs.Outcomes.{queues, with_outcome, tell_fault, forgotten_outcome, lifetime_told};
 ghost use Rattle.gv_vm.specs.Telling.{lists_of, forgotten_in, HasRoomToTell, HaveQueue};
 
 use crate::outcome::Outcome;
@@ -12,10 +12,10 @@ use std::marker::Model;
 pub const QUEUES: usize = 16;
 
 /// The greatest number of outcomes that a queue has in its life.
-pub const MOST_TOLD: u64 = 1 << 63;
+pub const LIFETIME_TOLD: u64 = 1 << 63;
 
-/// The outcomes of a queue. Of the first ones, which are forgotten, only the count is kept. Of those in the list the first `gone` are
-/// forgotten too: they are removed once they are at least half of the list.
+/// The outcomes of a queue. The first `first` of them are forgotten. The last `gone` of these are still in the list: they are
+/// removed once they are at least half of it.
 #[derive(Drop)]
 pub struct Told {
     first: u64,
@@ -51,7 +51,7 @@ impl Told {
     /// The number of the next outcome.
     pub fn next(&self) -> u64
         ensures number { result ≡ length self.now.list }
-        ensures few { result ≤ most_told }
+        ensures few { result ≤ lifetime_told }
     {
         self.first + (self.outcomes.len() - self.gone) as u64
     }
@@ -84,7 +84,7 @@ impl Told {
     fn reserve(&mut self) -> Result<(), OutOfMemory>
         ensures list { self.new.list ≡ self.old.list }
         ensures forgotten { self.new.forgotten ≡ self.old.forgotten }
-        ensures room { OnOk result (length self.old.list < most_told → HasSlot self.new) }
+        ensures room { OnOk result (length self.old.list < lifetime_told → HasSlot self.new) }
     {
         self.outcomes.reserve(1)?;
         Ok(())
@@ -99,7 +99,7 @@ impl Told {
         self.outcomes.push_reserved(outcome);
     }
 
-    /// Drops those below a number. It takes no memory.
+    /// Forgets those below a number. It takes no memory.
     pub fn forget(&mut self, to: u64)
         requires from { self.old.forgotten ≤ to }
         requires up_to { to ≤ length self.old.list }
@@ -122,7 +122,7 @@ impl Told {
         self.outcomes.shrink_to_fit();
     }
 
-    /// Drops what is left of forgotten ones.
+    /// Removes forgotten ones from the list.
     fn compact(&mut self)
         ensures list { self.new.list ≡ self.old.list }
         ensures forgotten { self.new.forgotten ≡ self.old.forgotten }
@@ -134,7 +134,7 @@ impl Told {
     }
 }
 
-/// Sixteen queues without outcomes.
+/// `QUEUES` queues without outcomes.
 pub fn nothing_told(alloc: Global) -> Result<Vec<Told>, OutOfMemory>
     ensures none { IfOk result (λ told. lists_of told ≡ replicate queues []) }
     ensures forgotten { IfOk result (λ told. forgotten_in told ≡ replicate queues 0) }
@@ -160,7 +160,7 @@ pub fn shrink_all(told: &mut Vec<Told>)
 /// with the next number if this is another, then `OutOfMemory`.
 pub fn prepare(told: &mut Vec<Told>, limit: u64, queue: u64, number: u64) -> Result<(), Fault>
     requires queue { HaveQueue told.old queue }
-    requires limit { limit ≤ most_told }
+    requires limit { limit ≤ lifetime_told }
     ensures fault { MatchOption (tell_fault limit (lists_of told.old) queue number)
         (IsOkUnless result Fault.OutOfMemory) (λ fault. result ≡ Err fault) }
     ensures room { OnOk result (HasRoomToTell told.new queue) }

@@ -8,7 +8,7 @@ ghost use Rattle.gv_space.specs.Refusal.{operation_fault};
 ghost use Rattle.gv_space.specs.State.{TableMatchesList};
 ghost use Rattle.gv_vm.specs.Places.{place_at, run_of};
 ghost use Rattle.gv_vm.specs.Outcomes.{queues, told_to, with_outcome, tell_fault};
-ghost use Rattle.gv_vm.specs.Told.{IsBoundAndTold, seen_by};
+ghost use Rattle.gv_vm.specs.BindOutcome.{IsBoundAndTold, seen_by};
 
 use crate::dispatch::{dispatch, seen_of};
 use crate::jobs::{Access, Job, Jobs};

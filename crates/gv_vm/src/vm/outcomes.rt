@@ -1,14 +1,14 @@
 //! The outcomes of the queues, and how they are dropped.
 ghost use Rattle.std.specs.Prelude.{◌≡◌, ◌+◌, ◌<◌, ◌≤◌, ◌++◌, min, length, take, drop, replicate, position, None, IfOk, IsOk, OnOk, OnErr, MatchOption};
 ghost use Rattle.gv_journal.specs.Notes.{lesser};
-ghost use Rattle.gv_vm.specs.Outcomes.{queues, most_told, told_to, forgotten_outcome};
+ghost use Rattle.gv_vm.specs.Outcomes.{queues, lifetime_told, told_to, forgotten_outcome};
 ghost use Rattle.gv_vm.specs.Forgetting.{forget_fault, held_below, is_told_below, with_forgotten};
 ghost use Rattle.gv_vm.specs.HeldInside.{held_by, least_held};
 ghost use Rattle.gv_vm.specs.State.{forgotten_of, told_limit};
 
 use super::Vm;
 use crate::outcome::Outcome;
-use crate::told::{MOST_TOLD, QUEUES};
+use crate::told::{LIFETIME_TOLD, QUEUES};
 use gv_journal::{HeldItem, Item, ItemKind};
 use gv_types::Fault;
 
@@ -34,7 +34,7 @@ impl Vm {
     pub fn told_next(&self, queue: u64) -> u64
         requires { queue < queues }
         ensures number { result ≡ length (told_to self.now.told queue) }
-        ensures few { result ≤ most_told }
+        ensures few { result ≤ lifetime_told }
     {
         self.told[queue as usize].next()
     }
@@ -44,7 +44,7 @@ impl Vm {
         requires { queue < queues }
         ensures { result ≡ told_limit self.now queue }
     {
-        MOST_TOLD.min(self.told_from(queue).saturating_add(self.limits().told()))
+        LIFETIME_TOLD.min(self.told_from(queue).saturating_add(self.limits().told()))
     }
 
     /// Drops the outcomes of a queue whose numbers are below this one, and answers how many. `NoOutcome` if the number is below

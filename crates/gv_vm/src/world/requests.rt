@@ -3,7 +3,7 @@ ghost use Rattle.std.specs.Prelude.{◌≡◌, ◌≢◌, ◌<◌, map, None, On
 ghost use Rattle.gv_vm.specs.World.{next_wait};
 ghost use Rattle.gv_vm.specs.Outcomes.{queues, told_to, tell_fault};
 ghost use Rattle.gv_vm.specs.State.{told_limit};
-ghost use Rattle.gv_vm.specs.Told.{IsBoundAndTold, seen_by};
+ghost use Rattle.gv_vm.specs.BindOutcome.{IsBoundAndTold, seen_by};
 ghost use Rattle.gv_vm.specs.Step.{owed_in, owed_for};
 ghost use Rattle.gv_vm.specs.Turns.{IsToldLacking, IsPutReply};
 

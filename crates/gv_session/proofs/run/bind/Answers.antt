@@ -1,7 +1,7 @@
 use Rattle.std.proofs.Common.{subst, refl, ℕ}
 use Rattle.std.specs.List.{flat_map, list_any}
 use Rattle.gv_vm.specs.Plans.{serving, IsCarriedOut}
-use Rattle.gv_session.specs.Said.{told, is_lacking}
+use Rattle.gv_session.specs.Said.{told, reply_out_of_memory}
 use Rattle.gv_session.proofs.AnswerLemmas.{then_ok}
 use Rattle.gv_lines.specs.declared.line.Line.TheVariants as line
 use Rattle.gv_session.proofs.StoppedLemmas.{leaves_any, leaves_amid}
@@ -12,7 +12,7 @@ returns-clause-done c =
     let s = c.args.session.now in
     let asked = c.in_ok-asked.asked in
     then_ok c.serve.result _ _ (λ ran. record {
-      written = record { text = flat_map (told s.timelines) ran.0; lacking = list_any is_lacking ran.0 };
+      written = record { text = flat_map (told s.timelines) ran.0; out_of_memory = list_any reply_out_of_memory ran.0 };
       text = ran.1.wrote;
       runs = record {
         request = asked.1;

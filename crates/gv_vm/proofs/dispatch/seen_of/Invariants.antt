@@ -1,6 +1,6 @@
 use Rattle.std.proofs.Common.{◌≡◌, ◌≤◌, length, take, vec_len, vec_capacity}
 use Rattle.std.specs.List.{All}
-use Rattle.gv_vm.specs.Told.{seen_by}
+use Rattle.gv_vm.specs.BindOutcome.{seen_by}
 use Rattle.gv_vm.proofs.dispatch.seen_of.Given as goal
 
 abbrev pub invariant-loop-point : goal.invariant-loop-point

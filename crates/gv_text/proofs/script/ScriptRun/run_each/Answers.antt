@@ -39,7 +39,7 @@ loop-line-preserved g c =
     let ran = c.in_ok-run_line.ensures.ends in
     record {
       text = c.loop-line.invariant.text ++ ran.0.text;
-      refusals = c.loop-line.invariant.refusals + refusals_of ran.0.lacking;
+      refusals = c.loop-line.invariant.refusals + refusals_of ran.0.out_of_memory;
       front = front_more _ _ _ _ _ _ _ _ _ front ran.1;
       wrote = Appends-trans _ _ _ _ _ c.loop-line.invariant.wrote ran.2;
       flag = c.in_ok-run_line.ensures.fault ∙ c.loop-line.invariant.flag;

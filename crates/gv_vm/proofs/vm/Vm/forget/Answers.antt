@@ -10,7 +10,7 @@ use Rattle.gv_vm.proofs.Lists.{list_of, list_forgotten, count_forgotten}
 use Rattle.gv_vm.proofs.Forgettings.{IsVm-forget, forgot, none_from}
 use Rattle.gv_vm.proofs.vm.Vm.forget.Goals as goal
 
--- nothing refuses it
+-- no fault
 none : (c : goal.After-self-1) → forget_fault (parts_of c.self.inside) c.args.queue c.args.to ≡ None
 none c =
     let v = c.args.self.now in
@@ -20,7 +20,7 @@ none c =
     subst (λ (x : VmState). forget_fault x c.args.queue c.args.to ≡ None) (sym c.self.view_is)
     (none_from v c.args.queue c.args.to there low high (sym c.held_below.ensures ∙ c.in_default.is))
 
--- what the queues were told
+-- the queues' outcomes afterwards
 list_is : (c : goal.After-self-1) → lists_of (with_item c.self.inside.told c.args.queue c.forget.new.self) ≡ (with_forgotten (parts_of c.self.inside) c.args.queue c.args.to).told
 list_is c =
     let less : c.args.queue < length c.self.inside.told.items = omega (arith, length-map c.self.inside.told.items list_of, c.self.invariant.queues, c.if-queue.false) in

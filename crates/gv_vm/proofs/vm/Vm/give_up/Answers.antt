@@ -4,7 +4,7 @@ use Rattle.gv_vm.specs.Telling.{lists_of, forgotten_in}
 use Rattle.gv_vm.specs.Outcomes.{with_outcome}
 use Rattle.gv_vm.specs.declared.outcome.Outcome.{Outcome}
 use Rattle.gv_vm.specs.declared.outcome.Outcome.TheVariants.{NotReady}
-use Rattle.gv_vm.proofs.Carried.{IsVm-told}
+use Rattle.gv_vm.proofs.OutcomeAdded.{IsVm-told}
 use Rattle.gv_vm.proofs.vm.Vm.give_up.Goals as goal
 
 pub invariant_of-self-2 : goal.invariant_of-self-2

@@ -3,7 +3,7 @@ use Rattle.gv_types.specs.declared.request.Point.{Point}
 use Rattle.gv_vm.specs.World.{WorldState, QueueState, HandState, queue_at, with_queue, next_number}
 use Rattle.gv_vm.specs.WorldInside.{world_of}
 use Rattle.gv_vm.specs.Queues.{AreQueues}
-use Rattle.gv_vm.specs.Told.{IsBoundAndTold, seen_by}
+use Rattle.gv_vm.specs.BindOutcome.{IsBoundAndTold, seen_by}
 use Rattle.gv_vm.specs.Turns.{IsReadyToBind}
 use Rattle.gv_vm.specs.Step.{step, CanBind, owed_for}
 use Rattle.gv_vm.specs.declared.event.Event.TheVariants.{Bind}

@@ -2,7 +2,7 @@ use Rattle.std.proofs.Common.{◌≡◌, ◌∙◌, List, ap, subst, reverse}
 use Rattle.gv_types.specs.declared.request.Point.{Point}
 use Rattle.gv_sync.specs.Sights.{Sight}
 use Rattle.gv_vm.specs.World.{HandState}
-use Rattle.gv_vm.specs.Told.{IsBoundAndTold, seen_by}
+use Rattle.gv_vm.specs.BindOutcome.{IsBoundAndTold, seen_by}
 use Rattle.gv_vm.specs.Step.{owed_for}
 use Rattle.gv_vm.proofs.Stepping.{owed_last_first}
 use Rattle.gv_vm.proofs.world.requests.bind_hand.Goals as goal

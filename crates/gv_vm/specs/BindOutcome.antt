@@ -1,4 +1,4 @@
--- What a request comes to.
+-- The outcome of a request that was carried out: an entry of the journal, or a refusal that changed nothing.
 use Rattle.std.specs.Prelude.{◌≡◌, ℕ, ◌+◌, List, map, Vec, None}
 use Rattle.std.specs.Global.{Global}
 use Rattle.gv_types.specs.declared.fault.Fault.{Fault}
@@ -14,8 +14,8 @@ use Rattle.gv_vm.specs.Outcomes.{with_outcome}
 use Rattle.gv_vm.specs.declared.outcome.Outcome.{Outcome}
 use Rattle.gv_vm.specs.declared.outcome.Outcome.TheVariants.{Accepted, Refused, NotReady}
 
--- The request has no fault and is accepted as this entry: the list is edited by all its operations in order, it stands
--- among the items, and taking it back gives the list before.
+-- The request has no fault and becomes this entry of the journal. The list is edited by all its operations in order. Undoing
+-- the entry gives the list from before.
 pub record IsAccepted (s t : SpaceState) (old new : JournalState) (queue number : ℕ) (request : Request) (seen : List ℕ) (entry : ℕ) : Type 0 where
   pub allowed : verdict s old request.ops.items ≡ None
   pub entry_is : entry ≡ next old
@@ -26,25 +26,25 @@ pub record IsAccepted (s t : SpaceState) (old new : JournalState) (queue number 
   pub room : t.room ≡ s.room
   pub rewinds : (n : ℕ) → back t.mappings new.items (n + 1) ≡ back s.mappings old.items n
 
--- The request is refused by its verdict or for want of memory, and nothing changed.
+-- The request is refused by its verdict or is out of memory, and nothing changed.
 pub record IsRefusedWhole (s t : SpaceState) (old new : JournalState) (request : Request) (op : ℕ) (fault : Fault) : Type 0 where
   pub refused : IsRefused s old request.ops.items (refusal op fault)
   pub space : t ≡ s
   pub journal : new ≡ old
 
--- what a request came to, where it was carried out
+-- the outcome of a request that was carried out; one that is not ready is given up instead
 abbrev pub CameTo : SpaceState → SpaceState → JournalState → JournalState → ℕ → ℕ → Request → List ℕ → Outcome → Type 0
 CameTo s t old new queue number request seen (Accepted entry) = IsAccepted s t old new queue number request seen entry
 CameTo s t old new queue number request seen (Refused op fault) = IsRefusedWhole s t old new request op fault
 CameTo s t old new queue number request seen (NotReady point have) = ⊥
 
--- A request was carried out, and its queue was told at the next number what it came to. The jobs run on.
+-- A request was carried out, and its queue has the outcome at the next number. No job begins or ends.
 pub record IsBoundAndTold (old new : VmState) (queue number : ℕ) (request : Request) (seen : List ℕ) (outcome : Outcome) : Type 0 where
   pub came : CameTo old.space new.space old.journal new.journal queue number request seen outcome
   pub jobs : new.jobs ≡ old.jobs
   pub told : new.told ≡ with_outcome old.told queue outcome
   pub forgotten : new.forgotten ≡ old.forgotten
 
--- what the points saw
+-- the numbers that the looks found
 abbrev pub seen_by : List Sight → List ℕ
 seen_by sights = map (λ s. s.number) sights

@@ -1,4 +1,5 @@
--- For callers: the same item taken back, withdrawn or settled, and the same outcomes forgotten, in worlds that are the same, bare of memory.
+-- For callers: in worlds that are the same but for memory, the same item is rewound, withdrawn or settled, and the same outcomes
+-- are forgotten.
 use Rattle.std.proofs.Common.{◌≡◌, ℕ, ◌+◌, None, inl, inr, arith, refl, sym, ap, ◌∙◌, subst}
 use Rattle.std.specs.Prelude.{◌⊎◌}
 use Rattle.gv_journal.specs.Items.{JournalState}
@@ -17,7 +18,7 @@ use Rattle.gv_vm.proofs.AlikeTurnLemmas.{vms_alike}
 use Rattle.gv_vm.proofs.AlikeTakingLemmas.{moved}
 use Rattle.gv_vm.proofs.AlikeAnsweringLemmas.{IsRefusal, entries_state, call_pair}
 
--- The newest item is taken back.
+-- The newest item is rewound.
 
 pub record RewindDone (w : WorldState) (r : Reply) (x : WorldState) : Type 0 where
   pub item : ℕ

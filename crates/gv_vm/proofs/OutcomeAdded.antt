@@ -1,4 +1,4 @@
--- What holds of a machine still holds once a request is told what it came to.
+-- A machine is still sound (`IsVm`) after a queue got one more outcome.
 use Rattle.std.proofs.Common.{◌≡◌, ℕ, zero, suc, ◌<◌, ◌≤◌, true, false, eqb, List, [], ◌∷◌, ◌++◌, length, map, reverse, arith, refl, sym, ◌∙◌, subst, Some, None, Option, Result, Ok, Err}
 use Rattle.std.specs.Prelude.{MatchOption, slice_get}
 use Rattle.std.specs.Bool.{⊤}
@@ -19,13 +19,13 @@ use Rattle.gv_journal.specs.declared.item.ItemKind.{ItemKind}
 use Rattle.gv_journal.specs.declared.item.ItemKind.TheVariants.{Bind, Withdrawal}
 use Rattle.gv_vm.specs.Jobs.{JobState, AreHeld}
 use Rattle.gv_vm.specs.Outcomes.{told_to, with_outcome, tell_fault}
-use Rattle.gv_vm.specs.Told.{CameTo, seen_by}
+use Rattle.gv_vm.specs.BindOutcome.{CameTo, seen_by}
 use Rattle.gv_vm.specs.State.{VmState, roomless, IsVm, WasTold, ToldMatchesJournal, SawItsWaits, WaitsWereReached}
 use Rattle.gv_vm.specs.declared.outcome.Outcome.{Outcome}
 use Rattle.gv_vm.specs.declared.outcome.Outcome.TheVariants.{Accepted, Refused, NotReady}
 use Rattle.gv_vm.proofs.Vms.{fits_space, IsVm-of, AreHeld-after_all}
 
--- what was told stays told
+-- an outcome keeps its number when one is added
 still_there : (told : List Outcome) (n : ℕ) (more x : Outcome) → slice_get told n ≡ Some x → slice_get (told ++ more ∷ []) n ≡ Some x
 still_there [] n more x h = cc
 still_there (t ∷ told) zero more x h = h
@@ -56,7 +56,7 @@ was_told_still told queue more (Withdrawal of) entry less h = tt
 all_told_still : (told : List (List Outcome)) (queue : ℕ) (more : Outcome) (xs : List NumberedItem) → queue < length told → ToldMatchesJournal xs told → ToldMatchesJournal xs (with_outcome told queue more)
 all_told_still told queue more xs less all = All-weaker (λ x. WasTold x.item.kind x.number told) (λ x. WasTold x.item.kind x.number (with_outcome told queue more)) (λ x h. was_told_still told queue more x.item.kind x.number less h) xs all
 
--- a queue was told something more, and nothing else changed
+-- a queue got one more outcome, and nothing else changed
 pub IsVm-told : (v : VmState) (queue : ℕ) (outcome : Outcome) (told : List (List Outcome)) (forgotten : List ℕ) → IsVm v → queue < 16 → told ≡ with_outcome v.told queue outcome →
     forgotten ≡ v.forgotten → IsVm (record { space = v.space; journal = v.journal; jobs = v.jobs; told = told; forgotten = forgotten })
 IsVm-told v queue outcome told forgotten holds less is same =
@@ -67,12 +67,12 @@ IsVm-told v queue outcome told forgotten holds less is same =
     (all_told_still v.told queue outcome (entries v.journal) within holds.told_matches_journal) holds.waits_were_reached
     (length-set v.told queue (told_to v.told queue ++ outcome ∷ []) ∙ holds.queues) holds.forgotten))
 
--- what reached points saw is at least their values
+-- a look that reached a point found at least its value
 saw_waits : (sights : List Sight) → All (λ r. r.point.value ≤ r.number) sights → AllZip (λ (p : Point) n. p.value ≤ n) (map (λ r. r.point) sights) (seen_by sights)
 saw_waits [] reached = tt
 saw_waits (r ∷ sights) reached = (All-head (λ r. r.point.value ≤ r.number) r sights reached, saw_waits sights (All-tail (λ r. r.point.value ≤ r.number) r sights reached))
 
--- a request was carried out and told
+-- the parts of `IsVm` after a request was carried out
 came_held : (s t : SpaceState) (old new : JournalState) (queue number : ℕ) (request : Request) (seen : List ℕ) (outcome : Outcome) (js : List JobState) →
     CameTo s t old new queue number request seen outcome → AreHeld s.buffers js → AreHeld t.buffers js
 came_held s t old new queue number request seen (Accepted entry) js came held =
@@ -111,11 +111,11 @@ came_saw s t old new queue number request seen (NotReady point have) came saw al
 turn_from_none : (limit : ℕ) (told : List (List Outcome)) (queue number : ℕ) → tell_fault limit told queue number ≡ None → number ≡ length (told_to told queue)
 turn_from_none limit told queue number none = grind arith
 
-pub IsVm-carried_out : (v : VmState) (t : SpaceState) (j : JournalState) (limit queue number : ℕ) (request : Request) (sights : List Sight) (outcome : Outcome) (told : List (List Outcome)) (forgotten : List ℕ) → IsVm v →
+pub IsVm-bound : (v : VmState) (t : SpaceState) (j : JournalState) (limit queue number : ℕ) (request : Request) (sights : List Sight) (outcome : Outcome) (told : List (List Outcome)) (forgotten : List ℕ) → IsVm v →
     FitsSpace t j → IsSpace t → CameTo (roomless v.space) (roomless t) v.journal j queue number request (seen_by sights) outcome → queue < 16 → tell_fault limit v.told queue number ≡ None →
     map (λ r. r.point) sights ≡ request.waits.items → All (λ r. r.point.value ≤ r.number) sights → told ≡ with_outcome v.told queue outcome →
     forgotten ≡ v.forgotten → IsVm (record { space = t; journal = j; jobs = v.jobs; told = told; forgotten = forgotten })
-IsVm-carried_out v t j limit queue number request sights outcome told forgotten holds fits space came less none points reached is same =
+IsVm-bound v t j limit queue number request sights outcome told forgotten holds fits space came less none points reached is same =
     let within : queue < length v.told = omega (arith, holds.queues) in
     let turn : number ≡ length (told_to v.told queue) = turn_from_none limit v.told queue number none in
     let saw : AllZip (λ (p : Point) n. p.value ≤ n) request.waits.items (seen_by sights) =
@@ -131,7 +131,7 @@ IsVm-carried_out v t j limit queue number request sights outcome told forgotten 
 abbrev made : Unit {0} → Result (Unit {0}) Fault
 made u = Ok u
 
--- where there was room to tell, the number is the next one
+-- where `prepare` answers Ok there was no fault
 pub none_if_prepared : (o : Option Fault) (u : Unit {0}) → MatchOption o ⊤ (λ fault. made u ≡ Err fault) → o ≡ None
 none_if_prepared None u h = refl
 none_if_prepared (Some fault) u h = cc
