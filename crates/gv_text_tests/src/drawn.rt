@@ -1,13 +1,14 @@
-//! The quick way to draw a script against the plain one, at scripts by chance.
+//! Scripts by chance, drawn: each picture, with how its drawing ended, has the digest that the first, plain way of drawing gave it.
 
+mod digests;
 mod made;
-mod start;
 
+use digests::DIGESTS;
 use gv_draw::{Options, draw_script};
 use std::process::Abort;
 use std::test::Fail;
 
-/// What pictures tell of the lines that are run.
+/// What pictures say of the lines that are run.
 const TOLD: &[&str] = &[
     " of0 0x",
     ">rewound ",
@@ -19,33 +20,43 @@ const TOLD: &[&str] = &[
     ">refused Touched ",
 ];
 
-/// Draws a script by both ways, asserts that these agree, and adds the picture, with how it ended.
-fn expect_alike(
+/// The address around which each script is drawn a second time.
+const AROUND: u64 = 0x9abc;
+
+/// A number that depends on all bytes of a text, and on their order.
+fn digest_of(text: &str) -> u64 {
+    let mut sum: u64 = 0;
+    for byte in text.bytes() {
+        sum = (sum.rotate_left(5) ^ u64::from(byte)).wrapping_mul(0x517c_c1b7_2722_0a95);
+    }
+    sum
+}
+
+/// Draws a script, asserts the digest of the picture with how it ended, and adds both to what was seen.
+fn expect_drawn(
     rt: &(impl AllocGlobal + Abort),
     script: &str,
     at: Option<u64>,
+    wanted: u64,
     seen: &mut String,
 ) -> Result<(), Fail> {
     let options = Options { at, width: 1000 };
     let mut drawn = String::new(rt.alloc());
-    let mut wanted = String::new(rt.alloc());
-    let left = draw_script(rt.alloc(), script.as_bytes(), &options, &mut drawn);
-    let right = start::draw_script(rt.alloc(), script, &options, &mut wanted);
-    assert!(rt;
-        left == right && drawn == wanted,
-        "{left:?} {right:?} {script}"
-    );
-    seen.push_str(format!(in rt.alloc(); "{drawn}{left:?}\n")?.as_str())?;
+    let end = draw_script(rt.alloc(), script.as_bytes(), &options, &mut drawn);
+    let text = format!(in rt.alloc(); "{drawn}{end:?}\n")?;
+    let digest = digest_of(text.as_str());
+    assert!(rt; digest == wanted, "{digest:#018x} {at:?} {script}");
+    seen.push_str(text.as_str())?;
     Ok(())
 }
 
 #[test]
 fn scripts_are_drawn_alike(rt: HostRuntime) -> Result<(), Fail> {
     let mut seen = String::new(rt.alloc());
-    for seed in 0..40 {
-        let script = made::script(rt.alloc(), seed)?;
-        expect_alike(&rt, script.as_str(), None, &mut seen)?;
-        expect_alike(&rt, script.as_str(), Some(0x9abc), &mut seen)?;
+    for (seed, (whole, around)) in DIGESTS.iter().enumerate() {
+        let script = made::script(rt.alloc(), seed as u64)?;
+        expect_drawn(&rt, script.as_str(), None, *whole, &mut seen)?;
+        expect_drawn(&rt, script.as_str(), Some(AROUND), *around, &mut seen)?;
     }
     for word in TOLD {
         assert!(rt; seen.as_str().contains(*word), "{word}");
