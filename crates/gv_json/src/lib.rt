@@ -4,12 +4,11 @@
 //! another form, so that there is one writer of what a reply means.
 #![tactic(auto)]
 
+mod form;
+mod forms;
 mod list;
 mod object;
-mod outcome;
 mod reply;
-mod row;
-mod space;
 mod stop;
 mod words;
 

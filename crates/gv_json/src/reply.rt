@@ -1,15 +1,44 @@
 //! A line of JSON for each reply.
-use crate::list::{only_line, write_job, write_list, write_past_of, write_shown};
+use crate::form::write_line;
+use crate::forms::{
+    ITEMS, MAPPINGS, OPERATIONS, OUTCOME, OUTCOMES, REACHED, Rows, STEPS, TABLES, VALUE, WITHDRAWAL,
+};
+use crate::list::{write_job, write_list, write_past};
 use crate::object::Json;
-use crate::outcome::{write_outcome, write_value};
-use crate::row::Row;
-use crate::space::write_last_place;
 use crate::stop::Stop;
-use crate::words::Words;
+use crate::words::understood;
 use std::alloc::{AllocError, Global};
 
-/// Tables are counted at so many levels.
-const LEVELS: u32 = 5;
+/// What a reply is.
+#[derive(Clone, Copy)]
+enum Reply {
+    /// One line of one of these forms.
+    Line(&'static str),
+    List(Rows),
+    Job,
+    Past,
+}
+
+/// The first word of a line, what its reply begins with, and what that reply is. The first row that fits holds, and where none does the
+/// reply says what the line did.
+static REPLIES: [(&[u8], &str, Reply); 16] = [
+    (b"map", "", Reply::List(MAPPINGS)),
+    (b"journal", "", Reply::List(ITEMS)),
+    (b"told", "", Reply::List(OUTCOMES)),
+    (b"at", "", Reply::Line(REACHED)),
+    (b"raise", "", Reply::Line(VALUE)),
+    (b"value", "", Reply::Line(VALUE)),
+    (b"tables", "", Reply::Line(TABLES)),
+    (b"plan", "refused ", Reply::Line(OUTCOME)),
+    (b"plan", "", Reply::List(STEPS)),
+    (b"job", "refused ", Reply::Line(OUTCOME)),
+    (b"job", "", Reply::Job),
+    (b"past", "refused ", Reply::Line(OUTCOME)),
+    (b"past", "", Reply::Past),
+    (b"show", "refused ", Reply::Line(OUTCOME)),
+    (b"show", "withdrawal ", Reply::Line(WITHDRAWAL)),
+    (b"show", "", Reply::List(OPERATIONS)),
+];
 
 /// Adds the reply to the line of this number, which begins with this word: an object on a line of its own. `text` is the
 /// reply as it is written, with its line ends. One that is of no form of its kind stands whole under `text`. On an
@@ -60,57 +89,24 @@ pub fn write_no_memory(alloc: Global, out: &mut String, line: u64) -> Result<(),
 
 /// Writes the members of a reply to a line that begins with this word.
 fn write_answer(json: &mut Json, word: &[u8], text: &str) -> Result<(), Stop> {
-    match word {
-        b"map" => write_list(json, "mappings", Row::Mapping, text),
-        b"journal" => write_list(json, "items", Row::Item, text),
-        b"told" => write_list(json, "outcomes", Row::Outcome, text),
-        b"at" | b"tables" | b"raise" | b"value" => write_look(json, word, only_line(text)?),
-        b"plan" | b"job" | b"show" | b"past" => write_seldom_refused(json, word, text),
-        _ => write_line(json, text),
-    }
-}
-
-/// Writes the members of a reply of one line that is never a refusal, and may begin with a name.
-fn write_look(json: &mut Json, word: &[u8], line: &str) -> Result<(), Stop> {
-    let mut words = Words::new(line);
-    match word {
-        b"at" => {
-            json.key("place")?;
-            write_last_place(json, &mut words)?;
+    let text = text.strip_suffix('\n').ok_or(Stop::NotUnderstood)?;
+    match reply_of(word, text) {
+        Reply::Line(forms) => {
+            understood(!text.contains('\n'))?;
+            write_line(json, None, forms, text)
         }
-        b"tables" => write_tables(json, &mut words)?,
-        _ => write_value(json, &mut words)?,
-    }
-    words.end()
-}
-
-/// Writes how many tables there are, from the highest level down.
-fn write_tables(json: &mut Json, words: &mut Words<'_>) -> Result<(), Stop> {
-    json.key("tables")?;
-    json.open_list()?;
-    for _ in 0..LEVELS {
-        json.item(words.number()?)?;
-    }
-    json.close_list()?;
-    Ok(())
-}
-
-/// Writes the members of a reply that is a list or a refusal.
-fn write_seldom_refused(json: &mut Json, word: &[u8], text: &str) -> Result<(), Stop> {
-    if text.starts_with("refused ") {
-        return write_line(json, text);
-    }
-    match word {
-        b"plan" => write_list(json, "steps", Row::Step, text),
-        b"job" => write_job(json, text),
-        b"show" => write_shown(json, text),
-        _ => write_past_of(json, text),
+        Reply::List(rows) => write_list(json, &rows, text),
+        Reply::Job => write_job(json, text),
+        Reply::Past => write_past(json, text),
     }
 }
 
-/// Writes the members of a reply of one line that says of which form it is.
-fn write_line(json: &mut Json, text: &str) -> Result<(), Stop> {
-    let mut words = Words::new(only_line(text)?);
-    write_outcome(json, &mut words)?;
-    words.end()
+/// What the reply to a line that begins with this word is.
+fn reply_of(word: &[u8], text: &str) -> Reply {
+    for (named, start, reply) in &REPLIES {
+        if *named == word && text.starts_with(*start) {
+            return *reply;
+        }
+    }
+    Reply::Line(OUTCOME)
 }

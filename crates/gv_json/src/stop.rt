@@ -1,7 +1,8 @@
 //! Why a reply isn't written in the form of its kind.
 use std::alloc::AllocError;
+use std::num::ParseIntError;
 
-#[derive(Clone, Copy, Debug, PartialEq, Eq)]
+#[derive(Clone, Copy)]
 pub enum Stop {
     /// The system refused memory.
     OutOfMemory,
@@ -12,5 +13,11 @@ pub enum Stop {
 impl From<AllocError> for Stop {
     fn from(_error: AllocError) -> Stop {
         Stop::OutOfMemory
+    }
+}
+
+impl From<ParseIntError> for Stop {
+    fn from(_error: ParseIntError) -> Stop {
+        Stop::NotUnderstood
     }
 }

@@ -7,7 +7,7 @@ const HEX_DIGITS: usize = 16;
 const HEX_BASE: u32 = 16;
 
 /// Words that are left, with one space between them.
-#[derive(Drop)]
+#[derive(Clone, Copy, Drop)]
 pub struct Words<'a> {
     rest: Option<&'a str>,
 }
@@ -33,30 +33,43 @@ impl<'a> Words<'a> {
         }
     }
 
-    /// The next word, if one is left.
-    fn peek(&self) -> Option<&'a str> {
-        Words { rest: self.rest }.take().ok()
+    /// Whether the next word is this one.
+    pub fn begin_with(&self, word: &str) -> bool {
+        let mut ahead = *self;
+        ahead.expect(word).is_ok()
+    }
+
+    /// Whether the next word is sixteen hexadecimal digits.
+    fn begin_with_hex(&self) -> bool {
+        let mut ahead = *self;
+        ahead.hex().is_ok()
     }
 
     /// Whether the next word is this one, which is then taken.
     pub fn take_if(&mut self, word: &str) -> bool {
-        let found = self.peek() == Some(word);
-        found && self.take().is_ok()
+        let mut ahead = *self;
+        let found = ahead.expect(word).is_ok();
+        if found {
+            *self = ahead;
+        }
+        found
     }
 
-    /// Whether this word is all that is left, which is then taken.
-    pub fn take_last(&mut self, word: &str) -> bool {
-        let found = self.rest == Some(word);
+    /// Whether the next word is `none` and no buffer's name, which an offset follows. It is then taken.
+    pub fn take_none(&mut self) -> bool {
+        let mut ahead = *self;
+        let found = ahead.take_if("none") && !ahead.begin_with_hex();
         if found {
-            self.rest = None;
+            *self = ahead;
         }
         found
     }
 
     /// The next word, if it is a number, which is then taken.
     pub fn number_if(&mut self) -> Option<u64> {
-        let number = decimal(self.peek()?)?;
-        self.take().ok()?;
+        let mut ahead = *self;
+        let number = ahead.number().ok()?;
+        *self = ahead;
         Some(number)
     }
 
@@ -65,41 +78,33 @@ impl<'a> Words<'a> {
         understood(self.take()? == word)
     }
 
-    /// The next word, a decimal number.
+    /// The next word, a decimal number without zeros before it.
     pub fn number(&mut self) -> Result<u64, Stop> {
-        decimal(self.take()?).ok_or(Stop::NotUnderstood)
+        let word = self.take()?;
+        understood(is_short(word) && !word.starts_with('+'))?;
+        Ok(word.parse::<u64>()?)
     }
 
     /// The next word, sixteen hexadecimal digits.
     pub fn hex(&mut self) -> Result<u64, Stop> {
-        let word = self.take()?;
-        understood(word.len() == HEX_DIGITS)?;
-        hexadecimal(word).ok_or(Stop::NotUnderstood)
+        let digits = self.take()?;
+        understood(digits.len() == HEX_DIGITS)?;
+        hexadecimal(digits)
     }
 
     /// The next word, a hexadecimal number behind `0x`, without zeros before it.
     pub fn address(&mut self) -> Result<u64, Stop> {
-        let digits = self.take()?.strip_prefix("0x").ok_or(Stop::NotUnderstood)?;
-        understood(digits == "0" || !digits.starts_with('0'))?;
-        hexadecimal(digits).ok_or(Stop::NotUnderstood)
+        let word = self.take()?;
+        let digits = word.strip_prefix("0x").ok_or(Stop::NotUnderstood)?;
+        understood(is_short(digits))?;
+        hexadecimal(digits)
     }
 
-    /// The next word, `ro` or `rw`: whether it is `ro`.
-    pub fn read_only(&mut self) -> Result<bool, Stop> {
-        match self.take()? {
-            "ro" => Ok(true),
-            "rw" => Ok(false),
-            _ => Err(Stop::NotUnderstood),
-        }
-    }
-
-    /// The next word, `live` or `withdrawn`: whether it is `live`.
-    pub fn live(&mut self) -> Result<bool, Stop> {
-        match self.take()? {
-            "live" => Ok(true),
-            "withdrawn" => Ok(false),
-            _ => Err(Stop::NotUnderstood),
-        }
+    /// The next word, one of two: whether it is the first.
+    pub fn either(&mut self, yes: &str, no: &str) -> Result<bool, Stop> {
+        let word = self.take()?;
+        understood(word == yes || word == no)?;
+        Ok(word == yes)
     }
 
     /// No word is left.
@@ -117,25 +122,17 @@ pub fn understood(fits: bool) -> Result<(), Stop> {
     }
 }
 
-/// The decimal number that a word is, without zeros before it.
-fn decimal(word: &str) -> Option<u64> {
-    let plain = word == "0" || !(word.starts_with('0') || word.starts_with('+'));
-    if plain {
-        word.parse::<u64>().ok()
-    } else {
-        None
-    }
+/// Whether digits have no zero before them.
+fn is_short(digits: &str) -> bool {
+    digits == "0" || !digits.starts_with('0')
 }
 
 /// The number of these digits, of 0-9 and a-f.
-fn hexadecimal(digits: &str) -> Option<u64> {
-    let plain = digits
+fn hexadecimal(digits: &str) -> Result<u64, Stop> {
+    let is_plain = digits
         .as_bytes()
         .iter()
         .all(|digit| matches!(*digit, b'0'..=b'9' | b'a'..=b'f'));
-    if plain {
-        u64::from_str_radix(digits, HEX_BASE).ok()
-    } else {
-        None
-    }
+    understood(is_plain)?;
+    Ok(u64::from_str_radix(digits, HEX_BASE)?)
 }
