@@ -33,8 +33,8 @@ pub struct Segment {
     pub first: u64,
     pub end: u64,
     pub kind: Kind,
-    pub x: u64,
-    pub width: u64,
+    pub x: Tenths,
+    pub width: Tenths,
 }
 
 /// The widths of a cut and of mappings drawn together; what is left for all others, and the sum of their weights.
@@ -47,12 +47,13 @@ struct Scale {
     is_linear: bool,
 }
 
-/// Where addresses stand across.
+/// Where addresses stand across: from the left to the right end, in tenths of a pixel, or to where the last segment ends.
 #[derive(Drop)]
 pub struct Axis {
     pub segments: Vec<Segment>,
-    pub left: u64,
-    pub right: u64,
+    left: u64,
+    right: u64,
+    end: u64,
     pub is_to_scale: bool,
 }
 
@@ -63,32 +64,23 @@ impl Segment {
 }
 
 impl Scale {
-    /// What a segment of pages weighs: its pages, or where the picture isn't to scale, their logarithm.
-    fn weight(&self, pages: u64) -> u64 {
-        if self.is_linear {
-            return pages;
-        }
-        let doublings = pages.max(1).ilog2();
-        u64::from(doublings).saturating_mul(2).saturating_add(3)
-    }
-
-    /// What a segment weighs, which is nothing where it isn't to scale.
-    fn weight_of(&self, segment: &Segment) -> u64 {
+    /// The width that a segment has whatever others weigh, and what it weighs: its pages, or where the picture isn't to scale,
+    /// their logarithm.
+    fn parts(&self, segment: &Segment) -> (u64, u64) {
         match segment.kind {
-            Kind::Used | Kind::Open => self.weight(segment.pages()),
-            Kind::Cut | Kind::Many => 0,
-        }
-    }
-
-    /// How wide a segment becomes.
-    fn width(&self, segment: &Segment) -> u64 {
-        match segment.kind {
-            Kind::Used | Kind::Open => {
-                share(self.rest, self.weight(segment.pages()), self.weights)
+            Kind::Cut => (self.cut, 0),
+            Kind::Many => (self.many, 0),
+            _ if self.is_linear => (0, segment.pages()),
+            _ => {
+                let doublings = segment.pages().max(1).ilog2();
+                (0, u64::from(doublings).saturating_mul(2).saturating_add(3))
             }
-            Kind::Cut => self.cut,
-            Kind::Many => self.many,
         }
+    }
+
+    /// The width of what weighs so much.
+    fn width(&self, weight: u64) -> u64 {
+        share(self.rest, weight, self.weights)
     }
 }
 
@@ -99,95 +91,87 @@ impl Axis {
         alloc: Global,
         boxes: &Boxes,
         at: Option<u64>,
-        left: u64,
-        right: u64,
+        left: Tenths,
+        right: Tenths,
     ) -> Result<Axis, OutOfMemory> {
         let mut axis = Axis {
             segments: segments_of(alloc, &boxes.items, at)?,
-            left,
-            right,
+            left: left.0,
+            right: right.0,
+            end: left.0,
             is_to_scale: true,
         };
-        let scale = axis.scale(true);
-        axis.open_gaps(&scale);
-        let scale = axis.scale(true);
-        axis.is_to_scale = axis.least(&scale) >= LEAST;
-        let scale = axis.scale(axis.is_to_scale);
-        axis.place(&scale);
+        axis.open_gaps();
+        axis.is_to_scale = axis.are_wide();
+        axis.place();
         Ok(axis)
     }
 
     /// How wide the segments become, as they are.
-    fn scale(&self, is_linear: bool) -> Scale {
+    fn scale(&self) -> Scale {
         let area = self.right.saturating_sub(self.left);
-        let cuts = self.count(Kind::Cut);
-        let manies = self.count(Kind::Many);
         let mut scale = Scale {
-            cut: CUT.min(area / 4 / cuts.max(1)),
-            many: MANY.min(area / 3 / manies.max(1)),
-            rest: 0,
+            cut: CUT.min(area / 4 / self.count(Kind::Cut).max(1)),
+            many: MANY.min(area / 3 / self.count(Kind::Many).max(1)),
+            rest: area,
             weights: 0,
-            is_linear,
+            is_linear: self.is_to_scale,
         };
-        let fixed = scale.cut.saturating_mul(cuts);
-        let fixed = fixed.saturating_add(scale.many.saturating_mul(manies));
-        scale.rest = area.saturating_sub(fixed);
-        scale.weights = self.weights(&scale);
+        for segment in &self.segments {
+            let (fixed, weight) = scale.parts(segment);
+            scale.rest = scale.rest.saturating_sub(fixed);
+            scale.weights = scale.weights.saturating_add(weight);
+        }
         scale
     }
 
-    /// What all segments weigh that are to scale.
-    fn weights(&self, scale: &Scale) -> u64 {
-        let mut weights: u64 = 0;
-        for segment in &self.segments {
-            weights = weights.saturating_add(scale.weight_of(segment));
-        }
-        weights
-    }
-
     fn count(&self, kind: Kind) -> u64 {
-        let of_kind = self.segments.iter().filter(|segment| segment.kind == kind);
-        of_kind.count() as u64
+        let mut count: u64 = 0;
+        for segment in &self.segments {
+            if segment.kind == kind {
+                count = count.saturating_add(1);
+            }
+        }
+        count
     }
 
     /// Opens the gaps that to scale would take no more than a cut.
-    fn open_gaps(&mut self, scale: &Scale) {
+    fn open_gaps(&mut self) {
+        let scale = self.scale();
         for segment in self.segments.iter_mut() {
-            let width = share(scale.rest, segment.pages(), scale.weights);
-            if segment.kind == Kind::Cut && width <= scale.cut {
+            if segment.kind == Kind::Cut && scale.width(segment.pages()) <= scale.cut {
                 segment.kind = Kind::Open;
             }
         }
     }
 
-    /// The least width of a segment at which something is mapped.
-    fn least(&self, scale: &Scale) -> u64 {
-        let mut least = u64::MAX;
+    /// Whether to scale all segments are wide enough at which something is mapped.
+    fn are_wide(&self) -> bool {
+        let scale = self.scale();
         for segment in &self.segments {
-            if segment.kind == Kind::Used {
-                least = least.min(scale.width(segment));
+            if segment.kind == Kind::Used && scale.width(segment.pages()) < LEAST {
+                return false;
             }
         }
-        least
+        true
     }
 
     /// Gives each segment its place.
-    fn place(&mut self, scale: &Scale) {
-        let mut fixed: u64 = 0;
+    fn place(&mut self) {
+        let scale = self.scale();
+        let mut fixed = self.left;
         let mut weights: u64 = 0;
+        let mut x = self.left;
         for segment in self.segments.iter_mut() {
-            let start = fixed.saturating_add(share(scale.rest, weights, scale.weights));
-            match segment.kind {
-                Kind::Used | Kind::Open => {
-                    weights = weights.saturating_add(scale.weight(segment.pages()));
-                }
-                Kind::Cut => fixed = fixed.saturating_add(scale.cut),
-                Kind::Many => fixed = fixed.saturating_add(scale.many),
-            }
-            let end = fixed.saturating_add(share(scale.rest, weights, scale.weights));
-            segment.x = self.left.saturating_add(start);
-            segment.width = end.saturating_sub(start);
+            let (more, weight) = scale.parts(segment);
+            fixed = fixed.saturating_add(more);
+            weights = weights.saturating_add(weight);
+            let end = fixed.saturating_add(scale.width(weights));
+            segment.x = Tenths(x);
+            segment.width = Tenths(end.saturating_sub(x));
+            x = end;
         }
+        self.end = x;
     }
 
     /// Where a page begins.
@@ -200,16 +184,13 @@ impl Axis {
         let page = byte / PAGE_BYTES;
         let place = self.segments.partition_point(|segment| segment.end <= page);
         let Some(segment) = self.segments.get(place) else {
-            return match self.segments.last() {
-                Some(segment) => Tenths(segment.x.saturating_add(segment.width)),
-                None => Tenths(self.left),
-            };
+            return Tenths(self.end);
         };
         let pages = page.saturating_sub(segment.first);
-        let within = share(segment.width, pages, segment.pages());
-        let next = share(segment.width, pages.saturating_add(1), segment.pages());
+        let within = share(segment.width.0, pages, segment.pages());
+        let next = share(segment.width.0, pages.saturating_add(1), segment.pages());
         let part = share(next.saturating_sub(within), byte % PAGE_BYTES, PAGE_BYTES);
-        Tenths(segment.x.saturating_add(within).saturating_add(part))
+        segment.x.plus(Tenths(within)).plus(Tenths(part))
     }
 }
 
@@ -219,82 +200,52 @@ fn segments_of(
     boxes: &[Boxed],
     at: Option<u64>,
 ) -> Result<Vec<Segment>, OutOfMemory> {
-    let page = at.map(|addr| addr / PAGE_BYTES);
-    let points = points_of(alloc, boxes, page)?;
-    let mut sweep = Sweep {
-        boxes,
-        next: 0,
-        end: 0,
-        many: None,
-        page,
-    };
+    let points = points_of(alloc, boxes, at)?;
     let mut segments = Vec::new(alloc);
     let mut first = u64::MAX;
-    for point in &points {
-        if first < *point {
-            segments.push(sweep.segment(first, *point))?;
+    let mut used: u64 = 0;
+    let mut is_many = false;
+    for (place, end, begins_many) in &points {
+        if first < *place {
+            segments.push(Segment {
+                first,
+                end: *place,
+                kind: if is_many {
+                    Kind::Many
+                } else if first < used {
+                    Kind::Used
+                } else {
+                    Kind::Cut
+                },
+                x: Tenths(0),
+                width: Tenths(0),
+            })?;
+            is_many = false;
         }
-        first = *point;
+        first = *place;
+        used = used.max(*end);
+        is_many |= *begins_many;
     }
     Ok(segments)
 }
 
-/// The boundaries of boxes and of a page, ascending.
-fn points_of(alloc: Global, boxes: &[Boxed], page: Option<u64>) -> Result<Vec<u64>, OutOfMemory> {
+/// The boundaries of boxes and of a page, ascending, each with the end of what begins there, and whether that is mappings
+/// drawn together.
+fn points_of(
+    alloc: Global,
+    boxes: &[Boxed],
+    at: Option<u64>,
+) -> Result<Vec<(u64, u64, bool)>, OutOfMemory> {
     let mut points = Vec::new(alloc);
     for item in boxes {
-        push_both(&mut points, item.piece.first, item.piece.end)?;
+        points.push((item.piece.first, item.piece.end, item.count > 1))?;
+        points.push((item.piece.end, 0, false))?;
     }
-    if let Some(page) = page {
-        push_both(&mut points, page, page.saturating_add(1))?;
+    if let Some(addr) = at {
+        let page = addr / PAGE_BYTES;
+        points.push((page, page.saturating_add(1), false))?;
+        points.push((page.saturating_add(1), 0, false))?;
     }
     points.sort_unstable();
     Ok(points)
-}
-
-fn push_both(points: &mut Vec<u64>, first: u64, end: u64) -> Result<(), OutOfMemory> {
-    points.push(first)?;
-    points.push(end)?;
-    Ok(())
-}
-
-/// Boxes in order of their addresses, of which some have begun: how far those reach, and where mappings drawn together
-/// begin.
-#[derive(Drop)]
-struct Sweep<'a> {
-    boxes: &'a [Boxed],
-    next: usize,
-    end: u64,
-    many: Option<u64>,
-    page: Option<u64>,
-}
-
-impl<'a> Sweep<'a> {
-    /// The segment between two boundaries.
-    fn segment(&mut self, first: u64, end: u64) -> Segment {
-        let begun = self.boxes.partition_point(|item| item.piece.first <= first);
-        for place in self.next..begun {
-            if let Some(item) = self.boxes.get(place) {
-                self.end = self.end.max(item.piece.end);
-                if item.count > 1 {
-                    self.many = Some(item.piece.first);
-                }
-            }
-        }
-        self.next = self.next.max(begun);
-        let kind = if self.many == Some(first) {
-            Kind::Many
-        } else if first < self.end || self.page == Some(first) {
-            Kind::Used
-        } else {
-            Kind::Cut
-        };
-        Segment {
-            first,
-            end,
-            kind,
-            x: 0,
-            width: 0,
-        }
-    }
 }

@@ -16,7 +16,7 @@ const MANY: usize = 60;
 const TOGETHER: u64 = 3;
 
 /// A mapping that stood from one row, by its serial number, to the one without it.
-#[derive(Clone, Copy, PartialEq, Eq)]
+#[derive(Clone, Copy)]
 pub struct Stood {
     pub piece: Piece,
     pub from: u64,
@@ -25,7 +25,7 @@ pub struct Stood {
 
 /// A box: a mapping at the rows from `top` to `bottom`, without that. One of several mappings that no row changes has
 /// their number, from the first to the last of them.
-#[derive(Clone, Copy, PartialEq, Eq)]
+#[derive(Clone, Copy)]
 pub struct Boxed {
     pub piece: Piece,
     pub top: usize,
@@ -86,41 +86,30 @@ impl Boxes {
     }
 }
 
-/// Puts together boxes side by side that stand at all rows.
+/// Puts together boxes side by side that stand at all rows: from the third on, one box replaces those before it.
 fn together(alloc: Global, items: &[Boxed], rows: usize) -> Result<Vec<Boxed>, OutOfMemory> {
     let mut kept = Vec::new(alloc);
-    let mut run = Vec::new(alloc);
+    let mut first: u64 = 0;
+    let mut count: u64 = 0;
     for item in items {
-        if item.top == 0 && item.bottom == rows {
-            run.push(*item)?;
+        let mut shown = *item;
+        if item.top > 0 || item.bottom < rows {
+            count = 0;
         } else {
-            end_run(&mut kept, &mut run)?;
-            kept.push(*item)?;
+            count = count.saturating_add(1);
+            if count == 1 {
+                first = item.piece.first;
+            }
+            if count >= TOGETHER {
+                let replaced = if count == TOGETHER { 2 } else { 1 };
+                kept.truncate(kept.len().saturating_sub(replaced));
+                shown.piece.first = first;
+                shown.piece.backing = Backing::Zero;
+                shown.piece.read_only = false;
+                shown.count = count;
+            }
         }
+        kept.push(shown)?;
     }
-    end_run(&mut kept, &mut run)?;
     Ok(kept)
-}
-
-/// Adds a run of boxes: one box for all, where they are enough.
-fn end_run(kept: &mut Vec<Boxed>, run: &mut Vec<Boxed>) -> Result<(), OutOfMemory> {
-    let count = run.len() as u64;
-    match (run.first(), run.last()) {
-        (Some(first), Some(last)) if count >= TOGETHER => {
-            let piece = Piece {
-                first: first.piece.first,
-                end: last.piece.end,
-                backing: Backing::Zero,
-                read_only: false,
-            };
-            kept.push(Boxed {
-                piece,
-                count,
-                ..*first
-            })?;
-        }
-        _ => kept.extend_from_slice(run.as_slice())?,
-    }
-    run.clear();
-    Ok(())
 }

@@ -1,89 +1,89 @@
-//! What stands above the rows of a picture.
+//! What is above the rows of a picture.
 
-use crate::axis::Axis;
-use crate::boxes::Boxes;
-use crate::colours::Colours;
 use crate::history::History;
 use crate::legend::Legend;
-use crate::lines::{Lines, MARGIN};
-use crate::pixels::Tenths;
-use crate::svg::{Text, width_of, write_text};
+use crate::lines::{Block, MARGIN, write_lines};
+use crate::page::Across;
+use crate::pen::Pen;
+use crate::pixels::{Tenths, address_width, width_of};
 use gv_types::OutOfMemory;
-use std::alloc::{AllocError, Global};
-use std::fmt::Write;
+use std::alloc::Global;
 
-/// Where the rows begin under a heading and a legend of a line each, in pixels.
-const TOP: u64 = 162;
+/// The base line of the heading.
+const HEADING: Tenths = Tenths(400);
 
-/// Where the heading and the legend's first line stand, in pixels.
-const HEADING: u64 = 40;
+/// The base line of the legend's first line.
+const LEGEND: Tenths = Tenths(390);
 
-/// Where the line below the heading stands, in pixels.
-const UNDER: u64 = 62;
+/// The base line of the first line below the heading.
+const UNDER: Tenths = Tenths(620);
 
-/// What stands above the rows: the heading, the legend beside it, and a line below, each in as many lines as it takes.
-#[derive(Drop)]
-pub struct Head {
-    heading: String,
-    under: Lines,
-    legend: Legend,
+/// How far below the last of those lines the second one of the legend is.
+const BELOW_UNDER: Tenths = Tenths(220);
+
+/// How far above the rows a further line of the legend would be.
+const ABOVE_ROWS: Tenths = Tenths(780);
+
+/// The width of a character of the heading, in tenths of a pixel.
+const EACH: u64 = 132;
+
+/// What is above the rows: the heading, the legend beside it, and a line below, each in as many lines as it takes.
+pub fn head_of(
+    alloc: Global,
+    history: &History,
+    across: &Across,
+    width: Tenths,
+) -> Result<Block, OutOfMemory> {
+    let mut under = String::new(alloc);
+    let mut pen = Pen::on(&mut under);
+    write_under(&mut pen, history.at, across.axis.is_to_scale);
+    pen.end()?;
+    let mut svg = String::new(alloc);
+    let mut pen = Pen::on(&mut svg);
+    let x = write_heading(&mut pen, history.at);
+    let y = write_lines(&mut pen, under.as_str(), width, UNDER, "class=\"under\"");
+    let mut legend = Legend {
+        x,
+        y: LEGEND,
+        below: y.plus(BELOW_UNDER),
+        right: width.minus(MARGIN),
+    };
+    legend.write(alloc, &mut pen, history, &across.colours);
+    pen.end()?;
+    Ok(Block {
+        svg,
+        bottom: legend.below.plus(ABOVE_ROWS),
+    })
 }
 
-impl Head {
-    /// Those of a history.
-    pub fn of(
-        alloc: Global,
-        history: &History,
-        axis: &Axis,
-        boxes: &Boxes,
-        colours: &Colours,
-        width: u64,
-    ) -> Result<Head, OutOfMemory> {
-        let mut heading = String::new(alloc);
-        let mut under = String::new(alloc);
-        match history.at {
-            Some(addr) => {
-                write!(heading, "Around {addr:#x}")?;
-                write!(
-                    under,
-                    "Down: each request that changed a page near {addr:#x}, and what is mapped near it afterwards. "
-                )?;
-            }
-            None => {
-                heading.push_str("One address space over time")?;
-                under.push_str("Down: each request, and what is mapped after it. ")?;
-            }
+/// Writes the heading, and answers where the legend begins beside it.
+fn write_heading(pen: &mut Pen<'_>, at: Option<u64>) -> Tenths {
+    let (words, addr_width) = match at {
+        Some(addr) => ("Around ", address_width(addr, EACH)),
+        None => ("One address space over time", Tenths(0)),
+    };
+    pen.begin_text(MARGIN, HEADING, "class=\"heading\"");
+    pen.push(words);
+    if let Some(addr) = at {
+        pen.address(addr);
+    }
+    pen.end_text();
+    Tenths(600).plus(width_of(words, EACH)).plus(addr_width)
+}
+
+/// Writes what the rows and what their places across mean, as text.
+fn write_under(pen: &mut Pen<'_>, at: Option<u64>, is_to_scale: bool) {
+    match at {
+        Some(addr) => {
+            pen.push("Down: each request that changed a page near ");
+            pen.address(addr);
+            pen.push(", and what is mapped near it afterwards. ");
         }
-        under.push_str(if axis.is_to_scale {
-            "Across: addresses, pages to scale, unused gaps cut out."
-        } else {
-            "Across: addresses, not to scale: widths grow with the logarithm of sizes; unused gaps cut out."
-        })?;
-        let x = Tenths::of(60).plus(width_of(heading.as_str(), 132));
-        Ok(Head {
-            legend: Legend::of(alloc, history, &boxes.items, colours, x, width)?,
-            under: Lines::of(alloc, under.as_str(), width)?,
-            heading,
-        })
+        None => pen.push("Down: each request, and what is mapped after it. "),
     }
-
-    /// Where the rows begin below it, in pixels.
-    pub fn bottom(&self) -> u64 {
-        TOP.saturating_add(self.under.more())
-            .saturating_add(self.legend.more())
-    }
-
-    /// Writes it.
-    pub fn write(&self, alloc: Global, out: &mut String) -> Result<(), AllocError> {
-        let text = Text {
-            x: Tenths::of(MARGIN),
-            y: Tenths::of(HEADING),
-            attributes: "class=\"heading\"",
-            text: self.heading.as_str(),
-        };
-        write_text(out, &text)?;
-        self.under.write(out, UNDER, "class=\"under\"")?;
-        let above = UNDER.saturating_add(self.under.more());
-        self.legend.write(alloc, out, HEADING - 1, above)
-    }
+    pen.push(if is_to_scale {
+        "Across: addresses, pages to scale, unused gaps cut out."
+    } else {
+        "Across: addresses, not to scale: widths grow with the logarithm of sizes; unused gaps cut out."
+    });
 }

@@ -1,7 +1,6 @@
 //! What happened to an address space, row by row.
 
 use crate::boxes::Stood;
-use crate::changed::Changed;
 use crate::choice::{IDLE_RANK, KEPT, PAGE_RANK, PLAIN_RANK, SPECIAL_RANK, choose};
 use crate::piece::Piece;
 use crate::row::{Row, RowKind, Told};
@@ -18,7 +17,7 @@ const NEAR: u64 = 320;
 const WIDENINGS: u64 = 1024;
 
 /// A mapping that stands, and the row that it came with.
-#[derive(Clone, Copy, PartialEq, Eq)]
+#[derive(Clone, Copy)]
 pub(crate) struct Standing {
     pub piece: Piece,
     pub from: u64,
@@ -75,15 +74,17 @@ impl History {
         ranges: &[PageRange],
         space: &Space,
     ) -> Result<(), OutOfMemory> {
-        let mut changed = Changed::None;
+        let mut changed = IDLE_RANK;
         for range in ranges {
-            let range = self.renew(alloc, *range, space.list())?;
-            changed = changed.and(range);
+            changed = changed.max(self.renew(alloc, *range, space.list())?);
         }
-        if self.at.is_some() && changed == Changed::None {
+        if self.at.is_some() && changed == IDLE_RANK {
             return Ok(());
         }
-        let rank = self.rank(told.kind, changed);
+        let rank = match (self.at, told.kind) {
+            (Some(_), _) | (None, RowKind::Change) => changed,
+            (None, _) => SPECIAL_RANK,
+        };
         self.rows.push(Row {
             told,
             serial: self.serial,
@@ -104,43 +105,40 @@ impl History {
         self.serial
     }
 
-    /// How much a row matters.
-    fn rank(&self, kind: RowKind, changed: Changed) -> u8 {
-        match (self.at, kind, changed) {
-            (Some(_), _, Changed::Page) => PAGE_RANK,
-            (Some(_), _, _) => PLAIN_RANK,
-            (None, RowKind::Change, Changed::None) => IDLE_RANK,
-            (None, RowKind::Change, _) => PLAIN_RANK,
-            (None, _, _) => SPECIAL_RANK,
-        }
-    }
-
-    /// What of a range is near, with the mappings that reach out of it.
+    /// What of a range is near, with the mappings before or after that reach out of it.
     fn near(&self, range: PageRange, list: &RangeList) -> Option<PageRange> {
-        let low = range.first().max(self.low);
-        let high = range.end().min(self.high);
+        let mut low = range.first().max(self.low);
+        let mut high = range.end().min(self.high);
         if low >= high {
             return None;
         }
-        let (low, high) = self.widened(low, high, list);
+        for _ in 0..WIDENINGS {
+            let (first, end) = self.reach(low, high, list);
+            if first == low && end == high {
+                break;
+            }
+            low = first;
+            high = end;
+        }
         PageRange::new(low, high.saturating_sub(low))
     }
 
-    /// Brings what stands in a range, and in the mappings that reach out of it, up to the list.
+    /// Brings what stands in a range, and in the mappings that reach out of it, up to the list. It answers how much the change
+    /// matters.
     fn renew(
         &mut self,
         alloc: Global,
         range: PageRange,
         list: &RangeList,
-    ) -> Result<Changed, OutOfMemory> {
+    ) -> Result<u8, OutOfMemory> {
         let Some(range) = self.near(range, list) else {
-            return Ok(Changed::None);
+            return Ok(IDLE_RANK);
         };
         let before = self.standing_in(alloc, range)?;
         let now = self.mapped_in(alloc, range, list)?;
         let gone = self.take_out(&before, &now)?;
         let came = self.put_in(&before, &now)?;
-        Ok(gone.and(came))
+        Ok(gone.max(came))
     }
 
     /// What stood before and begins in a range.
@@ -152,50 +150,38 @@ impl History {
         Ok(before)
     }
 
-    /// What the list maps in a range, as far as it is near.
+    /// What the list maps in a range, as far as it is near: it stands from this row on, if it didn't before.
     fn mapped_in(
         &self,
         alloc: Global,
         range: PageRange,
         list: &RangeList,
-    ) -> Result<Vec<Piece>, OutOfMemory> {
+    ) -> Result<Vec<Standing>, OutOfMemory> {
         // The borrow checker proves this only where the function names the types inside the mapping.
         let _backing = Backing::Zero;
         let (index, count) = list.overlapping(range);
         let mut now = Vec::new(alloc);
         for mapping in list.run(index, count) {
             if let Some(piece) = Piece::of(mapping, self.low, self.high) {
-                now.push(piece)?;
+                let from = self.serial;
+                now.push(Standing { piece, from })?;
             }
         }
         Ok(now)
     }
 
-    /// The range that mappings before or after reach, if they are in some page of it.
-    fn widened(&self, low: u64, high: u64, list: &RangeList) -> (u64, u64) {
-        let (mut low, mut high) = (low, high);
-        for _ in 0..WIDENINGS {
-            let (first, end) = self.reach(low, high, list);
-            if first >= low && end <= high {
-                break;
-            }
-            low = low.min(first);
-            high = high.max(end);
-        }
-        (low, high)
-    }
-
-    /// The first page and the end of what meets a range's first and last pages, before and after.
+    /// A range with the mappings that meet its first and last pages, before and after.
     fn reach(&self, low: u64, high: u64, list: &RangeList) -> (u64, u64) {
         let last = high.saturating_sub(1);
         let mut first = low;
         let mut end = high;
-        for page in [low, last] {
-            if let Some(piece) = self.stands_at(page) {
-                first = first.min(piece.first);
-                end = end.max(piece.end);
-            }
-            if let Some(piece) = self.mapped_at(page, list) {
+        for piece in [
+            self.stands_at(low),
+            self.stands_at(last),
+            self.mapped_at(low, list),
+            self.mapped_at(last, list),
+        ] {
+            if let Some(piece) = piece {
                 first = first.min(piece.first);
                 end = end.max(piece.end);
             }
@@ -219,18 +205,19 @@ impl History {
         Piece::of(list.get(index), self.low, self.high)
     }
 
-    /// Takes out what stood before and doesn't now.
-    fn take_out(&mut self, before: &[Standing], now: &[Piece]) -> Result<Changed, OutOfMemory> {
-        let mut changed = Changed::None;
+    /// Takes out what stood before and doesn't now, and answers how much that matters.
+    fn take_out(&mut self, before: &[Standing], now: &[Standing]) -> Result<u8, OutOfMemory> {
+        let mut rank = IDLE_RANK;
         for standing in before {
-            if find(now, standing.piece.first) != Some(standing.piece) {
-                let _ = self.standing.remove(&standing.piece.first);
-                self.pages = self.pages.saturating_sub(standing.piece.pages());
-                changed = changed.and(self.change_of(&standing.piece));
+            let piece = standing.piece;
+            if !has(now, &piece) {
+                let _ = self.standing.remove(&piece.first);
+                self.pages = self.pages.saturating_sub(piece.pages());
+                rank = rank.max(self.rank_of(&piece));
                 self.end_of(standing)?;
             }
         }
-        Ok(changed)
+        Ok(rank)
     }
 
     /// Notes that a mapping stood until now, if any row saw it.
@@ -245,31 +232,27 @@ impl History {
         Ok(())
     }
 
-    /// Puts in what stands now and didn't before.
-    fn put_in(&mut self, before: &[Standing], now: &[Piece]) -> Result<Changed, OutOfMemory> {
-        let mut changed = Changed::None;
-        for piece in now {
-            if find_standing(before, piece.first) != Some(*piece) {
-                let from = self.serial;
-                let standing = Standing {
-                    piece: *piece,
-                    from,
-                };
-                self.standing.insert(piece.first, standing)?;
+    /// Puts in what stands now and didn't before, and answers how much that matters.
+    fn put_in(&mut self, before: &[Standing], now: &[Standing]) -> Result<u8, OutOfMemory> {
+        let mut rank = IDLE_RANK;
+        for standing in now {
+            let piece = standing.piece;
+            if !has(before, &piece) {
+                self.standing.insert(piece.first, *standing)?;
                 self.pages = self.pages.saturating_add(piece.pages());
-                changed = changed.and(self.change_of(piece));
+                rank = rank.max(self.rank_of(&piece));
             }
         }
-        Ok(changed)
+        Ok(rank)
     }
 
-    /// What it is to change these pages.
-    fn change_of(&self, piece: &Piece) -> Changed {
+    /// How much it matters to change these pages.
+    fn rank_of(&self, piece: &Piece) -> u8 {
         match self.at {
             Some(addr) if piece.first <= addr / PAGE_BYTES && addr / PAGE_BYTES < piece.end => {
-                Changed::Page
+                PAGE_RANK
             }
-            _ => Changed::Some,
+            _ => PLAIN_RANK,
         }
     }
 }
@@ -281,17 +264,11 @@ fn near(page: u64) -> (u64, u64) {
     (low, page.saturating_add(NEAR).min(SPACE_PAGES))
 }
 
-/// The piece that begins at a page, of ascending ones.
-fn find(pieces: &[Piece], first: u64) -> Option<Piece> {
-    let place = pieces.partition_point(|piece| piece.first < first);
-    pieces.get(place).copied()
-}
-
-/// The piece that stood from a page on, of ascending ones.
-fn find_standing(standing: &[Standing], first: u64) -> Option<Piece> {
-    let place = standing.partition_point(|standing| standing.piece.first < first);
+/// Whether a mapping is among ascending ones.
+fn has(standing: &[Standing], piece: &Piece) -> bool {
+    let place = standing.partition_point(|standing| standing.piece.first < piece.first);
     match standing.get(place) {
-        Some(standing) => Some(standing.piece),
-        None => None,
+        Some(standing) => standing.piece == *piece,
+        None => false,
     }
 }

@@ -1,162 +1,86 @@
 //! What colours stand for.
 
-use crate::boxes::Boxed;
-use crate::colours::{COLOURS, Colours};
+use crate::colours::{COLOURS, Colours, ZERO};
 use crate::history::History;
 use crate::lines::MARGIN;
-use crate::names::write_name;
-use crate::pixels::Tenths;
-use crate::svg::{Area, Text, width_of, write_rect, write_text};
-use crate::texts::shortened;
-use gv_types::{Backing, OutOfMemory};
-use std::alloc::{AllocError, Global};
+use crate::names::name_of;
+use crate::pen::{Area, Pen};
+use crate::pixels::{Tenths, width_of};
+use std::alloc::Global;
 
-/// How wide a character is, in tenths of a pixel.
+/// The width of a character, in tenths of a pixel.
 const EACH: u64 = 78;
 
-/// How far words stand from the left side of their colour, and the next colour from them, in pixels.
-const BESIDE: u64 = 22;
+/// How far words are from the left side of their sign, and the next sign from them.
+const BESIDE: Tenths = Tenths(220);
 
-/// How far apart lines stand, in pixels.
-const LINE: u64 = 22;
+/// How far apart lines are.
+const LINE: Tenths = Tenths(220);
 
-/// A colour, on a ground where that shows through it, and what it stands for.
-#[derive(Drop)]
-struct Key {
-    x: Tenths,
-    line: u64,
-    ground: &'static str,
-    fill: &'static str,
-    words: String,
-}
-
-/// What the colours of a picture stand for, in lines that it has room for.
-#[derive(Drop)]
+/// A legend as it is written: where the next sign is, the base line of the next line, and the right end of all.
+#[derive(Clone, Copy)]
 pub struct Legend {
-    keys: Vec<Key>,
-    next: Tenths,
-    line: u64,
-    right: Tenths,
+    pub x: Tenths,
+    pub y: Tenths,
+    pub below: Tenths,
+    pub right: Tenths,
 }
 
 impl Legend {
-    /// The colours of the first buffers, and the signs of zeros and of read-only pages where there are any. The first line begins
-    /// at a place beside the heading, and the picture has so many pixels.
-    pub fn of(
-        alloc: Global,
-        history: &History,
-        items: &[Boxed],
-        colours: &Colours,
-        x: Tenths,
-        width: u64,
-    ) -> Result<Legend, OutOfMemory> {
-        let mut legend = Legend {
-            keys: Vec::new(alloc),
-            next: x,
-            line: 0,
-            right: Tenths::of(width.saturating_sub(MARGIN)),
-        };
-        for buffer in colours.order.iter().take(COLOURS as usize) {
-            let mut name = String::new(alloc);
-            write_name(&mut name, history, *buffer)?;
-            legend.add(alloc, "", colours.colour(*buffer).fill, name.as_str())?;
-        }
-        let more = (colours.order.len() as u64).saturating_sub(COLOURS);
-        if more > 0 {
-            let words = format!(in alloc; "and {more} more, in these colours again")?;
-            legend.add(alloc, "", "none", words.as_str())?;
-        }
-        legend.add_signs(alloc, items)?;
-        Ok(legend)
-    }
-
-    /// Adds the signs of zeros and of read-only pages where there are any.
-    fn add_signs(&mut self, alloc: Global, items: &[Boxed]) -> Result<(), OutOfMemory> {
-        let mut has_zero = false;
-        let mut has_read_only = false;
-        for item in items {
-            has_zero |= item.count == 1 && item.piece.backing == Backing::Zero;
-            has_read_only |= item.piece.read_only;
-        }
-        if has_zero {
-            self.add(alloc, "", "url(#zero)", "zero: no buffer")?;
-        }
-        if has_read_only {
-            self.add(alloc, "#7c8898", "url(#dots)", "read-only")?;
-        }
-        Ok(())
-    }
-
-    /// Adds a colour, on a ground where that is named, and its words: in a further line where there is no room for them in this
-    /// one, and shortened where a whole line has none.
-    fn add(
+    /// Writes the colours of the first buffers, and the signs of zeros and of read-only pages where there are any.
+    pub fn write(
         &mut self,
         alloc: Global,
-        ground: &'static str,
-        fill: &'static str,
-        words: &str,
-    ) -> Result<(), OutOfMemory> {
-        let beside = Tenths::of(BESIDE);
-        let end = self.next.plus(beside).plus(width_of(words, EACH));
-        if end.0 > self.right.0 {
-            self.line = self.line.saturating_add(1);
-            self.next = Tenths::of(MARGIN);
-        }
-        let x = self.next;
-        let room = self.right.minus(x.plus(beside)).0 / EACH;
-        let words = shortened(alloc, words, room as usize)?;
-        self.next = x
-            .plus(beside)
-            .plus(width_of(words.as_str(), EACH))
-            .plus(beside);
-        self.keys.push(Key {
-            x,
-            line: self.line,
-            ground,
-            fill,
-            words,
-        })?;
-        Ok(())
-    }
-
-    /// How much room the lines behind the first one take, in pixels.
-    pub fn more(&self) -> u64 {
-        self.line.saturating_mul(LINE)
-    }
-
-    /// Writes all, the first line at this base line and those behind it below another one, in pixels.
-    pub fn write(
-        &self,
-        alloc: Global,
-        out: &mut String,
-        first: u64,
-        above: u64,
-    ) -> Result<(), AllocError> {
-        for key in &self.keys {
-            let y = match key.line {
-                0 => first,
-                line => above.saturating_add(line.saturating_mul(LINE)),
-            };
-            let area = Area {
-                x: key.x,
-                y: Tenths::of(y.saturating_sub(12)),
-                width: Tenths::of(15),
-                height: Tenths::of(14),
-            };
-            for fill in [key.ground, key.fill] {
-                if !fill.is_empty() {
-                    let attributes = format!(in alloc; "rx=\"3\" fill=\"{fill}\"")?;
-                    write_rect(out, &area, attributes.as_str())?;
-                }
+        pen: &mut Pen<'_>,
+        history: &History,
+        colours: &Colours,
+    ) {
+        for buffer in colours.order.iter().take(COLOURS) {
+            match name_of(alloc, history, *buffer) {
+                Ok(name) => self.add(pen, "", colours.look(*buffer).sign, name.as_str()),
+                Err(_) => pen.stop(),
             }
-            let text = Text {
-                x: key.x.plus(Tenths::of(BESIDE)),
-                y: Tenths::of(y),
-                attributes: "class=\"legend\"",
-                text: key.words.as_str(),
-            };
-            write_text(out, &text)?;
         }
-        Ok(())
+        let more = colours.order.len().saturating_sub(COLOURS);
+        if more > 0 {
+            match format!(in alloc; "and {more} more, in these colours again") {
+                Ok(words) => self.add(pen, "", "rx=\"3\" fill=\"none\"", words.as_str()),
+                Err(_) => pen.stop(),
+            }
+        }
+        if colours.has_zero {
+            self.add(pen, "", ZERO.sign, "zero: no buffer");
+        }
+        if colours.has_read_only {
+            let ground = "rx=\"3\" fill=\"#7c8898\"";
+            self.add(pen, ground, "rx=\"3\" fill=\"url(#dots)\"", "read-only");
+        }
+    }
+
+    /// Writes a sign, on a ground where that has attributes, and its words: in a further line where there is no room for them in
+    /// this one, and shortened where a whole line has none.
+    fn add(&mut self, pen: &mut Pen<'_>, ground: &str, sign: &str, words: &str) {
+        let end = self.x.plus(BESIDE).plus(width_of(words, EACH));
+        if end.0 > self.right.0 {
+            self.x = MARGIN;
+            self.y = self.below;
+            self.below = self.below.plus(LINE);
+        }
+        let area = Area {
+            x: self.x,
+            y: self.y.minus(Tenths(120)),
+            width: Tenths(150),
+            height: Tenths(140),
+        };
+        if !ground.is_empty() {
+            pen.rect(&area, ground);
+        }
+        pen.rect(&area, sign);
+        let x = self.x.plus(BESIDE);
+        let room = self.right.minus(x).0 / EACH;
+        pen.begin_text(x, self.y, "class=\"legend\"");
+        let shown = pen.shortened(words, room as usize);
+        pen.end_text();
+        self.x = x.plus(Tenths(shown.saturating_mul(EACH))).plus(BESIDE);
     }
 }

@@ -3,18 +3,19 @@
 
 mod axis;
 mod boxes;
-mod changed;
 mod choice;
 mod colours;
 mod fault;
+mod foot;
 mod head;
 mod history;
 mod legend;
 mod lines;
+mod marks;
 mod names;
-mod notes;
 mod options;
 mod page;
+mod pen;
 mod piece;
 mod pixels;
 mod row;

@@ -1,13 +1,12 @@
 //! Names of buffers.
 
 use crate::history::History;
-use std::alloc::AllocError;
-use std::fmt::Write;
+use std::alloc::{AllocError, Global};
 
-/// Writes a buffer's name.
-pub fn write_name(out: &mut String, history: &History, buffer: u64) -> Result<(), AllocError> {
+/// A buffer's name.
+pub fn name_of(alloc: Global, history: &History, buffer: u64) -> Result<String, AllocError> {
     match history.names.get(&buffer) {
-        Some(name) => out.push_str(name.as_str()),
-        None => write!(out, "b{buffer}"),
+        Some(name) => String::from_str(alloc, name.as_str()),
+        None => format!(in alloc; "b{buffer}"),
     }
 }

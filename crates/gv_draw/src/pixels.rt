@@ -1,25 +1,13 @@
 //! Lengths in pixels.
 
-use std::fmt;
-
 /// Tenths of a pixel.
-#[derive(Clone, Copy, PartialEq, Eq)]
+#[derive(Clone, Copy)]
 pub struct Tenths(pub u64);
 
 impl Tenths {
-    /// So many pixels.
-    pub fn of(pixels: u64) -> Tenths {
-        Tenths(pixels.saturating_mul(10))
-    }
-
     /// Both.
     pub fn plus(self, other: Tenths) -> Tenths {
         Tenths(self.0.saturating_add(other.0))
-    }
-
-    /// The longer of both.
-    pub fn or(self, other: Tenths) -> Tenths {
-        Tenths(self.0.max(other.0))
     }
 
     /// How much longer it is than the other.
@@ -28,18 +16,18 @@ impl Tenths {
     }
 }
 
-impl fmt::Display for Tenths {
-    fn fmt<W: fmt::Write>(&self, f: &mut fmt::Formatter<W>) -> fmt::Result {
-        let whole = self.0 / 10;
-        let rest = self.0 % 10;
-        match rest {
-            0 => write!(f, "{whole}"),
-            _ => write!(f, "{whole}.{rest}"),
-        }
-    }
-}
-
 /// The share `part` of `whole` parts of a length, rounded down; nothing of none.
 pub fn share(length: u64, part: u64, whole: u64) -> u64 {
     length.saturating_mul(part) / whole.max(1)
+}
+
+/// The width of a text whose characters are each this wide, in tenths of a pixel.
+pub fn width_of(text: &str, each: u64) -> Tenths {
+    Tenths((text.chars().count() as u64).saturating_mul(each))
+}
+
+/// The width of an address in hexadecimal digits after `0x`, likewise.
+pub fn address_width(addr: u64, each: u64) -> Tenths {
+    let more_digits = u64::from(addr.max(1).ilog2() / 4);
+    Tenths(more_digits.saturating_add(3).saturating_mul(each))
 }

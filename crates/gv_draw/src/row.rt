@@ -13,6 +13,55 @@ pub enum RowKind {
     Freed,
 }
 
+/// How a row looks, as parts of an SVG: the attributes of its ground, if it has one, of its number and of its answer, and the
+/// sign that replaces its number, if one does.
+pub(crate) struct RowLook {
+    pub ground: &'static str,
+    pub number: &'static str,
+    pub sign: &'static str,
+    pub answer: &'static str,
+}
+
+static CHANGE: RowLook = RowLook {
+    ground: "",
+    number: "class=\"number\" text-anchor=\"end\"",
+    sign: "",
+    answer: "class=\"answer\" style=\"fill:#5b6675\"",
+};
+
+static TAKES_BACK: RowLook = RowLook {
+    ground: "fill=\"#fff3d6\"",
+    number: "class=\"number\" text-anchor=\"end\"",
+    sign: "↶",
+    answer: "class=\"answer\" style=\"fill:#8a6100\"",
+};
+
+static REFUSED: RowLook = RowLook {
+    ground: "fill=\"#fde8e8\"",
+    number: "class=\"number\" text-anchor=\"end\" style=\"fill:#b3261e\"",
+    sign: "✗",
+    answer: "class=\"answer\" style=\"fill:#b3261e\"",
+};
+
+static FREED: RowLook = RowLook {
+    ground: "fill=\"#fde8e8\"",
+    number: "class=\"number\" text-anchor=\"end\"",
+    sign: "",
+    answer: "class=\"answer\" style=\"fill:#b3261e\"",
+};
+
+impl RowKind {
+    /// How a row of this kind looks.
+    pub(crate) fn look(self) -> &'static RowLook {
+        match self {
+            RowKind::Change => &CHANGE,
+            RowKind::TakesBack => &TAKES_BACK,
+            RowKind::Refused => &REFUSED,
+            RowKind::Freed => &FREED,
+        }
+    }
+}
+
 /// A row as it is told: the number of the journal's entry, where it became one, what was asked, and the answer where that
 /// is worth showing.
 #[derive(Debug, Drop)]

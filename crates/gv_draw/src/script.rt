@@ -11,32 +11,28 @@ use gv_types::{OutOfMemory, PageRange};
 use std::alloc::Global;
 use std::str;
 
-/// What a line does, as far as a picture shows it.
-#[derive(Clone, Copy, PartialEq, Eq)]
+/// What a line is in a picture.
+#[derive(Clone, Copy)]
 enum Act {
-    /// A request: a new entry, unless it is refused.
-    Bind,
-    /// The newest entry is taken back.
-    Rewind,
-    /// An older one is, by a new entry.
-    Withdraw,
-    Settle,
-    /// A buffer gets a name.
-    Names,
+    /// A row. Unless it is refused, it is of this kind, and shows its reply or not.
+    Row { kind: RowKind, has_answer: bool },
+    /// The name of a buffer.
+    Name,
+    /// Nothing.
     Other,
 }
 
 impl Act {
-    /// What a line does.
+    /// What this line is.
     fn of(line: &Line<'_>) -> Act {
-        match line {
-            Line::Bind { .. } => Act::Bind,
-            Line::Rewind => Act::Rewind,
-            Line::Withdraw { .. } => Act::Withdraw,
-            Line::Settle { .. } => Act::Settle,
-            Line::Buffer { .. } => Act::Names,
-            _ => Act::Other,
-        }
+        let (kind, has_answer) = match line {
+            Line::Bind { .. } => (RowKind::Change, false),
+            Line::Settle { .. } => (RowKind::Change, true),
+            Line::Rewind | Line::Withdraw { .. } => (RowKind::TakesBack, true),
+            Line::Buffer { .. } => return Act::Name,
+            _ => return Act::Other,
+        };
+        Act::Row { kind, has_answer }
     }
 }
 
@@ -98,31 +94,32 @@ impl Drawing {
         }
     }
 
-    /// Runs a line, and adds its row.
+    /// Runs a line, and adds its row. A rewind changes the ranges of the newest entry, any other request those of its own.
     fn run_line(&mut self, alloc: Global, line: &[u8]) -> Result<(), LineFault> {
-        let parsed = parse_line(line).ok_or(LineFault::Bad)?;
+        let Some(parsed) = parse_line(line) else {
+            return Err(LineFault::Bad);
+        };
         let act = Act::of(&parsed);
         self.reply.clear();
         self.ranges.clear();
         let before = self.session.world().vm().next();
-        if let Act::Rewind = act {
+        if let Line::Rewind = parsed {
             self.note_ranges()?;
         }
         run_line(alloc, &mut self.session, parsed, &mut self.reply)?;
         let has_entry = before < self.session.world().vm().next();
-        match act {
-            Act::Bind | Act::Withdraw if has_entry => self.note_ranges()?,
-            Act::Bind | Act::Rewind | Act::Withdraw | Act::Settle => {}
-            Act::Names => return Ok(self.give_name(alloc, line)?),
-            Act::Other => return Ok(()),
+        if has_entry {
+            self.note_ranges()?;
         }
-        let number = has_entry.then_some(before);
-        let told = self.told(alloc, line, &act, number)?;
-        let space = self.session.world().vm().space();
-        Ok(
-            self.history
-                .add(alloc, told, self.ranges.as_slice(), space)?,
-        )
+        let noted = match act {
+            Act::Row { kind, has_answer } => {
+                let number = has_entry.then_some(before);
+                self.add_row(alloc, line, number, kind, has_answer)
+            }
+            Act::Name => self.give_name(alloc, line),
+            Act::Other => Ok(()),
+        };
+        Ok(noted?)
     }
 
     /// Notes the ranges that the newest entry changed.
@@ -146,32 +143,30 @@ impl Drawing {
         }
     }
 
-    /// What a row tells of a line.
-    fn told(
-        &self,
+    /// Adds the row of a line.
+    fn add_row(
+        &mut self,
         alloc: Global,
         line: &[u8],
-        act: &Act,
         number: Option<u64>,
-    ) -> Result<Told, OutOfMemory> {
+        kind: RowKind,
+        has_answer: bool,
+    ) -> Result<(), OutOfMemory> {
         let label = str::from_utf8(line).unwrap_or("");
         let label = label.strip_prefix("bind ").unwrap_or(label);
         let reply = self.reply.as_str().trim_ascii();
         let is_refused = reply.starts_with("refused") || reply.starts_with("notready");
-        let kind = match act {
-            _ if is_refused => RowKind::Refused,
-            Act::Rewind | Act::Withdraw => RowKind::TakesBack,
-            _ => RowKind::Change,
-        };
-        let answer = match (kind, act) {
-            (RowKind::Change, Act::Bind) => "",
-            _ => reply,
-        };
-        Ok(Told {
+        let mut answer = String::new(alloc);
+        if is_refused || has_answer {
+            answer.push_str(reply)?;
+        }
+        let told = Told {
             number,
             label: String::from_str(alloc, label)?,
-            answer: String::from_str(alloc, answer)?,
-            kind,
-        })
+            answer,
+            kind: if is_refused { RowKind::Refused } else { kind },
+        };
+        let space = self.session.world().vm().space();
+        self.history.add(alloc, told, self.ranges.as_slice(), space)
     }
 }

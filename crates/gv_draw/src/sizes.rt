@@ -1,7 +1,6 @@
 //! Sizes as people read them.
 
-use std::alloc::AllocError;
-use std::fmt::Write;
+use crate::pen::Pen;
 
 /// How many KiB a page has.
 const PAGE_KIB: u64 = 4;
@@ -9,47 +8,35 @@ const PAGE_KIB: u64 = 4;
 /// From this number on a greater unit is taken.
 const LONG: u64 = 10_000;
 
+/// How many of a unit the next one has.
 const STEP: u64 = 1024;
 
-/// The units, the least first.
-const UNITS: [&str; 5] = ["KiB", "MiB", "GiB", "TiB", "PiB"];
-
-/// A number in a greater unit, rounded.
-fn in_greater(number: u64) -> u64 {
-    number.saturating_add(STEP / 2) / STEP
-}
-
-/// Whether a number is told in a greater unit: where it is long, or whole there.
-fn is_long(number: u64) -> bool {
-    number >= LONG || (number >= STEP && number % STEP == 0)
-}
-
-/// So many KiB as they are told: a number, and the index of its unit.
-fn told(kib: u64) -> (u64, usize) {
-    let mut number = kib;
-    let mut unit = 0;
-    for greater in 1..UNITS.len() {
-        if !is_long(number) {
-            return (number, unit);
-        }
-        number = in_greater(number);
-        unit = greater;
-    }
-    (number, unit)
-}
+/// The units after KiB, the least first.
+const GREATER: [&str; 4] = ["MiB", "GiB", "TiB", "PiB"];
 
 /// Writes how much so many pages are: in KiB, and from 10,000 of a unit on, or where it is whole, in the next greater one,
 /// rounded.
-pub fn write_size(out: &mut String, pages: u64) -> Result<(), AllocError> {
-    let (number, unit) = told(pages.saturating_mul(PAGE_KIB));
-    let unit = UNITS.get(unit).copied().unwrap_or("");
-    write!(out, "{number} {unit}")
+pub fn write_size(pen: &mut Pen<'_>, pages: u64) {
+    let mut number = pages.saturating_mul(PAGE_KIB);
+    let mut unit = "KiB";
+    for greater in GREATER {
+        if number < LONG && (number < STEP || number % STEP != 0) {
+            break;
+        }
+        number = number.saturating_add(STEP / 2) / STEP;
+        unit = greater;
+    }
+    pen.number(number);
+    pen.push(" ");
+    pen.push(unit);
 }
 
 /// Writes a number of things, `1 mapping` or `2 mappings`.
-pub fn write_count(out: &mut String, count: u64, thing: &str) -> Result<(), AllocError> {
-    match count {
-        1 => write!(out, "1 {thing}"),
-        _ => write!(out, "{count} {thing}s"),
+pub fn write_count(pen: &mut Pen<'_>, count: u64, thing: &str) {
+    pen.number(count);
+    pen.push(" ");
+    pen.push(thing);
+    if count != 1 {
+        pen.push("s");
     }
 }

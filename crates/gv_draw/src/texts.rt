@@ -1,124 +1,138 @@
-//! The texts at the left of a row.
+//! The texts of a row.
 
+use crate::page::Page;
+use crate::pen::Pen;
 use crate::pixels::Tenths;
-use crate::row::{Row, RowKind};
-use crate::sizes::write_count;
-use crate::svg::{Text, width_of, write_text};
-use std::alloc::{AllocError, Global};
+use crate::row::Row;
+use crate::sizes::{write_count, write_size};
 
-/// How wide a character of a label is, in tenths of a pixel.
-pub const LABEL_EACH: u64 = 73;
+/// The width of a character of a label, in tenths of a pixel.
+const LABEL_EACH: u64 = 73;
 
-/// Where labels begin, in pixels.
-pub const LABEL_X: u64 = 58;
+/// Where labels begin.
+const LABEL_X: Tenths = Tenths(580);
+
+/// How many characters of labels there is room for.
+const LABEL_CHARS: usize = 44;
+
+/// Where numbers end.
+const NUMBER_X: Tenths = Tenths(460);
+
+/// How far below a row's top the upper and the lower one of two texts are.
+const UPPER: Tenths = Tenths(160);
+
+const LOWER: Tenths = Tenths(310);
+
+impl<'a> Page<'a> {
+    /// Writes the texts of all rows.
+    pub fn write_texts(&self, pen: &mut Pen<'_>) {
+        let mut next: u64 = 0;
+        for (place, row) in self.history.rows.iter().enumerate() {
+            let top = self.rows.top_of(place);
+            if row.serial > next {
+                write_left_out(pen, row.serial.saturating_sub(next), top);
+            }
+            next = row.serial.saturating_add(1);
+            write_number(pen, row, top.plus(self.rows.middle));
+            self.write_label(pen, row, top);
+            self.write_counts(pen, row, top);
+        }
+    }
+
+    /// Writes what was asked, and the answer where there is one.
+    fn write_label(&self, pen: &mut Pen<'_>, row: &Row, top: Tenths) {
+        let label = row.told.label.as_str();
+        let answer = row.told.answer.as_str();
+        let answer_chars = answer.chars().count();
+        let parts = label.split_once(" ; ");
+        let is_short = label.chars().count().saturating_add(answer_chars) < LABEL_CHARS;
+        let is_one_line = parts.is_none() && (is_short || answer.is_empty());
+        if is_one_line || !self.rows.is_roomy {
+            let y = top.plus(self.rows.middle);
+            let room = LABEL_CHARS.saturating_sub(answer_chars);
+            let end = write_shortened(pen, label, room, y);
+            return write_answer(pen, row, end.plus(Tenths(120)), y);
+        }
+        let (upper, lower) = (top.plus(UPPER), top.plus(LOWER));
+        match parts {
+            Some((first, more)) if answer.is_empty() => {
+                write_shortened(pen, first, LABEL_CHARS, upper);
+                write_shortened(pen, more, LABEL_CHARS, lower);
+            }
+            _ => {
+                write_shortened(pen, label, LABEL_CHARS, upper);
+                write_answer(pen, row, LABEL_X, lower);
+            }
+        }
+    }
+
+    /// Writes how much stood after a row.
+    fn write_counts(&self, pen: &mut Pen<'_>, row: &Row, top: Tenths) {
+        let has_tables = self.rows.has_tables;
+        let below = if has_tables { UPPER } else { self.rows.middle };
+        let x = self.across.counts;
+        pen.begin_text(x, top.plus(below), "class=\"count\"");
+        write_stood(pen, row);
+        pen.end_text();
+        if has_tables {
+            pen.begin_text(x, top.plus(LOWER), "class=\"tables\"");
+            write_tables(pen, row);
+            pen.end_text();
+        }
+    }
+}
 
 /// Writes how many rows are left out above a row.
-pub fn write_left_out(
-    alloc: Global,
-    out: &mut String,
-    count: u64,
-    y: u64,
-) -> Result<(), AllocError> {
-    let mut text = String::new(alloc);
-    text.push_str("… ")?;
-    write_count(&mut text, count, "row")?;
-    text.push_str(" left out")?;
-    let text = Text {
-        x: Tenths::of(LABEL_X),
-        y: Tenths::of(y.saturating_sub(5)),
-        attributes: "class=\"note\"",
-        text: text.as_str(),
-    };
-    write_text(out, &text)
+fn write_left_out(pen: &mut Pen<'_>, count: u64, top: Tenths) {
+    pen.begin_text(LABEL_X, top.minus(Tenths(50)), "class=\"note\"");
+    pen.push("… ");
+    write_count(pen, count, "row");
+    pen.push(" left out");
+    pen.end_text();
 }
 
 /// Writes the number of a row's entry, or a sign of what it is.
-pub fn write_number(
-    alloc: Global,
-    out: &mut String,
-    row: &Row,
-    y: Tenths,
-) -> Result<(), AllocError> {
-    let number = match row.told.number {
-        Some(number) => format!(in alloc; "{number}")?,
-        None => String::new(alloc),
-    };
-    let (attributes, text) = match row.told.kind {
-        RowKind::TakesBack => ("class=\"number\" text-anchor=\"end\"", "↶"),
-        RowKind::Refused => (
-            "class=\"number\" text-anchor=\"end\" style=\"fill:#b3261e\"",
-            "✗",
-        ),
-        RowKind::Change | RowKind::Freed => {
-            ("class=\"number\" text-anchor=\"end\"", number.as_str())
-        }
-    };
-    let text = Text {
-        x: Tenths::of(46),
-        y,
-        attributes,
-        text,
-    };
-    write_text(out, &text)
-}
-
-/// A text of at most so many characters: of a longer one the first, and a sign that there are more.
-pub fn shortened(alloc: Global, text: &str, room: usize) -> Result<String, AllocError> {
-    if text.chars().count() <= room {
-        return first_of(alloc, text, room);
+fn write_number(pen: &mut Pen<'_>, row: &Row, y: Tenths) {
+    let look = row.told.kind.look();
+    pen.begin_text(NUMBER_X, y, look.number);
+    pen.push(look.sign);
+    match row.told.number {
+        Some(number) if look.sign.is_empty() => pen.number(number),
+        _ => {}
     }
-    let mut shown = first_of(alloc, text, room.saturating_sub(1))?;
-    shown.push_str("…")?;
-    Ok(shown)
-}
-
-/// The first characters of a text, at most so many.
-fn first_of(alloc: Global, text: &str, count: usize) -> Result<String, AllocError> {
-    let mut first = String::new(alloc);
-    for c in text.chars().take(count) {
-        first.push(c)?;
-    }
-    Ok(first)
+    pen.end_text();
 }
 
 /// Writes a label of at most so many characters, and answers where it ends.
-pub fn write_shortened(
-    alloc: Global,
-    out: &mut String,
-    label: &str,
-    room: usize,
-    y: Tenths,
-) -> Result<Tenths, AllocError> {
-    let shown = shortened(alloc, label, room)?;
-    let text = Text {
-        x: Tenths::of(LABEL_X),
-        y,
-        attributes: "class=\"label\"",
-        text: shown.as_str(),
-    };
-    write_text(out, &text)?;
-    Ok(
-        text.x
-            .plus(width_of(shown.as_str(), LABEL_EACH))
-            .plus(Tenths::of(12)),
-    )
+fn write_shortened(pen: &mut Pen<'_>, label: &str, room: usize, y: Tenths) -> Tenths {
+    pen.begin_text(LABEL_X, y, "class=\"label\"");
+    let shown = pen.shortened(label, room);
+    pen.end_text();
+    LABEL_X.plus(Tenths(shown.saturating_mul(LABEL_EACH)))
 }
 
 /// Writes the answer to what was asked, where it is worth showing.
-pub fn write_answer(out: &mut String, row: &Row, x: Tenths, y: Tenths) -> Result<(), AllocError> {
-    if row.told.answer.is_empty() {
-        return Ok(());
+fn write_answer(pen: &mut Pen<'_>, row: &Row, x: Tenths, y: Tenths) {
+    let answer = row.told.answer.as_str();
+    if !answer.is_empty() {
+        pen.begin_text(x, y, row.told.kind.look().answer);
+        pen.text(answer);
+        pen.end_text();
     }
-    let attributes = match row.told.kind {
-        RowKind::TakesBack => "class=\"answer\" style=\"fill:#8a6100\"",
-        RowKind::Refused | RowKind::Freed => "class=\"answer\" style=\"fill:#b3261e\"",
-        RowKind::Change => "class=\"answer\" style=\"fill:#5b6675\"",
-    };
-    let text = Text {
-        x,
-        y,
-        attributes,
-        text: row.told.answer.as_str(),
-    };
-    write_text(out, &text)
+}
+
+/// Writes what stood after a row.
+pub fn write_stood(pen: &mut Pen<'_>, row: &Row) {
+    write_count(pen, row.mappings, "mapping");
+    pen.push(" · ");
+    write_size(pen, row.pages);
+}
+
+/// Writes how many tables of each level stood after a row.
+pub fn write_tables(pen: &mut Pen<'_>, row: &Row) {
+    pen.push("tables");
+    for count in row.tables {
+        pen.push(" ");
+        pen.number(count);
+    }
 }
