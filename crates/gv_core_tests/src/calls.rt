@@ -4,7 +4,6 @@ ghost use Rattle.gv_types.specs.Limits.{greatest, IsFromOneTo};
 use gv_buffers::{Buffers, Usage};
 use gv_types::{BufferId, Fault};
 use std::alloc::Global;
-use std::process::Abort;
 use std::test::Fail;
 
 /// One call on a table.
@@ -23,11 +22,14 @@ pub enum Call {
     Unkeep,
 }
 
-/// How many pages a buffer has, how many mappings of it are in the list, and how many in undo values.
-pub type Sight = [u64; 3];
+/// Where in the table a buffer is, how many pages it has, how many mappings of it are in the list, and how many in undo values.
+pub type Sight = [u64; 4];
 
-/// What is seen of a buffer that is dead.
-pub const DEAD: Sight = [u64::MAX; 3];
+/// Stands for each number of a buffer that is dead.
+pub const DEAD: u64 = u64::MAX;
+
+/// What is seen of a buffer that was never made.
+pub const NOBODY: Sight = [4_294_967_295, DEAD, DEAD, DEAD];
 
 /// The buffer that a call is on, by the order in which they were made; the call; its pages or its job, where it has any; the fault that it
 /// answers, if any; and what the table says of the buffer then.
@@ -36,35 +38,54 @@ pub type Row = (usize, Call, u64, Option<Fault>, Sight);
 /// What answers a row that no table can play.
 const STRANGE: Fault = Fault::Unmapped { access: 0 };
 
+/// The job that reads where another is refused memory.
+const READER: u64 = 1_000_000;
+
+/// So many ids have room from the start: no call on so few buffers wants memory for an id.
+const ROOM: usize = 100;
+
 /// A table, and the ids of those that were made.
 #[derive(Drop)]
-struct Table {
+pub struct Table {
     buffers: Buffers,
     ids: Vec<BufferId>,
 }
 
 impl Table {
+    /// A table of at most `limit` buffers.
+    pub fn new(alloc: Global, limit: u64) -> Result<Table, Fault>
+        requires { IsFromOneTo greatest.buffers limit }
+    {
+        Ok(Table {
+            buffers: Buffers::new(alloc, limit)?,
+            ids: Vec::with_capacity(alloc, ROOM)?,
+        })
+    }
+
+    /// The id of a buffer, by the order in which they were made.
     fn id(&self, place: usize) -> BufferId {
-        match self.ids.get(place) {
-            Some(id) => *id,
-            None => BufferId::new(u32::MAX, 0),
-        }
+        let nobody = BufferId::new(u32::MAX, 0);
+        self.ids.get(place).copied().unwrap_or(nobody)
     }
 
     /// Makes a buffer: each is the next.
     fn create(&mut self, alloc: Global, pages: u64) -> Result<(), Fault> {
         let id = self.buffers.create(alloc, pages)?;
         let is_next = id.generation.get() == self.ids.len() as u64;
-        done(self.ids.push(id).is_ok() && is_next)
+        if !is_next || self.ids.push(id).is_err() {
+            return Err(STRANGE);
+        }
+        Ok(())
     }
 
     /// What the table says of a buffer.
     fn sight(&self, place: usize) -> Sight {
         let id = &self.id(place);
         [
-            number(self.buffers.pages(*id)),
-            number(self.buffers.uses(*id)),
-            number(self.buffers.kept(*id)),
+            u64::from(id.index),
+            self.buffers.pages(*id).unwrap_or(DEAD),
+            self.buffers.uses(*id).unwrap_or(DEAD),
+            self.buffers.kept(*id).unwrap_or(DEAD),
         ]
     }
 
@@ -80,91 +101,76 @@ impl Table {
                 self.buffers.leave(number);
                 Ok(())
             }
-            _ => done(count(&mut self.buffers, id, call)),
+            _ => count(&mut self.buffers, id, call),
         }
     }
-}
 
-/// A number, or what stands for none.
-fn number(known: Option<u64>) -> u64 {
-    match known {
-        Some(number) => number,
-        None => u64::MAX,
+    /// Makes a call, at the second try where the first wants memory. The first has changed nothing then: where it was to let a job
+    /// write, another job can read the buffer between the two.
+    pub fn call_at_last(
+        &mut self,
+        alloc: Global,
+        place: usize,
+        call: Call,
+        number: u64,
+    ) -> Result<(), Fault> {
+        match self.call(alloc, place, call, number) {
+            Err(Fault::OutOfMemory) => {
+                if matches!(call, Call::Write) {
+                    self.call(alloc, place, Call::Read, READER)?;
+                    self.buffers.leave(READER);
+                }
+                self.call(alloc, place, call, number)
+            }
+            said => said,
+        }
     }
-}
 
-fn done(is_done: bool) -> Result<(), Fault> {
-    if is_done { Ok(()) } else { Err(STRANGE) }
+    /// Fails where rows answer something else. The buffers are counted from `first` on, and their places in the table from `index` on.
+    pub fn play(
+        &mut self,
+        alloc: Global,
+        first: usize,
+        index: u64,
+        rows: &[Row],
+    ) -> Result<(), Fail> {
+        for (row, (place, call, number, fault, sight)) in rows.iter().enumerate() {
+            let place = first.saturating_add(*place);
+            let said = self.call_at_last(alloc, place, *call, *number);
+            let mut seen = self.sight(place);
+            seen[0] = seen[0].wrapping_sub(index);
+            if said.err() != *fault || seen != *sight {
+                return Err(Fail::new(format_args!("buffers from {first}, row {row}")));
+            }
+        }
+        Ok(())
+    }
 }
 
 /// Counts a mapping in or out, where the counts are small and more than none.
-fn count(buffers: &mut Buffers, id: &BufferId, call: Call) -> bool {
-    match call {
-        Call::CountIn | Call::CountOut => count_use(buffers, id, matches!(call, Call::CountIn)),
-        Call::Keep | Call::Unkeep => count_kept(buffers, id, matches!(call, Call::Keep)),
-        _ => count_moved(buffers, id, matches!(call, Call::TakeOut)),
-    }
-}
-
-/// A mapping comes into the list, or one leaves it.
-fn count_use(buffers: &mut Buffers, id: &BufferId, comes: bool) -> bool {
-    match buffers.uses(*id) {
-        Some(uses) if comes && uses < 10 => buffers.count_in(*id),
-        Some(uses) if !comes && uses > 0 => buffers.count_out(*id),
-        _ => return false,
-    }
-    true
-}
-
-/// A mapping comes into an undo value, or one leaves it.
-fn count_kept(buffers: &mut Buffers, id: &BufferId, comes: bool) -> bool {
-    match buffers.kept(*id) {
-        Some(kept) if comes && kept < 10 => buffers.keep(*id),
-        Some(kept) if !comes && kept > 0 => buffers.unkeep(*id),
-        _ => return false,
-    }
-    true
-}
-
-/// A mapping moves from the list to an undo value, or back.
-fn count_moved(buffers: &mut Buffers, id: &BufferId, goes: bool) -> bool {
+fn count(buffers: &mut Buffers, id: &BufferId, call: Call) -> Result<(), Fault> {
     let (Some(uses), Some(kept)) = (buffers.uses(*id), buffers.kept(*id)) else {
-        return false;
+        return Err(STRANGE);
     };
-    if goes && uses > 0 && kept < 10 {
-        buffers.take_out(*id);
-        return true;
+    if uses >= 10 || kept >= 10 {
+        return Err(STRANGE);
     }
-    if !goes && uses < 10 && kept > 0 {
-        buffers.bring_back(*id);
-        return true;
+    match call {
+        Call::CountIn => buffers.count_in(*id),
+        Call::Keep => buffers.keep(*id),
+        Call::CountOut if uses > 0 => buffers.count_out(*id),
+        Call::TakeOut if uses > 0 => buffers.take_out(*id),
+        Call::BringBack if kept > 0 => buffers.bring_back(*id),
+        Call::Unkeep if kept > 0 => buffers.unkeep(*id),
+        _ => return Err(STRANGE),
     }
-    false
+    Ok(())
 }
 
-/// Asserts what rows answer on a table of at most so many buffers, and the places of those that they make.
-pub fn expect(
-    rt: &(impl Abort + AllocGlobal),
-    limit: u64,
-    rows: &[Row],
-    indices: &[u32],
-) -> Result<(), Fail>
+/// Fails where rows answer something else on a table of at most so many buffers.
+pub fn expect(alloc: Global, limit: u64, rows: &[Row]) -> Result<(), Fail>
     requires { IsFromOneTo greatest.buffers limit }
 {
-    let mut table = Table {
-        buffers: Buffers::new(rt.alloc(), limit)?,
-        ids: Vec::new(rt.alloc()),
-    };
-    for (row, (place, call, number, fault, sight)) in rows.iter().enumerate() {
-        let said = table.call(rt.alloc(), *place, *call, *number);
-        let is_right = said.err() == *fault && table.sight(*place) == *sight;
-        assert!(rt; is_right, "row {row}");
-    }
-    let same = table
-        .ids
-        .iter()
-        .zip(indices)
-        .all(|(id, index)| id.index == *index);
-    assert!(rt; same && table.ids.len() == indices.len());
-    Ok(())
+    let mut table = Table::new(alloc, limit)?;
+    table.play(alloc, 0, 0, rows)
 }

@@ -70,14 +70,10 @@ fn holds(list: &ChunkList, wanted: &[Packed]) -> bool {
     let chunks = list.chunks().chunks;
     let mut rest = wanted;
     for chunk in chunks {
-        if chunk.is_empty() || chunk.len() > rest.len() {
-            return false;
+        match rest.strip_prefix(chunk.as_slice()) {
+            Some(behind) if !chunk.is_empty() => rest = behind,
+            _ => return false,
         }
-        let (now, behind) = rest.split_at(chunk.len());
-        if now != chunk.as_slice() {
-            return false;
-        }
-        rest = behind;
     }
     rest.is_empty()
         && list.len() == wanted.len()
@@ -107,9 +103,9 @@ impl Lists {
         if self.list.len() != len || place > len || out_count > len - place {
             return Err("a run that is not there".into());
         }
-        let mut changed = Vec::from_slice(alloc, &self.block[..place])?;
-        changed.extend_from_slice(pieces)?;
-        changed.extend_from_slice(&self.block[place + out_count..])?;
+        let head = &self.block[..place];
+        let tail = &self.block[place + out_count..];
+        let changed = [head, pieces, tail].concat(alloc)?;
         self.block = changed;
         self.list.reserve(pieces.len())?;
         // Wherever the place is looked for first, the list is the same.
@@ -145,15 +141,16 @@ fn play(alloc: Global, lists: &mut Lists, phase: &Phase, random: &mut Random) ->
 
 #[test]
 fn lists_in_chunks_are_as_in_one_block(rt: HostRuntime) -> Result<(), Fail> {
+    let alloc = rt.alloc();
     for seed in 0..8u64 {
         let mut random = Random::new(seed);
         let mut lists = Lists {
-            list: ChunkList::new(rt.alloc()),
-            block: Vec::new(rt.alloc()),
+            list: ChunkList::new(alloc),
+            block: Vec::new(alloc),
             made: 0,
         };
         for phase in &PHASES {
-            play(rt.alloc(), &mut lists, phase, &mut random)?;
+            play(alloc, &mut lists, phase, &mut random)?;
         }
         assert!(rt; holds(&lists.list, &lists.block), "seed {seed}");
     }

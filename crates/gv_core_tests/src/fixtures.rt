@@ -1,5 +1,5 @@
 //! Mappings, operations, and lists changed by them.
-ghost use Rattle.std.specs.Prelude.{◌≡◌, ◌+◌, ◌≤◌, ◌++◌, [], ◌∷◌, IfOk, IsTrue, OnOk, length};
+ghost use Rattle.std.specs.Prelude.{◌≡◌, ◌+◌, ◌≤◌, ◌++◌, [], IfOk, IsTrue, OnOk, length};
 ghost use Rattle.std.specs.List.{All};
 ghost use Rattle.std.specs.Option.{option_to_list};
 ghost use Rattle.gv_types.specs.PageRange.{span, meets};
@@ -126,17 +126,6 @@ pub fn edit(alloc: Global, list: &mut RangeList, op: &PageOp) -> Result<(), OutO
     Ok(())
 }
 
-/// A list of one mapping.
-pub fn list_of_one(alloc: Global, one: Mapping) -> Result<RangeList, OutOfMemory>
-    requires { IsMapping one }
-    ensures { IfOk result (λ list. list.mappings ≡ one ∷ []) }
-{
-    let mut list = RangeList::new(alloc);
-    list.reserve(1)?;
-    list.splice(0, 0, &[Packed::new(&one)]);
-    Ok(list)
-}
-
 /// The mappings of a list, in one block.
 pub fn to_vec(alloc: Global, list: &RangeList) -> Result<Vec<Packed>, OutOfMemory>
     ensures value { IfOk result (λ mappings. mappings.items ≡ list.now.mappings) }
@@ -144,24 +133,7 @@ pub fn to_vec(alloc: Global, list: &RangeList) -> Result<Vec<Packed>, OutOfMemor
 {
     // Tells that the list is laid out.
     let _len = list.len();
-    Ok(list.iter().map(|mapping| *mapping).collect(alloc)?)
-}
-
-/// Whether what is left of a run is these pages' mappings, and no others.
-pub fn are_left(run: Run<'_>, wanted: &[Pages]) -> bool {
-    run.len() == wanted.len()
-        && run
-            .zip(wanted)
-            .all(|(one, pages)| is_of(&one.mapping(), pages))
-}
-
-/// Whether a mapping is that of these pages.
-pub fn is_of(one: &Mapping, pages: &Pages) -> bool {
-    let (first, count, index, page) = *pages;
-    match mapping(first, count, index, page) {
-        Ok(other) => *one == other,
-        Err(_) => false,
-    }
+    copied(alloc, list.iter())
 }
 
 /// A list of so many mappings of one page each: the pages of a buffer in turn, one at every `step`th page.
@@ -184,4 +156,13 @@ pub fn list_of(alloc: Global, rows: &[Pages]) -> Result<RangeList, Fail> {
         edit(alloc, &mut list, &map(*first, *count, *index, *page)?)?;
     }
     Ok(list)
+}
+
+/// The mappings of these pages.
+pub fn packed(alloc: Global, rows: &[Pages]) -> Result<Vec<Packed>, Fail> {
+    let mut mappings = Vec::new(alloc);
+    for (first, count, index, page) in rows {
+        mappings.push(Packed::new(&mapping(*first, *count, *index, *page)?))?;
+    }
+    Ok(mappings)
 }

@@ -1,115 +1,87 @@
 //! Tables of buffers that are full, and memory that is refused.
-use gv_buffers::{Buffers, Usage};
-use gv_types::{BufferId, Fault};
+use crate::calls::{Call, DEAD, NOBODY, Row, Table};
+use gv_types::Fault;
 use std::alloc::Global;
-use std::process::Abort;
 use std::test::Fail;
 
-/// Asserts that a table that is full refuses more.
-fn expect_full(rt: &(impl Abort + AllocGlobal), buffers: &mut Buffers) {
-    let full = Err(Fault::TooManyBuffers);
-    assert_eq!(rt; buffers.create(rt.alloc(), 1), full);
-}
+/// So many buffers may be alive in the largest table.
+const MOST: usize = 65_536;
 
-/// Makes buffers of 1, 1, 2, 3 and so on pages up to the limit: the first and the last.
-fn fill(
-    rt: &(impl Abort + AllocGlobal),
-    buffers: &mut Buffers,
-) -> Result<(BufferId, BufferId), Fault> {
-    let first = buffers.create(rt.alloc(), 1)?;
-    let mut last = first;
-    for made in 1..65_536u64 {
-        last = buffers.create(rt.alloc(), made)?;
-        assert_eq!(rt; last.generation.get(), made);
-    }
-    Ok((first, last))
-}
+const FULL: Option<Fault> = Some(Fault::TooManyBuffers);
+
+/// What a full table answers, whose buffers have 1, 1, 2, 3 and so on pages. That a job leaves changes nothing: none uses a buffer.
+const OF_A_FULL_TABLE: [Row; 6] = [
+    (MOST, Call::Create, 1, FULL, NOBODY),
+    (0, Call::Leave, 9, None, [0, 1, 0, 0]),
+    (MOST - 1, Call::Leave, 9, None, [65_535, 65_535, 0, 0]),
+    (0, Call::Destroy, 0, None, [0, DEAD, DEAD, DEAD]),
+    (MOST, Call::Create, 7, None, [0, 7, 0, 0]),
+    (MOST, Call::Create, 1, FULL, [0, 7, 0, 0]),
+];
 
 #[test]
 fn a_full_table_grows_to_its_limit(rt: HostRuntime) -> Result<(), Fail> {
-    let mut buffers = Buffers::new(rt.alloc(), 65_536)?;
-    let (first, last) = &fill(&rt, &mut buffers)?;
-    expect_full(&rt, &mut buffers);
-    assert_eq!(rt; buffers.pages(*first), Some(1));
-    assert_eq!(rt; buffers.pages(*last), Some(65_535));
-    buffers.destroy(*first)?;
-    let again = &buffers.create(rt.alloc(), 7)?;
-    assert_eq!(rt; again.index, first.index);
-    assert_eq!(rt; again.generation.get(), 65_536);
-    expect_full(&rt, &mut buffers);
-    Ok(())
+    let alloc = rt.alloc();
+    let mut table = Table::new(alloc, 65_536)?;
+    for made in 0..65_536u64 {
+        table.call_at_last(alloc, 0, Call::Create, made.max(1))?;
+    }
+    table.play(alloc, 0, 0, &OF_A_FULL_TABLE)
 }
+
+const OF_A_TABLE_OF_ONE: [Row; 4] = [
+    (0, Call::Create, 1, None, [0, 1, 0, 0]),
+    (0, Call::Create, 1, FULL, [0, 1, 0, 0]),
+    (0, Call::Create, 0, Some(Fault::BadSize), [0, 1, 0, 0]),
+    (0, Call::Destroy, 0, None, [0, DEAD, DEAD, DEAD]),
+];
 
 #[test]
 fn a_table_of_one(rt: HostRuntime) -> Result<(), Fail> {
-    let mut buffers = Buffers::new(rt.alloc(), 1)?;
+    let alloc = rt.alloc();
+    let mut table = Table::new(alloc, 1)?;
     for made in 0..100 {
-        let id = buffers.create(rt.alloc(), 1)?;
-        assert_eq!(rt; id.generation.get(), made);
-        expect_full(&rt, &mut buffers);
-        assert_eq!(rt; buffers.create(rt.alloc(), 0), Err(Fault::BadSize));
-        buffers.destroy(id)?;
+        table.play(alloc, made, 0, &OF_A_TABLE_OF_ONE)?;
     }
     Ok(())
 }
 
-/// Makes a buffer, at the second try where the first wants memory. The first has made none then.
-fn create_at_last(
-    rt: &(impl Abort + AllocGlobal),
-    buffers: &mut Buffers,
-    at: u64,
-) -> Result<BufferId, Fault> {
-    let id = match buffers.create(rt.alloc(), 1) {
-        Err(Fault::OutOfMemory) => buffers.create(rt.alloc(), 1)?,
-        first => first?,
-    };
-    assert_eq!(rt; id.generation.get(), at);
-    Ok(id)
-}
+/// A buffer that job 5 writes, which lets it write again.
+const USED: [Row; 4] = [
+    (0, Call::Create, 1, None, [0, 1, 0, 0]),
+    (0, Call::Write, 5, None, [0, 1, 0, 0]),
+    (0, Call::Write, 5, None, [0, 1, 0, 0]),
+    (
+        0,
+        Call::Destroy,
+        0,
+        Some(Fault::InUse { jobs: 1 }),
+        [0, 1, 0, 0],
+    ),
+];
 
-/// Lets the job 5 write a buffer, at the second try where the first wants memory. Another job can
-/// read the buffer between the two, so the first has left no user.
-fn join_at_last(
-    rt: &(impl Abort + AllocGlobal),
-    buffers: &mut Buffers,
-    id: &BufferId,
-) -> Result<(), Fault> {
-    match buffers.join(rt.alloc(), *id, 5, Usage::Write) {
-        Err(Fault::OutOfMemory) => (),
-        first => return first,
-    }
-    buffers.join(rt.alloc(), *id, 6, Usage::Read)?;
-    buffers.leave(6);
-    buffers.join(rt.alloc(), *id, 5, Usage::Write)
-}
+/// A buffer that nobody uses: job 5 leaves those that it used.
+const LEFT: [Row; 2] = [
+    (0, Call::Create, 1, None, [0, 1, 0, 0]),
+    (0, Call::Leave, 5, None, [0, 1, 0, 0]),
+];
 
 /// A table of at most 100 buffers, at the second try where the first wants memory.
-fn new_at_last(alloc: Global) -> Result<Buffers, Fault> {
-    match Buffers::new(alloc, 100) {
-        Err(Fault::OutOfMemory) => Buffers::new(alloc, 100),
+fn new_at_last(alloc: Global) -> Result<Table, Fault> {
+    match Table::new(alloc, 100) {
+        Err(Fault::OutOfMemory) => Table::new(alloc, 100),
         first => first,
     }
 }
 
-/// Makes 40 buffers that the job 5 writes.
-fn make_used(rt: &(impl Abort + AllocGlobal), buffers: &mut Buffers) -> Result<(), Fault> {
-    for made in 0..40 {
-        let id = &create_at_last(rt, buffers, made)?;
-        join_at_last(rt, buffers, id)?;
-        join_at_last(rt, buffers, id)?;
-        assert_eq!(rt; buffers.destroy(*id), Err(Fault::InUse { jobs: 1 }));
-    }
-    Ok(())
-}
-
-/// Passes with no allocation refused, and with any one of them.
+/// A job uses 40 buffers, and 20 more are made once it has left. Passes with no allocation refused, and with any one of them.
 #[test]
 fn refused_memory_leaves_the_table(rt: HostRuntime) -> Result<(), Fail> {
-    let mut buffers = new_at_last(rt.alloc())?;
-    make_used(&rt, &mut buffers)?;
-    buffers.leave(5);
-    for made in 40..60 {
-        create_at_last(&rt, &mut buffers, made)?;
+    let alloc = rt.alloc();
+    let mut table = new_at_last(alloc)?;
+    for made in 0..61u64 {
+        let rows = if made < 40 { USED.as_slice() } else { &LEFT };
+        table.play(alloc, made as usize, made, rows)?;
     }
     Ok(())
 }

@@ -4,9 +4,7 @@ ghost use Rattle.gv_ranges.specs.Examples.{MapOverThree, MapAtSamePages, UnmapOf
 ghost use Rattle.gv_ranges.specs.Examples.{RestsKeepFlags, RestsOfZeros, NeighboursStayApart};
 ghost use Rattle.gv_ranges.specs.Examples.{RestoreOfPieces};
 
-use crate::fixtures::{
-    Pages, are_left, edit, entry, is_of, list_of, list_of_one, mapping, spread, unmap,
-};
+use crate::fixtures::{Pages, edit, entry, list_of, mapping, packed, spread, to_vec, unmap};
 use gv_chunks::Spot;
 use gv_ranges::{RangeList, laws, next_rest, prev_rest};
 use gv_types::{Packed, PageRange, SPACE_PAGES};
@@ -42,58 +40,60 @@ const WITH_A_HOLE: [Pages; 4] = [(0, 1, 1, 0), (1, 1, 1, 100), (3, 2, 1, 102), (
 
 #[test]
 fn edits_leave_rests(rt: HostRuntime) -> Result<(), Fail> {
-    let mut list = list_of(rt.alloc(), &OVER_THREE)?;
-    edit(rt.alloc(), &mut list, &unmap(2, 1)?)?;
-    assert!(rt; are_left(list.iter(), &WITH_A_HOLE));
+    let alloc = rt.alloc();
+    let mut list = list_of(alloc, &OVER_THREE)?;
+    edit(alloc, &mut list, &unmap(2, 1)?)?;
+    let wanted = packed(alloc, &WITH_A_HOLE)?;
+    assert!(rt; list.iter().eq(&wanted));
     Ok(())
+}
+
+/// Whether a list's mappings from these spots on are those of `wanted`, by its index and by the spot, and the first by itself.
+fn are_read(list: &RangeList, spots: &[Spot], wanted: &[Packed]) -> bool {
+    let len = list.len();
+    let count = wanted.len();
+    for spot in spots {
+        let index = spot.index;
+        if index >= len || count > len - index || list.get_at(*spot) != list.get(index) {
+            return false;
+        }
+        if !list.run(index, count).eq(wanted) || !list.run_at(*spot, count).eq(wanted) {
+            return false;
+        }
+    }
+    true
 }
 
 /// Three maps, in no order.
 const UNORDERED: [Pages; 3] = [(5, 2, 1, 4), (0, 2, 1, 0), (2, 1, 1, 9)];
 
-/// The same in order.
-const ORDERED: [Pages; 3] = [(0, 2, 1, 0), (2, 1, 1, 9), (5, 2, 1, 4)];
-
-/// Whether what a list of three gives by place and by run is what it holds.
-fn is_read_alike(list: &RangeList, wanted: &[Pages; 3]) -> bool {
-    if list.len() != 3 || list.iter().len() != 3 || !are_left(list.iter(), wanted) {
-        return false;
-    }
-    is_of(&list.get(1).mapping(), &wanted[1])
-        && begins(list.piece(1), &wanted[1..])
-        && are_left(list.run(1, 2), &wanted[1..])
-        && are_left(list.run(0, 1), &wanted[..1])
-}
-
-/// Whether a piece has the first of these pages' mappings, and maybe more of them.
-fn begins(piece: &[Packed], wanted: &[Pages]) -> bool {
-    let mut pairs = piece.iter().zip(wanted);
-    !piece.is_empty()
-        && piece.len() <= wanted.len()
-        && pairs.all(|(one, pages)| is_of(&one.mapping(), pages))
-}
+/// The places of runs of their list, and their mappings in order.
+const RUNS: [(usize, &[Pages]); 3] = [
+    (0, &[(0, 2, 1, 0), (2, 1, 1, 9), (5, 2, 1, 4)]),
+    (1, &[(2, 1, 1, 9), (5, 2, 1, 4)]),
+    (0, &[(0, 2, 1, 0)]),
+];
 
 #[test]
 fn lists_are_read_by_place_and_by_run(rt: HostRuntime) -> Result<(), Fail> {
-    let list = list_of(rt.alloc(), &UNORDERED)?;
-    assert!(rt; is_read_alike(&list, &ORDERED));
-    Ok(())
-}
-
-/// Whether a rest is this page's mapping.
-fn is_rest(rest: Option<Packed>, pages: &Pages) -> bool {
-    match rest {
-        Some(rest) => is_of(&rest.mapping(), pages),
-        None => false,
+    let alloc = rt.alloc();
+    let list = list_of(alloc, &UNORDERED)?;
+    assert_eq!(rt; (list.len(), list.iter().len()), (3, 3));
+    for (index, pages) in &RUNS {
+        let wanted = packed(alloc, pages)?;
+        let is_block = *index < list.len() && list.piece(*index).starts_with(&wanted);
+        assert!(rt; is_block && are_read(&list, &[Spot::anywhere(*index)], &wanted));
     }
+    Ok(())
 }
 
 #[test]
 fn rests_of_one_mapping(rt: HostRuntime) -> Result<(), Fail> {
-    let list = list_of_one(rt.alloc(), mapping(0, 4, 1, 7)?)?;
-    let before = prev_rest(list.piece(0), 1);
-    let behind = next_rest(list.piece(0), 3);
-    assert!(rt; is_rest(before, &(0, 1, 1, 7)) && is_rest(behind, &(3, 1, 1, 10)));
+    let whole = [Packed::new(&mapping(0, 4, 1, 7)?)];
+    let before = Packed::new(&mapping(0, 1, 1, 7)?);
+    let behind = Packed::new(&mapping(3, 1, 1, 10)?);
+    assert_eq!(rt; prev_rest(&whole, 1), Some(before));
+    assert_eq!(rt; next_rest(&whole, 3), Some(behind));
     Ok(())
 }
 
@@ -109,29 +109,16 @@ fn a_thousand_mappings(rt: HostRuntime) -> Result<(), Fail> {
     Ok(())
 }
 
-/// Whether what stands from these spots on, `count` mappings, is what stands from their indices on.
-fn are_alike(list: &RangeList, spots: &[Spot], count: usize) -> bool {
-    let len = list.len();
-    for spot in spots {
-        let index = spot.index;
-        if index >= len || count > len - index || list.get_at(*spot) != list.get(index) {
-            return false;
-        }
-        if !list.run_at(*spot, count).eq(list.run(index, count)) {
-            return false;
-        }
-    }
-    true
-}
-
-/// Whether the list of every second page answers the same about three pages from twice `k` on, wherever it looks first.
-fn is_found_alike(list: &RangeList, k: u32) -> bool {
+/// Whether the list of every second page, which has all these mappings, answers the same about three pages from twice `k` on, wherever
+/// it looks first.
+fn is_found_alike(list: &RangeList, all: &[Packed], k: u32) -> bool {
     let page = u64::from(k) * 2;
-    let Some(range) = PageRange::new(page, 3) else {
-        return false;
-    };
     let index = k as usize;
     let count = if k < 999 { 2 } else { 1 };
+    let (Some(range), Some(wanted)) = (PageRange::new(page, 3), all.get(index..index + count))
+    else {
+        return false;
+    };
     let cut = list.cut(range);
     let spots = [
         cut.spot,
@@ -147,21 +134,23 @@ fn is_found_alike(list: &RangeList, k: u32) -> bool {
     ];
     list.overlapping(range) == (index, count)
         && (cut.spot.index, cut.count) == (index, count)
-        && are_alike(list, &spots, count)
+        && are_read(list, &spots, wanted)
 }
 
 const NEAR: [u64; 7] = [0, 1, 700, 1_998, SPACE_PAGES - 1, SPACE_PAGES, u64::MAX];
 
 #[test]
 fn a_list_answers_the_same_wherever_it_looks_first(rt: HostRuntime) -> Result<(), Fail> {
-    let list = spread(rt.alloc(), 1000, 2)?;
+    let alloc = rt.alloc();
+    let list = spread(alloc, 1000, 2)?;
+    let all = to_vec(alloc, &list)?;
     for k in 0..1000u32 {
-        assert!(rt; is_found_alike(&list, k), "at {k}");
+        assert!(rt; is_found_alike(&list, &all, k), "at {k}");
     }
     for page in &NEAR {
         let near = list.near(*page);
         let whole = [Spot { index: 0, near }];
-        assert!(rt; are_alike(&list, &whole, list.len()), "looked at {page}");
+        assert!(rt; are_read(&list, &whole, &all), "looked at {page}");
     }
     Ok(())
 }

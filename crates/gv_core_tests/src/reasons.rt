@@ -1,12 +1,10 @@
 //! Bad lines and what is said of them.
-use gv_lines::{explain, explain_serve};
-use std::alloc::Global;
-use std::process::Abort;
+use crate::lines::{Question, Row, expect};
 use std::test::Fail;
 
-type Row = (&'static [u8], &'static str);
-
-const BYTES: [Row; 17] = [
+/// What is said of a line that is bad in a script.
+const SCRIPT: &[Row] = &[
+    // Bytes and spaces.
     (
         b"bind\tzero 0x0 0x1000",
         "column 5: a tab; words are separated by one space",
@@ -57,9 +55,7 @@ const BYTES: [Row; 17] = [
     ),
     (b"bind unmap 0x0 0x1000 ; ", "column 24: a space at the end"),
     (b"job  ", "column 5: a space at the end"),
-];
-
-const BEGINNINGS: [Row; 22] = [
+    // The word that a line or a clause begins with.
     (b"bnid", "no such line: bnid; did you mean bind?"),
     (b"BIND", "no such line: BIND; did you mean bind?"),
     (b"Map", "no such line: Map; did you mean map?"),
@@ -106,9 +102,7 @@ const BEGINNINGS: [Row; 22] = [
         b"job read 0x0 ; execute 0x0",
         "column 16: no such access: execute",
     ),
-];
-
-const FORMS: [Row; 18] = [
+    // The words behind it.
     (
         b"bind map 0x0 0x1000 b",
         "column 23: no OFFSET; the form is map ADDR LEN NAME OFFSET",
@@ -169,9 +163,7 @@ const FORMS: [Row; 18] = [
         b"bind queue 1 ; queue 1",
         "column 16: a second queue clause; there is at most one",
     ),
-];
-
-const NAMES: [Row; 6] = [
+    // Names.
     (b"buffer zero 1", "column 8: zero; zero is no name"),
     (b"buffer Ring 1", "column 8: Ring; a name begins with a-z"),
     (b"buffer 1b 1", "column 8: 1b; a name begins with a-z"),
@@ -184,9 +176,7 @@ const NAMES: [Row; 6] = [
         "column 8: a_3456789012345_7; a name has at most 16 bytes",
     ),
     (b"bind wait T 1", "column 11: T; a name begins with a-z"),
-];
-
-const NUMBERS: [Row; 18] = [
+    // Numbers.
     (
         b"at 0xA000",
         "column 6: 0xA000; hexadecimal digits are 0-9a-f",
@@ -249,50 +239,24 @@ const DIALOGUE: [Row; 5] = [
     (b"past", "column 6: no ADDR; the form is past ADDR"),
 ];
 
-/// What is said of a line of a script.
-fn said(alloc: Global, text: &[u8]) -> Result<String, Fail> {
-    let slip = explain(alloc, text).ok_or("a line of the language")?;
-    Ok(format!(in alloc; "{slip}")?)
-}
-
-/// Asserts what is said of each line.
-fn expect_said(rt: &(impl Abort + AllocGlobal), rows: &[Row]) -> Result<(), Fail> {
-    for (text, want) in rows {
-        assert_eq!(rt; said(rt.alloc(), text)?.as_str(), *want);
-    }
-    Ok(())
-}
-
 #[test]
 fn says_why_lines_are_bad(rt: HostRuntime) -> Result<(), Fail> {
-    expect_said(&rt, &BYTES)?;
-    expect_said(&rt, &BEGINNINGS)?;
-    expect_said(&rt, &FORMS)?;
-    expect_said(&rt, &NAMES)?;
-    expect_said(&rt, &NUMBERS)
+    expect(rt.alloc(), Question::Slip, SCRIPT)
 }
 
 #[test]
 fn says_why_lines_are_bad_in_a_dialogue(rt: HostRuntime) -> Result<(), Fail> {
-    let alloc = rt.alloc();
-    for (text, want) in &DIALOGUE {
-        let slip = explain_serve(alloc, text).ok_or("a line of a dialogue")?;
-        let said = format!(in alloc; "{slip}")?;
-        assert_eq!(rt; said.as_str(), *want);
-    }
-    Ok(())
+    expect(rt.alloc(), Question::DialogueSlip, &DIALOGUE)
 }
 
-const GOOD: [&[u8]; 4] = [
-    b"",
-    b"# any text",
-    b"bind",
-    b"bind zero 0x0 0x1000 ro ; queue 15",
+const GOOD: [Row; 4] = [
+    (b"", "none"),
+    (b"# any text", "none"),
+    (b"bind", "none"),
+    (b"bind zero 0x0 0x1000 ro ; queue 15", "none"),
 ];
 
 #[test]
-fn says_nothing_of_good_lines(rt: HostRuntime) {
-    for text in &GOOD {
-        assert!(rt; explain(rt.alloc(), text).is_none());
-    }
+fn says_nothing_of_good_lines(rt: HostRuntime) -> Result<(), Fail> {
+    expect(rt.alloc(), Question::Slip, &GOOD)
 }

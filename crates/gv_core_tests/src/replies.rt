@@ -1,14 +1,12 @@
 //! Replies as JSON: each kind, what is of no kind, and what has to be escaped.
 use gv_json::{write_bad, write_no_memory, write_reply};
-use std::alloc::Global;
-use std::process::Abort;
 use std::test::Fail;
 
 /// The first word of a line, its reply's text, and the members of its JSON behind the line's number.
 type Row = (&'static [u8], &'static str, &'static str);
 
-/// Replies of one line.
-const LONE: [Row; 38] = [
+const REPLIES: &[Row] = &[
+    // Replies of one line.
     (b"space", "ok\n", r#""ok":true"#),
     (b"limits", "ok\n", r#""ok":true"#),
     (b"timeline", "ok\n", r#""ok":true"#),
@@ -119,10 +117,7 @@ const LONE: [Row; 38] = [
         "refused Unmapped 2\n",
         r#""refused":{"fault":"Unmapped","number":2}"#,
     ),
-];
-
-/// Replies that may have many lines.
-const LISTS: [Row; 13] = [
+    // Replies that may have many lines.
     (b"map", "empty\n", r#""mappings":[]"#),
     (
         b"map",
@@ -168,10 +163,7 @@ const LISTS: [Row; 13] = [
         "9 withdrawn none\n7 live b 0000000000000abc ro\nunder zero rw\n",
         r#""past":[{"item":9,"live":false,"place":null},{"item":7,"live":true,"place":{"buffer":"b","offset":"0xabc","ro":true}}],"under":{"zero":true,"ro":false}"#,
     ),
-];
-
-/// Texts that are no reply of their kind, and how each is quoted.
-const STRANGE: [Row; 20] = [
+    // Texts that are no reply of their kind are quoted.
     (b"bind", "", r#""text":"""#),
     (b"bind", "accepted 3", r#""text":"accepted 3""#),
     (b"bind", "accepted 3\nok\n", r#""text":"accepted 3\nok\n""#),
@@ -226,48 +218,35 @@ const STRANGE: [Row; 20] = [
     ),
 ];
 
-/// Whether the reply to line 7 has these members.
-fn is_written(alloc: Global, row: &Row) -> Result<bool, Fail> {
-    let (word, text, members) = *row;
-    let mut got = String::from_str(alloc, "before\n")?;
-    write_reply(alloc, &mut got, 7, word, text)?;
-    let wanted = format!(in alloc; "before\n{{\"line\":7,{members}}}\n")?;
-    Ok(got == wanted)
-}
-
-/// Asserts that the reply of each row has its JSON.
-fn expect_written(rt: &(impl Abort + AllocGlobal), rows: &[Row]) -> Result<(), Fail> {
-    for row in rows {
-        assert!(rt; is_written(rt.alloc(), row)?, "{}", row.1);
+#[test]
+fn each_reply_has_its_json(rt: HostRuntime) -> Result<(), Fail> {
+    let alloc = rt.alloc();
+    for (word, text, members) in REPLIES {
+        let mut got = String::from_str(alloc, "before\n")?;
+        write_reply(alloc, &mut got, 7, word, text)?;
+        let wanted = format!(in alloc; "before\n{{\"line\":7,{members}}}\n")?;
+        assert_eq!(rt; got, wanted);
     }
     Ok(())
 }
 
-#[test]
-fn each_reply_has_its_json(rt: HostRuntime) -> Result<(), Fail> {
-    expect_written(&rt, &LONE)?;
-    expect_written(&rt, &LISTS)?;
-    expect_written(&rt, &STRANGE)
-}
+/// Lines that are bad: their numbers, the columns, and why.
+const BAD: [(u64, Option<u64>, &str); 2] = [
+    (
+        10,
+        Some(5),
+        "column 5: a tab; words are separated by one space",
+    ),
+    (11, None, "no such line: \"bnid\"; did you mean bind?"),
+];
 
 #[test]
 fn what_is_no_reply_has_its_json(rt: HostRuntime) -> Result<(), Fail> {
     let alloc = rt.alloc();
     let mut got = String::new(alloc);
-    write_bad(
-        alloc,
-        &mut got,
-        10,
-        Some(5),
-        "column 5: a tab; words are separated by one space",
-    )?;
-    write_bad(
-        alloc,
-        &mut got,
-        11,
-        None,
-        "no such line: \"bnid\"; did you mean bind?",
-    )?;
+    for (line, column, reason) in &BAD {
+        write_bad(alloc, &mut got, *line, *column, reason)?;
+    }
     write_no_memory(alloc, &mut got, u64::MAX)?;
     let wanted =
         "{\"line\":10,\"bad\":\"column 5: a tab; words are separated by one space\",\"column\":5}\n{\"line\":11,\"bad\":\"no such line: \\\"bnid\\\"; did you mean bind?\"}\n{\"line\":18446744073709551615,\"outofmemory\":true}\n";

@@ -1,100 +1,99 @@
 //! Lines of any length: requests and jobs.
-use crate::lines::{Row, expect};
+use crate::lines::{Question, Row, check, expect};
 use gv_lines::{Clause, Line, parse_line};
 use std::alloc::{AllocError, Global};
-use std::fmt::Write;
 use std::test::Fail;
 
-/// A text that says something so many times.
-fn repeated(alloc: Global, first: &str, more: &str, count: usize) -> Result<String, AllocError> {
-    let mut text = String::from_str(alloc, first)?;
-    for _ in 1..count {
-        text.push_str(more)?;
-    }
-    Ok(text)
-}
-
 const ANY_ORDER: [Row; 1] = [(
-    "bind signal t 2 ; unmap 0x0 0x1000 ; wait t 1 ; queue 15 ; unmap 0x2000 0x1000 ; wait u 0x3 ; signal u 4 ; unmap 0x1000 0x1000",
+    b"bind signal t 2 ; unmap 0x0 0x1000 ; wait t 1 ; queue 15 ; unmap 0x2000 0x1000 ; wait u 0x3 ; signal u 4 ; unmap 0x1000 0x1000",
     "15 [Unmap { addr: 0, len: 4096 }, Unmap { addr: 8192, len: 4096 }, Unmap { addr: 4096, len: 4096 }] [NamedPoint { timeline: Name { text: \"t\" }, value: 1 }, NamedPoint { timeline: Name { text: \"u\" }, value: 3 }] [NamedPoint { timeline: Name { text: \"t\" }, value: 2 }, NamedPoint { timeline: Name { text: \"u\" }, value: 4 }]",
 )];
 
 #[test]
 fn reads_clauses_in_any_order(rt: HostRuntime) -> Result<(), Fail> {
-    expect(&rt, &ANY_ORDER)
+    expect(rt.alloc(), Question::Meaning, &ANY_ORDER)
 }
 
-const FEW: [Row; 2] = [("bind", "0 [] [] []"), ("bind queue 3", "3 [] [] []")];
+const FEW: [Row; 2] = [(b"bind", "0 [] [] []"), (b"bind queue 3", "3 [] [] []")];
 
-/// Requests, and the first two clauses that are taken of them.
-const TAKEN: [Row; 2] = [
-    ("bind", "None None"),
-    ("bind queue 3", "Some(Queue { queue: 3 }) None"),
-];
+/// Requests, and the queue of the only clause of each, where it has one.
+const TAKEN: [(&[u8], Option<u64>); 2] = [(b"bind", None), (b"bind queue 3", Some(3))];
 
-/// A clause, if it is one of those that are wanted.
-fn write_clause(out: &mut String, clause: Option<Clause>) -> Result<(), AllocError> {
-    match clause {
-        Some(Clause::Queue { queue }) => write!(out, "Some(Queue {{ queue: {queue} }})"),
-        Some(_) => out.push_str("another clause"),
-        None => out.push_str("None"),
-    }
-}
-
-/// The first two clauses that are taken of a request.
-fn taken(alloc: Global, text: &str) -> Result<String, Fail> {
-    let Some(Line::Bind { mut clauses }) = parse_line(text.as_bytes()) else {
-        return Err("no bind line".into());
+/// Whether a request has a clause of this queue and no other, or none at all.
+fn has_only(text: &[u8], wanted: Option<u64>) -> bool {
+    let Some(Line::Bind { mut clauses }) = parse_line(text) else {
+        return false;
     };
-    let mut said = String::new(alloc);
-    write_clause(&mut said, clauses.take())?;
-    said.push_str(" ")?;
-    write_clause(&mut said, clauses.take())?;
-    Ok(said)
+    let is_first = match clauses.take() {
+        Some(Clause::Queue { queue }) => wanted == Some(queue),
+        Some(_) => false,
+        None => wanted.is_none(),
+    };
+    is_first && clauses.take().is_none()
 }
 
 #[test]
 fn takes_clauses(rt: HostRuntime) -> Result<(), Fail> {
-    expect(&rt, &FEW)?;
+    expect(rt.alloc(), Question::Meaning, &FEW)?;
     for (text, wanted) in &TAKEN {
-        let said = taken(rt.alloc(), text)?;
-        assert!(rt; said.as_str() == *wanted, "{text}: {said}");
+        assert!(rt; has_only(text, *wanted), "{wanted:?}");
     }
     Ok(())
 }
 
-/// How many operations a request has, or how many accesses a job.
-fn length(alloc: Global, text: &str) -> Result<usize, Fail> {
-    match parse_line(text.as_bytes()) {
-        Some(Line::Bind { clauses }) => Ok(clauses.operations(alloc)?.len()),
-        Some(Line::Job { accesses }) => Ok(accesses.to_vec(alloc)?.len()),
-        _ => Err("another line".into()),
-    }
+/// What a text begins with, what follows again and again, and its end.
+type Repeated = [&'static str; 3];
+
+/// A request of many operations, and what it is read as.
+const OPERATIONS: [Repeated; 2] = [
+    ["bind unmap 0x0 0x1000", " ; unmap 0x0 0x1000", ""],
+    [
+        "0 [Unmap { addr: 0, len: 4096 }",
+        ", Unmap { addr: 0, len: 4096 }",
+        "] [] []",
+    ],
+];
+
+/// A job of many accesses, and what it is read as.
+const ACCESSES: [Repeated; 2] = [
+    ["job read 0x0", " ; read 0x0", ""],
+    ["[Read { addr: 0 }", ", Read { addr: 0 }", "]"],
+];
+
+/// A text that says something `count` times.
+fn repeated(alloc: Global, parts: Repeated, count: usize) -> Result<String, AllocError> {
+    let [first, more, end] = parts;
+    let rest = more.repeat(alloc, count.saturating_sub(1))?;
+    [first, rest.as_str(), end].concat(alloc)
+}
+
+/// Fails where a line that says something `count` times is read as another.
+fn check_repeated(alloc: Global, line: &[Repeated; 2], count: usize) -> Result<(), Fail> {
+    let [text, wanted] = *line;
+    let text = repeated(alloc, text, count)?;
+    let wanted = repeated(alloc, wanted, count)?;
+    check(alloc, Question::Meaning, text.as_bytes(), wanted.as_str())
 }
 
 #[test]
 fn reads_requests_of_any_length(rt: HostRuntime) -> Result<(), Fail> {
     for count in [2, 256, 257, 4000] {
-        let more = " ; unmap 0x0 0x1000";
-        let text = repeated(rt.alloc(), "bind unmap 0x0 0x1000", more, count)?;
-        assert_eq!(rt; length(rt.alloc(), &text)?, count);
+        check_repeated(rt.alloc(), &OPERATIONS, count)?;
     }
     Ok(())
 }
 
 const JOBS: [Row; 1] = [(
-    "job read 0x0 ; write 4096 ; read 0x1",
+    b"job read 0x0 ; write 4096 ; read 0x1",
     "[Read { addr: 0 }, Write { addr: 4096 }, Read { addr: 1 }]",
 )];
 
 #[test]
 fn reads_jobs(rt: HostRuntime) -> Result<(), Fail> {
-    expect(&rt, &JOBS)
+    expect(rt.alloc(), Question::Meaning, &JOBS)
 }
 
 #[test]
 fn reads_jobs_of_any_length(rt: HostRuntime) -> Result<(), Fail> {
-    let text = repeated(rt.alloc(), "job read 0x0", " ; read 0x0", 257)?;
-    assert_eq!(rt; length(rt.alloc(), &text)?, 257);
-    Ok(())
+    check_repeated(rt.alloc(), &ACCESSES, 257)
 }

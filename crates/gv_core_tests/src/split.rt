@@ -9,7 +9,7 @@ ghost use Rattle.gv_split.specs.Examples.{MapFindsPagesFree};
 use crate::fixtures::{Pages, list_of, map, mapping, unmap};
 use gv_split::{Step, plan};
 use gv_types::{BufferId, Flags, Mapping, PageOp};
-use std::process::Abort;
+use std::alloc::Global;
 use std::test::Fail;
 
 /// What the definitions say of worked examples.
@@ -32,69 +32,60 @@ fn examples()
 #[derive(Clone, Copy)]
 enum Kind {
     Unmap,
-    /// An unmap that keeps its pages.
-    Keep,
     Remap,
     Map,
-    /// A read-only map.
-    Fixed,
 }
 
-/// A step: its mapping, and the rests before and behind.
-type Row = (Kind, Pages, Option<Pages>, Option<Pages>);
+/// A step; whether its pages are kept, or of a map whether it is read-only; its mapping, and the rests before and behind.
+type Row = (Kind, bool, Pages, Pages, Pages);
 
-fn rest(pages: Option<Pages>) -> Result<Option<Mapping>, &'static str> {
-    match pages {
-        Some((first, count, index, page)) => Ok(Some(mapping(first, count, index, page)?)),
-        None => Ok(None),
-    }
+/// Stands for no rest.
+const NO_REST: Pages = (0, 0, 0, 0);
+
+/// The mapping of these pages, if there are any.
+fn mapping_of(pages: Pages) -> Result<Mapping, &'static str> {
+    let (first, count, index, page) = pages;
+    mapping(first, count, index, page)
 }
 
 fn step_of(row: &Row) -> Result<Step, &'static str> {
-    let (kind, (first, count, index, page), prev, next) = *row;
-    let whole = mapping(first, count, index, page)?;
+    let (kind, flag, whole, prev, next) = *row;
+    let mapping = mapping_of(whole)?;
     Ok(match kind {
-        Kind::Unmap | Kind::Keep => Step::Unmap {
-            mapping: whole,
-            keep: matches!(kind, Kind::Keep),
+        Kind::Unmap => Step::Unmap {
+            mapping,
+            keep: flag,
         },
         Kind::Remap => Step::Remap {
-            mapping: whole,
-            prev: rest(prev)?,
-            next: rest(next)?,
-            keep: false,
+            mapping,
+            prev: mapping_of(prev).ok(),
+            next: mapping_of(next).ok(),
+            keep: flag,
         },
-        Kind::Map | Kind::Fixed => Step::Map {
+        Kind::Map => Step::Map {
             mapping: Mapping {
-                flags: Flags {
-                    read_only: matches!(kind, Kind::Fixed),
-                },
-                ..whole
+                flags: Flags { read_only: flag },
+                ..mapping
             },
         },
     })
 }
 
-fn is_step(step: &Step, row: &Row) -> bool {
-    match step_of(row) {
-        Ok(wanted) => *step == wanted,
-        Err(_) => false,
-    }
-}
-
-/// Asserts that an operation has these steps on the list of these pages.
-fn expect(
-    rt: &(impl Abort + AllocGlobal),
-    pages: &[Pages],
-    op: &PageOp,
-    rows: &[Row],
-) -> Result<(), Fail>
+/// Fails where an operation has other steps on the list of these pages.
+fn expect(alloc: Global, pages: &[Pages], op: &PageOp, rows: &[Row]) -> Result<(), Fail>
     requires { IsChecked op.now }
 {
-    let list = list_of(rt.alloc(), pages)?;
-    let steps = plan(rt.alloc(), &list, op)?;
-    let same = steps.iter().zip(rows).all(|(step, row)| is_step(step, row));
-    assert!(rt; same && steps.len() == rows.len());
+    let list = list_of(alloc, pages)?;
+    let steps = plan(alloc, &list, op)?;
+    if steps.len() != rows.len() {
+        return Err("another number of steps".into());
+    }
+    for (step, row) in steps.iter().zip(rows) {
+        let wanted = step_of(row)?;
+        if *step != wanted {
+            return Err(Fail::new(format_args!("{step:?}")));
+        }
+    }
     Ok(())
 }
 
@@ -106,40 +97,35 @@ fn definitions_hold(_rt: HostRuntime) {
 /// Four pages of a buffer.
 const FOUR: &[Pages] = &[(0, 4, 1, 0)];
 
-const HOLE: &[Row] = &[(
-    Kind::Remap,
-    (0, 4, 1, 0),
-    Some((0, 1, 1, 0)),
-    Some((2, 2, 1, 2)),
-)];
+const HOLE: &[Row] = &[(Kind::Remap, false, (0, 4, 1, 0), (0, 1, 1, 0), (2, 2, 1, 2))];
 
 #[test]
 fn hole_leaves_both_rests(rt: HostRuntime) -> Result<(), Fail> {
-    expect(&rt, FOUR, &unmap(1, 1)?, HOLE)
+    expect(rt.alloc(), FOUR, &unmap(1, 1)?, HOLE)
 }
 
 const THREE: &[Pages] = &[(0, 2, 1, 0), (2, 2, 1, 2), (4, 2, 1, 4)];
 
 const OVER_THREE: &[Row] = &[
-    (Kind::Remap, (0, 2, 1, 0), Some((0, 1, 1, 0)), None),
-    (Kind::Unmap, (2, 2, 1, 2), None, None),
-    (Kind::Remap, (4, 2, 1, 4), None, Some((5, 1, 1, 5))),
-    (Kind::Map, (1, 4, 2, 0), None, None),
+    (Kind::Remap, false, (0, 2, 1, 0), (0, 1, 1, 0), NO_REST),
+    (Kind::Unmap, false, (2, 2, 1, 2), NO_REST, NO_REST),
+    (Kind::Remap, false, (4, 2, 1, 4), NO_REST, (5, 1, 1, 5)),
+    (Kind::Map, false, (1, 4, 2, 0), NO_REST, NO_REST),
 ];
 
 #[test]
 fn map_over_three(rt: HostRuntime) -> Result<(), Fail> {
-    expect(&rt, THREE, &map(1, 4, 2, 0)?, OVER_THREE)
+    expect(rt.alloc(), THREE, &map(1, 4, 2, 0)?, OVER_THREE)
 }
 
 const SAME: &[Row] = &[
-    (Kind::Keep, (0, 4, 1, 0), None, None),
-    (Kind::Map, (0, 4, 1, 0), None, None),
+    (Kind::Unmap, true, (0, 4, 1, 0), NO_REST, NO_REST),
+    (Kind::Map, false, (0, 4, 1, 0), NO_REST, NO_REST),
 ];
 
 const READ_ONLY: &[Row] = &[
-    (Kind::Unmap, (0, 4, 1, 0), None, None),
-    (Kind::Fixed, (0, 4, 1, 0), None, None),
+    (Kind::Unmap, false, (0, 4, 1, 0), NO_REST, NO_REST),
+    (Kind::Map, true, (0, 4, 1, 0), NO_REST, NO_REST),
 ];
 
 /// Whether the map is read-only, and its steps.
@@ -156,7 +142,7 @@ fn same_map_is_kept(rt: HostRuntime) -> Result<(), Fail> {
                 read_only: *read_only,
             },
         };
-        expect(&rt, FOUR, &op, rows)?;
+        expect(rt.alloc(), FOUR, &op, rows)?;
     }
     Ok(())
 }
@@ -169,11 +155,15 @@ const OF_BUFFERS: &[(u32, u64, &[Row])] = &[
         1,
         1,
         &[
-            (Kind::Unmap, (0, 2, 1, 0), None, None),
-            (Kind::Unmap, (4, 2, 1, 9), None, None),
+            (Kind::Unmap, false, (0, 2, 1, 0), NO_REST, NO_REST),
+            (Kind::Unmap, false, (4, 2, 1, 9), NO_REST, NO_REST),
         ],
     ),
-    (2, 1, &[(Kind::Unmap, (2, 2, 2, 2), None, None)]),
+    (
+        2,
+        1,
+        &[(Kind::Unmap, false, (2, 2, 2, 2), NO_REST, NO_REST)],
+    ),
     (1, 2, &[]),
     (3, 1, &[]),
 ];
@@ -182,7 +172,7 @@ const OF_BUFFERS: &[(u32, u64, &[Row])] = &[
 fn all_mappings_of_a_buffer_go(rt: HostRuntime) -> Result<(), Fail> {
     for (index, generation, rows) in OF_BUFFERS {
         let buffer = BufferId::new(*index, *generation);
-        expect(&rt, OF_TWO, &PageOp::UnmapBuffer { buffer }, rows)?;
+        expect(rt.alloc(), OF_TWO, &PageOp::UnmapBuffer { buffer }, rows)?;
     }
     Ok(())
 }

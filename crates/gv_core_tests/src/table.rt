@@ -15,9 +15,8 @@ ghost use Rattle.gv_table.specs.Table.{IsTree, FitsOutside, gained_by};
 use crate::fixtures::{edit, entry, map, spread, to_vec, unmap};
 use gv_ranges::RangeList;
 use gv_table::{PageTable, Spares, laws};
-use gv_types::{BufferId, Fault, Packed, PageOp, PageRange};
+use gv_types::{BufferId, Fault, Packed, PageOp, PageRange, SPACE_PAGES};
 use std::alloc::Global;
-use std::process::Abort;
 use std::test::Fail;
 
 /// The spares for the operation.
@@ -34,24 +33,18 @@ fn spares_for(alloc: Global, table: &PageTable, op: &PageOp) -> Result<Spares, F
     }
 }
 
-/// How many tables fewer stand, level by level.
-fn fewer(before: [u64; 5], after: [u64; 5]) -> u64 {
-    let mut count = 0;
-    for (one, other) in before.iter().zip(&after) {
-        count = one.saturating_sub(*other).saturating_add(count);
-    }
-    count
-}
+/// How many tables stand at each level.
+type Tables = [u64; 5];
 
 /// Paints the tree to the new list, back to the old one with just the tables that it lost, and to
-/// the new one again: how many it loses by that.
+/// the new one again: the tables after each of these.
 fn sway(
     table: &mut PageTable,
     old: &RangeList,
     new: &RangeList,
     range: PageRange,
     spares: &mut Spares,
-) -> Result<u64, Fail>
+) -> [Tables; 3]
     requires old { IsLaidOut old.now.mappings }
     requires new { IsLaidOut new.now.mappings }
     requires alike { AreAlikeOutside range old.now.mappings new.now.mappings }
@@ -59,11 +52,10 @@ fn sway(
     requires new_named { AreNamed table.old.names new.now.mappings }
     requires tree { IsTree old.now.mappings table.old }
     requires enough { AreEnough spares.old (gained_by new.now.mappings table.old) }
-    ensures tree { OnOk result (IsTree new.now.mappings table.new) }
+    ensures tree { IsTree new.now.mappings table.new }
     ensures names { table.new.names ≡ table.old.names }
 {
     let (place, _) = new.overlapping(range);
-    let before = table.tables();
     let mut lost = Spares::new();
     table.paint(new, range, place, spares, &mut lost);
     let after = table.tables();
@@ -72,23 +64,17 @@ fn sway(
     table.paint(old, range, back_from, &mut lost, &mut gained);
     let back = table.tables();
     table.paint(new, range, place, &mut gained, &mut lost);
-    (before == back)
-        .then_some(())
-        .ok_or("the tables as before")?;
-    (after == table.tables())
-        .then_some(())
-        .ok_or("the tables as after")?;
-    Ok(fewer(before, after))
+    [after, back, table.tables()]
 }
 
-/// Changes the list and its twin by the operation, and the tree with them: how many tables it lost.
+/// Changes the list and its twin by the operation, and the tree with them: the tables of the new list, the old one and the new one.
 fn apply(
     alloc: Global,
     list: &mut RangeList,
     twin: &mut RangeList,
     table: &mut PageTable,
     op: &PageOp,
-) -> Result<u64, Fail>
+) -> Result<[Tables; 3], Fail>
     requires operation { IsPageOp op.now }
     requires twins { twin.old.mappings ≡ list.old.mappings }
     requires tree { IsTree list.old.mappings table.old }
@@ -101,14 +87,13 @@ fn apply(
 {
     let mut spares = spares_for(alloc, table, op)?;
     edit(alloc, list, op)?;
-    let lost = sway(table, twin, list, op.range(), &mut spares)?;
+    let seen = sway(table, twin, list, op.range(), &mut spares);
     edit(alloc, twin, op)?;
-    Ok(lost)
+    Ok(seen)
 }
 
-/// A map, or else an unmap, of so many pages from the first on, how many tables the tree loses by it,
-/// and how many stand at each level then.
-type Row = (bool, u64, u64, u64, [u64; 5]);
+/// A map, or else an unmap, of so many pages from the first on, and how many tables stand at each level then.
+type Row = (bool, u64, u64, Tables);
 
 /// It is of the buffer that the tree has to name.
 fn map_or_unmap(is_map: bool, first: u64, count: u64) -> Result<PageOp, &'static str>
@@ -141,14 +126,18 @@ fn named_tree(alloc: Global) -> Result<PageTable, Fault>
 }
 
 /// Plays the rows on a tree of no mapping.
-fn play(rt: &(impl Abort + AllocGlobal), rows: &[Row]) -> Result<PageTable, Fail> {
-    let mut list = RangeList::new(rt.alloc());
-    let mut twin = RangeList::new(rt.alloc());
-    let mut table = named_tree(rt.alloc())?;
-    for (is_map, first, count, lost, wanted) in rows {
+fn play(alloc: Global, rows: &[Row]) -> Result<PageTable, Fail> {
+    let mut list = RangeList::new(alloc);
+    let mut twin = RangeList::new(alloc);
+    let mut table = named_tree(alloc)?;
+    let mut before = [0; 5];
+    for (is_map, first, count, wanted) in rows {
         let op = &map_or_unmap(*is_map, *first, *count)?;
-        let seen = apply(rt.alloc(), &mut list, &mut twin, &mut table, op)?;
-        assert_eq!(rt; (seen, table.tables()), (*lost, *wanted));
+        let seen = apply(alloc, &mut list, &mut twin, &mut table, op)?;
+        if seen != [*wanted, before, *wanted] {
+            return Err(Fail::new(format_args!("{seen:?}")));
+        }
+        before = *wanted;
     }
     Ok(table)
 }
@@ -160,33 +149,33 @@ fn laws_hold(_rt: HostRuntime) {
 }
 
 const LARGE: [Row; 2] = [
-    (true, 0, 262_144, 0, [1, 1, 1, 0, 0]),
-    (false, 0, 1, 0, [1, 1, 1, 1, 1]),
+    (true, 0, 262_144, [1, 1, 1, 0, 0]),
+    (false, 0, 1, [1, 1, 1, 1, 1]),
 ];
 
 #[test]
 fn one_large_mapping(rt: HostRuntime) -> Result<(), Fail> {
-    let table = play(&rt, &LARGE)?;
+    let table = play(rt.alloc(), &LARGE)?;
     let found = [table.walk(0), table.walk(262_143), table.walk(u64::MAX)];
     assert_eq!(rt; found, [None, Some(entry(262_143)), None]);
     Ok(())
 }
 
 const ALL_SIZES: [Row; 9] = [
-    (true, 0, 65_536, 0, [1, 1, 1, 1, 0]),
-    (false, 0, 65_536, 4, [0, 0, 0, 0, 0]),
-    (true, 0x1ff, 2, 0, [1, 1, 1, 1, 2]),
-    (false, 0x1ff, 2, 6, [0, 0, 0, 0, 0]),
-    (true, 0, 512, 0, [1, 1, 1, 1, 0]),
-    (false, 7, 1, 0, [1, 1, 1, 1, 1]),
-    (true, 0, 512, 1, [1, 1, 1, 1, 0]),
-    (true, (1 << 45) - 1, 1, 0, [1, 2, 2, 2, 1]),
-    (false, 0, 1 << 37, 3, [1, 1, 1, 1, 1]),
+    (true, 0, 65_536, [1, 1, 1, 1, 0]),
+    (false, 0, 65_536, [0, 0, 0, 0, 0]),
+    (true, 0x1ff, 2, [1, 1, 1, 1, 2]),
+    (false, 0x1ff, 2, [0, 0, 0, 0, 0]),
+    (true, 0, 512, [1, 1, 1, 1, 0]),
+    (false, 7, 1, [1, 1, 1, 1, 1]),
+    (true, 0, 512, [1, 1, 1, 1, 0]),
+    (true, (1 << 45) - 1, 1, [1, 2, 2, 2, 1]),
+    (false, 0, 1 << 37, [1, 1, 1, 1, 1]),
 ];
 
 #[test]
 fn tables_come_and_go(rt: HostRuntime) -> Result<(), Fail> {
-    play(&rt, &ALL_SIZES)?;
+    play(rt.alloc(), &ALL_SIZES)?;
     Ok(())
 }
 
@@ -196,18 +185,20 @@ const LONG_CHAIN: u32 = 30_000;
 
 #[test]
 fn long_chain_of_spares(rt: HostRuntime) -> Result<(), Fail> {
-    let list = spread(rt.alloc(), LONG_CHAIN, 512)?;
-    let range = PageRange::new(0, 1 << 45).ok_or("a range")?;
-    let mappings = to_vec(rt.alloc(), &list)?;
-    drop(PageTable::new(rt.alloc()).spare(rt.alloc(), range, &mappings)?);
+    let alloc = rt.alloc();
+    let list = spread(alloc, LONG_CHAIN, 512)?;
+    let range = PageRange::between(0, SPACE_PAGES);
+    let mappings = to_vec(alloc, &list)?;
+    drop(PageTable::new(alloc).spare(alloc, range, &mappings)?);
     Ok(())
 }
 
 #[test]
 fn nothing_is_spared_for_nothing(rt: HostRuntime) -> Result<(), Fail> {
+    let alloc = rt.alloc();
     drop(Spares::new());
-    let table = PageTable::new(rt.alloc());
-    let range = PageRange::new(0, 1 << 45).ok_or("a range")?;
-    drop(table.spare(rt.alloc(), range, &[])?);
+    let table = PageTable::new(alloc);
+    let range = PageRange::between(0, SPACE_PAGES);
+    drop(table.spare(alloc, range, &[])?);
     Ok(())
 }

@@ -2,74 +2,76 @@
 
 use super::made::Made;
 use super::plain;
-use gv_compare::{CompareFault, Kind, Listing, Objects, Row, Which, is_of_dump};
+use gv_compare::{Kind, Listing, Objects, Row, Which, is_of_dump};
 use std::alloc::{AllocError, Global};
-use std::process::Abort;
+use std::fmt::Write;
 use std::str;
 use std::test::Fail;
 
-/// Whether two rows are one.
-fn is_same(left: &Row, right: &Row) -> bool {
-    left.range == right.range
-        && left.object == right.object
-        && left.page == right.page
-        && left.read_only == right.read_only
-}
-
-/// Whether a line is read the same as bytes and as a text, and told to be of a `gpuvas` by both ways.
-fn is_line_alike(line: &[u8]) -> bool {
-    let row = match str::from_utf8(line) {
-        Ok(text) => Row::of_map(text),
-        Err(_) => None,
-    };
-    let is_row_alike = match (Row::of_bytes(line), row) {
-        (Some(left), Some(right)) => is_same(&left, &right),
-        (None, None) => true,
-        _ => false,
-    };
-    is_row_alike && is_of_dump(line) == plain::is_of_dump(line)
+/// What one way says of a line: its row, if it has one, and whether only a `gpuvas` has such a line.
+fn said_of_line(alloc: Global, row: Option<Row>, is_dump: bool) -> Result<String, AllocError> {
+    format!(in alloc; "{row:?} {is_dump}")
 }
 
 #[test]
 fn lines_are_read_alike(rt: HostRuntime) -> Result<(), Fail> {
+    let alloc = rt.alloc();
     let mut made = Made::new(1);
     let mut rows = 0u64;
     for number in 0..4000u64 {
-        let mut line = Vec::new(rt.alloc());
-        made.push_line(rt.alloc(), &mut line, number % 4 == 0)?;
-        assert!(rt; is_line_alike(&line), "line {number}");
-        rows = rows.wrapping_add(u64::from(Row::of_bytes(&line).is_some()));
+        let mut line = Vec::new(alloc);
+        made.push_line(alloc, &mut line, number % 4 == 0)?;
+        let text = str::from_utf8(&line).unwrap_or("");
+        let quick = said_of_line(alloc, Row::of_bytes(&line), is_of_dump(&line))?;
+        let plain = said_of_line(alloc, Row::of_map(text), plain::is_of_dump(&line))?;
+        assert_eq!(rt; quick, plain, "line {number}");
+        rows = rows.wrapping_add(u64::from(quick.as_str().starts_with("Some")));
     }
     assert!(rt; rows > 1000 && rows < 2900, "{rows}");
     Ok(())
 }
 
-/// What both ways come to at a text, if it is the same: a list of either kind, or either fault.
-fn outcome(
-    left: &Result<Listing, CompareFault>,
-    right: &Result<Listing, CompareFault>,
-) -> Option<&'static str> {
-    match (left, right) {
-        (Ok(left), Ok(right)) if left.kind == right.kind && left.mappings == right.mappings => {
-            match left.kind {
-                Kind::Map => Some("m"),
-                Kind::Dump => Some("d"),
-            }
-        }
-        (Err(left), Err(right)) if left == right => match left {
-            CompareFault::NoMapping { .. } => Some("n"),
-            CompareFault::Overlapping { .. } => Some("o"),
-            CompareFault::ManySpaces { .. }
-            | CompareFault::NoSpace { .. }
-            | CompareFault::OutOfMemory => None,
-        },
-        _ => None,
-    }
+/// How many texts are read. They are read by twos, as the first list and the second.
+const TEXTS: usize = 1000;
+
+/// What is said of texts, one of which each: a list of either kind, or either fault. More than 50 texts come to each.
+const OUTCOMES: [&str; 4] = ["{ kind: Map", "{ kind: Dump", "NoMapping", "Overlapping"];
+
+/// Adds what one way says of a text.
+fn push_listing(
+    alloc: Global,
+    out: &mut String,
+    objects: &mut Objects,
+    list: Which,
+    text: &[u8],
+    is_quick: bool,
+) -> Result<(), AllocError> {
+    let listing = if is_quick {
+        Listing::read(alloc, objects, list, text)
+    } else {
+        plain::read(alloc, objects, list, text)
+    };
+    writeln!(out, "{listing:?}")
 }
 
-/// The first objects of lists.
-fn names(alloc: Global, objects: &Objects) -> Result<String, AllocError> {
+/// What one way says of two texts, and the names of their first objects.
+fn said_of_texts(
+    alloc: Global,
+    first: &[u8],
+    second: &[u8],
+    is_quick: bool,
+) -> Result<String, AllocError> {
+    let mut objects = Objects::new(alloc);
     let mut out = String::new(alloc);
+    push_listing(alloc, &mut out, &mut objects, Which::First, first, is_quick)?;
+    push_listing(
+        alloc,
+        &mut out,
+        &mut objects,
+        Which::Second,
+        second,
+        is_quick,
+    )?;
     for number in 0..32 {
         objects.write(&mut out, number, Kind::Map)?;
         out.push_str("\n")?;
@@ -77,39 +79,25 @@ fn names(alloc: Global, objects: &Objects) -> Result<String, AllocError> {
     Ok(out)
 }
 
-/// Reads two texts by both ways, asserts that these agree, and adds what they come to.
-fn expect_alike(
-    rt: &(impl AllocGlobal + Abort),
-    made: &mut Made,
-    seen: &mut String,
-) -> Result<(), AllocError> {
-    let mut objects = (Objects::new(rt.alloc()), Objects::new(rt.alloc()));
-    for list in [Which::First, Which::Second] {
-        let text = made.text(rt.alloc())?;
-        let left = Listing::read(rt.alloc(), &mut objects.0, list, &text);
-        let right = plain::read(rt.alloc(), &mut objects.1, list, &text);
-        let told = outcome(&left, &right);
-        assert!(rt; told.is_some(), "{left:?} {right:?} at {text:?}");
-        seen.push_str(told.unwrap_or(""))?;
-    }
-    let names = (
-        names(rt.alloc(), &objects.0)?,
-        names(rt.alloc(), &objects.1)?,
-    );
-    assert_eq!(rt; names.0, names.1);
-    Ok(())
-}
-
 #[test]
 fn lists_are_read_alike(rt: HostRuntime) -> Result<(), Fail> {
+    let alloc = rt.alloc();
     let mut made = Made::new(2);
-    let mut seen = String::new(rt.alloc());
-    for _ in 0..500 {
-        expect_alike(&rt, &mut made, &mut seen)?;
+    let mut seen = String::new(alloc);
+    for _ in 0..TEXTS / 2 {
+        let first = made.text(alloc)?;
+        let second = made.text(alloc)?;
+        let quick = said_of_texts(alloc, &first, &second, true)?;
+        let plain = said_of_texts(alloc, &first, &second, false)?;
+        assert_eq!(rt; quick, plain, "{first:?} {second:?}");
+        seen.push_str(&quick)?;
     }
-    for outcome in ["m", "d", "n", "o"] {
-        let count = seen.as_str().matches(outcome).count();
-        assert!(rt; count > 50, "{outcome} {count}");
+    let mut count = 0;
+    for outcome in OUTCOMES {
+        let texts = seen.as_str().matches(outcome).count();
+        assert!(rt; texts > 50, "{outcome} {texts}");
+        count = texts.saturating_add(count);
     }
+    assert_eq!(rt; count, TEXTS);
     Ok(())
 }

@@ -1,66 +1,127 @@
 //! Texts by chance, from a seed: lists of both kinds, some of them out of order, and some with lines that are no mappings.
 
 use gv_lines::write_hex;
+use gv_model::Random;
 use std::alloc::{AllocError, Global};
 
-/// Names of buffers, of which the first four may be.
-const NAMES: [&str; 11] = [
-    "a",
-    "zero",
-    "ring_2",
-    "sixteen_letters_",
-    "seventeen_letters",
-    "zero0",
-    "Zero",
-    "Ring",
-    "_a",
-    "",
-    "7",
+/// Some texts, one of which is drawn.
+type Words = &'static [&'static str];
+
+/// A part of a line.
+#[derive(Clone, Copy)]
+enum Part {
+    /// The first byte of a mapping.
+    First,
+    /// The byte past it.
+    End,
+    /// How many bytes it has.
+    Len,
+    /// One of the first texts, or where the choice is odd one of the others.
+    Word(Words, Words),
+}
+
+/// Names of buffers.
+const NAME: Part = Part::Word(
+    &["a ", "ring_2 ", "sixteen_letters_ "],
+    &[
+        "zero ",
+        "seventeen_letters ",
+        "zero0 ",
+        "Zero ",
+        "Ring ",
+        "_a ",
+        " ",
+        "7 ",
+    ],
+);
+
+/// The name of zeros, and others that may have no offset.
+const ZERO: Part = Part::Word(&["zero "], &["a ", "Zero ", "zero  ", "zero"]);
+
+const FLAGS: Part = Part::Word(&["rw", "ro"], &["rx", "RW", "rw\r", "ro ", "r", ""]);
+
+/// Bytes at which pages of each buffer begin; the last page that a buffer may have, the two behind it, and bytes at which no page begins.
+const OFFSET: Part = Part::Word(
+    &[
+        "0000000000000000 ",
+        "0000000000001000 ",
+        "0000000000007000 ",
+    ],
+    &[
+        "0000fffffffff000 ",
+        "0001000000000000 ",
+        "0001000000001000 ",
+        "0000000000001001 ",
+        "ffffffffffffffff ",
+    ],
+);
+
+/// What a row of a `gpuvas` begins with.
+const LEAD: Part = Part::Word(
+    &["| 0x", "     | 0x", "\t| 0x", " \x0c| 0x", "\r| 0x"],
+    &["\x0b| 0x", "x| 0x", "\u{a0}| 0x"],
+);
+
+const BAR: Part = Part::Word(&["| 0x"], &["| 0x"]);
+
+/// The addresses of objects.
+const OBJECT: Part = Part::Word(
+    &[
+        "| 0x0000000000000000 ",
+        "| 0xffff9d4a89852000 ",
+        "| 0xffff3a95130a4000 ",
+        "| 0xfffed7df9c8f6000 ",
+    ],
+    &["| 0x0000000000000000 ", "| 0xffff9d4a89852000 "],
+);
+
+const MAPPING: &[Part] = &[Part::First, Part::End, NAME, OFFSET, FLAGS];
+
+const ZEROS: &[Part] = &[Part::First, Part::End, ZERO, FLAGS];
+
+const ROW: &[Part] = &[
+    LEAD,
+    Part::First,
+    BAR,
+    Part::Len,
+    BAR,
+    Part::End,
+    OBJECT,
+    BAR,
+    OFFSET,
 ];
 
-/// Words for flags, of which the first two are.
-const FLAGS: [&str; 8] = ["rw", "ro", "rx", "RW", "rw\r", "ro ", "r", ""];
+/// Lines of a `map` that are no mappings.
+const NO_MAPPING: &[Part] = &[Part::Word(
+    &["empty"],
+    &["", " empty", "zero", "DRM GPU VA spice", "Dr"],
+)];
 
-/// Bytes at which something may begin, of which the first three are those of pages that each buffer has, and the next three those
-/// of the last page that one may have, and of the two behind it.
-const OFFSETS: [u64; 8] = [
-    0,
-    0x1000,
-    0x7000,
-    0xffff_ffff_f000,
-    0x1_0000_0000_0000,
-    0x1_0000_0000_1000,
-    0x1001,
-    u64::MAX,
+/// Lines of a `gpuvas` that are no mappings.
+const NO_ROW: &[Part] = &[Part::Word(
+    &[
+        "\x0c DRM GPU VA space (vm) [0x0;0x1000]",
+        " VAs | start | range",
+        "Kernel reserved",
+        "\t",
+    ],
+    &["DRM GPU VA", "|", "empty"],
+)];
+
+/// How many kinds of lines each of the two lists has.
+const KINDS: u64 = 10;
+
+/// The kinds of lines of a `map`, and behind them those of a `gpuvas`.
+const LINES: [&[Part]; 20] = [
+    MAPPING, MAPPING, MAPPING, MAPPING, MAPPING, MAPPING, MAPPING, ZEROS, ZEROS, NO_MAPPING, ROW,
+    ROW, ROW, ROW, ROW, ROW, ROW, ROW, ROW, NO_ROW,
 ];
 
-/// Lengths, of which the first three are those of pages.
-const LENS: [u64; 7] = [
-    0x1000,
-    0x2000,
-    0x5000,
-    0,
-    0x800,
-    0x0200_0000_0000_0000,
-    0xffff_ffff_ffff_f000,
-];
+/// Lengths of pages.
+const LENS: [u64; 3] = [0x1000, 0x2000, 0x5000];
 
-/// What a row of a `gpuvas` may begin with, of which the first five may be.
-const LEADS: [&str; 8] = ["", "     ", "\t", " \x0c", "\r", "\x0b", "x", "\u{a0}"];
-
-/// Lines of a `map` that are no mappings, of which the first may be.
-const WORDS: [&str; 6] = ["empty", "", " empty", "zero", "DRM GPU VA spice", "Dr"];
-
-/// Lines of a `gpuvas` that are no mappings, of which the first four may be.
-const HEADS: [&str; 7] = [
-    "\x0c DRM GPU VA space (vm) [0x0;0x1000]",
-    " VAs | start | range",
-    "Kernel reserved",
-    "\t",
-    "DRM GPU VA",
-    "|",
-    "empty",
-];
+/// Lengths of no pages.
+const ODD_LENS: [u64; 4] = [0, 0x800, 0x0200_0000_0000_0000, 0xffff_ffff_ffff_f000];
 
 /// Bytes that may come between others.
 const BYTES: &[u8; 16] = b"gAF+- \t\r0z_|D\x0c\x80\xff";
@@ -71,123 +132,80 @@ const ODD: [u64; 4] = [u64::MAX, 200, 60, 12];
 /// How rare what is out of order may be.
 const ASTRAY: [u64; 4] = [u64::MAX, 24, 6, 3];
 
-/// Texts by chance. Of a text's choices one in so many is odd, and of its mappings one in so many out of order.
+/// Texts by chance. Of a text's choices one in `odd` is odd, and of its mappings one in `astray` out of order.
 #[derive(Drop)]
 pub struct Made {
-    state: u64,
+    random: Random,
     odd: u64,
     astray: u64,
-    at: u64,
+    // Where the newest mapping begins and ends.
+    first: u64,
+    end: u64,
 }
 
 impl Made {
     /// The texts that a seed begins.
     pub fn new(seed: u64) -> Made {
         Made {
-            state: seed,
+            random: Random::new(seed),
             odd: 12,
             astray: 12,
-            at: 0,
+            first: 0,
+            end: 0,
         }
-    }
-
-    /// The next number, below `bound`.
-    pub fn below(&mut self, bound: u64) -> u64 {
-        self.state = self.state.wrapping_add(0x9e37_79b9_7f4a_7c15);
-        let word = (self.state ^ self.state >> 30).wrapping_mul(0xbf58_476d_1ce4_e5b9);
-        let word = (word ^ word >> 27).wrapping_mul(0x94d0_49bb_1331_11eb);
-        (word ^ word >> 31) % bound.max(1)
     }
 
     /// Whether the next choice is an odd one.
     fn is_odd(&mut self) -> bool {
-        self.below(self.odd) == 0
+        let odd = self.odd.max(1);
+        self.random.is_one_in(odd)
     }
 
-    /// One of the first numbers, or of all where the choice is odd.
-    fn number(&mut self, numbers: &[u64], fair: u64) -> u64 {
-        let bound = if self.is_odd() {
-            numbers.len() as u64
+    /// One of the fair texts, or where the choice is odd one of the others.
+    fn word(&mut self, fair: Words, others: Words) -> &'static str {
+        let words = if self.is_odd() { others } else { fair };
+        let place = self.random.below((words.len() as u64).max(1));
+        words.get(place as usize).copied().unwrap_or("")
+    }
+
+    /// Puts the next mapping at most two pages behind the one before it, unless it is out of order.
+    fn place(&mut self) {
+        let astray = self.astray.max(1);
+        let from = if self.random.is_one_in(astray) {
+            self.random.below(62).wrapping_mul(0x1000)
         } else {
-            fair
+            self.end % 0x1000_0000_0000
         };
-        let at = self.below(bound) as usize;
-        numbers.get(at).copied().unwrap_or(0)
-    }
-
-    /// One of the first words, or of all where the choice is odd.
-    fn push_word(
-        &mut self,
-        line: &mut String,
-        words: &[&str],
-        fair: u64,
-    ) -> Result<(), AllocError> {
-        let bound = if self.is_odd() {
-            words.len() as u64
+        let len = if self.is_odd() {
+            self.random.among(&ODD_LENS)
         } else {
-            fair
+            self.random.among(&LENS)
         };
-        let at = self.below(bound) as usize;
-        line.push_str(words.get(at).copied().unwrap_or(""))
+        let between = self.random.below(3).wrapping_mul(0x1000);
+        self.first = from.wrapping_add(between);
+        self.end = self.first.wrapping_add(len);
     }
 
-    /// Where the next mapping begins and ends: at most two pages behind the one before it, unless it is out of order.
-    fn range(&mut self) -> (u64, u64) {
-        let (from, pages) = if self.below(self.astray) == 0 {
-            (0, 64)
-        } else {
-            (self.at, 3)
+    /// Adds a part of a line.
+    fn push_part(&mut self, line: &mut String, part: Part) -> Result<(), AllocError> {
+        let number = match part {
+            Part::First => self.first,
+            Part::End => self.end,
+            Part::Len => self.end.wrapping_sub(self.first),
+            Part::Word(fair, others) => return line.push_str(self.word(fair, others)),
         };
-        let first = from.wrapping_add(self.below(pages).wrapping_mul(0x1000));
-        let end = first.wrapping_add(self.number(&LENS, 3));
-        self.at = end % 0x1000_0000_0000;
-        (first, end)
-    }
-
-    /// A line of a `map`.
-    fn push_mapping(&mut self, line: &mut String) -> Result<(), AllocError> {
-        let (first, end) = self.range();
-        write_hex(line, first)?;
-        line.push_str(" ")?;
-        write_hex(line, end)?;
-        line.push_str(" ")?;
-        self.push_word(line, &NAMES, 4)?;
-        line.push_str(" ")?;
-        if !line.as_str().ends_with(" zero ") || self.is_odd() {
-            write_hex(line, self.number(&OFFSETS, 3))?;
-            line.push_str(" ")?;
-        }
-        self.push_word(line, &FLAGS, 2)
-    }
-
-    /// A row of a `gpuvas`.
-    fn push_row(&mut self, line: &mut String) -> Result<(), AllocError> {
-        let (first, end) = self.range();
-        let numbers = [
-            first,
-            end.wrapping_sub(first),
-            end,
-            self.below(4).wrapping_mul(0xffff_9d4a_8985_2000),
-            self.number(&OFFSETS, 3),
-        ];
-        self.push_word(line, &LEADS, 5)?;
-        for number in numbers {
-            line.push_str("| 0x")?;
-            write_hex(line, number)?;
-            line.push_str(" ")?;
-        }
-        Ok(())
+        write_hex(line, number)?;
+        line.push_str(" ")
     }
 
     /// A line of either kind of list.
     fn line(&mut self, alloc: Global, is_dump: bool) -> Result<String, AllocError> {
+        self.place();
+        let kinds = if is_dump != self.is_odd() { KINDS } else { 0 };
+        let kind = self.random.below(KINDS).saturating_add(kinds);
         let mut line = String::new(alloc);
-        let is_dump = is_dump != self.is_odd();
-        match (self.below(10), is_dump) {
-            (0, true) => self.push_word(&mut line, &HEADS, 4)?,
-            (0, false) => self.push_word(&mut line, &WORDS, 1)?,
-            (_, true) => self.push_row(&mut line)?,
-            (_, false) => self.push_mapping(&mut line)?,
+        for part in LINES.get(kind as usize).copied().unwrap_or(MAPPING) {
+            self.push_part(&mut line, *part)?;
         }
         Ok(line)
     }
@@ -204,33 +222,27 @@ impl Made {
         if !self.is_odd() {
             return text.extend_from_slice(line);
         }
-        let at = self.below(line.len() as u64) as usize;
-        let (head, tail) = line.split_at_checked(at).unwrap_or((line, b""));
+        let place = self.random.below((line.len() as u64).max(1));
+        let (head, tail) = line.split_at_checked(place as usize).unwrap_or((line, b""));
+        let byte = self.random.below(24) as usize;
+        let lost = self.random.below(2) as usize;
         text.extend_from_slice(head)?;
-        let byte = self.below(24) as usize;
-        text.extend_from_slice(
-            BYTES
-                .get(byte..)
-                .and_then(|from| from.get(..1))
-                .unwrap_or(b""),
-        )?;
-        let lost = self.below(2) as usize;
+        text.extend_from_slice(BYTES.get(byte..byte + 1).unwrap_or(b""))?;
         text.extend_from_slice(tail.get(lost..).unwrap_or(b""))
     }
 
     /// A text, mostly a list of one kind.
     pub fn text(&mut self, alloc: Global) -> Result<Vec<u8>, AllocError> {
-        self.odd = u64::MAX;
-        self.odd = self.number(&ODD, 4);
-        self.astray = self.number(&ASTRAY, 4);
-        self.at = 0;
-        let is_dump = self.below(2) == 0;
+        self.odd = self.random.among(&ODD);
+        self.astray = self.random.among(&ASTRAY);
+        self.end = 0;
+        let is_dump = self.random.is_one_in(2);
         let mut text = Vec::new(alloc);
-        for _ in 0..self.below(14) {
+        for _ in 0..self.random.below(14) {
             self.push_line(alloc, &mut text, is_dump)?;
             text.push(b'\n')?;
         }
-        if self.below(4) == 0 {
+        if self.random.is_one_in(4) {
             text.pop();
         }
         Ok(text)

@@ -8,7 +8,7 @@ use std::alloc::Global;
 use std::str;
 
 /// A mapping, and the number of the line that told it.
-#[derive(Clone, Copy, Debug, Drop)]
+#[derive(Clone, Copy, Drop)]
 struct Placed {
     mapping: Mapping,
     line: u64,
@@ -72,9 +72,8 @@ impl Reading {
             list: self.list,
             line: self.line,
         };
-        let Ok(text) = str::from_utf8(line) else {
-            return Err(fault);
-        };
+        // A line that is no text is no mapping either.
+        let text = str::from_utf8(line).unwrap_or("?");
         let row = match self.kind {
             Kind::Map if text == "empty" => return Ok(()),
             Kind::Map => Row::of_map(text),
@@ -121,9 +120,6 @@ impl Reading {
 
 /// Whether only a `gpuvas` has such a line.
 pub fn is_of_dump(line: &[u8]) -> bool {
-    let Ok(text) = str::from_utf8(line) else {
-        return false;
-    };
-    let text = text.trim_ascii();
+    let text = str::from_utf8(line).unwrap_or("").trim_ascii();
     text.starts_with("DRM GPU VA space") || text.starts_with("|")
 }

@@ -14,14 +14,14 @@ use Rattle.gv_table.proofs.EditLemmas.{edited-alike, edited-own}
 use Rattle.gv_core_tests.proofs.NamedLists.{edited_named}
 use Rattle.gv_core_tests.proofs.table.apply.Goals as goal
 
-pub sway-requires-clause-new : goal.sway-requires-clause-new
-sway-requires-clause-new c =
+pub sway-seen-requires-clause-new : goal.sway-seen-requires-clause-new
+sway-seen-requires-clause-new c =
     let op = c.args.op.now in
     let after : c.edit.new.list.mappings ≡ edited c.args.list.now.mappings op = c.in_ok-edit.ensures.ok in
     subst IsLaidOut (sym after) (laid_out-edited c.args.list.now.mappings op c.edit.ensures.laid_out c.requires.operation)
 
-pub sway-requires-clause-alike : goal.sway-requires-clause-alike
-sway-requires-clause-alike c =
+pub sway-seen-requires-clause-alike : goal.sway-seen-requires-clause-alike
+sway-seen-requires-clause-alike c =
     let before = c.args.list.now.mappings in
     let op = c.args.op.now in
     let after : c.edit.new.list.mappings ≡ edited before op = c.in_ok-edit.ensures.ok in
@@ -30,8 +30,8 @@ sway-requires-clause-alike c =
     (subst (λ (s : PageRangeState). AreAlikeOutside s before c.edit.new.list.mappings) (sym c.range.ensures)
     (subst (λ (ms : List Mapping). AreAlikeOutside (range_of op) before ms) (sym after) alike))
 
-pub sway-requires-clause-enough : goal.sway-requires-clause-enough
-sway-requires-clause-enough c =
+pub sway-seen-requires-clause-enough : goal.sway-seen-requires-clause-enough
+sway-seen-requires-clause-enough c =
     let before = c.args.list.now.mappings in
     let op = c.args.op.now in
     let laid = c.edit.ensures.laid_out in
@@ -41,8 +41,8 @@ sway-requires-clause-enough c =
     subst (λ (ms : List Mapping). AreEnough c.in_ok-spares.spares (gained_by ms c.args.table.now)) (sym after)
     (c.in_ok-spares.ensures (edited before op) (laid_out-edited before op laid c.requires.operation) fits (edited-own before op laid c.requires.operation))
 
-pub sway-requires-clause-new_named : goal.sway-requires-clause-new_named
-sway-requires-clause-new_named c =
+pub sway-seen-requires-clause-new_named : goal.sway-seen-requires-clause-new_named
+sway-seen-requires-clause-new_named c =
     let before = c.args.list.now.mappings in
     let op = c.args.op.now in
     let after : c.edit.new.list.mappings ≡ edited before op = c.in_ok-edit.ensures.ok in
@@ -54,4 +54,4 @@ returns-clause-named c =
     let op = c.args.op.now in
     let after : c.edit.new.list.mappings ≡ edited before op = c.in_ok-edit.ensures.ok in
     let edits = edited_named c.args.table.now.names before op c.edit.ensures.laid_out c.requires.named c.requires.own in
-    subst (λ (names : List BufferId). AreNamed names c.edit.new.list.mappings) (sym c.sway.ensures.names) (subst (AreNamed c.args.table.now.names) (sym after) edits)
+    subst (λ (names : List BufferId). AreNamed names c.edit.new.list.mappings) (sym c.sway-seen.ensures.names) (subst (AreNamed c.args.table.now.names) (sym after) edits)

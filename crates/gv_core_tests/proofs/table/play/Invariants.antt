@@ -5,7 +5,7 @@ use Rattle.gv_table.specs.Table.{IsTree}
 use Rattle.gv_core_tests.proofs.table.play.Given as goal
 
 abbrev pub invariant-loop-is_map : goal.invariant-loop-is_map
-invariant-loop-is_map g l = record {
+invariant-loop-is_map l = record {
   twins : l.twin.mappings ≡ l.list.mappings;
   tree : IsTree l.list.mappings l.table;
   named : AreNamed l.table.names l.list.mappings;
