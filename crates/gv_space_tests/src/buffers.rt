@@ -1,14 +1,21 @@
 //! Buffers, and the jobs that use them.
-use crate::playing::{Row, expect};
+use crate::playing::expect;
+use crate::watch::Row;
 
 const IN_USE: &[Row] = &[
     ("create 4", "created 0"),
     ("count 0", "pages 4 uses 0 kept 0"),
     ("map 0 4 0 0", "changed 0 4"),
     ("destroy 0", "refused Mapped 1"),
-    ("kept-back 0 / unmap 0 4", "refused Kept 1"),
+    (
+        "undo / destroy 0 / unmap 0 4",
+        "refused Kept 1 |  | changed 0 4",
+    ),
     ("destroy 0", "refused Mapped 1"),
-    ("kept-stays 0 / unmap 0 4", "refused Kept 1"),
+    (
+        "stay 1 / destroy 0 / unmap 0 4",
+        "refused Kept 1 |  | changed 0 4",
+    ),
     ("destroy 0", "done"),
 ];
 

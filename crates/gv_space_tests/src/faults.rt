@@ -1,5 +1,6 @@
 //! The faults of operations, in their order.
-use crate::playing::{Row, expect, expect_in};
+use crate::playing::{expect, expect_in};
+use crate::watch::Row;
 use gv_types::Bounds;
 
 /// Operations, each with its first fault, where buffer 0 is dead and buffer 1 has four pages, which are mapped. Bytes are past the end from

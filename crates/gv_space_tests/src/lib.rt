@@ -6,9 +6,9 @@ mod asking;
 #[cfg(test)]
 mod buffers;
 #[cfg(test)]
-mod changes;
+mod chance;
 #[cfg(test)]
-mod course;
+mod changes;
 #[cfg(test)]
 mod edits;
 #[cfg(test)]
@@ -28,9 +28,9 @@ mod rounds;
 #[cfg(test)]
 mod rows;
 #[cfg(test)]
-mod sight;
-#[cfg(test)]
 mod tables;
+#[cfg(test)]
+mod text;
 #[cfg(test)]
 mod unmap_all;
 #[cfg(test)]

@@ -1,171 +1,96 @@
-//! Rows played on a space: what each answers, behind what was seen while it was played.
+//! Rows played on a space: what each answers, after what was seen while it was played.
 use crate::asking::ask;
-use crate::changes::{bring_back, nested, refused_there, there, there_and_back};
-use crate::operations::{id_of, op_of};
-use crate::watch::Watch;
-use crate::words::{Clause, NOTHING, Verb, clause_at, clauses_of};
+use crate::changes::{bring_back, there};
+use crate::operations::{edits_of, id_of, ops_of};
+use crate::text::{add, tell, tell_refusal};
+use crate::watch::{Row, Watch};
+use crate::words::{Clauses, Verb};
+use crate::{edits, rounds};
 use gv_buffers::Usage;
+use gv_model::push;
 use gv_space::Space;
-use gv_types::{Bounds, Fault, Limits, PageRange};
-use std::alloc::{AllocError, Global};
+use gv_types::{Bounds, Fault, Limits};
+use std::alloc::Global;
 use std::process::Abort;
 
-/// What a row came to.
-#[derive(Clone, Copy)]
-pub enum Said {
-    Done,
-    /// The answer is written already.
-    Written,
-    Created(u32),
-    /// An operation was applied to the pages from the first up to the end.
-    Changed(u64, u64),
-}
-
-fn changed(range: PageRange) -> Said {
-    Said::Changed(range.first(), range.end())
-}
-
-fn write_said(text: &mut String, said: Result<Said, Fault>) -> Result<(), AllocError> {
-    match said {
-        Ok(Said::Done) => text.push_str("done"),
-        Ok(Said::Written) => Ok(()),
-        Ok(Said::Created(index)) => write!(text, "created {index}"),
-        Ok(Said::Changed(first, end)) => write!(text, "changed {first} {end}"),
-        Err(fault) => write!(text, "refused {fault}"),
-    }
-}
-
-/// Makes a buffer.
-fn create(alloc: Global, space: &mut Space, watch: &mut Watch, pages: u64) -> Result<Said, Fault> {
-    let id = space.create(alloc, pages)?;
-    let index = id.index;
-    match watch.ids.push(id) {
-        Ok(()) => Ok(Said::Created(index)),
-        Err(_) => Err(Fault::OutOfMemory),
-    }
-}
-
-/// Plays two operations, and what follows them.
-fn play_two(
-    alloc: Global,
-    space: &mut Space,
-    watch: &mut Watch,
-    clauses: &[Clause],
-) -> Result<Said, Fault> {
-    let ops = [
-        op_of(&watch.ids, clause_at(clauses, 1)),
-        op_of(&watch.ids, clause_at(clauses, 2)),
-    ];
-    watch.asked = *clause_at(clauses, 3);
-    let head = clause_at(clauses, 0).verb;
-    if head != Verb::Restore {
-        return Ok(changed(nested(alloc, space, watch, &ops, head)?));
-    }
-    bring_back(alloc, space, watch, &ops, clauses.get(4..).unwrap_or(&[]))?;
-    Ok(Said::Done)
-}
-
-/// Why a buffer can't be destroyed while an undo value keeps mappings of it.
-fn play_kept(
-    alloc: Global,
-    space: &mut Space,
-    watch: &mut Watch,
-    clauses: &[Clause],
-) -> Result<Said, Fault> {
-    let head = clause_at(clauses, 0);
-    let id = id_of(&watch.ids, head.numbers[0]);
-    let op = op_of(&watch.ids, clause_at(clauses, 1));
-    let stays = head.verb == Verb::KeptStays;
-    match refused_there(alloc, space, &op, &id, stays)? {
-        Some(fault) => Err(fault),
-        None => Ok(Said::Done),
-    }
-}
-
-/// Plays an operation for good, or one that is taken back.
-fn play_one(
-    alloc: Global,
-    space: &mut Space,
-    watch: &mut Watch,
-    clauses: &[Clause],
-) -> Result<Said, Fault> {
-    let head = clause_at(clauses, 0);
-    let range = if head.verb == Verb::Back {
-        watch.asked = *clause_at(clauses, 2);
-        let op = op_of(&watch.ids, clause_at(clauses, 1));
-        there_and_back(alloc, space, watch, &op)?
-    } else {
-        let op = op_of(&watch.ids, head);
-        there(alloc, space, watch, &op)?
-    };
-    Ok(changed(range))
-}
-
 /// Plays a call on a buffer.
-fn play_buffer(
+fn play(
     alloc: Global,
     space: &mut Space,
     watch: &mut Watch,
-    clause: &Clause,
-) -> Result<Said, Fault> {
-    let [number, job, ..] = clause.numbers;
-    let id = &id_of(&watch.ids, number);
-    match clause.verb {
-        Verb::Create => return create(alloc, space, watch, number),
-        Verb::Destroy => space.destroy(*id)?,
-        Verb::Read => space.join(alloc, *id, job, Usage::Read)?,
-        Verb::Write => space.join(alloc, *id, job, Usage::Write)?,
-        _ => space.leave(number),
+    clauses: &Clauses,
+) -> Result<(), Fault> {
+    let [number, job, ..] = clauses[0].numbers;
+    let id = id_of(&watch.ids, number);
+    watch.asked = clauses[1];
+    match clauses[0].verb {
+        Verb::Create => {
+            let id = space.create(alloc, number)?;
+            tell(&mut watch.text, &[("created ", Some(u64::from(id.index)))]);
+            return Ok(push(&mut watch.ids, id)?);
+        }
+        Verb::Destroy => space.destroy(id)?,
+        Verb::Read => space.join(alloc, id, job, Usage::Read)?,
+        Verb::Write => space.join(alloc, id, job, Usage::Write)?,
+        Verb::Leave => space.leave(number),
+        Verb::Rounds => return rounds::play(alloc, space, watch, number, job),
+        Verb::Edits => return edits::play(alloc, space, watch, number, job),
+        _ => return play_edits(alloc, space, watch, clauses),
     }
-    Ok(Said::Done)
+    add(&mut watch.text, "done");
+    Ok(())
 }
 
-/// Plays a row.
-pub fn play(
+/// Plays operations, or what is asked.
+fn play_edits(
     alloc: Global,
     space: &mut Space,
     watch: &mut Watch,
-    clauses: &[Clause],
-) -> Result<Said, Fault> {
-    watch.asked = NOTHING;
-    let head = clause_at(clauses, 0);
+    clauses: &Clauses,
+) -> Result<(), Fault> {
+    let ops = ops_of(alloc, &watch.ids, clauses)?;
+    let edits = edits_of(alloc, &ops)?;
+    let [head, about, ..] = clauses;
     match head.verb {
-        Verb::Create | Verb::Destroy | Verb::Read | Verb::Write | Verb::Leave => {
-            play_buffer(alloc, space, watch, head)
+        Verb::Stay => there(alloc, space, watch, &edits, head.numbers[0])?,
+        Verb::Map | Verb::MapBytes | Verb::Zero | Verb::ZeroRo | Verb::Unmap => {
+            there(alloc, space, watch, &edits, 1)?;
         }
-        Verb::KeptStays | Verb::KeptBack => play_kept(alloc, space, watch, clauses),
-        Verb::Neither | Verb::First | Verb::Both | Verb::Restore => {
-            play_two(alloc, space, watch, clauses)
-        }
-        Verb::Back | Verb::Map | Verb::MapRo | Verb::MapBytes => {
-            play_one(alloc, space, watch, clauses)
-        }
-        Verb::Zero | Verb::ZeroRo | Verb::Unmap | Verb::UnmapAll => {
-            play_one(alloc, space, watch, clauses)
-        }
-        _ => {
-            ask(alloc, space, &watch.ids, clauses, &mut watch.text)?;
-            Ok(Said::Written)
-        }
+        Verb::Restore => bring_back(alloc, space, watch, &edits, clauses)?,
+        _ => return ask(alloc, space, &watch.ids, head, about, &mut watch.text),
     }
+    let (first, end) = watch.changed;
+    tell(
+        &mut watch.text,
+        &[("changed ", Some(first)), (" ", Some(end))],
+    );
+    Ok(())
 }
 
-/// What is played, and what is seen and answered.
-pub type Row = (&'static str, &'static str);
+/// Plays rows on a space of these bounds, where the limits are so many buffers and mappings.
+fn play_all(
+    alloc: Global,
+    bounds: Bounds,
+    limits: (u64, u64),
+    rows: &[Row],
+) -> Result<Watch, Fault> {
+    let limits = Limits::new(limits.0, limits.1, 1, 1).ok_or(Fault::BadSize)?;
+    let mut space = Space::new(alloc, bounds, limits)?;
+    let mut watch = Watch::new(alloc);
+    for row in rows {
+        let clauses = watch.begin(alloc, row);
+        let said = play(alloc, &mut space, &mut watch, &clauses);
+        tell_refusal(&mut watch.text, said);
+        watch.check(row)?;
+    }
+    Ok(watch)
+}
 
-/// Plays a row, and asserts what it answers.
-fn play_row(rt: &(impl Abort + AllocGlobal), space: &mut Space, watch: &mut Watch, row: &Row) {
-    let (text, wanted) = *row;
-    let clauses = clauses_of(rt.alloc(), text).expect(rt, "memory");
-    watch.text = String::new(rt.alloc());
-    let said = play(rt.alloc(), space, watch, &clauses);
-    let is_written = write_said(&mut watch.text, said).is_ok();
-    let answer = watch.text.as_str();
-    let is_known = clauses.iter().all(|clause| clause.verb != Verb::Unknown);
-    assert!(rt;
-        is_known && is_written && watch.is_right && answer == wanted,
-        "{text}: {answer}"
-    );
+/// Asserts that no row was answered wrong.
+pub fn expect_right(rt: &impl Abort, played: Result<Watch, Fault>) {
+    let watch = played.expect(rt, "a space");
+    let wrong = watch.wrong.as_str();
+    assert!(rt; wrong.is_empty(), "{wrong}");
 }
 
 /// Asserts what rows answer on a space of these bounds, where the limits are so many buffers and mappings.
@@ -175,15 +100,17 @@ pub fn expect_in(
     limits: (u64, u64),
     rows: &[Row],
 ) {
-    let limits = Limits::new(limits.0, limits.1, 1, 1).expect(rt, "limits");
-    let mut space = Space::new(rt.alloc(), bounds, limits).expect(rt, "memory");
-    let mut watch = Watch::new(rt.alloc());
-    for row in rows {
-        play_row(rt, &mut space, &mut watch, row);
-    }
+    expect_right(rt, play_all(rt.alloc(), bounds, limits, rows));
 }
 
 /// The same on a space of all pages.
 pub fn expect(rt: &(impl Abort + AllocGlobal), limits: (u64, u64), rows: &[Row]) {
     expect_in(rt, Bounds::whole(), limits, rows);
 }
+
+/// Three buffers of the greatest size, which come first where operations by chance follow.
+pub const ONE: Row = ("create 68719476736", "created 0");
+
+pub const TWO: Row = ("create 68719476736", "created 1");
+
+pub const THREE: Row = ("create 68719476736", "created 2");

@@ -1,12 +1,13 @@
 //! Older mappings that come back to a range.
-use crate::playing::{Row, expect};
+use crate::playing::expect;
+use crate::watch::Row;
 
 /// The undo value has the buffer's four pages, which were at page 0. Two pages of zeros stand at page 1 then.
 const SAVED: &[Row] = &[
     ("create 4", "created 0"),
     ("map 0 4 0 0", "changed 0 4"),
     (
-        "restore / unmap 0 4 / zero 1 2 / look 0 / range 1 2 / range 0 2 / range 2 9 / range 4 1",
+        "restore / look 0 / unmap 0 4 / zero 1 2 / range 1 2 / range 0 2 / range 2 9 / range 4 1",
         "\
 uses 0 kept 1 tables 0 0 0 0 0 | \
 1 3 zero; uses 0 kept 1 tables 1 1 1 1 1 | \
@@ -19,7 +20,8 @@ uses 0 kept 1 tables 0 0 0 0 0 | \
 1 3 zero; uses 0 kept 1 tables 1 1 1 1 1 | \
 1 3 zero; uses 0 kept 1 tables 1 1 1 1 1 | \
 1 3 zero; uses 0 kept 1 tables 1 1 1 1 1 | \
-done",
+1 3 zero; uses 0 kept 0 tables 1 1 1 1 1 | \
+changed 4 5",
     ),
     ("look 0", "1 3 zero; uses 0 kept 0 tables 1 1 1 1 1"),
 ];
@@ -33,11 +35,12 @@ const LIMIT: &[Row] = &[
     ("create 4", "created 0"),
     ("map 0 4 0 0", "changed 0 4"),
     (
-        "restore / unmap 0 4 / zero 0 4 / look 0 / range 1 2",
+        "restore / look 0 / unmap 0 4 / zero 0 4 / range 1 2",
         "\
 uses 0 kept 1 tables 0 0 0 0 0 | \
 0 4 zero; uses 0 kept 1 tables 1 1 1 1 1 | \
 0 4 zero; uses 0 kept 1 tables 1 1 1 1 1 | \
+0 4 zero; uses 0 kept 0 tables 1 1 1 1 1 | \
 refused TooManyMappings",
     ),
     ("look 0", "0 4 zero; uses 0 kept 0 tables 1 1 1 1 1"),

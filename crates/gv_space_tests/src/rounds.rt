@@ -1,208 +1,90 @@
-//! Random operations on a space, each look at which is compared with the definitions.
-use crate::course::{Course, course_of, expect_course};
-use crate::judge::{BUFFERS, Look};
-use crate::playing::play as play_row;
-use crate::watch::Watch;
+//! Rounds of operations by chance on a few places, each look at which is compared with the definitions.
+use crate::chance::{Area, Spread, operation};
+use crate::changes::{bring_back, there};
+use crate::playing::{ONE, THREE, TWO, expect_in};
+use crate::text::tell;
+use crate::watch::{Row, Watch};
 use crate::words::{Clause, Verb};
-use gv_model::Random;
+use gv_model::{Edit, Random};
 use gv_space::Space;
-use gv_types::{Bounds, Limits, Mapping};
-use std::process::Abort;
+use gv_types::{Bounds, Fault};
+use std::alloc::{AllocError, Global};
 
-/// How many rounds are played on a setting.
-const ROUNDS: usize = 250;
+/// How many rounds are played on a space.
+const ROUNDS: u64 = 250;
 
-/// How many places a setting has.
+/// How many places there are.
 const PLACES: u64 = 64;
 
-/// What a round works on: places of `unit` pages each, from the page `first` on.
-#[derive(Clone, Copy)]
-struct Setting {
-    first: u64,
-    unit: u64,
+/// The first and the last page of each place.
+fn pages_of(alloc: Global, first: u64, unit: u64) -> Result<Vec<u64>, AllocError> {
+    let mut pages = Vec::new(alloc);
+    for place in 0..PLACES {
+        let page = place.saturating_mul(unit).saturating_add(first);
+        pages.push(page)?;
+        pages.push(page.saturating_add(unit).saturating_sub(1))?;
+    }
+    Ok(pages)
 }
 
-impl Setting {
-    /// The first page of a place.
-    fn page(self, place: u64) -> u64 {
-        self.first.saturating_add(place.saturating_mul(self.unit))
-    }
-
-    /// The first and the last page of each place.
-    fn pages(self, rt: &(impl Abort + AllocGlobal)) -> Vec<u64> {
-        let mut pages = Vec::new(rt.alloc());
-        for place in 0..PLACES {
-            let is_told = pages.push(self.page(place)).is_ok()
-                && pages.push(self.page(place + 1).saturating_sub(1)).is_ok();
-            assert!(rt; is_told);
-        }
-        pages
-    }
-
-    /// An operation by chance on a few places.
-    fn chosen(self, random: &mut Random) -> Clause {
-        let first = random.below(PLACES);
-        let count = 1 + random.below((PLACES - first).min(12));
-        let page = random.below(36);
-        let is_fixed = random.below(4) == 0;
-        let kind = random.below(6);
-        let verb = match kind {
-            0..=3 if is_fixed => Verb::MapRo,
-            0..=3 => Verb::Map,
-            4 if is_fixed => Verb::ZeroRo,
-            4 => Verb::Zero,
-            _ => Verb::Unmap,
-        };
-        let numbers = [
-            self.page(first),
-            count.saturating_mul(self.unit),
-            kind / 2,
-            page.saturating_mul(self.unit),
-        ];
-        Clause { verb, numbers }
-    }
-}
-
-/// One more look.
-fn add(
-    rt: &(impl Abort + AllocGlobal),
-    looks: &mut Vec<Look>,
-    list: &[Mapping],
-    kept: [u64; BUFFERS],
-) {
-    let list = Vec::from_slice(rt.alloc(), list).expect(rt, "memory");
-    assert!(rt; looks.push(Look { list, kept }).is_ok());
-}
-
-/// How a round goes: both operations are taken back, the newer first.
-const TAKEN_BACK: usize = 0;
-
-/// Both operations stay.
-const BOTH_STAY: usize = 1;
-
-/// Both stay, and a range is restored from the first for good; and, in the way between these, not for good.
-const RESTORED: usize = 3;
-
-/// What a row of each way begins with.
-const HEADS: [Verb; 4] = [Verb::Neither, Verb::Both, Verb::Restore, Verb::Restore];
-
-/// What it ends with.
-const TAILS: [Verb; 4] = [Verb::Nothing, Verb::Nothing, Verb::Range, Verb::Stays];
-
-/// What is kept where no undo value is left.
-const NONE: [u64; BUFFERS] = [0; BUFFERS];
-
-/// What a space has to be at each look of a round.
-fn looks_of(
-    rt: &(impl Abort + AllocGlobal),
-    course: &Course,
-    before: &[Mapping],
-    way: usize,
-) -> Vec<Look> {
-    let mut looks = Vec::new(rt.alloc());
-    add(rt, &mut looks, &course.one, course.by_first);
-    add(rt, &mut looks, &course.two, course.by_both);
-    if way == TAKEN_BACK {
-        add(rt, &mut looks, &course.one, course.by_first);
-        add(rt, &mut looks, before, NONE);
-        return looks;
-    }
-    add(rt, &mut looks, &course.two, course.by_first);
-    if way != BOTH_STAY {
-        add(
-            rt,
-            &mut looks,
-            &course.restored,
-            course.by_first_and_restore,
-        );
-        let then = if way == RESTORED {
-            &course.restored
-        } else {
-            &course.two
-        };
-        add(rt, &mut looks, then, course.by_first);
-        add(rt, &mut looks, then, NONE);
-        return looks;
-    }
-    add(rt, &mut looks, &course.two, NONE);
-    looks
-}
-
-/// A clause of no numbers.
-fn clause_of(verb: Verb) -> Clause {
-    Clause {
-        verb,
-        numbers: [0; 4],
-    }
-}
-
-/// Plays a round on a space that has this list. The list after it, where all was seen that had to be.
+/// Plays a round: both edits are undone, or both stay; or both stay, and a range is restored from the first, not for good or for good.
 fn round(
-    rt: &(impl Abort + AllocGlobal),
+    alloc: Global,
     space: &mut Space,
     watch: &mut Watch,
-    before: &[Mapping],
-    chosen: &[Clause; 3],
-    way: usize,
-) -> Vec<Mapping> {
-    let course = course_of(rt, &watch.ids, before, chosen);
-    expect_course(rt, watch, before, &course, chosen);
-    watch.looks = looks_of(rt, &course, before, way);
-    watch.seen = 0;
-    let clauses = [
-        clause_of(HEADS[way % 4]),
-        chosen[0],
-        chosen[1],
-        clause_of(Verb::Judge),
-        Clause {
-            verb: TAILS[way % 4],
-            numbers: chosen[2].numbers,
-        },
+    random: &mut Random,
+    area: &Area,
+    way: u64,
+) -> Result<(), Fault> {
+    let edits = [
+        Edit::new(operation(random, &watch.ids, area)),
+        Edit::new(operation(random, &watch.ids, area)),
     ];
-    let said = play_row(rt.alloc(), space, watch, &clauses);
-    watch.see(rt.alloc(), space);
-    assert!(rt; said.is_ok() && watch.is_right && watch.seen == watch.looks.len());
-    let last = watch.looks.pop().expect(rt, "a look");
-    let Look { list, kept: _ } = last;
-    list
-}
-
-/// A space of these places, and a watch that knows its two buffers.
-fn start(rt: &(impl Abort + AllocGlobal), setting: Setting) -> (Space, Watch) {
-    let pages = setting.unit.saturating_mul(PLACES);
-    let bounds = Bounds::new(setting.first, pages, 0, 0).expect(rt, "bounds");
-    let limits = Limits::new(2, 1_000, 1, 1).expect(rt, "limits");
-    let mut space = Space::new(rt.alloc(), bounds, limits).expect(rt, "memory");
-    let mut watch = Watch::new(rt.alloc());
-    watch.pages = setting.pages(rt);
-    for _ in 0..2 {
-        let id = space.create(rt.alloc(), setting.unit.saturating_mul(100));
-        assert!(rt; watch.ids.push(id.expect(rt, "a buffer")).is_ok());
+    let range = Clause {
+        verb: if way == 2 { Verb::Range } else { Verb::Stays },
+        numbers: [area.first.number(random), area.count.number(random), 0, 0],
+    };
+    match way {
+        0 => there(alloc, space, watch, &edits, 0),
+        1 => there(alloc, space, watch, &edits, 2),
+        _ => bring_back(alloc, space, watch, &edits, &[range]),
     }
-    (space, watch)
 }
 
-/// Plays rounds on these places. The ways take turns.
-fn play(rt: &(impl Abort + AllocGlobal), setting: Setting) {
-    let (mut space, mut watch) = start(rt, setting);
+/// Plays rounds on places of `unit` pages each, from the page `first` on. The ways take turns.
+pub fn play(
+    alloc: Global,
+    space: &mut Space,
+    watch: &mut Watch,
+    first: u64,
+    unit: u64,
+) -> Result<(), Fault> {
+    let area = Area {
+        first: Spread(first, PLACES - 11, unit),
+        count: Spread(unit, 12, unit),
+        page: Spread(0, 36, unit),
+    };
+    watch.judge.pages = pages_of(alloc, first, unit)?;
+    watch.asked.verb = Verb::Judge;
     let mut random = Random::new(1);
-    let mut list = Vec::new(rt.alloc());
     for number in 0..ROUNDS {
-        let chosen = [
-            setting.chosen(&mut random),
-            setting.chosen(&mut random),
-            setting.chosen(&mut random),
-        ];
-        list = round(rt, &mut space, &mut watch, &list, &chosen, number % 4);
+        round(alloc, space, watch, &mut random, &area, number % 4)?;
     }
+    tell(&mut watch.text, &[("right ", Some(watch.right))]);
+    Ok(())
 }
 
-/// Places of a page; on both sides of a table; of a quarter of a leaf.
-const SETTINGS: [(u64, u64); 3] = [(0, 1), (480, 1), (384, 128)];
+/// Spaces that begin at a page and have so many, in places of a page; on both sides of a table; of a quarter of a leaf.
+const SPACES: [(u64, u64, Row); 3] = [
+    (0, 64, ("rounds 0 1", "right 1872")),
+    (480, 64, ("rounds 480 1", "right 1872")),
+    (384, 8_192, ("rounds 384 128", "right 1872")),
+];
 
 #[test]
 fn places_agree_with_the_model(rt: HostRuntime) {
-    for (first, unit) in SETTINGS {
-        play(&rt, Setting { first, unit });
+    for (first, count, row) in SPACES {
+        let bounds = Bounds::new(first, count, 0, 0).expect(&rt, "bounds");
+        expect_in(&rt, bounds, (3, 1_000), &[ONE, TWO, THREE, row]);
     }
 }

@@ -1,11 +1,12 @@
 //! Changes, and the way back.
-use crate::playing::{Row, expect};
+use crate::playing::expect;
+use crate::watch::Row;
 
 const FREED_TABLES: &[Row] = &[
     ("create 4", "created 0"),
     ("map 0 1 0 0", "changed 0 1"),
     (
-        "back / unmap 0 1 / look 0",
+        "undo / look 0 / unmap 0 1",
         "uses 0 kept 1 tables 0 0 0 0 0 | 0 1 b0 0; uses 1 kept 0 tables 1 1 1 1 1 | changed 0 1",
     ),
 ];
@@ -18,8 +19,8 @@ fn tables_that_an_unmap_freed_come_back(rt: HostRuntime) {
 const HOLE: &[Row] = &[
     ("create 4", "created 0"),
     (
-        "first / map 0 4 0 0 / unmap 1 1 / look 0",
-        "0 4 b0 0; uses 1 kept 0 tables 1 1 1 1 1 | 0 1 b0 0; 2 4 b0 2; uses 2 kept 1 tables 1 1 1 1 1 | 0 4 b0 0; uses 1 kept 0 tables 1 1 1 1 1 | changed 1 2",
+        "stay 1 / look 0 / map 0 4 0 0 / unmap 1 1",
+        "0 4 b0 0; uses 1 kept 0 tables 1 1 1 1 1 | 0 1 b0 0; 2 4 b0 2; uses 2 kept 1 tables 1 1 1 1 1 | 0 4 b0 0; uses 1 kept 0 tables 1 1 1 1 1 | 0 4 b0 0; uses 1 kept 0 tables 1 1 1 1 1 | changed 1 2",
     ),
     ("look 0", "0 4 b0 0; uses 1 kept 0 tables 1 1 1 1 1"),
 ];
@@ -32,8 +33,8 @@ fn hole_is_taken_back(rt: HostRuntime) {
 const PAGE_IN_A_HOLE: &[Row] = &[
     ("create 4", "created 0"),
     (
-        "first / map 0 4 0 0 / unmap 1 1 / page 1",
-        "found b0 1, walked b0 1 | found none, walked none | found b0 1, walked b0 1 | changed 1 2",
+        "stay 1 / page 1 / map 0 4 0 0 / unmap 1 1",
+        "found b0 1, walked b0 1 | found none, walked none | found b0 1, walked b0 1 | found b0 1, walked b0 1 | changed 1 2",
     ),
     ("page 1", "found b0 1, walked b0 1"),
 ];
@@ -46,8 +47,8 @@ fn page_in_a_hole_holds_nothing(rt: HostRuntime) {
 const TWO_CHANGES: &[Row] = &[
     ("create 512", "created 0"),
     (
-        "neither / map 512 512 0 0 / unmap 700 1 / look 0",
-        "512 1024 b0 0; uses 1 kept 0 tables 1 1 1 1 0 | 512 700 b0 0; 701 1024 b0 189; uses 2 kept 1 tables 1 1 1 1 1 | 512 1024 b0 0; uses 1 kept 0 tables 1 1 1 1 0 | changed 700 701",
+        "undo / look 0 / map 512 512 0 0 / unmap 700 1",
+        "512 1024 b0 0; uses 1 kept 0 tables 1 1 1 1 0 | 512 700 b0 0; 701 1024 b0 189; uses 2 kept 1 tables 1 1 1 1 1 | 512 1024 b0 0; uses 1 kept 0 tables 1 1 1 1 0 | uses 0 kept 0 tables 0 0 0 0 0 | changed 700 701",
     ),
     ("look 0", "uses 0 kept 0 tables 0 0 0 0 0"),
 ];

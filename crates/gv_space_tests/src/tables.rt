@@ -1,6 +1,7 @@
 //! How many tables stand at the levels 4, 3, 2, 1 and 0. A slot of 512 or of 262,144 pages is a leaf where one mapping
 //! covers it.
-use crate::playing::{Row, expect};
+use crate::playing::expect;
+use crate::watch::Row;
 
 const LARGE_MAPS: &[Row] = &[
     ("create 65543", "created 0"),
@@ -28,7 +29,7 @@ const ONE_MAPPING: &[Row] = &[
     ("map 512 512 0 0", "changed 512 1024"),
     ("tables", "tables 1 1 1 1 1"),
     (
-        "back / map 0 512 0 0 / tables",
+        "undo / tables / map 0 512 0 0",
         "tables 1 1 1 1 0 | tables 1 1 1 1 1 | changed 0 512",
     ),
     (

@@ -1,5 +1,6 @@
 //! An unmap of a whole buffer: its steps, and the ranges that it unmaps. And what a space tells of what it was given.
-use crate::playing::{Row, expect};
+use crate::playing::expect;
+use crate::watch::Row;
 
 const EACH_MAPPING: &[Row] = &[
     ("create 4", "created 0"),
@@ -42,7 +43,7 @@ const READERS: &[Row] = &[
     ("check / zero-ro 35184372088831 1", "done"),
     ("map 0 4 0 0", "changed 0 4"),
     (
-        "back / unmap 1 2 / tables",
+        "undo / tables / unmap 1 2",
         "tables 1 1 1 1 1 | tables 1 1 1 1 1 | changed 1 3",
     ),
     ("look 0", "0 4 b0 0; uses 1 kept 0 tables 1 1 1 1 1"),

@@ -1,22 +1,37 @@
 //! What looks at a space between its changes.
-use crate::asking::ask;
-use crate::judge::{Look, agrees};
-use crate::words::{Clause, NOTHING, Verb};
-use gv_space::Space;
-use gv_types::{BufferId, Fault};
-use std::alloc::Global;
+ghost use Rattle.std.specs.Prelude.{◌≡◌};
 
-/// The buffers made so far; what is asked at each look, and the answers so far; or what has to be seen at each look, in order.
+use crate::asking::ask;
+use crate::edits::follow;
+use crate::judge::Judge;
+use crate::operations::id_of;
+use crate::text::{add, tell_refusal};
+use crate::words::{Clause, Clauses, NOTHING, Verb, clauses_of};
+use gv_model::{Edit, PlainList};
+use gv_space::Space;
+use gv_types::{BufferId, Fault, PageRange};
+use std::alloc::{AllocError, Global};
+
+/// What is played, and what is seen and answered.
+pub type Row = (&'static str, &'static str);
+
+/// The buffers made so far, what each look asks, and what was answered so far.
 #[derive(Drop)]
 pub struct Watch {
     pub ids: Vec<BufferId>,
     pub asked: Clause,
+    /// The answer to the row that is played.
     pub text: String,
-    pub looks: Vec<Look>,
-    pub pages: Vec<u64>,
-    pub seen: usize,
-    /// Each look so far was written, or was as it had to be.
-    pub is_right: bool,
+    /// The rows with another answer than they have to have, a line each.
+    pub wrong: String,
+    /// The pages of the newest change: the first, and the one past their end.
+    pub changed: (u64, u64),
+    pub judge: Judge,
+    /// A list that has each edit, also those that the space takes back; and one that has those of whole batches.
+    pub ahead: PlainList,
+    pub behind: PlainList,
+    /// How many comparisons with the model were right.
+    pub right: u64,
 }
 
 impl Watch {
@@ -26,35 +41,103 @@ impl Watch {
             ids: Vec::new(alloc),
             asked: NOTHING,
             text: String::new(alloc),
-            looks: Vec::new(alloc),
-            pages: Vec::new(alloc),
-            seen: 0,
-            is_right: true,
+            wrong: String::new(alloc),
+            changed: (0, 0),
+            judge: Judge::new(alloc),
+            ahead: PlainList::new(alloc),
+            behind: PlainList::new(alloc),
+            right: 0,
         }
+    }
+
+    /// The clauses of a row, whose answer begins. A row with an unknown word has no right answer.
+    pub fn begin(&mut self, alloc: Global, row: &Row) -> Clauses {
+        self.text = String::new(alloc);
+        let clauses = clauses_of(row.0);
+        if clauses
+            .iter()
+            .any(|clause| matches!(clause.verb, Verb::Unknown))
+        {
+            add(&mut self.text, "unknown ");
+        }
+        clauses
+    }
+
+    /// Adds a row to the wrong ones, where the answer is another.
+    pub fn check(&mut self, row: &Row) -> Result<(), AllocError> {
+        let (text, wanted) = *row;
+        let answer = self.text.as_str();
+        if answer == wanted {
+            return Ok(());
+        }
+        write!(self.wrong, "{text}: {answer}\n")
+    }
+
+    pub fn count(&mut self, is_right: bool) {
+        if is_right {
+            self.right = self.right.saturating_add(1);
+        }
+    }
+
+    /// Compares an edit, which was applied to these pages of a space, and looks.
+    pub fn enter(&mut self, alloc: Global, space: &mut Space, edit: &Edit, range: PageRange)
+        ensures { space.new ≡ space.old }
+    {
+        self.changed = (range.first(), range.end());
+        let said = match self.asked.verb {
+            Verb::Judge => self.judge.edit(alloc, edit),
+            Verb::Beside => follow(space, &mut self.ahead, edit, self.right),
+            _ => Ok(false),
+        };
+        self.count(said.unwrap_or(false));
+        self.see(alloc, space);
+    }
+
+    /// The same, where a range was restored.
+    pub fn enter_restored(&mut self, alloc: Global, space: &mut Space, range: PageRange)
+        ensures { space.new ≡ space.old }
+    {
+        self.changed = (range.first(), range.end());
+        if let Verb::Judge = self.asked.verb {
+            let said = self.judge.restore(alloc, range);
+            self.count(said.unwrap_or(false));
+        }
+        self.see(alloc, space);
+    }
+
+    /// Looks once the undo value of the newest change is spent.
+    pub fn leave(&mut self, alloc: Global, space: &mut Space, stays: bool)
+        ensures { space.new ≡ space.old }
+    {
+        self.judge.leave(stays);
+        self.see(alloc, space);
     }
 
     /// Looks at a space.
-    pub fn see(&mut self, alloc: Global, space: &Space) {
-        let is_right = match self.asked.verb {
-            Verb::Nothing => return,
-            Verb::Judge => self.judge(space),
-            _ => self.write(alloc, space).is_ok(),
+    fn see(&mut self, alloc: Global, space: &mut Space)
+        ensures { space.new ≡ space.old }
+    {
+        let asked = self.asked;
+        let said = match asked.verb {
+            Verb::Nothing | Verb::Beside => return,
+            Verb::Judge => {
+                let said = self.judge.agrees(alloc, space, &self.ids);
+                return self.count(said.unwrap_or(false));
+            }
+            Verb::Destroy => refusal(space, &id_of(&self.ids, asked.numbers[0])),
+            _ => ask(alloc, space, &self.ids, &asked, &NOTHING, &mut self.text),
         };
-        self.is_right = self.is_right && is_right;
+        tell_refusal(&mut self.text, said);
+        add(&mut self.text, " | ");
     }
+}
 
-    fn write(&mut self, alloc: Global, space: &Space) -> Result<(), Fault> {
-        let asked = [self.asked];
-        ask(alloc, space, &self.ids, &asked, &mut self.text)?;
-        Ok(self.text.push_str(" | ")?)
-    }
-
-    fn judge(&mut self, space: &Space) -> bool {
-        let place = self.seen;
-        self.seen = place.saturating_add(1);
-        match self.looks.get(place) {
-            Some(look) => agrees(space, look, &self.ids, &self.pages),
-            None => false,
-        }
+/// Why a buffer that undo values keep can't be destroyed. It is not tried where they keep nothing of it.
+fn refusal(space: &mut Space, id: &BufferId) -> Result<(), Fault>
+    ensures { space.new ≡ space.old }
+{
+    match space.kept(*id) {
+        Some(kept) if kept > 0 => space.destroy(*id),
+        _ => Ok(()),
     }
 }

@@ -1,5 +1,6 @@
 //! The whole width of addresses: 57 bits, which are 2^45 = 35,184,372,088,832 pages.
-use crate::playing::{Row, expect};
+use crate::playing::expect;
+use crate::watch::Row;
 
 const LAST_PAGE: &[Row] = &[
     ("zero 35184372088831 2", "refused OutOfSpace"),
@@ -27,7 +28,7 @@ const GIGABYTE: &[Row] = &[
     ("zero 0 262144", "changed 0 262144"),
     ("tables", "tables 1 1 1 0 0"),
     (
-        "back / unmap 0 1 / tables",
+        "undo / tables / unmap 0 1",
         "tables 1 1 1 1 1 | tables 1 1 1 0 0 | changed 0 1",
     ),
     ("tables", "tables 1 1 1 0 0"),

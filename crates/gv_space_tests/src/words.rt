@@ -1,8 +1,7 @@
 //! Rows of text: what is played, in words and numbers.
-use std::alloc::{AllocError, Global};
 
 /// What a clause has a space do, or asks of it.
-#[derive(Clone, Copy, PartialEq, Eq)]
+#[derive(Clone, Copy)]
 pub enum Verb {
     Nothing,
     /// A word that is no verb.
@@ -13,18 +12,12 @@ pub enum Verb {
     Write,
     Leave,
     Map,
-    MapRo,
     MapBytes,
     Zero,
     ZeroRo,
     Unmap,
     UnmapAll,
-    Back,
-    KeptStays,
-    KeptBack,
-    Neither,
-    First,
-    Both,
+    Stay,
     Restore,
     Range,
     Stays,
@@ -42,11 +35,17 @@ pub enum Verb {
     Ranges,
     Limits,
     Check,
+    Rounds,
+    Edits,
+    Turns,
+    /// A look compares the space with the lists of the model.
     Judge,
+    /// Each edit compares the space with a plain list.
+    Beside,
 }
 
 /// The words that verbs are written as.
-const VERBS: [(&str, Verb); 35] = [
+const VERBS: [(&str, Verb); 33] = [
     // a buffer of so many pages; and of those that were made, in order, the one with this number
     ("create", Verb::Create),
     ("destroy", Verb::Destroy),
@@ -56,27 +55,20 @@ const VERBS: [(&str, Verb); 35] = [
     ("leave", Verb::Leave),
     // an operation for good: a first page, a count of pages, a buffer, and its page
     ("map", Verb::Map),
-    ("map-ro", Verb::MapRo),
     // the same in bytes
     ("map-bytes", Verb::MapBytes),
     ("zero", Verb::Zero),
     ("zero-ro", Verb::ZeroRo),
     ("unmap", Verb::Unmap),
     ("unmapall", Verb::UnmapAll),
-    // an operation that is taken back, with a look before and after that
-    ("back", Verb::Back),
-    // why a buffer can't be destroyed while the operation's undo value keeps mappings of it; the operation stays, or is taken back
-    ("kept-stays", Verb::KeptStays),
-    ("kept-back", Verb::KeptBack),
-    // two operations, which of them stay, and what is looked at after each, and once the second's undo value is spent
-    ("neither", Verb::Neither),
-    ("first", Verb::First),
-    ("both", Verb::Both),
-    // two operations, and ranges that are restored from the undo value of the first, each taken back or for good
+    // what each look asks, then operations: all are undone, or so many stay. A look comes after each, and after each undo value is spent
+    ("undo", Verb::Stay),
+    ("stay", Verb::Stay),
+    // the same, with two operations that stay, and ranges that are restored from the undo value of the first, each undone or for good
     ("restore", Verb::Restore),
     ("range", Verb::Range),
     ("stays", Verb::Stays),
-    // calls on a journal: a request of the operations behind it, or of so many maps of a page
+    // calls on a journal: a request of the operations after it, or of so many maps of a page
     ("bind", Verb::Bind),
     ("many", Verb::Many),
     ("rewind", Verb::Rewind),
@@ -92,14 +84,21 @@ const VERBS: [(&str, Verb); 35] = [
     ("ranges", Verb::Ranges),
     ("limits", Verb::Limits),
     ("check", Verb::Check),
+    // operations by chance: on places from a page on, of so many pages each; around so many mappings; on a journal, by a seed
+    ("rounds", Verb::Rounds),
+    ("edits", Verb::Edits),
+    ("turns", Verb::Turns),
 ];
 
-/// A verb, and the numbers behind it.
+/// A verb, and the numbers after it.
 #[derive(Clone, Copy)]
 pub struct Clause {
     pub verb: Verb,
     pub numbers: [u64; 4],
 }
+
+/// The clauses of a row, of which no row has more.
+pub type Clauses = [Clause; 8];
 
 /// What does nothing, and asks nothing.
 pub const NOTHING: Clause = Clause {
@@ -119,10 +118,7 @@ fn verb_of(word: &str) -> Verb {
 /// The clause that a text is.
 fn clause_of(text: &str) -> Clause {
     let mut words = text.split_whitespace();
-    let verb = match words.next() {
-        Some(word) => verb_of(word),
-        None => Verb::Unknown,
-    };
+    let verb = verb_of(words.next().unwrap_or(""));
     let mut numbers = [0; 4];
     for (number, word) in numbers.iter_mut().zip(words) {
         *number = word.parse().unwrap_or(u64::MAX);
@@ -131,18 +127,10 @@ fn clause_of(text: &str) -> Clause {
 }
 
 /// The clauses of a row, which stand between slashes.
-pub fn clauses_of(alloc: Global, text: &str) -> Result<Vec<Clause>, AllocError> {
-    let mut clauses = Vec::new(alloc);
-    for part in text.split('/') {
-        clauses.push(clause_of(part))?;
+pub fn clauses_of(text: &str) -> Clauses {
+    let mut clauses = [NOTHING; 8];
+    for (clause, part) in clauses.iter_mut().zip(text.split('/')) {
+        *clause = clause_of(part);
     }
-    Ok(clauses)
-}
-
-/// The clause in a place, or what does nothing.
-pub fn clause_at(clauses: &[Clause], place: usize) -> &Clause {
-    match clauses.get(place) {
-        Some(clause) => clause,
-        None => &NOTHING,
-    }
+    clauses
 }

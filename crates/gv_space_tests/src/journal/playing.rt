@@ -2,222 +2,154 @@
 ghost use Rattle.gv_journal.specs.State.{FitsSpace};
 
 use crate::asking::ask;
-use crate::operations::{id_of, op_of};
-use crate::playing::Row;
-use crate::watch::Watch;
-use crate::words::{Clause, Verb, clause_at, clauses_of};
-use gv_journal::{Journal, ReadyRequest};
+use crate::journal::rounds;
+use crate::judge::request_of;
+use crate::operations::{id_of, ops_of};
+use crate::playing::expect_right;
+use crate::text::tell;
+use crate::watch::{Row, Watch};
+use crate::words::{Clause, Clauses, NOTHING, Verb};
+use gv_journal::{Journal, ReadyRequest, Refusal};
+use gv_model::push;
 use gv_space::Space;
-use gv_types::{Bounds, BufferId, Fault, Limits, Op, Request};
-use std::alloc::{AllocError, Global};
+use gv_types::{Bounds, BufferId, Fault, Limits, Op};
+use std::alloc::Global;
 use std::process::Abort;
 
-/// What a call answers: a number, and why it is refused, where it is.
-#[derive(Clone, Copy, PartialEq, Eq)]
-pub struct Answer {
-    pub number: u64,
-    pub fault: Option<Fault>,
-}
+/// What a call answers: a number, or the operation that is refused, which is the first one where all is.
+pub type Said = Result<u64, Refusal>;
 
-pub fn answer_of(said: Result<u64, Fault>) -> Answer {
+pub fn whole(said: Result<u64, Fault>) -> Said {
     match said {
-        Ok(number) => Answer {
-            number,
-            fault: None,
-        },
-        Err(fault) => Answer {
-            number: 0,
-            fault: Some(fault),
-        },
+        Ok(number) => Ok(number),
+        Err(fault) => Err(Refusal { op: 0, fault }),
     }
 }
 
-/// A request of these operations.
-pub fn request_of(alloc: Global, ops: Vec<Op>) -> Request {
-    Request {
-        ops,
-        waits: Vec::new(alloc),
-        signals: Vec::new(alloc),
-    }
-}
-
-/// Binds operations: the number of the entry, or that of the operation for which the request is refused.
-fn bind(alloc: Global, space: &mut Space, journal: &mut Journal, ops: Vec<Op>) -> Answer
+/// Binds the operations that wait for it: the number of the entry.
+fn bind(alloc: Global, space: &mut Space, journal: &mut Journal, ops: &mut Vec<Op>) -> Said
     requires { FitsSpace space.old journal.old }
     ensures { FitsSpace space.new journal.new }
 {
+    let taken = std::mem::replace(ops, Vec::new(alloc));
     let ready = ReadyRequest {
         queue: 0,
         number: journal.next(),
-        request: request_of(alloc, ops),
+        request: request_of(alloc, taken),
         seen: Vec::new(alloc),
     };
-    match journal.bind(alloc, space, ready) {
-        Ok(number) => Answer {
-            number,
-            fault: None,
-        },
-        Err(refusal) => Answer {
-            number: refusal.op,
-            fault: Some(refusal.fault),
-        },
-    }
+    journal.bind(alloc, space, ready)
 }
 
-/// Makes a call on the journal.
-pub fn call(
-    alloc: Global,
-    space: &mut Space,
-    journal: &mut Journal,
-    clause: &Clause,
-    ops: Vec<Op>,
-) -> Answer
-    requires { FitsSpace space.old journal.old }
-    ensures { FitsSpace space.new journal.new }
-{
-    let number = clause.numbers[0];
-    match clause.verb {
-        Verb::Rewind => answer_of(journal.rewind(space)),
-        Verb::Withdraw => answer_of(journal.withdraw(alloc, space, number)),
-        Verb::Settle => answer_of(journal.settle(space, number)),
-        _ => bind(alloc, space, journal, ops),
-    }
-}
-
-fn write_answer(text: &mut String, verb: Verb, answer: Answer) -> Result<(), AllocError> {
-    let Answer { number, fault } = answer;
-    let is_bind = matches!(verb, Verb::Bind | Verb::Many);
-    match fault {
-        None if is_bind => write!(text, "accepted {number}"),
-        None => write!(text, "number {number}"),
-        Some(fault) if is_bind => write!(text, "refused {number} {fault}"),
-        Some(fault) => write!(text, "refused {fault}"),
-    }
-}
-
-fn write_done(text: &mut String, fault: Option<Fault>) -> Result<(), AllocError> {
-    match fault {
-        None => text.push_str("done"),
-        Some(fault) => write!(text, "refused {fault}"),
-    }
-}
-
-/// Makes a buffer. Why it could not.
-pub fn create(
+/// Makes a buffer: its place in the table.
+fn create(
     alloc: Global,
     space: &mut Space,
     journal: &Journal,
     ids: &mut Vec<BufferId>,
     pages: u64,
-) -> Option<Fault>
+) -> Result<u64, Fault>
     requires { FitsSpace space.old journal.now }
     ensures { FitsSpace space.new journal.now }
 {
-    match space.create(alloc, pages) {
-        Ok(id) => match ids.push(id) {
-            Ok(()) => None,
-            Err(_) => Some(Fault::OutOfMemory),
-        },
-        Err(fault) => Some(fault),
-    }
+    let id = space.create(alloc, pages)?;
+    let BufferId { index, .. } = id;
+    push(ids, id)?;
+    Ok(u64::from(index))
 }
 
-/// Destroys a buffer. Why it could not.
-fn destroy(space: &mut Space, journal: &Journal, id: BufferId) -> Option<Fault>
+/// Destroys a buffer: its place in the table.
+fn destroy(space: &mut Space, journal: &Journal, id: BufferId) -> Result<u64, Fault>
     requires { FitsSpace space.old journal.now }
     ensures { FitsSpace space.new journal.now }
 {
-    space.destroy(id).err()
+    let BufferId { index, .. } = id;
+    space.destroy(id)?;
+    Ok(u64::from(index))
 }
 
-/// The operations of a row: those behind its head, or so many maps of a page of zeros.
-fn ops_of(alloc: Global, ids: &[BufferId], clauses: &[Clause]) -> Result<Vec<Op>, AllocError> {
-    let head = clause_at(clauses, 0);
-    if head.verb == Verb::Many {
-        return vec![in alloc; op_of(ids, &ZERO); head.numbers[0] as usize];
-    }
-    let mut ops = Vec::new(alloc);
-    for clause in clauses.iter().skip(1) {
-        ops.push(op_of(ids, clause))?;
-    }
-    Ok(ops)
+/// Makes a call on the journal, or one on a buffer.
+pub fn call(
+    alloc: Global,
+    space: &mut Space,
+    journal: &mut Journal,
+    ids: &mut Vec<BufferId>,
+    clause: &Clause,
+    ops: &mut Vec<Op>,
+) -> Said
+    requires { FitsSpace space.old journal.old }
+    ensures { FitsSpace space.new journal.new }
+{
+    let number = clause.numbers[0];
+    whole(match clause.verb {
+        Verb::Create => create(alloc, space, journal, ids, number),
+        Verb::Destroy => destroy(space, journal, id_of(ids, number)),
+        Verb::Rewind => journal.rewind(space),
+        Verb::Withdraw => journal.withdraw(alloc, space, number),
+        Verb::Settle => journal.settle(space, number),
+        _ => return bind(alloc, space, journal, ops),
+    })
 }
 
-/// A map of the first page to zeros.
-const ZERO: Clause = Clause {
-    verb: Verb::Zero,
-    numbers: [0, 1, 0, 0],
-};
-
-/// Plays clauses, and writes what they answer.
+/// Plays a row.
 fn play(
     alloc: Global,
     space: &mut Space,
     journal: &mut Journal,
     watch: &mut Watch,
-    clauses: &[Clause],
+    clauses: &Clauses,
 ) -> Result<(), Fault>
     requires { FitsSpace space.old journal.old }
     ensures { FitsSpace space.new journal.new }
 {
-    let head = clause_at(clauses, 0);
-    let number = head.numbers[0];
+    let head = &clauses[0];
     match head.verb {
-        Verb::List | Verb::Count => ask(alloc, space, &watch.ids, clauses, &mut watch.text)?,
-        Verb::Create => {
-            let fault = create(alloc, space, journal, &mut watch.ids, number);
-            write_done(&mut watch.text, fault)?;
+        Verb::List | Verb::Count => {
+            return ask(alloc, space, &watch.ids, head, &NOTHING, &mut watch.text);
         }
-        Verb::Destroy => {
-            let fault = destroy(space, journal, id_of(&watch.ids, number));
-            write_done(&mut watch.text, fault)?;
-        }
-        _ => {
-            let ops = ops_of(alloc, &watch.ids, clauses)?;
-            let answer = call(alloc, space, journal, head, ops);
-            write_answer(&mut watch.text, head.verb, answer)?;
-        }
+        Verb::Turns => return rounds::play(alloc, space, journal, watch, head.numbers[0]),
+        _ => {}
+    }
+    let mut ops = ops_of(alloc, &watch.ids, clauses)?;
+    match call(alloc, space, journal, &mut watch.ids, head, &mut ops) {
+        Ok(number) => tell(&mut watch.text, &[("number ", Some(number))]),
+        Err(Refusal { op, fault }) => write!(watch.text, "refused {op} {fault}")?,
     }
     Ok(())
 }
 
-/// Plays a row, and asserts what it answers.
-fn play_row(
-    rt: &(impl Abort + AllocGlobal),
+/// Plays rows in turn.
+fn play_all(
+    alloc: Global,
     space: &mut Space,
     journal: &mut Journal,
-    watch: &mut Watch,
-    row: &Row,
-)
+    rows: &[Row],
+) -> Result<Watch, Fault>
     requires { FitsSpace space.old journal.old }
     ensures { FitsSpace space.new journal.new }
 {
-    let (text, wanted) = *row;
-    let clauses = clauses_of(rt.alloc(), text).expect(rt, "memory");
-    watch.text = String::new(rt.alloc());
-    let is_played = play(rt.alloc(), space, journal, watch, &clauses).is_ok();
-    let answer = watch.text.as_str();
-    assert!(rt; is_played && answer == wanted, "{text}: {answer}");
-}
-
-/// Plays rows in turn.
-fn play_all(rt: &(impl Abort + AllocGlobal), space: &mut Space, journal: &mut Journal, rows: &[Row])
-    requires { FitsSpace space.old journal.old }
-    ensures { FitsSpace space.new journal.new }
-{
-    let mut watch = Watch::new(rt.alloc());
+    let mut watch = Watch::new(alloc);
     for row in rows {
-        play_row(rt, space, journal, &mut watch, row);
+        let clauses = watch.begin(alloc, row);
+        play(alloc, space, journal, &mut watch, &clauses)?;
+        watch.check(row)?;
     }
+    Ok(watch)
 }
 
-/// Asserts what rows answer on a space of all pages, where the limits are so many buffers, mappings and items, and closes the journal.
-pub fn expect(rt: &(impl Abort + AllocGlobal), limits: (u64, u64, u64), rows: &[Row]) {
-    let limits = Limits::new(limits.0, limits.1, limits.2, 1).expect(rt, "limits");
-    let mut space = Space::new(rt.alloc(), Bounds::whole(), limits).expect(rt, "memory");
-    let mut journal = Journal::new(rt.alloc(), limits.items());
-    play_all(rt, &mut space, &mut journal, rows);
+/// Plays rows on a space of all pages, where the limits are so many buffers, mappings and items, and closes the journal.
+fn play_closed(alloc: Global, limits: (u64, u64, u64), rows: &[Row]) -> Result<Watch, Fault> {
+    let limits = Limits::new(limits.0, limits.1, limits.2, 1).ok_or(Fault::BadSize)?;
+    let mut space = Space::new(alloc, Bounds::whole(), limits)?;
+    let mut journal = Journal::new(alloc, limits.items());
+    let played = play_all(alloc, &mut space, &mut journal, rows);
     journal.close(&mut space);
+    played
+}
+
+/// Asserts what rows answer.
+pub fn expect(rt: &(impl Abort + AllocGlobal), limits: (u64, u64, u64), rows: &[Row]) {
+    expect_right(rt, play_closed(rt.alloc(), limits, rows));
 }
 
 /// Limits that the rows do not reach.

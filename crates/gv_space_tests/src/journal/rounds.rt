@@ -2,155 +2,153 @@
 //! list before each entry. What each answers is compared, and after each all that is held.
 ghost use Rattle.gv_journal.specs.State.{FitsSpace};
 
-use crate::journal::playing::{Answer, answer_of, call, create, request_of};
-use crate::judge::{BUFFERS, Look, agrees};
-use crate::operations::op_of;
+use crate::chance::{Area, Spread, operation};
+use crate::journal::playing::{Said, call, expect, whole};
+use crate::judge::{agrees, request_of};
+use crate::operations::id_of;
+use crate::text::tell;
+use crate::watch::{Row, Watch};
 use crate::words::{Clause, Verb};
-use gv_journal::{Item, ItemKind, Journal};
-use gv_model::{Ground, History, Kind, Past, Random, Turn};
+use gv_journal::{Item, ItemKind, Journal, Refusal};
+use gv_model::{Ground, History, Kind, Made, Past, Random, Turn, push};
 use gv_space::Space;
-use gv_types::{Bounds, BufferId, Limits, Op, PageOp};
+use gv_types::{Bounds, BufferId, Fault, Op, OutOfMemory, PageOp};
 use gv_vm::Outcome;
 use std::alloc::Global;
-use std::process::Abort;
 
 /// The pages that are looked at.
 const PAGES: [u64; 12] = [0, 1, 2, 3, 4, 5, 6, 7, 8, 9, 10, 11];
 
-/// A round so far: its buffers, what it has to be by the definitions, and the operations of the next request.
+/// What an operation may name, where buffers have six pages.
+const AREA: Area = Area {
+    first: Spread(0, 10, 1),
+    count: Spread(1, 3, 1),
+    page: Spread(0, 5, 1),
+};
+
+/// What a space and its journal have to be by the definitions, and the operations of the next request.
 #[derive(Drop)]
 struct Round {
-    ids: Vec<BufferId>,
     ground: Ground,
     ops: Vec<Op>,
 }
 
 impl Round {
-    fn new(alloc: Global, limits: Limits) -> Round {
-        Round {
-            ids: Vec::new(alloc),
-            ground: Ground {
-                bounds: Bounds::whole(),
-                limits,
-                buffers: Vec::new(alloc),
-                list: Vec::new(alloc),
-                history: History {
-                    first: 0,
-                    entries: Vec::new(alloc),
-                },
+    /// No mapping and no entry, and buffers of six pages.
+    fn new(alloc: Global, space: &Space, ids: &[BufferId]) -> Result<Round, OutOfMemory> {
+        let buffers: Vec<Made> = ids
+            .iter()
+            .map(|id| Made {
+                id: *id,
+                pages: 6,
+                is_alive: true,
+            })
+            .collect(alloc)?;
+        let ground = Ground {
+            bounds: Bounds::whole(),
+            limits: space.limits(),
+            buffers,
+            list: Vec::new(alloc),
+            history: History {
+                first: 0,
+                entries: Vec::new(alloc),
             },
-            ops: Vec::new(alloc),
-        }
+        };
+        let ops = Vec::new(alloc);
+        Ok(Round { ground, ops })
     }
 
     /// What a call answers by the definitions.
-    fn answer(&mut self, rt: &(impl Abort + AllocGlobal), clause: &Clause, ops: Vec<Op>) -> Answer {
+    fn answer(&mut self, alloc: Global, clause: &Clause) -> Result<Said, OutOfMemory> {
         let number = clause.numbers[0];
-        match clause.verb {
-            Verb::Rewind => answer_of(self.ground.rewind()),
-            Verb::Withdraw => answer_of(self.ground.withdraw(rt.alloc(), number)),
-            Verb::Settle => answer_of(self.ground.settle(rt.alloc(), number)),
-            _ => self.bind(rt, ops),
-        }
+        Ok(whole(match clause.verb {
+            Verb::Rewind => self.ground.rewind(),
+            Verb::Withdraw => self.ground.withdraw(alloc, number),
+            Verb::Settle => self.ground.settle(alloc, number),
+            _ => return self.bind(alloc),
+        }))
     }
 
-    fn bind(&mut self, rt: &(impl Abort + AllocGlobal), ops: Vec<Op>) -> Answer {
+    fn bind(&mut self, alloc: Global) -> Result<Said, OutOfMemory> {
+        let ops = Vec::from_slice(alloc, &self.ops)?;
         let turn = Turn {
             queue: 0,
             number: self.ground.history.next(),
-            request: request_of(rt.alloc(), ops),
-            seen: Vec::new(rt.alloc()),
+            request: request_of(alloc, ops),
+            seen: Vec::new(alloc),
         };
-        match self.ground.bind(rt.alloc(), turn).expect(rt, "memory") {
-            Outcome::Refused { op, fault } => Answer {
-                number: op,
-                fault: Some(fault),
-            },
-            Outcome::Accepted { entry } => answer_of(Ok(entry)),
-            Outcome::NotReady { have, .. } => answer_of(Ok(have)),
-        }
+        Ok(match self.ground.bind(alloc, turn)? {
+            Outcome::Accepted { entry } => Ok(entry),
+            Outcome::Refused { op, fault } => Err(Refusal { op, fault }),
+            Outcome::NotReady { have, .. } => Ok(have),
+        })
     }
 
-    /// The operations of a request, where a clause binds one.
-    fn taken(&mut self, alloc: Global, clause: &Clause) -> Vec<Op> {
-        match clause.verb {
-            Verb::Bind => std::mem::replace(&mut self.ops, Vec::new(alloc)),
-            _ => Vec::new(alloc),
-        }
+    /// Whether a space and its journal are as they have to be.
+    fn agrees(
+        &self,
+        alloc: Global,
+        space: &Space,
+        journal: &Journal,
+        ids: &[BufferId],
+    ) -> Result<bool, OutOfMemory> {
+        let Ground { list, history, .. } = &self.ground;
+        Ok(
+            agrees(alloc, space, ids, list, history, &PAGES)?
+                && has_items(journal, history)
+                && PAGES
+                    .iter()
+                    .all(|page| space.find(*page) == self.ground.view(*page)),
+        )
     }
+}
 
-    /// The list and the counts by the definitions.
-    fn look(&self, rt: &(impl Abort + AllocGlobal)) -> Look {
-        let mut kept = [0; BUFFERS];
-        for (kept, id) in kept.iter_mut().zip(&self.ids) {
-            *kept = self
-                .ground
-                .history
-                .kept(rt.alloc(), id)
-                .expect(rt, "memory");
-        }
-        let list = Vec::from_slice(rt.alloc(), &self.ground.list).expect(rt, "memory");
-        Look { list, kept }
-    }
-
-    /// Whether a space holds in each page what the entries say of it.
-    fn is_viewed(&self, space: &Space) -> bool {
-        PAGES
+/// Whether a journal has these entries.
+fn has_items(journal: &Journal, history: &History) -> bool {
+    let (items, entries) = (journal.items(), history.entries.as_slice());
+    journal.first() == history.first
+        && items.len() == entries.len()
+        && items
             .iter()
-            .all(|page| space.find(*page) == self.ground.view(*page))
-    }
-
-    /// Whether a journal has the same entries.
-    fn has_items(&self, journal: &Journal) -> bool {
-        let items = journal.items();
-        let entries = self.ground.history.entries.as_slice();
-        journal.first() == self.ground.history.first
-            && items.len() == entries.len()
-            && items
-                .iter()
-                .zip(entries)
-                .all(|(item, entry)| is_entry(item, entry))
-    }
-}
-
-/// What an item did.
-fn done_by(item: &Item) -> &[PageOp] {
-    match &item.kind {
-        ItemKind::Bind { done, .. } => done.as_slice(),
-        ItemKind::Withdrawal { .. } => &[],
-    }
-}
-
-/// The item that an item withdraws.
-fn withdrawn_by(item: &Item) -> Option<u64> {
-    match &item.kind {
-        ItemKind::Bind { .. } => None,
-        ItemKind::Withdrawal { of } => Some(*of),
-    }
+            .zip(entries)
+            .all(|(item, entry)| is_entry(item, entry))
 }
 
 /// Whether an item is this entry.
 fn is_entry(item: &Item, entry: &Past) -> bool {
-    let of = match &entry.kind {
-        Kind::Bind { .. } => None,
-        Kind::Withdrawal { of } => Some(*of),
-    };
-    withdrawn_by(item) == of && done_by(item) == entry.done()
+    match &entry.kind {
+        Kind::Bind { done, .. } => is_bind(item, done),
+        Kind::Withdrawal { of } => is_withdrawal(item, *of),
+    }
 }
 
-/// What a step may be.
-const STEPS: [Verb; 24] = [
+fn is_bind(item: &Item, wanted: &[PageOp]) -> bool {
+    match &item.kind {
+        ItemKind::Bind { done, .. } => done.as_slice() == wanted,
+        ItemKind::Withdrawal { .. } => false,
+    }
+}
+
+fn is_withdrawal(item: &Item, wanted: u64) -> bool {
+    match &item.kind {
+        ItemKind::Bind { .. } => false,
+        ItemKind::Withdrawal { of } => *of == wanted,
+    }
+}
+
+/// What a turn may be: an operation of the next request, or a call.
+const TURN: [Verb; 24] = [
     Verb::Map,
     Verb::Map,
     Verb::Map,
     Verb::Map,
     Verb::Map,
-    Verb::Zero,
-    Verb::Zero,
-    Verb::ZeroRo,
-    Verb::Unmap,
-    Verb::Unmap,
-    Verb::Unmap,
+    Verb::Map,
+    Verb::Map,
+    Verb::Map,
+    Verb::Map,
+    Verb::Map,
+    Verb::Map,
     Verb::UnmapAll,
     Verb::Bind,
     Verb::Bind,
@@ -166,130 +164,124 @@ const STEPS: [Verb; 24] = [
     Verb::Settle,
 ];
 
-/// A step by chance.
-fn step_of(random: &mut Random, journal: &Journal) -> Clause {
-    let first = random.below(10);
-    let count = random.below(3) + 1;
-    let buffer = random.below(3);
-    let held = journal.items().len() as u64;
-    let entry = journal
-        .first()
-        .saturating_add(random.below(held.saturating_add(1)));
-    let verb = STEPS[random.below(24) as usize];
-    let numbers = match verb {
-        Verb::Map => [first, count, buffer, random.below(4)],
-        Verb::UnmapAll => [buffer, 0, 0, 0],
-        Verb::Withdraw | Verb::Settle => [entry, 0, 0, 0],
-        _ => [first, count, 0, 0],
-    };
-    Clause { verb, numbers }
-}
-
-/// Makes a call, and asserts what it answers.
-fn answer(
-    rt: &(impl Abort + AllocGlobal),
+/// Takes a turn by chance. Whether it came out right: an operation only waits for the next request.
+fn turn(
+    alloc: Global,
     space: &mut Space,
     journal: &mut Journal,
+    watch: &mut Watch,
+    round: &mut Round,
+    random: &mut Random,
+) -> Result<bool, Fault>
+    requires { FitsSpace space.old journal.old }
+    ensures { FitsSpace space.new journal.new }
+{
+    let verb = TURN[random.below(24) as usize];
+    match verb {
+        Verb::Map => push(&mut round.ops, operation(random, &watch.ids, &AREA))?,
+        Verb::UnmapAll => {
+            let buffer = id_of(&watch.ids, random.below(3));
+            push(&mut round.ops, Op::UnmapBuffer { buffer })?;
+        }
+        _ => {
+            let held = journal.items().len() as u64;
+            let entry = random.below(held.saturating_add(1));
+            let number = journal.first().saturating_add(entry);
+            let clause = Clause {
+                verb,
+                numbers: [number, 0, 0, 0],
+            };
+            return answer(alloc, space, journal, watch, round, &clause);
+        }
+    }
+    Ok(true)
+}
+
+/// Makes a call. Whether it answers what it has to, and all that is held is right after it.
+fn answer(
+    alloc: Global,
+    space: &mut Space,
+    journal: &mut Journal,
+    watch: &mut Watch,
     round: &mut Round,
     clause: &Clause,
-)
+) -> Result<bool, Fault>
     requires { FitsSpace space.old journal.old }
     ensures { FitsSpace space.new journal.new }
 {
-    let ops = round.taken(rt.alloc(), clause);
-    let copy = Vec::from_slice(rt.alloc(), &ops).expect(rt, "memory");
-    let wanted = round.answer(rt, clause, copy);
-    let said = call(rt.alloc(), space, journal, clause, ops);
-    assert!(rt; said == wanted);
-}
-
-/// Plays a step, and asserts what a call made of all that is held. An operation only waits for the next request.
-fn turn(
-    rt: &(impl Abort + AllocGlobal),
-    space: &mut Space,
-    journal: &mut Journal,
-    round: &mut Round,
-    step: &Clause,
-)
-    requires { FitsSpace space.old journal.old }
-    ensures { FitsSpace space.new journal.new }
-{
-    let is_call = matches!(
-        step.verb,
-        Verb::Bind | Verb::Rewind | Verb::Withdraw | Verb::Settle
+    let wanted = round.answer(alloc, clause)?;
+    let said = call(
+        alloc,
+        space,
+        journal,
+        &mut watch.ids,
+        clause,
+        &mut round.ops,
     );
-    if !is_call {
-        let op = op_of(&round.ids, step);
-        assert!(rt; round.ops.push(op).is_ok());
-        return;
-    }
-    answer(rt, space, journal, round, step);
-    let look = round.look(rt);
-    assert!(rt; agrees(space, &look, &round.ids, &PAGES));
-    assert!(rt; round.is_viewed(space) && round.has_items(journal));
+    Ok(said == wanted && round.agrees(alloc, space, journal, &watch.ids)?)
 }
 
-/// Makes a buffer of six pages.
-fn make_buffer(
-    rt: &(impl Abort + AllocGlobal),
-    space: &mut Space,
-    journal: &Journal,
-    round: &mut Round,
-)
-    requires { FitsSpace space.old journal.now }
-    ensures { FitsSpace space.new journal.now }
-{
-    let fault = create(rt.alloc(), space, journal, &mut round.ids, 6);
-    let made = round.ground.create(6);
-    assert!(rt; fault.is_none() && made.is_ok());
-    let id = *round.ids.last().expect(rt, "a buffer");
-    assert!(rt; round.ground.place_newest(&id));
-}
-
-/// So many steps by chance.
-fn turns(
-    rt: &(impl Abort + AllocGlobal),
-    space: &mut Space,
-    journal: &mut Journal,
-    limits: Limits,
-    seed: u64,
-)
-    requires { FitsSpace space.old journal.old }
-    ensures { FitsSpace space.new journal.new }
-{
-    let mut round = Round::new(rt.alloc(), limits);
-    make_buffer(rt, space, journal, &mut round);
-    make_buffer(rt, space, journal, &mut round);
-    make_buffer(rt, space, journal, &mut round);
-    let mut random = Random::new(seed);
-    for turn_number in 0..TURNS {
-        let step = step_of(&mut random, journal);
-        turn(rt, space, journal, &mut round, &step);
-    }
-}
-
-/// How many steps a round has.
+/// How many turns are taken on a space.
 const TURNS: u32 = 400;
 
-/// A round on a space of its own, under limits of so many mappings and items. The journal is closed in the end.
-fn run(rt: &(impl Abort + AllocGlobal), mappings: u64, items: u64, seed: u64) {
-    let limits = Limits::new(3, mappings, items, 1).expect(rt, "limits");
-    let mut space = Space::new(rt.alloc(), Bounds::whole(), limits).expect(rt, "memory");
-    let mut journal = Journal::new(rt.alloc(), items);
-    turns(rt, &mut space, &mut journal, limits, seed);
-    journal.close(&mut space);
+/// Takes turns, by the numbers of a seed.
+pub fn play(
+    alloc: Global,
+    space: &mut Space,
+    journal: &mut Journal,
+    watch: &mut Watch,
+    seed: u64,
+) -> Result<(), Fault>
+    requires { FitsSpace space.old journal.old }
+    ensures { FitsSpace space.new journal.new }
+{
+    let mut round = Round::new(alloc, space, &watch.ids)?;
+    let mut random = Random::new(seed);
+    for turn_number in 0..TURNS {
+        let is_right = turn(alloc, space, journal, watch, &mut round, &mut random)?;
+        watch.count(is_right);
+    }
+    tell(&mut watch.text, &[("right ", Some(watch.right))]);
+    Ok(())
 }
+
+/// Buffers of six pages.
+const ONE: Row = ("create 6", "number 0");
+
+const TWO: Row = ("create 6", "number 1");
+
+const THREE: Row = ("create 6", "number 2");
+
+const SEEDS: [Row; 7] = [
+    ("turns 0", "right 400"),
+    ("turns 1", "right 400"),
+    ("turns 2", "right 400"),
+    ("turns 3", "right 400"),
+    ("turns 4", "right 400"),
+    ("turns 5", "right 400"),
+    ("turns 6", "right 400"),
+];
 
 #[test]
 fn chance_agrees_with_the_definitions(rt: HostRuntime) {
-    for seed in 0..6 {
-        run(&rt, 64, 40, seed);
+    for row in SEEDS {
+        expect(&rt, (3, 64, 40), &[ONE, TWO, THREE, row]);
     }
 }
 
+const SMALL_SEEDS: [Row; 7] = [
+    ("turns 100", "right 400"),
+    ("turns 101", "right 400"),
+    ("turns 102", "right 400"),
+    ("turns 103", "right 400"),
+    ("turns 104", "right 400"),
+    ("turns 105", "right 400"),
+    ("turns 106", "right 400"),
+];
+
 #[test]
 fn chance_agrees_under_small_limits(rt: HostRuntime) {
-    for seed in 100..106 {
-        run(&rt, 4, 6, seed);
+    for row in SMALL_SEEDS {
+        expect(&rt, (3, 4, 6), &[ONE, TWO, THREE, row]);
     }
 }

@@ -2,4 +2,4 @@ use Rattle.gv_journal.specs.State.{FitsSpace}
 use Rattle.gv_space_tests.proofs.journal.playing.play_all.Given as goal
 
 abbrev pub invariant-loop-row : goal.invariant-loop-row
-invariant-loop-row g l = FitsSpace l.space l.journal
+invariant-loop-row l = FitsSpace l.space l.journal
