@@ -10,7 +10,7 @@ mod row;
 mod walk;
 
 pub use fault::{CompareFault, Which};
-pub use listing::{Kind, Listing, is_head, is_of_dump, mapping_of};
+pub use listing::{Kind, Listing, is_of_dump};
 pub use objects::{Object, Objects};
 pub use part::Part;
 pub use report::{compare, compare_of};

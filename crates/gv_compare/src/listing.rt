@@ -105,7 +105,7 @@ impl Reading {
             line: self.line,
         };
         let row = match self.kind {
-            Kind::Map => Row::of_bytes(line),
+            Kind::Map => Row::of_map(line),
             Kind::Dump => None,
         };
         let row = match row {
@@ -120,12 +120,12 @@ impl Reading {
         self.place(mapping)
     }
 
-    /// The row of a line that `Row::of_bytes` doesn't read, and none where it is no mapping but may stand in such a list.
+    /// The row of a line that `Row::of_map` doesn't read, and none where it is no mapping but may stand in such a list.
     fn other(&self, line: &[u8]) -> Result<Option<Row>, NoRow> {
         let text = str::from_utf8(line).map_err(|_| NoRow)?;
         let row = match self.kind {
             Kind::Map if text == "empty" => return Ok(None),
-            Kind::Map => Row::of_map(text),
+            Kind::Map => return Err(NoRow),
             Kind::Dump if is_head(text) => return Ok(None),
             Kind::Dump => Row::of_dump(text),
         };

@@ -4,10 +4,6 @@ use crate::objects::Object;
 use gv_lines::{Name, split_once};
 use gv_logs::GpuvasRow;
 use gv_types::{PAGE_BYTES, PageRange};
-use std::str;
-
-/// The base of the numbers of a `map`.
-const HEX: u32 = 16;
 
 /// How many digits a number of a `map` has.
 const DIGITS: usize = 16;
@@ -23,9 +19,8 @@ pub struct Row {
 }
 
 impl Row {
-    /// The same as `of_map`, by going through the bytes of the line once. Nearly all lines of a `map` are mappings; what is wrong
-    /// with another is left to `of_map`.
-    pub fn of_bytes(line: &[u8]) -> Option<Row> {
+    /// The mapping of a line `FIRST END NAME OFFSET FLAGS`, or `FIRST END zero FLAGS`, as the line `map` is answered.
+    pub fn of_map(line: &[u8]) -> Option<Row> {
         let (first, rest) = leading_digits(line)?;
         let (end, rest) = leading_digits(rest)?;
         let (name, rest) = split_once(rest, b' ')?;
@@ -47,29 +42,6 @@ impl Row {
         })
     }
 
-    /// The mapping of a line `FIRST END NAME OFFSET FLAGS`, or `FIRST END zero FLAGS`, as the line `map` is answered.
-    pub fn of_map(line: &str) -> Option<Row> {
-        let (first, rest) = line.split_once(' ')?;
-        let (end, rest) = rest.split_once(' ')?;
-        let (name, rest) = rest.split_once(' ')?;
-        let range = pages_between(digits(first)?, digits(end)?)?;
-        if name == "zero" {
-            return Some(Row {
-                range,
-                object: None,
-                page: 0,
-                read_only: is_read_only(rest)?,
-            });
-        }
-        let (offset, flags) = rest.split_once(' ')?;
-        Some(Row {
-            range,
-            object: Some(Object::Named(Name::from_word(name.as_bytes())?)),
-            page: page_of(digits(offset)?)?,
-            read_only: is_read_only(flags)?,
-        })
-    }
-
     /// The mapping of a row of a `gpuvas`. An object of 0 is none.
     pub fn of_dump(line: &str) -> Option<Row> {
         let row = GpuvasRow::parse(line.as_bytes())?;
@@ -85,15 +57,6 @@ impl Row {
 }
 
 /// Whether the word for flags is that of pages that may only be read, if it is one.
-fn is_read_only(flags: &str) -> Option<bool> {
-    match flags {
-        "ro" => Some(true),
-        "rw" => Some(false),
-        _ => None,
-    }
-}
-
-/// The same of the bytes of that word.
 fn are_read_only(flags: &[u8]) -> Option<bool> {
     match flags {
         b"ro" => Some(true),
@@ -124,14 +87,6 @@ fn digit_value(byte: u8) -> Option<u64> {
         b'A'..=b'F' => Some(u64::from(byte - b'A') + 10),
         _ => None,
     }
-}
-
-/// A number as a `map` writes it.
-fn digits(word: &str) -> Option<u64> {
-    if word.len() != DIGITS || word.starts_with('+') {
-        return None;
-    }
-    u64::from_str_radix(word, HEX).ok()
 }
 
 /// The page that begins at a byte, if one does.
