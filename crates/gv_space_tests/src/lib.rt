@@ -1,4 +1,5 @@
-//! Tests of address spaces and of the journal. They stand in a crate of their own, so that neither is proved a second time with them.
+//! Tests of address spaces, of their parts and of the journal. They have a crate of their own, so that none of these is proved a
+//! second time with them.
 #![tactic(auto)]
 
 #[cfg(test)]
@@ -19,6 +20,8 @@ mod journal;
 mod judge;
 #[cfg(test)]
 mod operations;
+#[cfg(test)]
+mod parts;
 #[cfg(test)]
 mod playing;
 #[cfg(test)]

@@ -3,6 +3,7 @@
 mod digests;
 mod made;
 
+use crate::digest::digest_of;
 use digests::DIGESTS;
 use gv_draw::{Options, draw_script};
 use std::process::Abort;
@@ -22,15 +23,6 @@ const TOLD: &[&str] = &[
 
 /// The address around which each script is drawn a second time.
 const AROUND: u64 = 0x9abc;
-
-/// A number that depends on all bytes of a text, and on their order.
-fn digest_of(text: &str) -> u64 {
-    let mut sum: u64 = 0;
-    for byte in text.bytes() {
-        sum = (sum.rotate_left(5) ^ u64::from(byte)).wrapping_mul(0x517c_c1b7_2722_0a95);
-    }
-    sum
-}
 
 /// Draws a script, asserts the digest of the picture with how it ended, and adds both to what was seen.
 fn expect_drawn(

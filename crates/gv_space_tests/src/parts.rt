@@ -1,0 +1,14 @@
+//! Tests of the crates below the space: mappings in 32 bytes, chunks and ranges, split steps, page table, buffers.
+
+mod buffers;
+mod calls;
+mod chunks;
+mod fixtures;
+mod full_tables;
+mod many_buffers;
+mod packed;
+mod places;
+mod ranges;
+mod split;
+mod table;
+mod users;
