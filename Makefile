@@ -55,14 +55,15 @@ test: check-documents ## the gate: proofs, mutations that must be refused, tests
 check-documents: ## checks what the documents name
 	@tools/check-documents
 
-# Runs what the gate leaves out: must-fail-long, the programs in long/, refuse-memory, ten minutes of fuzz, and capi-test with
-# ./vmbind. If OLD is the folder of an older build, also bench/run --guard against it. The last line is 'N passed, M failed'.
+# Runs what the gate leaves out: the mutations in must-fail-long, the programs in long/, the tests of gv_c, refuse-memory, ten minutes of
+# fuzz, and capi-test. It leaves the proved program at ./vmbind. If OLD is the folder of an older build, also bench/run --guard against
+# it. The last line is 'N passed, M failed'.
 long: SECONDS = 600
 long: ## runs what the gate leaves out
-	@RT="$(RT)" OLD="$(OLD)" tools/long $(SECONDS)
+	@RT="$(RT)" OLD="$(OLD)" SEED="$(SEED)" CC="$(CC)" CXX="$(CXX)" tools/long $(SECONDS)
 
-# Tries the mutations in crates/NAME/must-fail-long, which the gate leaves out: the prover must refuse each. It uses what the gate
-# has proved on this machine. The last line is 'N passed, M failed'.
+# Tries the mutations in crates/NAME/must-fail-long, which the gate leaves out: the prover must refuse each. `make long` does so too.
+# The last line is 'N passed, M failed'.
 must-fail-long: ## tries the mutations that the gate leaves out
 	@RT="$(RT)" tools/must-fail-long
 

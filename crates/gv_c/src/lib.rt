@@ -18,6 +18,4 @@ mod past;
 mod reading;
 mod request;
 mod status;
-#[cfg(test)]
-mod tests;
 mod values;
