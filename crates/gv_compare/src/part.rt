@@ -4,6 +4,9 @@ use crate::fault::{CompareFault, Which};
 use gv_lines::{number_of, split_once};
 use gv_logs::GPUVAS_HEAD;
 
+/// The byte that each head begins with. Nearly no `map` has it, so its lines aren't gone through for heads.
+const HEAD_BYTE: u8 = b'D';
+
 /// A part of a text, and how many lines stand before it.
 #[derive(Clone, Copy, Debug, PartialEq, Eq)]
 pub struct Part<'a> {
@@ -16,6 +19,9 @@ impl<'a> Part<'a> {
     /// parentheses in the head, or the head's number, counted from 1. A list without heads is one whole.
     pub fn of(text: &'a [u8], list: Which, space: Option<&str>) -> Result<Part<'a>, CompareFault> {
         let whole = Part { text, lines: 0 };
+        if !text.contains(&HEAD_BYTE) {
+            return Ok(whole);
+        }
         let mut rest = whole;
         let mut heads = 0u64;
         let mut taken = None;
