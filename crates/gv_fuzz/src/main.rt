@@ -70,11 +70,16 @@ fn agrees<R: Print + AllocGlobal>(rt: &R, seed: u64) -> io::Result<bool> {
     if Trial::new(rt.alloc(), &script)?.agrees() {
         return Ok(true);
     }
-    let script = shrunk(rt.alloc(), &script)?;
+    tell_shrunk(rt, seed, &script)?;
+    Ok(false)
+}
+
+/// Prints a script of a seed, shrunk, and how both ways of it differ.
+fn tell_shrunk<R: Print + AllocGlobal>(rt: &R, seed: u64, script: &[u8]) -> io::Result<()> {
+    let script = shrunk(rt.alloc(), script)?;
     println!(rt; "seed {seed}: this script")?;
     print_text(rt, &script)?;
-    tell(rt, &Trial::new(rt.alloc(), &script)?)?;
-    Ok(false)
+    tell(rt, &Trial::new(rt.alloc(), &script)?)
 }
 
 /// Prints how both ways of a trial differ.

@@ -34,22 +34,38 @@ pub fn by_chance(alloc: Global, seed: u64) -> Result<Vec<u8>, AllocError> {
 fn lines(alloc: Global, chance: &mut Chance) -> Result<Vec<u8>, AllocError> {
     let mut world = World::new(alloc)?;
     let mut script = Vec::new(alloc);
-    let mut replies = String::new(alloc);
-    let mut line = String::new(alloc);
     let count = chance.random.below(60).saturating_add(4);
     for number in 0..count {
-        line.clear();
         chance.sight = Sight::of(&world);
-        match number {
-            0 if chance.random.is_one_in(2) => chance.write_space(&mut line)?,
-            0 | 1 if chance.random.is_one_in(2) => chance.write(LIMITS, &mut line)?,
-            _ => chance.write_line(&mut line)?,
-        }
-        let _good = world.run_line(alloc, line.as_bytes(), &mut replies)?;
-        script.extend_from_slice(line.as_bytes())?;
-        script.push(b'\n')?;
+        push_line(alloc, chance, number, &mut world, &mut script)?;
     }
     Ok(script)
+}
+
+/// Adds the line of this number, and runs it by the model.
+fn push_line(
+    alloc: Global,
+    chance: &mut Chance,
+    number: u64,
+    world: &mut World,
+    script: &mut Vec<u8>,
+) -> Result<(), AllocError> {
+    let mut line = String::new(alloc);
+    match number {
+        0 if chance.random.is_one_in(2) => chance.write_space(&mut line)?,
+        0 | 1 if chance.random.is_one_in(2) => chance.write(LIMITS, &mut line)?,
+        _ => chance.write_line(&mut line)?,
+    }
+    run_line(alloc, world, line.as_bytes())?;
+    script.extend_from_slice(line.as_bytes())?;
+    Ok(script.push(b'\n')?)
+}
+
+/// Runs a line by the model, whose replies nobody asks.
+fn run_line(alloc: Global, world: &mut World, line: &[u8]) -> Result<(), AllocError> {
+    let mut replies = String::new(alloc);
+    let _good = world.run_line(alloc, line, &mut replies)?;
+    Ok(())
 }
 
 /// A script with few of its bytes changed, left out or doubled.

@@ -63,6 +63,22 @@ fn finished(
     Ok(finish(vm, puts.as_slice(), workers, ends))
 }
 
+/// What becomes of queue 0 alone, where a request was put there, if any, and none was taken.
+fn end_untaken<R: Wait>(
+    rt: &R,
+    alloc: Global,
+    vm: &Vm,
+    timelines: &Timelines,
+    seat: &mut Seat,
+    wanted: Option<Request>,
+) -> Result<Result<Vec<QueueEnd>, QueuesFault>, Fail>
+    requires own { IsSeatOf timelines.now seat.old }
+    ensures own { IsSeatOf timelines.now seat.new }
+{
+    let (put, worker) = untaken(rt, alloc, timelines, seat, wanted)?;
+    finished(alloc, vm, put, worker)
+}
+
 /// A request of nothing.
 fn empty(alloc: Global) -> Request
     ensures { result.waits.items ≡ [] }
@@ -103,12 +119,12 @@ fn ends_that_disagree_are_named(rt: HostRuntime) -> Result<(), Fail> {
 /// Nothing was put, taken and told; a request was put that no worker took; an outcome was told that no worker gave.
 fn each_end<R: Wait + Abort>(rt: &R, alloc: Global, vm: &mut Vm) -> Result<(), Fail> {
     let (timelines, mut seat) = Timelines::new(alloc, 1)?;
-    let (put, worker) = untaken(rt, alloc, &timelines, &mut seat, None)?;
-    assert!(rt; finished(alloc, vm, put, worker)? == agrees(alloc)?);
-    let (put, worker) = untaken(rt, alloc, &timelines, &mut seat, Some(empty(alloc)))?;
-    assert!(rt; finished(alloc, vm, put, worker)? == disagrees());
+    let end = end_untaken(rt, alloc, vm, &timelines, &mut seat, None)?;
+    assert!(rt; end == agrees(alloc)?);
+    let end = end_untaken(rt, alloc, vm, &timelines, &mut seat, Some(empty(alloc)))?;
+    assert!(rt; end == disagrees());
     assert!(rt; vm.bind(alloc, 0, 0, empty(alloc), &[]).is_ok());
-    let (put, worker) = untaken(rt, alloc, &timelines, &mut seat, None)?;
-    assert!(rt; finished(alloc, vm, put, worker)? == disagrees());
+    let end = end_untaken(rt, alloc, vm, &timelines, &mut seat, None)?;
+    assert!(rt; end == disagrees());
     Ok(())
 }

@@ -3,7 +3,7 @@ mod bad;
 mod reasons;
 
 use gv_text::{MemorySink, MemorySource};
-use gv_threads::{RunTerms, run_threads};
+use gv_threads::{RunTerms, ThreadsFault, run_threads};
 use std::alloc::{AllocError, Global};
 use std::fmt::Write;
 use std::process::Abort;
@@ -23,16 +23,22 @@ fn told<R: Threads + Wait + Sync>(
     script: &str,
     terms: RunTerms,
 ) -> Result<Vec<u8>, AllocError> {
-    let mut told = Vec::new(alloc);
     if terms.queues == 0 || terms.queues > 16 {
-        return Ok(told);
+        return Ok(Vec::new(alloc));
     }
     let mut sink = MemorySink::new(alloc);
     let mut source = MemorySource::new(script.as_bytes());
-    let ended = run_threads(rt, alloc, &mut source, &mut sink, terms);
-    let ended = format!(in alloc; "{ended:?}")?;
-    told.extend_from_slice(sink.bytes())?;
-    told.extend_from_slice(ended.as_str().trim_start_matches("Ok(())").as_bytes())?;
+    match run_threads(rt, alloc, &mut source, &mut sink, terms) {
+        Ok(()) => Vec::from_slice(alloc, sink.bytes()),
+        Err(fault) => with_fault(alloc, sink.bytes(), fault),
+    }
+}
+
+/// Replies, and behind them the fault.
+fn with_fault(alloc: Global, replies: &[u8], fault: ThreadsFault) -> Result<Vec<u8>, AllocError> {
+    let fault = format!(in alloc; "Err({fault:?})")?;
+    let mut told = Vec::from_slice(alloc, replies)?;
+    told.extend_from_slice(fault.as_str().as_bytes())?;
     Ok(told)
 }
 

@@ -7,7 +7,7 @@ use crate::watch::{Row, Watch};
 use crate::words::{Clauses, Verb};
 use crate::{edits, rounds};
 use gv_buffers::Usage;
-use gv_model::push;
+use gv_model::{Edit, push};
 use gv_space::Space;
 use gv_types::{Bounds, Fault, Limits};
 use std::alloc::Global;
@@ -50,13 +50,24 @@ fn play_edits(
 ) -> Result<(), Fault> {
     let ops = ops_of(alloc, &watch.ids, clauses)?;
     let edits = edits_of(alloc, &ops)?;
+    play_all_of(alloc, space, watch, &edits, clauses)
+}
+
+/// Plays the edits that clauses stand for, or what is asked.
+fn play_all_of(
+    alloc: Global,
+    space: &mut Space,
+    watch: &mut Watch,
+    edits: &[Edit],
+    clauses: &Clauses,
+) -> Result<(), Fault> {
     let [head, about, ..] = clauses;
     match head.verb {
-        Verb::Stay => there(alloc, space, watch, &edits, head.numbers[0])?,
+        Verb::Stay => there(alloc, space, watch, edits, head.numbers[0])?,
         Verb::Map | Verb::MapBytes | Verb::Zero | Verb::ZeroRo | Verb::Unmap => {
-            there(alloc, space, watch, &edits, 1)?;
+            there(alloc, space, watch, edits, 1)?;
         }
-        Verb::Restore => bring_back(alloc, space, watch, &edits, clauses)?,
+        Verb::Restore => bring_back(alloc, space, watch, edits, clauses)?,
         _ => return ask(alloc, space, &watch.ids, head, about, &mut watch.text),
     }
     let (first, end) = watch.changed;

@@ -6,6 +6,7 @@ mod made;
 use crate::digest::digest_of;
 use digests::DIGESTS;
 use gv_draw::{Options, draw_script};
+use std::fmt::Write;
 use std::process::Abort;
 use std::test::Fail;
 
@@ -35,10 +36,10 @@ fn expect_drawn(
     let options = Options { at, width: 1000 };
     let mut drawn = String::new(rt.alloc());
     let end = draw_script(rt.alloc(), script.as_bytes(), &options, &mut drawn);
-    let text = format!(in rt.alloc(); "{drawn}{end:?}\n")?;
-    let digest = digest_of(text.as_str());
+    writeln!(drawn, "{end:?}")?;
+    let digest = digest_of(drawn.as_str());
     assert!(rt; digest == wanted, "{digest:#018x} {at:?} {script}");
-    seen.push_str(text.as_str())?;
+    seen.push_str(drawn.as_str())?;
     Ok(())
 }
 

@@ -102,11 +102,22 @@ fn write_request(
     out: &mut String,
     clauses: &ClauseList<'_>,
 ) -> Result<(), AllocError> {
-    let operations = clauses.operations(alloc)?;
+    write_operations(alloc, out, clauses)?;
     let waits = clauses.waits(alloc)?;
+    write!(out, " {waits:?}")?;
+    drop(waits);
     let signals = clauses.signals(alloc)?;
-    let queue = clauses.queue();
-    write!(out, "{queue} {operations:?} {waits:?} {signals:?}")
+    write!(out, " {signals:?}")
+}
+
+/// Writes a request's queue and operations.
+fn write_operations(
+    alloc: Global,
+    out: &mut String,
+    clauses: &ClauseList<'_>,
+) -> Result<(), AllocError> {
+    let operations = clauses.operations(alloc)?;
+    write!(out, "{} {operations:?}", clauses.queue())
 }
 
 /// Writes what a line is read as.

@@ -1,18 +1,9 @@
 //! Scripts that meet the limits.
 use crate::devices::WHOLE;
-use crate::told::{Way, expect, told};
+use crate::told::{Way, expect, times, told};
 use std::alloc::{AllocError, Global};
 use std::fmt::Write;
 use std::process::Abort;
-
-/// A text so many times.
-fn times(alloc: Global, count: usize, text: &str) -> Result<String, AllocError> {
-    let mut texts = String::new(alloc);
-    for _ in 0..count {
-        texts.push_str(text)?;
-    }
-    Ok(texts)
-}
 
 /// Runs a script, and asserts how its replies end.
 fn expect_end(rt: &(impl Abort + AllocGlobal), script: &str, end: &str) -> Result<(), AllocError> {
@@ -48,20 +39,32 @@ fn as_many_operations_as_a_request_may_have(rt: HostRuntime) -> Result<(), Alloc
     expect_all(&rt, script.as_str(), "accepted 0\nrefused 0 TooManyOps\n")
 }
 
-#[test]
-fn as_many_jobs_and_accesses_as_may_be(rt: HostRuntime) -> Result<(), AllocError> {
-    let alloc = rt.alloc();
+/// Jobs of more accesses than one may have, of as many, and so many of one that the last is refused.
+fn jobs(alloc: Global) -> Result<String, AllocError> {
     let most = times(alloc, 255, " ; read 0x0")?;
     let jobs = times(alloc, 1_024, "job read 0x0\n")?;
-    let script = format!(in alloc;
+    format!(in alloc;
         "bind zero 0x0 0x1000\njob read 0x0 ; read 0x0{most}\njob read 0x0{most}\n{jobs}end 0\njob read 0x0\n"
-    )?;
-    let zeros = times(alloc, 256, "zero rw\n")?;
-    let mut wanted = format!(in alloc; "accepted 0\nrefused TooManyAccesses\njob 0\n{zeros}")?;
-    for job in 1..1_024u32 {
-        writeln!(wanted, "job {job}\nzero rw")?;
+    )
+}
+
+/// What is told of them.
+fn told_of_jobs(alloc: Global) -> Result<String, AllocError> {
+    let mut told = String::from_str(alloc, "accepted 0\nrefused TooManyAccesses\njob 0\n")?;
+    for _ in 0..256u32 {
+        told.push_str("zero rw\n")?;
     }
-    wanted.push_str("refused TooManyJobs\nended 0\njob 1024\nzero rw\n")?;
+    for job in 1..1_024u32 {
+        writeln!(told, "job {job}\nzero rw")?;
+    }
+    told.push_str("refused TooManyJobs\nended 0\njob 1024\nzero rw\n")?;
+    Ok(told)
+}
+
+#[test]
+fn as_many_jobs_and_accesses_as_may_be(rt: HostRuntime) -> Result<(), AllocError> {
+    let script = jobs(rt.alloc())?;
+    let wanted = told_of_jobs(rt.alloc())?;
     expect_all(&rt, script.as_str(), wanted.as_str())
 }
 
@@ -79,16 +82,29 @@ fn as_many_timelines_as_there_are(rt: HostRuntime) -> Result<(), AllocError> {
 /// So many names are declared, which is 712 more than there may be.
 const NAMES: u32 = 26 * 26 * 98;
 
-#[test]
-fn as_many_buffers_as_may_live(rt: HostRuntime) -> Result<(), AllocError> {
-    let mut script = String::new(rt.alloc());
+/// More buffers than may live, one of which is destroyed, and two more.
+fn buffers(alloc: Global) -> Result<String, AllocError> {
+    let mut script = String::new(alloc);
     for number in 0..NAMES {
         writeln!(script, "buffer a{number:x} 1")?;
     }
     script.push_str("destroy a0\nbuffer z 1\nuses z\nbuffer y 1\n")?;
-    let mut wanted = times(rt.alloc(), 65_536, "ok\n")?;
-    let refused = times(rt.alloc(), 712, "refused TooManyBuffers\n")?;
-    wanted.push_str(refused.as_str())?;
-    wanted.push_str("ok\nok\nuses 0 kept 0\nrefused TooManyBuffers\n")?;
+    Ok(script)
+}
+
+/// What is told of them.
+fn told_of_buffers(alloc: Global) -> Result<String, AllocError> {
+    let mut told = times(alloc, 65_536, "ok\n")?;
+    for _ in 0..712u32 {
+        told.push_str("refused TooManyBuffers\n")?;
+    }
+    told.push_str("ok\nok\nuses 0 kept 0\nrefused TooManyBuffers\n")?;
+    Ok(told)
+}
+
+#[test]
+fn as_many_buffers_as_may_live(rt: HostRuntime) -> Result<(), AllocError> {
+    let script = buffers(rt.alloc())?;
+    let wanted = told_of_buffers(rt.alloc())?;
     expect_all(&rt, script.as_str(), wanted.as_str())
 }

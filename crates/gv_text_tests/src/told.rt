@@ -8,6 +8,15 @@ use std::alloc::{AllocError, Global};
 use std::fmt::Debug;
 use std::process::Abort;
 
+/// A text so many times.
+pub fn times(alloc: Global, count: usize, text: &str) -> Result<String, AllocError> {
+    let mut texts = String::new(alloc);
+    for _ in 0..count {
+        texts.push_str(text)?;
+    }
+    Ok(texts)
+}
+
 /// How an input is answered.
 #[derive(Clone, Copy)]
 pub enum Way {

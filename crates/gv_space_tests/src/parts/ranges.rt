@@ -8,6 +8,7 @@ use super::fixtures::{Pages, edit, entry, list_of, mapping, packed, spread, to_v
 use gv_chunks::Spot;
 use gv_ranges::{RangeList, laws, next_rest, prev_rest};
 use gv_types::{Packed, PageRange, SPACE_PAGES};
+use std::alloc::Global;
 use std::test::Fail;
 
 /// What the definitions say of worked examples.
@@ -74,15 +75,20 @@ const RUNS: [(usize, &[Pages]); 3] = [
     (0, &[(0, 2, 1, 0)]),
 ];
 
+/// Whether these pages are a list's mappings from an index on, in one block and one by one.
+fn is_read(alloc: Global, list: &RangeList, index: usize, pages: &[Pages]) -> Result<bool, Fail> {
+    let wanted = packed(alloc, pages)?;
+    let is_block = index < list.len() && list.piece(index).starts_with(&wanted);
+    Ok(is_block && are_read(list, &[Spot::anywhere(index)], &wanted))
+}
+
 #[test]
 fn lists_are_read_by_place_and_by_run(rt: HostRuntime) -> Result<(), Fail> {
     let alloc = rt.alloc();
     let list = list_of(alloc, &UNORDERED)?;
     assert_eq!(rt; (list.len(), list.iter().len()), (3, 3));
     for (index, pages) in &RUNS {
-        let wanted = packed(alloc, pages)?;
-        let is_block = *index < list.len() && list.piece(*index).starts_with(&wanted);
-        assert!(rt; is_block && are_read(&list, &[Spot::anywhere(*index)], &wanted));
+        assert!(rt; is_read(alloc, &list, *index, pages)?);
     }
     Ok(())
 }

@@ -77,6 +77,11 @@ fn expect(alloc: Global, pages: &[Pages], op: &PageOp, rows: &[Row]) -> Result<(
 {
     let list = list_of(alloc, pages)?;
     let steps = plan(alloc, &list, op)?;
+    compare(&steps, rows)
+}
+
+/// Fails where steps are others than these.
+fn compare(steps: &[Step], rows: &[Row]) -> Result<(), Fail> {
     if steps.len() != rows.len() {
         return Err("another number of steps".into());
     }

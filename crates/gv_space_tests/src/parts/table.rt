@@ -125,19 +125,42 @@ fn named_tree(alloc: Global) -> Result<PageTable, Fault>
     Ok(table)
 }
 
+/// Plays a row on a list, its twin and their tree, which had so many tables.
+fn play_row(
+    alloc: Global,
+    list: &mut RangeList,
+    twin: &mut RangeList,
+    table: &mut PageTable,
+    row: &Row,
+    before: Tables,
+) -> Result<(), Fail>
+    requires twins { twin.old.mappings ≡ list.old.mappings }
+    requires tree { IsTree list.old.mappings table.old }
+    requires named { AreNamed table.old.names list.old.mappings }
+    requires buffer { slice_get table.old.names 1 ≡ Some (buffer_id 1 1) }
+    ensures twins { OnOk result (twin.new.mappings ≡ list.new.mappings) }
+    ensures tree { OnOk result (IsTree list.new.mappings table.new) }
+    ensures named { OnOk result (AreNamed table.new.names list.new.mappings) }
+    ensures names { table.new.names ≡ table.old.names }
+{
+    let (is_map, first, count, wanted) = *row;
+    let op = &map_or_unmap(is_map, first, count)?;
+    let seen = apply(alloc, list, twin, table, op)?;
+    if seen != [wanted, before, wanted] {
+        return Err(Fail::new(format_args!("{seen:?}")));
+    }
+    Ok(())
+}
+
 /// Plays the rows on a tree of no mapping.
 fn play(alloc: Global, rows: &[Row]) -> Result<PageTable, Fail> {
     let mut list = RangeList::new(alloc);
     let mut twin = RangeList::new(alloc);
     let mut table = named_tree(alloc)?;
     let mut before = [0; 5];
-    for (is_map, first, count, wanted) in rows {
-        let op = &map_or_unmap(*is_map, *first, *count)?;
-        let seen = apply(alloc, &mut list, &mut twin, &mut table, op)?;
-        if seen != [*wanted, before, *wanted] {
-            return Err(Fail::new(format_args!("{seen:?}")));
-        }
-        before = *wanted;
+    for row in rows {
+        play_row(alloc, &mut list, &mut twin, &mut table, row, before)?;
+        before = row.3;
     }
     Ok(table)
 }

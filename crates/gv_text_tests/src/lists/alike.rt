@@ -8,6 +8,20 @@ use std::alloc::{AllocError, Global};
 use std::fmt::Write;
 use std::test::Fail;
 
+/// Adds what is said of a line. Whether it is a row of a `map`.
+fn push_line(
+    alloc: Global,
+    said: &mut String,
+    made: &mut Made,
+    is_dump: bool,
+) -> Result<bool, AllocError> {
+    let mut line = Vec::new(alloc);
+    made.push_line(alloc, &mut line, is_dump)?;
+    let row = Row::of_map(&line);
+    writeln!(said, "{row:?} {}", is_of_dump(&line))?;
+    Ok(row.is_some())
+}
+
 #[test]
 fn lines_are_read_alike(rt: HostRuntime) -> Result<(), Fail> {
     let alloc = rt.alloc();
@@ -16,11 +30,8 @@ fn lines_are_read_alike(rt: HostRuntime) -> Result<(), Fail> {
     for (block, wanted) in LINES.iter().enumerate() {
         let mut said = String::new(alloc);
         for number in 0..100u64 {
-            let mut line = Vec::new(alloc);
-            made.push_line(alloc, &mut line, number % 4 == 0)?;
-            let row = Row::of_map(&line);
-            rows = rows.wrapping_add(u64::from(row.is_some()));
-            writeln!(said, "{row:?} {}", is_of_dump(&line))?;
+            let is_row = push_line(alloc, &mut said, &mut made, number % 4 == 0)?;
+            rows = rows.wrapping_add(u64::from(is_row));
         }
         assert_eq!(rt; digest_of(said.as_str()), *wanted, "block {block}");
     }
@@ -31,19 +42,34 @@ fn lines_are_read_alike(rt: HostRuntime) -> Result<(), Fail> {
 /// What is said of texts, one of which each: a list of either kind, or either fault. More than 50 texts come to each.
 const OUTCOMES: [&str; 4] = ["{ kind: Map", "{ kind: Dump", "NoMapping", "Overlapping"];
 
-/// Adds what is said of two texts, as the first list and the second, and the names of their first objects.
-fn push_said(alloc: Global, out: &mut String, made: &mut Made) -> Result<(), AllocError> {
-    let mut objects = Objects::new(alloc);
-    for list in [Which::First, Which::Second] {
-        let text = made.text(alloc)?;
-        let listing = Listing::read(alloc, &mut objects, list, &text);
-        writeln!(out, "{listing:?}")?;
-    }
+/// Adds what is said of a text.
+fn push_text(
+    alloc: Global,
+    said: &mut String,
+    made: &mut Made,
+    objects: &mut Objects,
+    list: Which,
+) -> Result<(), AllocError> {
+    let text = made.text(alloc)?;
+    let listing = Listing::read(alloc, objects, list, &text);
+    writeln!(said, "{listing:?}")
+}
+
+/// Adds the names of the first objects.
+fn push_names(said: &mut String, objects: &Objects) -> Result<(), AllocError> {
     for number in 0..32 {
-        objects.write(out, number, Kind::Map)?;
-        out.push_str("\n")?;
+        objects.write(said, number, Kind::Map)?;
+        said.push_str("\n")?;
     }
     Ok(())
+}
+
+/// Adds what is said of two texts, as the first list and the second.
+fn push_pair(alloc: Global, said: &mut String, made: &mut Made) -> Result<(), AllocError> {
+    let mut objects = Objects::new(alloc);
+    push_text(alloc, said, made, &mut objects, Which::First)?;
+    push_text(alloc, said, made, &mut objects, Which::Second)?;
+    push_names(said, &objects)
 }
 
 #[test]
@@ -54,7 +80,7 @@ fn lists_are_read_alike(rt: HostRuntime) -> Result<(), Fail> {
     for (block, wanted) in TEXTS.iter().enumerate() {
         let mut said = String::new(alloc);
         for _ in 0..25u64 {
-            push_said(alloc, &mut said, &mut made)?;
+            push_pair(alloc, &mut said, &mut made)?;
         }
         assert_eq!(rt; digest_of(said.as_str()), *wanted, "block {block}");
         seen.push_str(said.as_str())?;

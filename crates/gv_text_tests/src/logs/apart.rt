@@ -2,7 +2,7 @@
 
 use crate::logs::made::Drawn;
 use crate::logs::told::{expect_told, told};
-use std::alloc::AllocError;
+use std::alloc::{AllocError, Global};
 use std::process::Abort;
 
 /// How many lines a log by chance has, and how many such logs are told.
@@ -55,6 +55,21 @@ const PROCESSES: Kind = Kind {
     ],
 };
 
+/// Whether a report tells below its name of a space what is told where it alone is asked.
+fn is_told_as_alone(
+    alloc: Global,
+    log: &str,
+    kind: &Kind,
+    name: &str,
+    whole: &str,
+) -> Result<bool, AllocError> {
+    let (head, option, words) = (kind.head, kind.option, kind.words);
+    let asked = format!(in alloc; "{words} {option} {name}")?;
+    let alone = told(alloc, asked.as_str(), log.as_bytes())?;
+    let section = format!(in alloc; "{head} {name}:\n{alone}")?;
+    Ok(whole.contains(section.as_str()))
+}
+
 /// Asserts that below its name each space of a log is told as it is told where it alone is asked, or else is named among those in
 /// which nothing was found. How many are told.
 fn expect_apart(
@@ -63,14 +78,10 @@ fn expect_apart(
     kind: &Kind,
 ) -> Result<u64, AllocError> {
     let mut found: u64 = 0;
-    let (head, option, words) = (kind.head, kind.option, kind.words);
-    let whole = told(rt.alloc(), words, log.as_bytes())?;
+    let whole = told(rt.alloc(), kind.words, log.as_bytes())?;
     let others = whole.as_str().lines().next_back().unwrap_or("");
     for name in kind.names {
-        let asked = format!(in rt.alloc(); "{words} {option} {name}")?;
-        let alone = told(rt.alloc(), asked.as_str(), log.as_bytes())?;
-        let section = format!(in rt.alloc(); "{head} {name}:\n{alone}")?;
-        let is_told = whole.as_str().contains(section.as_str());
+        let is_told = is_told_as_alone(rt.alloc(), log, kind, name, whole.as_str())?;
         assert!(rt; is_told || others.contains(*name), "{name} {whole}");
         found = found.saturating_add(u64::from(is_told));
     }

@@ -1,7 +1,8 @@
 //! Reports as JSON.
 
 use crate::logs::json_rows::{FREED, ROWS};
-use crate::logs::told::{expect_ends, expect_rows, times, told};
+use crate::logs::told::{expect_ends, expect_rows, told};
+use crate::told::times;
 use serde_json::Value;
 use std::alloc::AllocError;
 use std::test::Fail;

@@ -52,6 +52,17 @@ fn agrees(alloc: Global, log: &[u8], terms: &Terms<'_>) -> Result<bool, ReplayFa
     Ok(ends_with(sink.bytes(), pasts.as_str()))
 }
 
+/// Whether it tells so of the addresses that a drawn log asks.
+fn agrees_on(
+    alloc: Global,
+    words: &str,
+    log: &str,
+    drawn: &mut Drawn,
+) -> Result<bool, ReplayFault> {
+    let addresses = drawn.addresses(alloc)?;
+    agrees(alloc, log.as_bytes(), &terms_of(words, &addresses))
+}
+
 /// Asserts it for a log of so many lines as its seed and one, behind this first one.
 fn expect_past(
     rt: &(impl Abort + AllocGlobal),
@@ -63,8 +74,7 @@ fn expect_past(
     let mut drawn = Drawn::new(seed);
     let mut log = String::from_str(rt.alloc(), head)?;
     drawn.write_lines(&mut log, forms, seed.saturating_add(1))?;
-    let addresses = drawn.addresses(rt.alloc())?;
-    let is_alike = agrees(rt.alloc(), log.as_bytes(), &terms_of(words, &addresses))?;
+    let is_alike = agrees_on(rt.alloc(), words, log.as_str(), &mut drawn)?;
     assert!(rt; is_alike, "{words}, seed {seed}");
     Ok(())
 }
@@ -107,16 +117,20 @@ fn write_accepted(log: &mut String) -> Result<(), AllocError> {
     Ok(())
 }
 
-/// As many entries are held as may be, and older ones are settled: lines that are accepted, and others by chance on both sides.
+/// Writes them, and others by chance on both sides.
+fn write_long(log: &mut String, drawn: &mut Drawn) -> Result<(), AllocError> {
+    drawn.write_lines(log, OF_RADV, AROUND)?;
+    write_accepted(log)?;
+    drawn.write_lines(log, OF_RADV, AROUND)
+}
+
+/// As many entries are held as may be, and older ones are settled.
 #[test]
 fn pasts_are_those_of_all_that_are_held(rt: HostRuntime) -> Result<(), Fail> {
     let mut drawn = Drawn::new(LOGS);
     let mut log = String::new(rt.alloc());
-    drawn.write_lines(&mut log, OF_RADV, AROUND)?;
-    write_accepted(&mut log)?;
-    drawn.write_lines(&mut log, OF_RADV, AROUND)?;
-    let addresses = drawn.addresses(rt.alloc())?;
-    let is_alike = agrees(rt.alloc(), log.as_bytes(), &terms_of(RADV, &addresses))?;
+    write_long(&mut log, &mut drawn)?;
+    let is_alike = agrees_on(rt.alloc(), RADV, log.as_str(), &mut drawn)?;
     assert!(rt; is_alike);
     Ok(())
 }

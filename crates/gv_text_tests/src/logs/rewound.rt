@@ -82,14 +82,47 @@ fn newest(alloc: Global, vm: &Vm) -> Result<Vec<PageOp>, AllocError> {
 fn asked(alloc: Global, vm: &Vm, terms: &Terms<'_>) -> Result<Vec<Past>, AllocError> {
     let mut pasts = Vec::new(alloc);
     for addr in terms.addresses {
-        let addr = terms.format.address(*addr);
-        let told = format!(in alloc; "0x{addr:x}: ")?;
-        let mut past = Past { addr, told };
-        past.write_entry(vm)?;
-        past.told.push_str("\n")?;
-        pasts.push(past)?;
+        pasts.push(asked_at(alloc, vm, terms.format.address(*addr))?)?;
     }
     Ok(pasts)
+}
+
+/// An address, and what it reaches.
+fn asked_at(alloc: Global, vm: &Vm, addr: u64) -> Result<Past, AllocError> {
+    let told = format!(in alloc; "0x{addr:x}: ")?;
+    let mut past = Past { addr, told };
+    past.write_entry(vm)?;
+    past.told.push_str("\n")?;
+    Ok(past)
+}
+
+/// Takes the newest entry back, which did this, and adds what the addresses reach then.
+fn take_back(
+    alloc: Global,
+    vm: &mut Vm,
+    act: &Act,
+    pasts: &mut Vec<Past>,
+) -> Result<(), ReplayFault> {
+    let done = newest(alloc, vm)?;
+    if vm.rewind().is_err() {
+        return Err(DIFFERS);
+    }
+    for past in pasts.iter_mut() {
+        past.add(vm, act, &done)?;
+    }
+    Ok(())
+}
+
+/// All that is said of the addresses, where so many of the first binds are no longer held.
+fn all_told(alloc: Global, pasts: &[Past], first: u64) -> Result<String, AllocError> {
+    let mut told = String::new(alloc);
+    for past in pasts {
+        told.push_str(past.told.as_str())?;
+        if first > 0 {
+            writeln!(told, "  the first {first} binds are no longer held")?;
+        }
+    }
+    Ok(told)
 }
 
 /// What the report has to say of the addresses. Each entry that is held is taken back.
@@ -102,22 +135,9 @@ fn pasts_of(
     let first = vm.first();
     let mut pasts = asked(alloc, vm, terms)?;
     for act in acts.iter().rev() {
-        let done = newest(alloc, vm)?;
-        if vm.rewind().is_err() {
-            return Err(DIFFERS);
-        }
-        for past in pasts.iter_mut() {
-            past.add(vm, act, &done)?;
-        }
+        take_back(alloc, vm, act, &mut pasts)?;
     }
-    let mut told = String::new(alloc);
-    for past in &pasts {
-        told.push_str(past.told.as_str())?;
-        if first > 0 {
-            writeln!(told, "  the first {first} binds are no longer held")?;
-        }
-    }
-    Ok(told)
+    Ok(all_told(alloc, &pasts, first)?)
 }
 
 /// The pasts that come of a log where its entries are taken back, as the report has them.

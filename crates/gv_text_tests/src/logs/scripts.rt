@@ -1,6 +1,7 @@
 //! Logs written as scripts.
 
-use crate::logs::told::{expect_ends, expect_told, times};
+use crate::logs::told::{expect_ends, expect_told};
+use crate::told::times;
 use gv_text::{MemorySink, MemorySource, run_script};
 use std::alloc::AllocError;
 use std::process::Abort;

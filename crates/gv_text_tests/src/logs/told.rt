@@ -126,13 +126,11 @@ pub fn told_at(
 ) -> Result<String, AllocError> {
     let mut sink = MemorySink::new(alloc);
     let played = play(alloc, log, &terms_of(words, addresses), &mut sink);
-    let ended = format!(in alloc; "{played:?}")?;
-    let mut told = String::from_str(
-        alloc,
-        str::from_utf8(sink.bytes()).unwrap_or("bytes that are no text"),
-    )?;
-    told.push_str(ended.as_str().trim_start_matches("Ok(())"))?;
-    Ok(told)
+    let text = str::from_utf8(sink.bytes()).unwrap_or("bytes that are no text");
+    match played {
+        Ok(()) => String::from_str(alloc, text),
+        Err(fault) => format!(in alloc; "{text}Err({fault:?})"),
+    }
 }
 
 /// Asserts that a replay came to its end, and that its text has each of these lines.
@@ -187,13 +185,4 @@ pub fn expect_ends(
         "{words}"
     );
     Ok(())
-}
-
-/// A text so many times.
-pub fn times(alloc: Global, count: usize, text: &str) -> Result<String, AllocError> {
-    let mut texts = String::new(alloc);
-    for _ in 0..count {
-        texts.push_str(text)?;
-    }
-    Ok(texts)
 }

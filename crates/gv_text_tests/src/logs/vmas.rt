@@ -3,7 +3,7 @@
 use crate::logs::forms::{Given, write_form};
 use crate::logs::told::{expect_lines, told_at};
 use gv_model::Random;
-use std::alloc::AllocError;
+use std::alloc::{AllocError, Global};
 use std::fmt::Write;
 
 /// The pages that VMAs lie in, and how many pointers there are.
@@ -227,18 +227,24 @@ fn write_wanted(wanted: &mut String, rules: &Rules) -> Result<(), AllocError> {
     Ok(())
 }
 
+/// The log of a seed, whose lines are carried out by the rules.
+fn log_of(alloc: Global, seed: u64, rules: &mut Rules) -> Result<String, AllocError> {
+    let mut random = Random::new(seed);
+    let mut log = String::from_str(alloc, HEAD)?;
+    for _ in 0..LINES {
+        write_line(&mut log, &mut random, rules)?;
+    }
+    Ok(log)
+}
+
 #[test]
 fn logs_of_xe_come_to_what_the_rules_say(rt: HostRuntime) -> Result<(), AllocError> {
     for seed in 0..LOGS {
         let mut rules = EMPTY;
-        let mut random = Random::new(seed);
-        let mut log = String::from_str(rt.alloc(), HEAD)?;
-        for _ in 0..LINES {
-            write_line(&mut log, &mut random, &mut rules)?;
-        }
-        let told = told_at(rt.alloc(), "--format xe", &ADDRESSES, log.as_bytes())?;
+        let log = log_of(rt.alloc(), seed, &mut rules)?;
         let mut wanted = String::new(rt.alloc());
         write_wanted(&mut wanted, &rules)?;
+        let told = told_at(rt.alloc(), "--format xe", &ADDRESSES, log.as_bytes())?;
         expect_lines(&rt, log.as_str(), told.as_str(), wanted.as_str());
     }
     Ok(())

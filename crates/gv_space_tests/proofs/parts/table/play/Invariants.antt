@@ -4,8 +4,8 @@ use Rattle.gv_table.specs.Names.{AreNamed}
 use Rattle.gv_table.specs.Table.{IsTree}
 use Rattle.gv_space_tests.proofs.parts.table.play.Given as goal
 
-abbrev pub invariant-loop-is_map : goal.invariant-loop-is_map
-invariant-loop-is_map l = record {
+abbrev pub invariant-loop-row : goal.invariant-loop-row
+invariant-loop-row l = record {
   twins : l.twin.mappings ≡ l.list.mappings;
   tree : IsTree l.list.mappings l.table;
   named : AreNamed l.table.names l.list.mappings;
