@@ -4,7 +4,8 @@ RT ?= rt
 PROGRAM := crates/gv_cli
 SOURCES := crates.txt HANDLES $(shell find crates -type f \( -name '*.rt' -o -name '*.antt' \) -not -path '*/out/*')
 
-.PHONY: goals check-tools build try run test check-documents long must-fail-long gate-minutes fuzz refuse-memory measure clean lib install capi-test capi-measure
+.PHONY: goals check-tools build try run test check-documents long must-fail-long gate-minutes fuzz refuse-memory measure clean lib install install-program install-library uninstall package \
+    install-test capi-test capi-measure
 
 # Lists the goals and what each does.
 goals:
@@ -56,8 +57,8 @@ check-documents: ## checks what the documents name
 	@tools/check-documents
 
 # Runs what the gate leaves out: the mutations in must-fail-long, the programs in long/, the tests of gv_c, refuse-memory, ten minutes of
-# fuzz, and capi-test. It leaves the proved program at ./vmbind. If OLD is the folder of an older build, also bench/run --guard against
-# it. The last line is 'N passed, M failed'.
+# fuzz, capi-test and install-test. It leaves the proved program at ./vmbind. If OLD is the folder of an older build, also
+# bench/run --guard and bench/neighbours against it. The last line is 'N passed, M failed'.
 long: SECONDS = 600
 long: ## runs what the gate leaves out
 	@RT="$(RT)" OLD="$(OLD)" SEED="$(SEED)" CC="$(CC)" CXX="$(CXX)" tools/long $(SECONDS)
@@ -94,6 +95,7 @@ measure: ## prints times of edits, look-ups and running queues
 # serve here. docs/C.md is for users.
 CC ?= cc
 PREFIX ?= /usr/local
+LIBDIR ?= $(PREFIX)/lib
 DESTDIR ?=
 CAPI := capi/build
 SHOWN := capi/vmbind.h capi/vmbind.hpp capi/vmbind.py
@@ -122,23 +124,56 @@ $(SHOWN:capi/%=$(CAPI)/%): $(CAPI)/%: capi/%
 	@mkdir -p $(CAPI)
 	cp $< $@
 
-# described FILE PREFIX INCLUDE LIB: writes where the library is, for pkg-config or CMake
+# described FILE PREFIX INCLUDE LIB: writes where the library is, for pkg-config or CMake. CMake finds it by the way from the file's folder.
 described = sed 's|@PREFIX@|$(2)|; s|@INCLUDE@|$(3)|; s|@LIB@|$(4)|; s|@VERSION@|$(VERSION)|; s|@MINOR@|$(basename $(VERSION))|' capi/$(1).in
+TO_INCLUDE = $(shell realpath -m --relative-to='$(LIBDIR)/cmake/vmbind' '$(PREFIX)/include')
 
 $(CAPI)/vmbind.pc: capi/vmbind.pc.in capi/vmbind.h
 	@mkdir -p $(CAPI)
 	$(call described,vmbind.pc,$(CURDIR)/$(CAPI),$(CURDIR)/$(CAPI),$(CURDIR)/$(CAPI)) > $@
 
-install: lib ## installs the C library below PREFIX
-	install -d $(addprefix $(DESTDIR)$(PREFIX)/,include lib/pkgconfig lib/cmake/vmbind share/vmbind)
+# What `make install` puts below DESTDIR, by install-program and install-library.
+MANUALS := $(PREFIX)/share/man/man1/vmbind.1 $(PREFIX)/share/man/man5/vmbind-script.5
+COMPLETIONS := $(PREFIX)/share/bash-completion/completions/vmbind $(PREFIX)/share/zsh/site-functions/_vmbind \
+    $(PREFIX)/share/fish/vendor_completions.d/vmbind.fish
+INSTALLED := $(PREFIX)/bin/vmbind $(MANUALS) $(COMPLETIONS) $(PREFIX)/include/vmbind.h $(PREFIX)/include/vmbind.hpp \
+    $(PREFIX)/share/vmbind/vmbind.py $(LIBDIR)/libvmbind.a $(LIBDIR)/libvmbind.so $(LIBDIR)/libvmbind.so.0 $(LIBDIR)/pkgconfig/vmbind.pc \
+    $(LIBDIR)/cmake/vmbind/vmbind-config.cmake $(LIBDIR)/cmake/vmbind/vmbind-config-version.cmake
+
+install: install-program install-library ## installs program, manual, completions and C library below PREFIX
+
+install-program: $(if $(PROGRAM_IS_BUILT),,vmbind)
+	install -d $(sort $(dir $(addprefix $(DESTDIR),$(PREFIX)/bin/vmbind $(MANUALS) $(COMPLETIONS))))
+	install -m 755 vmbind $(DESTDIR)$(PREFIX)/bin
+	tools/manual ./vmbind > $(DESTDIR)$(word 1,$(MANUALS))
+	tools/manual docs/SCRIPT.md > $(DESTDIR)$(word 2,$(MANUALS))
+	tools/completions bash ./vmbind > $(DESTDIR)$(word 1,$(COMPLETIONS))
+	tools/completions zsh ./vmbind > $(DESTDIR)$(word 2,$(COMPLETIONS))
+	tools/completions fish ./vmbind > $(DESTDIR)$(word 3,$(COMPLETIONS))
+
+install-library: lib
+	install -d $(DESTDIR)$(PREFIX)/include $(addprefix $(DESTDIR)$(LIBDIR)/,pkgconfig cmake/vmbind) $(DESTDIR)$(PREFIX)/share/vmbind
 	install -m 644 capi/vmbind.h capi/vmbind.hpp $(DESTDIR)$(PREFIX)/include
-	install -m 644 $(CAPI)/libvmbind.a $(DESTDIR)$(PREFIX)/lib
-	install -m 755 $(CAPI)/libvmbind.so $(DESTDIR)$(PREFIX)/lib/libvmbind.so.0
-	ln -sf libvmbind.so.0 $(DESTDIR)$(PREFIX)/lib/libvmbind.so
+	install -m 644 $(CAPI)/libvmbind.a $(DESTDIR)$(LIBDIR)
+	install -m 755 $(CAPI)/libvmbind.so $(DESTDIR)$(LIBDIR)/libvmbind.so.0
+	ln -sf libvmbind.so.0 $(DESTDIR)$(LIBDIR)/libvmbind.so
 	install -m 644 capi/vmbind.py $(DESTDIR)$(PREFIX)/share/vmbind
-	$(call described,vmbind.pc,$(PREFIX),$(PREFIX)/include,$(PREFIX)/lib) > $(DESTDIR)$(PREFIX)/lib/pkgconfig/vmbind.pc
+	$(call described,vmbind.pc,$(PREFIX),$(PREFIX)/include,$(LIBDIR)) > $(DESTDIR)$(LIBDIR)/pkgconfig/vmbind.pc
 	for file in vmbind-config.cmake vmbind-config-version.cmake; do \
-	    $(call described,$$file,$(PREFIX),$(PREFIX)/include,$(PREFIX)/lib) > $(DESTDIR)$(PREFIX)/lib/cmake/vmbind/$$file || exit 1; done
+	    $(call described,$$file,$(PREFIX),$(TO_INCLUDE),../..) > $(DESTDIR)$(LIBDIR)/cmake/vmbind/$$file || exit 1; done
+
+uninstall: ## removes what `make install` installed, with the same PREFIX, LIBDIR and DESTDIR
+	rm -f $(addprefix $(DESTDIR),$(INSTALLED))
+	for folder in $(LIBDIR)/cmake/vmbind $(PREFIX)/share/vmbind; do ! [ -d "$(DESTDIR)$$folder" ] || rmdir "$(DESTDIR)$$folder" || exit 1; done
+
+# A Debian package and an archive of the program, the library and the Python module, in package/. COPYRIGHT names the file of licences
+# that the package gets as its copyright file.
+package: $(if $(PROGRAM_IS_BUILT),,vmbind) lib ## leaves a .deb and a .tar.xz in package/
+	@COPYRIGHT="$(COPYRIGHT)" tools/package $(VERSION)
+
+# Installs, packages and removes all of it in a folder of its own, and as root also by dpkg. The last line is 'N passed, M failed'.
+install-test: $(if $(PROGRAM_IS_BUILT),,vmbind) lib ## tests install, uninstall and package
+	@CC="$(CC)" tools/install-test
 
 # Tests the C library. `make test` leaves this out, since a build of the library proves its crates once more. If ./vmbind exists (make
 # build), random scripts are compared with what it writes. The last line is 'N passed, M failed'. BINDS is the number of binds in the
@@ -154,4 +189,4 @@ capi-measure: lib ## prints times of calls from C and from Python
 	VMBIND_LIBRARY=$(CURDIR)/$(CAPI)/libvmbind.so python3 capi/tests/speed.py
 
 clean: ## removes all that was built
-	rm -rf vmbind crates/*/out $(CAPI)
+	rm -rf vmbind crates/*/out $(CAPI) package

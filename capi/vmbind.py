@@ -15,6 +15,9 @@ import ctypes as c
 import os
 from typing import Any, Dict, Iterable, Iterator, List, NamedTuple, Optional, Sequence, Tuple, Type, Union
 
+# The version of the header that this module follows.
+__version__ = "0.1.0"
+
 OK, BAD_ARGUMENT, NO_VM, NOT_NULL, IDLE, NOT_READY = 0, 64, 65, 66, 67, 68
 NAMES = {
     0: "Ok", 1: "Unaligned", 2: "Empty", 3: "OutOfSpace", 4: "Reserved", 6: "NoBuffer", 7: "OutOfBuffer", 8: "BadSize",
@@ -214,6 +217,9 @@ class Refused(Exception):
         self.name = NAMES.get(fault, "Unknown")
         super().__init__(self.name + (f" {n}" if n else "") + ("" if op is None else f" at operation {op}"))
 
+    def __reduce__(self) -> Tuple[Any, ...]:
+        return type(self), (self.fault, self.op, self.n, self.outcome)
+
 
 class NotReady(Refused):
     """A request stays on its queue or was given up (outcome.kind): `point` isn't reached, its timeline is at `have`."""
@@ -224,6 +230,9 @@ class NotReady(Refused):
     def __init__(self, outcome: Outcome) -> None:
         super().__init__(NOT_READY, outcome=outcome)
         self.point, self.have = outcome.point, outcome.have
+
+    def __reduce__(self) -> Tuple[Any, ...]:
+        return NotReady, (self.outcome,)
 
 
 # The faults, by the names of their statuses.

@@ -5,6 +5,7 @@ import ctypes
 import gc
 import inspect
 import os
+import pickle
 import re
 import sys
 import threading
@@ -41,6 +42,8 @@ def header():
     numbers = {name: int(it) for name, it in re.findall(r"\bVMBIND_(\w+) = (\d+)", text)}
     names = {numbers[it]: name for it, name in re.findall(r'case VMBIND_(\w+): return "(\w+)";', text)}
     check(names == v.NAMES, "names of statuses")
+    version = re.findall(r"^#define VMBIND_VERSION_(?:MAJOR|MINOR|PATCH) (\d+)$", text, re.M)
+    check(v.__version__ == ".".join(version), "the version")
     for name in "OK BAD_ARGUMENT NO_VM NOT_NULL IDLE NOT_READY NOT_PUT ACCEPTED REFUSED GIVEN_UP PENDING NOTHING BUFFER ZEROS".split():
         check(numbers[name] == getattr(v, name), name)
     for name in "STEP_UNMAP STEP_REMAP STEP_MAP".split():
@@ -101,6 +104,8 @@ def refusals():
     check((it.fault, it.name, it.op, it.n) == (7, "OutOfBuffer", 1, 0) and it.outcome.kind == v.REFUSED, "of a request")
     check(str(it) == "OutOfBuffer at operation 1", str(it))
     check(raised(v.Refused, vm.bind, v.MapZero(0x8000, 0x1000)).name == "Reserved", "reserved")
+    again = pickle.loads(pickle.dumps(it))
+    check(type(again) is type(it) and str(again) == str(it) and vars(again) == vars(it), "pickled")
     vm.bind(v.Map(0, 0x4000, b), queue=2)
     it = raised(v.Refused, vm.destroy, b)
     check((it.name, it.n, it.op, str(it)) == ("Mapped", 1, None, "Mapped 1"), "with a number")
@@ -119,6 +124,8 @@ def waiting():
     vm = v.Vm(timelines=3)
     it = raised(v.NotReady, vm.bind, v.MapZero(0, 0x1000), waits=[(1, 4), v.Point(2, 1)], signals=[(0, 6)])
     check(it.point == v.Point(1, 4) and it.have == 0 and it.outcome.kind == v.PENDING and isinstance(it, v.Refused), "pending")
+    again = pickle.loads(pickle.dumps(it))
+    check(type(again) is v.NotReady and vars(again) == vars(it) and again.point == v.Point(1, 4), "pickled")
     check(vm.submit(v.MapZero(0x1000, 0x1000)) == 1 and vm.raise_to(1, 9) == 9, "put behind it")
     it = raised(v.NotReady, vm.serve, give_up=True)
     check(it.point == v.Point(2, 1) and it.outcome.kind == v.GIVEN_UP, "given up at the second point")
