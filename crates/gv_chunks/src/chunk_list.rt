@@ -62,13 +62,6 @@ impl ChunkList {
         self.parts.len
     }
 
-    /// For how many mappings it has room.
-    pub fn room(&self) -> usize
-        ensures { result ≡ self.now.room }
-    {
-        self.parts.room
-    }
-
     /// The chunks that stand.
     #[inline(always)]
     pub fn chunks(&self) -> Standing<'_>

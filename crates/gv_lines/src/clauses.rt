@@ -1,13 +1,10 @@
 //! The clauses of a bind line as a list.
-ghost use Rattle.std.specs.Prelude.{◌≡◌, ◌∷◌, [], IfOk, MatchOption};
+ghost use Rattle.std.specs.Prelude.{◌≡◌, ◌∷◌, [], MatchOption};
 ghost use Rattle.gv_lines.specs.Clause.{clause_of};
 
 use super::clause::Clause;
 use super::cutting::Clauses;
-use super::operation::Operation;
-use super::point::NamedPoint;
 use super::words::Words;
-use std::alloc::{AllocError, Global};
 use std::marker::Model;
 
 /// The clause that some words say, for whoever keeps it.
@@ -39,7 +36,6 @@ impl<'a> Model for ClauseList<'a> {
 
 impl<'a> ClauseList<'a> {
     ghost use Rattle.gv_lines.specs.Clause.{clauses_read, queue_asked};
-    ghost use Rattle.gv_lines.specs.Clause.{operations_of, waits_of, signals_of};
 
     /// No clause.
     pub fn none() -> Self
@@ -96,47 +92,5 @@ impl<'a> ClauseList<'a> {
             }
         }
         0
-    }
-
-    /// Their operations.
-    pub fn operations(&self, alloc: Global) -> Result<Vec<Operation>, AllocError>
-        ensures { IfOk result (λ list. list.items ≡ operations_of self.now) }
-    {
-        let mut list = Vec::new(alloc);
-        let mut left = self.again();
-        while let Some(clause) = left.take() {
-            if let Clause::Change { operation } = clause {
-                list.push(operation)?;
-            }
-        }
-        Ok(list)
-    }
-
-    /// The points that they wait for.
-    pub fn waits(&self, alloc: Global) -> Result<Vec<NamedPoint>, AllocError>
-        ensures { IfOk result (λ list. list.items ≡ waits_of self.now) }
-    {
-        let mut list = Vec::new(alloc);
-        let mut left = self.again();
-        while let Some(clause) = left.take() {
-            if let Clause::Wait { point } = clause {
-                list.push(point)?;
-            }
-        }
-        Ok(list)
-    }
-
-    /// The points that they signal.
-    pub fn signals(&self, alloc: Global) -> Result<Vec<NamedPoint>, AllocError>
-        ensures { IfOk result (λ list. list.items ≡ signals_of self.now) }
-    {
-        let mut list = Vec::new(alloc);
-        let mut left = self.again();
-        while let Some(clause) = left.take() {
-            if let Clause::Signal { point } = clause {
-                list.push(point)?;
-            }
-        }
-        Ok(list)
     }
 }

@@ -1,9 +1,8 @@
 //! The accesses of jobs.
-ghost use Rattle.std.specs.Prelude.{◌≡◌, ◌∷◌, [], IfOk, MatchOption};
+ghost use Rattle.std.specs.Prelude.{◌≡◌, ◌∷◌, [], MatchOption};
 
 use super::cutting::Clauses;
 use super::words::{Words, is_word};
-use std::alloc::{AllocError, Global};
 use std::marker::Model;
 
 /// An access of a job to an address in bytes.
@@ -94,17 +93,5 @@ impl<'a> AccessList<'a> {
         AccessList {
             parts: self.parts.again(),
         }
-    }
-
-    /// The accesses as a list.
-    pub fn to_vec(&self, alloc: Global) -> Result<Vec<Access>, AllocError>
-        ensures { IfOk result (λ list. list.items ≡ self.now) }
-    {
-        let mut list = Vec::new(alloc);
-        let mut left = self.again();
-        while let Some(access) = left.take() {
-            list.push(access)?;
-        }
-        Ok(list)
     }
 }

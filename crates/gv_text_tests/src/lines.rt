@@ -5,7 +5,8 @@ mod reasons;
 mod requests;
 
 use gv_lines::{
-    ClauseList, Line, Name, Slip, explain, explain_serve, parse_line, split_once, write_hex,
+    AccessList, Clause, ClauseList, Line, Name, Slip, explain, explain_serve, parse_line, split_once,
+    write_hex,
 };
 use std::alloc::{AllocError, Global};
 use std::fmt::Write;
@@ -96,38 +97,74 @@ const PLAIN_LINES: [Row; 32] = [
     (b"end 0x0", "End { job: 0 }"),
 ];
 
-/// Writes what a request says: its queue, operations, waits and signals.
-fn write_request(
-    alloc: Global,
-    out: &mut String,
-    clauses: &ClauseList<'_>,
-) -> Result<(), AllocError> {
-    write_operations(alloc, out, clauses)?;
-    let waits = clauses.waits(alloc)?;
-    write!(out, " {waits:?}")?;
-    drop(waits);
-    let signals = clauses.signals(alloc)?;
-    write!(out, " {signals:?}")
+/// Lists of a request, each of clauses of one kind.
+#[derive(Clone, Copy)]
+enum Kind {
+    Operations,
+    Waits,
+    Signals,
 }
 
-/// Writes a request's queue and operations.
-fn write_operations(
-    alloc: Global,
+/// Writes a clause behind a separator if it is of a kind. Whether it is.
+fn write_clause(
     out: &mut String,
-    clauses: &ClauseList<'_>,
-) -> Result<(), AllocError> {
-    let operations = clauses.operations(alloc)?;
-    write!(out, "{} {operations:?}", clauses.queue())
+    separator: &str,
+    kind: Kind,
+    clause: &Clause,
+) -> Result<bool, AllocError> {
+    match (kind, clause) {
+        (Kind::Operations, Clause::Change { operation }) => {
+            write!(out, "{separator}{operation:?}")?
+        }
+        (Kind::Waits, Clause::Wait { point }) => write!(out, "{separator}{point:?}")?,
+        (Kind::Signals, Clause::Signal { point }) => write!(out, "{separator}{point:?}")?,
+        _ => return Ok(false),
+    }
+    Ok(true)
+}
+
+/// Writes the clauses of a kind as a list.
+fn write_list(out: &mut String, clauses: &ClauseList<'_>, kind: Kind) -> Result<(), AllocError> {
+    out.push('[')?;
+    let mut rest = clauses.again();
+    let mut separator = "";
+    for _ in 0..u64::MAX {
+        let Some(clause) = rest.take() else { break };
+        if write_clause(out, separator, kind, &clause)? {
+            separator = ", ";
+        }
+    }
+    out.push(']')
+}
+
+/// Writes what a request says: its queue, operations, waits and signals.
+fn write_request(out: &mut String, clauses: &ClauseList<'_>) -> Result<(), AllocError> {
+    write!(out, "{} ", clauses.queue())?;
+    write_list(out, clauses, Kind::Operations)?;
+    out.push(' ')?;
+    write_list(out, clauses, Kind::Waits)?;
+    out.push(' ')?;
+    write_list(out, clauses, Kind::Signals)
+}
+
+/// Writes the accesses of a job as a list.
+fn write_accesses(out: &mut String, accesses: &AccessList<'_>) -> Result<(), AllocError> {
+    out.push('[')?;
+    let mut rest = accesses.again();
+    let mut separator = "";
+    for _ in 0..u64::MAX {
+        let Some(access) = rest.take() else { break };
+        write!(out, "{separator}{access:?}")?;
+        separator = ", ";
+    }
+    out.push(']')
 }
 
 /// Writes what a line is read as.
-fn write_meaning(alloc: Global, out: &mut String, text: &[u8]) -> Result<(), AllocError> {
+fn write_meaning(out: &mut String, text: &[u8]) -> Result<(), AllocError> {
     match parse_line(text) {
-        Some(Line::Bind { clauses }) => write_request(alloc, out, &clauses),
-        Some(Line::Job { accesses }) => {
-            let list = accesses.to_vec(alloc)?;
-            write!(out, "{list:?}")
-        }
+        Some(Line::Bind { clauses }) => write_request(out, &clauses),
+        Some(Line::Job { accesses }) => write_accesses(out, &accesses),
         Some(line) => write!(out, "{line:?}"),
         None => out.push_str("none"),
     }
@@ -145,7 +182,7 @@ fn write_slip(out: &mut String, slip: Option<Slip<'_>>) -> Result<(), AllocError
 pub fn check(alloc: Global, question: Question, text: &[u8], wanted: &str) -> Result<(), Fail> {
     let mut said = String::new(alloc);
     let written = match question {
-        Question::Meaning => write_meaning(alloc, &mut said, text),
+        Question::Meaning => write_meaning(&mut said, text),
         Question::Slip => write_slip(&mut said, explain(alloc, text)),
         Question::DialogueSlip => write_slip(&mut said, explain_serve(alloc, text)),
     };

@@ -77,17 +77,7 @@ impl BufferId {
 }
 
 impl Backing {
-    ghost use Rattle.gv_types.specs.Mapping.{advanced, is_of, HasSmallPages};
-
-    /// Whether the pages map the buffer.
-    pub fn is_of(self, buffer: BufferId) -> bool
-        ensures { result ≡ is_of buffer self }
-    {
-        match self {
-            Backing::Buffer { id, .. } => id == buffer,
-            Backing::Zero => false,
-        }
-    }
+    ghost use Rattle.gv_types.specs.Mapping.{advanced, HasSmallPages};
 
     /// The same backing, `pages` further on. The pages of a mapping are small numbers: in a mapping no sum wraps.
     pub fn advanced(self, pages: u64) -> Backing

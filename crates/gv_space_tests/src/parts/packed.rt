@@ -40,6 +40,14 @@ fn pages(first: u64, count: u64, page: u64, read_only: bool) -> Result<Mapping, 
     })
 }
 
+/// Whether these are pages of it.
+fn is_of_greatest(backing: Backing) -> bool {
+    match backing {
+        Backing::Buffer { id, .. } => id == greatest(),
+        Backing::Zero => false,
+    }
+}
+
 /// Whether the mapping in 32 bytes tells the same as the mapping.
 fn is_told(mapping: &Mapping) -> bool
     requires { IsMapping mapping.now }
@@ -48,7 +56,7 @@ fn is_told(mapping: &Mapping) -> bool
     packed.mapping() == *mapping
         && packed.first() == mapping.range.first()
         && packed.end() == mapping.range.end()
-        && packed.is_of(greatest()) == mapping.backing.is_of(greatest())
+        && packed.is_of(greatest()) == is_of_greatest(mapping.backing)
         && packed.part(packed.end() - 1) == mapping.part(mapping.range.end() - 1)
         && packed.clip(7, SPACE_PAGES - 1) == clipped(mapping)
 }
